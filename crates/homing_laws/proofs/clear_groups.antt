@@ -1,5 +1,6 @@
 pub mod Early
 pub mod Noticing
+pub mod Alike
 pub mod Boards
 pub mod Known
 pub mod Orders

@@ -135,8 +135,8 @@ pub fn boards_have_one_trigger()
 {}
 
 /// The law of clear runs: in a run of all boards in a scene without entries, whose homing sections are begun past connecting, where none is known, 251 turns
-/// before their starts or earlier, and where each section's own clock lines track the boards and are those that the reactor knows where the section is
-/// known, no homing group ever answers that a board expired.
+/// before their starts or earlier, and where each section's own clock lines track the boards, and turns begin as by them by those that the reactor knows
+/// where the section is known, no homing group ever answers that a board expired.
 pub fn clear_runs_answer_of_no_expiry()
     ensures { (m : Machine) (switches : List Switch) (pins : ℕ → List (List Level)) (entries : List Entry) (lines : ℕ → ℕ → Clocks) (ready : ℕ) → IsValidMachine m → entries ≡ [] → (c : Came) (before : List Came) (all : List (ℕ → BoardTurn)) →
         IsClearRun m switches pins entries lines ready c before all → (h : Homing) → (noted m c.note (known_by m switches before)).homing ≡ Some h → (b turn : ℕ) →

@@ -11,16 +11,14 @@ ghost use Rattle.clock_line.specs.Kept.{AreKept};
 ghost use Rattle.link_work.specs.Turn.{Orders};
 ghost use Rattle.run_laws.specs.Boards.{AreEnded, IsWindow, NextStart, OnBoard};
 ghost use Rattle.run_laws.specs.Events.{AreTicks};
-ghost use Rattle.run_laws.specs.Homes.{AreSet, HasUnits, IsHomeRun, RunSection, SetsAny};
+ghost use Rattle.run_laws.specs.Homes.{AreOut, AreSet, HasUnits, IsHomeRun, RunSection, SetsAny};
 ghost use Rattle.run_laws.specs.Parts.{AreTracked, MakesIn};
-ghost use Rattle.run_laws.specs.Runs.{AreSpilled};
 ghost use Rattle.plan_types.specs.declared.levels.Level.{Level};
 ghost use Rattle.wire_scene.specs.declared.scene.Entry.{Entry};
 ghost use Rattle.wire_scene.specs.declared.scene.Switch.{Switch};
 ghost use Rattle.board_runs.specs.Turns.{BoardTurn};
 ghost use Rattle.clock_runs.specs.Runs.{IsInRun, UnitsFit, orders_in};
 ghost use Rattle.host_reactor.specs.Runs.{Came};
-ghost use Rattle.motion_work.specs.Boards.{parts_on};
 ghost use Rattle.motion_work.specs.Homes.{no_end};
 ghost use Rattle.motion_work.specs.Seen.{Started};
 ghost use Rattle.motion_work.specs.Told.{Told};
@@ -28,13 +26,13 @@ ghost use Rattle.session_work.specs.declared.table.MotionTurn.{MotionTurn};
 ghost use Rattle.session_work.specs.declared.table.ReactorTurn.{ReactorTurn};
 ghost use Rattle.run_plans.specs.Boards.{lines_between, times_of};
 ghost use Rattle.run_plans.specs.Given.{TookBatches};
-ghost use Rattle.run_plans.specs.Homed.{TookControlsIn, stops_of};
+ghost use Rattle.run_plans.specs.Homed.{TookControlsIn, runs_on, stops_of};
 ghost use Rattle.run_plans.specs.Lines.{TellTurns, pulses_of};
 ghost use Rattle.run_plans.specs.Planned.{Plans};
 ghost use Rattle.homing_laws.specs.home_runs.Words.{AreToldIn};
 ghost use Rattle.homing_laws.specs.home_parts.Answers.{ArePastConnecting, IsPlannedBy, MayHome, TakeSetUps, TellNone, TellsIn};
 ghost use Rattle.homing_laws.specs.home_parts.Cuts.{PlansEndBefore, cuts_on};
-ghost use Rattle.homing_laws.specs.home_parts.Known.{KnowsClocks, StartInRange};
+ghost use Rattle.homing_laws.specs.home_parts.Known.{KnowsLately, StartInRange};
 ghost use Rattle.homing_laws.specs.home_parts.Movers.{HaveMovers};
 ghost use Rattle.homing_laws.specs.home_parts.Reports.{IsHomeStepper};
 
@@ -74,11 +72,11 @@ pub fn begun_clocks_are_set()
 {}
 
 /// The law of controls, of the planner's sections: what the controls of a board hold are control commands of a run in which axes home, where the
-/// board's clock lines hold one after the other, and the reactor knows those by which a homing section is begun while it knows the section.
+/// board's clock lines hold one after the other, and the reactor knows in each turn behind connecting those that hold by 276 turns behind it.
 pub fn begun_controls_are_control_commands()
     ensures { (m : Machine) (switches : List Switch) (pins : List (List Level)) (entries : List Entry) (b until : ℕ) (ts : List MotionTurn) (p : Plans m (length m.boards) ts) (t : Told) (came : List Came) (turns : List BoardTurn) →
         IsValidMachine m → IsPlannedBy m switches (length m.boards) ts p came →
-        StartInRange (clocks_at t.clocks b) p.seen.begun → AreKept (clocks_at t.clocks b) → KnowsClocks m switches t.clocks came → IsInRun m switches pins entries b came turns →
+        StartInRange (clocks_at t.clocks b) p.seen.begun → AreKept (clocks_at t.clocks b) → KnowsLately m switches t.clocks came → IsInRun m switches pins entries b came turns →
         TookControlsIn (clocks_at t.clocks b) (cuts_on m t.clocks until p.seen.begun b) 0 (orders_in turns) }
 {}
 
@@ -102,13 +100,13 @@ pub fn home_lines_fit()
 {}
 
 /// The law of a board's orders in a run in which axes home, of the units that are released in its turns: where the boards' controls are
-/// those of such a run, and no unit that is due in the turns is released behind its due one; where its clock lines are tracked from 260 turns
-/// before the first start on until the plans of all sections are over, steppers are made by then, and the clocks are set of those
-/// that home, this is its part of a run. The board may have turns behind those that the planner made: nothing is released in them.
+/// those of such a run, and no unit of moves that is due in the turns and released behind its due one is so more than four turns behind
+/// its section's end; where its clock lines are tracked from 260 turns before the first start on until the plans of all sections are over,
+/// steppers are made by then, and the clocks are set of those that home, this is its part of a run. The board may have turns behind those that the planner made: nothing is released in them.
 pub fn begun_boards_home()
     ensures { (m : Machine) (ts : List MotionTurn) (p : Plans m (length m.boards) ts) (t : Told) (b ready until : ℕ) (own : ℕ → ℕ) (os : List Orders) → b < length m.boards → p.seen.told ≡ Some t →
         until ≤ length p.made → (length os ≤ until) ⊎ (length p.made ≤ until) → TookBatches b ts os → TookControlsIn (clocks_at t.clocks b) (cuts_on m t.clocks until p.seen.begun b) 0 os → AreTicks own →
-        (k : AreTracked own (clocks_at t.clocks b) ready) → ready + 260 ≤ t.first → PlansEndBefore m t.clocks k.until p.seen.begun → AreSpilled until 0 (parts_on m t.clocks p.seen.begun b) →
+        (k : AreTracked own (clocks_at t.clocks b) ready) → ready + 260 ≤ t.first → PlansEndBefore m t.clocks k.until p.seen.begun → AreOut until (runs_on m t.clocks p.seen.begun b) →
         ((oid : ℕ) → AreSet oid (cuts_on m t.clocks until p.seen.begun b) 0 os) →
         (ready ≤ length os → (oid : ℕ) → HasUnits oid (cuts_on m t.clocks until p.seen.begun b) ⊎ SetsAny oid os → MakesIn oid (take ready os)) →
         IsHomeRun own (clocks_at t.clocks b) (board_at m b).freq (board_at m b).slots ready (stops_of p.seen.begun) (cuts_on m t.clocks until p.seen.begun b) os }

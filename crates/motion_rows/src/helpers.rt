@@ -266,22 +266,6 @@ pub fn word(
     })
 }
 
-/// A unit of one stepper with its turn: its ticks, interval, count and direction, and whether it sets the clock.
-pub type Row = (u64, u8, u64, u64, u32, u16, Option<bool>, bool);
-
-pub fn row(turn: u64, unit: &Unit) -> Row {
-    (
-        turn,
-        unit.stepper,
-        unit.first,
-        unit.last,
-        unit.triple.interval,
-        unit.triple.count,
-        unit.up,
-        unit.reset.is_some(),
-    )
-}
-
 /// The news of an axis' homing section.
 pub fn homing(axis: u8, turn: u64, last: u64, moving: u16) -> NoteNews {
     NoteNews::Start {
@@ -308,44 +292,6 @@ pub fn moving(section: u64, turn: u64) -> NoteNews {
 pub fn done(section: u64, turn: u64) -> NoteNews {
     NoteNews::Done { section, turn }
 }
-
-/// Whether these are the units of some rows.
-pub fn are_rows(units: &[(u64, Unit)], want: &[Row]) -> bool {
-    if units.len() != want.len() {
-        return false;
-    }
-    for (own, other) in units.iter().zip(want) {
-        if row(own.0, &own.1) != *other {
-            return false;
-        }
-    }
-    true
-}
-
-/// The units of an axis that homes.
-pub const HOMING: [Row; 3] = [
-    (
-        1_012,
-        0,
-        20_192_662,
-        20_192_662,
-        32_662,
-        1,
-        Some(false),
-        false,
-    ),
-    (1_013, 0, 20_216_667, 20_216_667, 24_005, 1, None, false),
-    (
-        1_014,
-        0,
-        20_236_667,
-        500_156_667,
-        20_000,
-        23_997,
-        None,
-        false,
-    ),
-];
 
 /// The news of a text by which all axes home, each at a switch that is closed already, and the printer moves then.
 pub fn slicer_news() -> [(u64, NoteNews); 7] {

@@ -3,8 +3,8 @@ ghost use Rattle.std.specs.Prelude.{IfOk};
 ghost use Rattle.plan_types.specs.Machines.{IsValidMachine};
 
 use crate::helpers::{
-    BURST, HOMING, PRINTER, Ran, SLOW, TURNS, add_turn, are_rows, are_wanted, done, moving,
-    new_ran, slicer_news, word,
+    BURST, PRINTER, Ran, SLOW, TURNS, add_turn, are_wanted, done, moving, new_ran, slicer_news,
+    word,
 };
 use cfg_text::read_config;
 use motion_stream::Motion;
@@ -446,11 +446,53 @@ fn text_is_asked_for(rt: HostRuntime) -> Result<(), AllocError> {
     Ok(())
 }
 
-/// Whether the x axis homes until turn 1,762.
-fn homes_x(ran: &Ran) -> bool {
-    let ended = (1_762, done(0, 1_762));
-    are_rows(&ran.units, &HOMING) && ran.news.as_slice().contains(&ended) && are_wanted(&ran.wants)
+/// The planned tick of a step of the x axis as it homes with 10 mm/s from turn 1,260 on.
+fn planned_home(place: usize) -> u64 {
+    match place {
+        0 => 20_192_662,
+        _ => (place as u64)
+            .saturating_sub(1)
+            .saturating_mul(20_000)
+            .saturating_add(20_216_667),
+    }
 }
+
+/// Whether each step homes there, and at most so much early.
+fn are_homing(steps: &[Step]) -> bool {
+    for (place, step) in steps.iter().enumerate() {
+        let at = planned_home(place);
+        if step.1 || step.0 > at || step.0.saturating_add(EARLY) < at {
+            return false;
+        }
+    }
+    true
+}
+
+/// Whether no unit sets a clock, and the first one is given in turn 1,012, some 250 turns ahead.
+fn set_no_clock(ran: &Ran) -> bool {
+    for (_, unit) in &ran.units {
+        if unit.reset.is_some() {
+            return false;
+        }
+    }
+    ran.units.first().is_some_and(|first| first.0 == 1_012)
+}
+
+/// Whether the x axis homes until turn 1,762, and gives its steps turn by turn until then, those that are due some 250 turns later.
+fn homes_x(alloc: Global, ran: &Ran) -> Result<bool, AllocError> {
+    let ended = (1_762, done(0, 1_762));
+    let steps = steps_of(alloc, ran, 0)?;
+    Ok(
+        are_homing(&steps)
+            && steps.len() == HOMING_STEPS
+            && set_no_clock(ran)
+            && ran.news.as_slice().contains(&ended)
+            && are_wanted(&ran.wants),
+    )
+}
+
+/// How many steps the x axis gives before its answer in turn 1,762.
+const HOMING_STEPS: usize = 604;
 
 #[test]
 fn axes_home_behind_pieces(rt: HostRuntime) -> Result<(), AllocError> {
@@ -458,7 +500,8 @@ fn axes_home_behind_pieces(rt: HostRuntime) -> Result<(), AllocError> {
     let ran = run(rt.alloc(), PRINTER, "G28\nG1 Z5 F300\n", 4_096, &answers)?;
     assert!(rt; ran.news.as_slice() == slicer_news().as_slice());
     let ran = run(rt.alloc(), PRINTER, "G28 X", 4_096, &[1_100, 1_762])?;
-    assert!(rt; homes_x(&ran));
+    assert_eq!(rt; steps_of(rt.alloc(), &ran, 0)?.len(), HOMING_STEPS);
+    assert!(rt; homes_x(rt.alloc(), &ran)?);
     Ok(())
 }
 

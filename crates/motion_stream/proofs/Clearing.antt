@@ -11,23 +11,23 @@ use Rattle.plan_types.specs.declared.machine.Machine.{Machine}
 use Rattle.plan_types.specs.declared.plan.ReadEnd.{ReadEnd}
 use Rattle.plan_types.specs.declared.plan.Section.{Section}
 use Rattle.plan_types.specs.Clock.{turn_ns}
+use Rattle.plan_types.specs.declared.plan.SectionKind.{SectionKind}
+use Rattle.plan_types.specs.declared.plan.SectionKind.TheVariants.{Home, Moves}
 use Rattle.section_feed.specs.declared.section.SectionStream.{SectionStream}
 use Rattle.section_feed.specs.Queues.{settled_to}
 use Rattle.section_feed.specs.Sections.{queue_of}
 use Rattle.section_feed.proofs.Ends.{moves-later}
 use Rattle.section_stream.specs.Looking.{IsFuture}
-use Rattle.step_feed.specs.declared.whole.Batches.{Batches}
 use Rattle.motion_work.specs.Seen.{AreDone, IsOpen, Started, ready_after}
 use Rattle.motion_work.specs.Told.{Told}
-use Rattle.motion_work.proofs.Feeding.{snoc_same}
 use Rattle.motion_work.proofs.Turning.{none_behind, ready_more}
 use Rattle.motion_stream.specs.declared.course.Course.{Course}
 use Rattle.motion_stream.specs.declared.course.Open.{Open}
 use Rattle.motion_stream.specs.declared.course.Open.TheVariants as opens
 use Rattle.motion_stream.specs.Clear.{EndsOutside, IsClearTo, clear_by, clear_of, never, next_begin, settled_turn}
-use Rattle.motion_stream.specs.Courses.{IsCourseOf, IsEarly, IsGoing, IsHoming, IsIdle, IsLater, IsMoving, IsTold}
+use Rattle.motion_stream.specs.Courses.{IsCourseOf, IsEarly, IsGoing, IsGoingOn, IsIdle, IsLater, IsTold}
 use Rattle.motion_stream.specs.Motions.{IsPlannerOf, Planner, is_none_left}
-use Rattle.motion_stream.specs.Seen.{AreWhole, Going, IsContinued, Seen, items_read, moves_end, sections_in}
+use Rattle.motion_stream.specs.Seen.{AreWhole, EndsBy, Going, IsContinued, Seen, homes_by, items_read, moves_end, sections_in}
 use Rattle.motion_stream.proofs.Drawing.{whole_none}
 use Rattle.motion_stream.proofs.Wholing.{source_front}
 
@@ -53,25 +53,7 @@ told_some : (m : Machine) (c : Course) (told : Option Told) (past : List Started
 told_some m c None past s begun going h e n = none_behind past s (sym h.1 ∙ e)
 told_some m c (Some t) past s begun going h e n = none_some (sym n)
 
--- a homing section waits
-home_clear : (m : Machine) (boards : List Batches) (c : Course) (seen : Seen) (n : ℕ) → IsCourseOf m c seen → IsHoming m boards c seen.begun seen.going → n ≤ max c.next c.start → IsClearTo m seen n
-home_clear m boards c seen n h i le =
-    let next = h.next in
-    let small = h.small in
-    let start = i.start in
-    let late = i.late in
-    let waits = i.waits in
-    let done : AreDone seen.next i.past = subst (λ k. AreDone k i.past) next i.done in
-    let far : n ≤ i.last.end = omega (arith, le, small, start, late, waits) in
-    let is : (all : List Started) → AreWhole m seen.told seen.next seen.begun seen.going all → all ≡ i.past ++ i.last ∷ [] = λ all w. whole_none m seen.told seen.next seen.begun all seen.going i.none w ∙ i.are in
-    record {
-      ends = λ all w. subst (All (EndsOutside seen.next n)) (sym (is all w)) (ends_last seen.next n i.past i.last done far);
-      waits = λ past s e none end. (let same = ap (λ (x : Started). x.start) (snoc_same i.past past i.last s (sym i.are ∙ e)).1 in omega (arith, le, next, start, same));
-      begins = λ t whole all others s told may w e. (let r = ap (ready_after t.first) (is all w) ∙ ready_more t.first i.past i.last in omega (arith, r, far));
-      unheard = λ e. absurd (told_some m c seen.told i.past i.last seen.begun seen.going h.told i.are e);
-    }
-
--- a section of moves goes on
+-- a section goes on
 by_moves : (m : Machine) (told : Option Told) (t : Told) (next : ℕ) (begun all : List Started) (going : Option Going) (g : Going) → told ≡ Some t → going ≡ Some g → AreWhole m told next begun going all → (s : Started) × (all ≡ begun ++ s ∷ []) × IsContinued m next g s
 by_moves m None t next begun all going g told goes w = absurd (none_some told)
 by_moves m (Some u) t next begun all None g told goes w = absurd (none_some goes)
@@ -81,22 +63,30 @@ settled_before : (b : Bool) (t : ℕ) → (if b then t else 0) ≤ t
 settled_before true t = omega arith
 settled_before false t = omega arith
 
-moves_clear : (m : Machine) (s : SectionStream) (c : Course) (seen : Seen) (n : ℕ) → IsCourseOf m c seen → IsMoving m s c seen.told seen.begun seen.going → n ≤ max (settled_turn s) c.next → IsClearTo m seen n
-moves_clear m s c seen n h i le =
-    let next = h.next in
-    let small = h.small in
+-- one of moves ends when those do that are settled, or later, and one that homes no sooner than it starts
+ends_at : (kind : SectionKind) (m : Machine) (s : SectionStream) (homes : Bool) (c : Course) (seen : Seen) (n : ℕ) (x : Started) (i : IsGoingOn m s homes c seen.told seen.begun seen.going) → homes ≡ homes_by kind → c.next ≡ seen.next → IsContinued m seen.next i.g x → EndsBy kind m seen.next x
+    → n ≤ (if homes_by kind then max c.next c.start else max (settled_turn s) c.next) → n ≤ x.end
+ends_at Moves m s homes c seen n x i is next c_is ends le =
     let settled = settled_before (nat_lt (settled_to (queue_of s) / turn_ns) never) (settled_to (queue_of s) / turn_ns) in
+    let r = moves-later m i.t.clocks i.g.start homes s i.g.moves x.section.moves i.g.released i.on (subst (λ t. IsFuture t i.g.moves x.section.moves) (sym i.takes) c_is.moves) in
+    let st = ap (moves_end m x.section.moves) c_is.start in
+    let e = ends.0 in
+    let l = ends.1 in
+    omega (arith, le, settled, next, l, r, st, e)
+ends_at (Home axis) m s homes c seen n x i is next c_is ends le =
+    let start = i.start_is in
+    let at = c_is.start in
+    omega (arith, le, next, start, at, ends)
+
+goes_clear : (m : Machine) (s : SectionStream) (homes : Bool) (c : Course) (seen : Seen) (n : ℕ) → IsCourseOf m c seen → IsGoingOn m s homes c seen.told seen.begun seen.going → n ≤ (if homes then max c.next c.start else max (settled_turn s) c.next) → IsClearTo m seen n
+goes_clear m s homes c seen n h i le =
+    let next = h.next in
     let done : AreDone seen.next seen.begun = subst (λ k. AreDone k seen.begun) next i.done in
     let end : (x : Started) → IsContinued m seen.next i.g x → n ≤ x.end = λ x is.
-    let r = moves-later m i.t.clocks i.g.start false s i.g.moves x.section.moves i.g.released i.on (subst (λ t. IsFuture t i.g.moves x.section.moves) (sym i.takes) is.moves) in
-    let st = ap (moves_end m x.section.moves) is.start in
-    let e = is.end in
-    let l = is.late in
-    omega (arith, le, settled, next, l, r, st, e) in
+    ends_at i.g.kind m s homes c seen n x i i.homes_is next is is.ends (subst (λ (b : Bool). n ≤ (if b then max c.next c.start else max (settled_turn s) c.next)) i.homes_is le) in
     let of : (all : List Started) → AreWhole m seen.told seen.next seen.begun seen.going all → (x : Started) × (all ≡ seen.begun ++ x ∷ []) × IsContinued m seen.next i.g x = λ all w. by_moves m seen.told i.t seen.next seen.begun all seen.going i.g i.told_is i.is w in
     record {
       ends = λ all w. let x = of all w in subst (All (EndsOutside seen.next n)) (sym x.1) (ends_last seen.next n seen.begun x.0 done (end x.0 x.2));
-      waits = λ past x e none ends. absurd (none_some (sym none ∙ i.is));
       begins = λ t whole all others x told may w e. (let y = of all w in let r = ap (ready_after t.first) y.1 ∙ ready_more t.first seen.begun y.0 in let f = end y.0 y.2 in omega (arith, r, f));
       unheard = λ e. absurd (none_some (sym e ∙ i.told_is));
     }
@@ -135,7 +125,6 @@ idle_is m c seen n true connected (Some t) eg ec et h i o d early le =
     let is : (all : List Started) → AreWhole m seen.told seen.next seen.begun seen.going all → all ≡ o.0 ++ o.1 ∷ [] = λ all w. whole_none m seen.told seen.next seen.begun all seen.going i.none w ∙ o.2 in
     record {
       ends = λ all w. subst (All (EndsOutside seen.next n)) (sym (is all w)) (ends_last seen.next n o.0 o.1 done far);
-      waits = λ past s e none end. absurd (let k = i.known past s e in omega (arith, k, end));
       begins = λ u whole all others s told may w e. (let r = ap (ready_after u.first) (is all w) ∙ ready_more u.first o.0 o.1 in omega (arith, r, far));
       unheard = λ e. absurd (none_some (sym e ∙ et));
     }
@@ -146,7 +135,6 @@ idle_is m c seen n false true (Some t) eg ec et h i o d early le =
     let is : (all : List Started) → AreWhole m seen.told seen.next seen.begun seen.going all → all ≡ seen.begun = λ all w. whole_none m seen.told seen.next seen.begun all seen.going i.none w in
     record {
       ends = λ all w. subst (All (EndsOutside seen.next n)) (sym (is all w)) (ends_done seen.next n seen.begun done);
-      waits = λ past s e none end. absurd (let k = i.known past s e in omega (arith, k, end));
       begins = λ u whole all others s told may w e.
           let f = source_front m c.source seen.text whole seen.ended (items_read seen.begun seen.going) h.source may in
           let split : program_sections m whole ≡ sections_in seen.begun ++ s ∷ others = e ∙ ap (λ (b : List Started). sections_in b ++ s ∷ others) (is all w) in
@@ -165,7 +153,6 @@ idle_is m c seen n false false None eg ec et h i o d early le =
     let is : (all : List Started) → AreWhole m seen.told seen.next seen.begun seen.going all → all ≡ [] = λ all w. whole_none m seen.told seen.next seen.begun all seen.going i.none w ∙ none in
     record {
       ends = λ all w. subst (All (EndsOutside seen.next n)) (sym (is all w)) (All-nil (EndsOutside seen.next n));
-      waits = λ past s e goes end. absurd (none_behind past s (sym none ∙ e));
       begins = λ u whole all others s told may w e. absurd (none_some (sym et ∙ told));
       unheard = λ e. omega (arith, le, next);
     }
@@ -173,8 +160,7 @@ idle_is m c seen n false false None eg ec et h i o d early le =
 by_open : (m : Machine) (o : Open) (c : Course) (seen : Seen) (n : ℕ) → c.current ≡ o → IsCourseOf m c seen → IsGoing m o c seen.told seen.begun seen.going → n ≤ clear_by c o → IsClearTo m seen n
 by_open m opens.Nothing c seen n e h i le =
     idle_is m c seen n c.goes c.connected seen.told refl refl refl h i i.goes h.told (subst (λ o. IsEarly o (c.next + 260) (c.next + 260) c) e h.early) le
-by_open m (opens.Home boards) c seen n e h i le = home_clear m boards.items c seen n h i le
-by_open m (opens.Moves s) c seen n e h i le = moves_clear m s c seen n h i le
+by_open m (opens.Goes s homes) c seen n e h i le = goes_clear m s homes c seen n h i le
 
 -- what a note tells as clear is
 pub clear_is : (p : Planner) (seen : Seen) (n : ℕ) → IsPlannerOf p seen → n ≤ clear_of p.course → IsClearTo p.machine seen n
@@ -197,8 +183,8 @@ idle_next m c false false told begun going small none o d = omega arith
 
 open_next : (m : Machine) (o : Open) (c : Course) (seen : Seen) → IsCourseOf m c seen → IsGoing m o c seen.told seen.begun seen.going → c.next ≤ clear_by c o
 open_next m opens.Nothing c seen h i = idle_next m c c.goes c.connected seen.told seen.begun seen.going h.small i.none i.goes h.told
-open_next m (opens.Home boards) c seen h i = omega arith
-open_next m (opens.Moves s) c seen h i = omega arith
+open_next m (opens.Goes s true) c seen h i = omega arith
+open_next m (opens.Goes s false) c seen h i = omega arith
 
 pub next_clear : (p : Planner) (seen : Seen) → IsPlannerOf p seen → IsClearTo p.machine seen seen.next
 next_clear p seen h =

@@ -1,5 +1,5 @@
 -- A turn that goes by.
-use Rattle.std.proofs.Common.{◌≡◌, ℕ, zero, suc, ◌+◌, ◌<◌, ◌≤◌, ◌^◌, true, false, not, List, [], ◌∷◌, ◌++◌, drop, length, map, append-nil, refl, ap, sym, subst, ◌∙◌, arith}
+use Rattle.std.proofs.Common.{◌≡◌, ℕ, zero, suc, ◌+◌, ◌<◌, ◌≤◌, ◌^◌, Bool, true, false, not, List, [], ◌∷◌, ◌++◌, drop, length, map, append-nil, refl, ap, sym, subst, ◌∙◌, arith, inr}
 use Rattle.std.proofs.lemmas.List.{map-append}
 use Rattle.std.proofs.lemmas.List.Concat.{flat_map-append}
 use Rattle.std.specs.List.{flat_map}
@@ -14,14 +14,13 @@ use Rattle.section_feed.specs.declared.section.SectionStream.{SectionStream}
 use Rattle.section_feed.specs.Sections.{next_of}
 use Rattle.step_feed.specs.Pacing.{Release, batch_at}
 use Rattle.step_feed.specs.Units.{StepUnit}
-use Rattle.step_feed.specs.declared.whole.Batches.{Batches}
 use Rattle.motion_work.specs.Begins.{done_news, listed}
-use Rattle.motion_work.specs.Feeds.{batches_at, releases_of, units_at}
-use Rattle.motion_work.specs.Seen.{AreDone, IsOpen, Started, ready_after}
+use Rattle.motion_work.specs.Feeds.{batches_at, units_at}
+use Rattle.motion_work.specs.Seen.{IsOpen, Started, ready_after}
 use Rattle.motion_work.specs.Told.{Told}
 use Rattle.motion_work.specs.Turns.{done_notes}
 use Rattle.motion_work.proofs.Putting.{same_on}
-use Rattle.motion_work.proofs.Turning.{done_are, done_later, none_behind, open_next, other_done, ready_more}
+use Rattle.motion_work.proofs.Turning.{done_are, none_behind, open_next, ready_more}
 use Rattle.motion_work.specs.declared.told.BoardLine.{BoardLine}
 use Rattle.motion_stream.specs.declared.course.BoardLines.{BoardLines}
 use Rattle.motion_stream.specs.declared.course.Course.{Course}
@@ -30,8 +29,9 @@ use Rattle.motion_stream.specs.declared.course.Open.TheVariants as opens
 use Rattle.motion_stream.proofs.Homed.{homed_later}
 use Rattle.motion_stream.proofs.Rowing.{row_first}
 use Rattle.motion_stream.proofs.Laid.{laid_later}
-use Rattle.motion_stream.specs.Courses.{AreAhead, AreHomedBy, IsCourseBy, IsCourseOf, IsEarly, IsGoing, IsHoming, IsIdle, IsLater, IsMoving, IsTold, IsUptake, row_at}
-use Rattle.motion_stream.specs.Rows.{batches_of, home_units, units_in}
+use Rattle.motion_stream.specs.Courses.{AreAhead, AreHomedBy, IsCourseBy, IsCourseOf, IsEarly, IsGoing, IsGoingOn, IsIdle, IsLater, IsTold, IsUptake, row_at}
+use Rattle.motion_stream.specs.Rows.{batches_of, units_in}
+use Rattle.motion_stream.specs.Puts.{GoesOn}
 use Rattle.motion_stream.specs.Seen.{AreWhole, Going, Seen, count_of, items_read}
 use Rattle.motion_stream.specs.Steps.{Advances, HasPassed, IsFed, IsPassed}
 use Rattle.motion_stream.specs.Texts.{IsSourceOf}
@@ -42,7 +42,7 @@ clash p = cc
 none_some : {X : Type 0} (x : X) → None ≡ Some x → ⊥
 none_some x p = cc
 
-some_same : {X : Type 0} (x y : X) → Some x ≡ Some y → x ≡ y
+pub some_same : {X : Type 0} (x y : X) → Some x ≡ Some y → x ≡ y
 some_same x y p = cc
 
 -- the boards of sections
@@ -153,6 +153,10 @@ course_on m old new seen begun going turn free h kept next small turns homed sam
       uptake = uptake_kept old.lines new.lines seen.next (seen.next + 1) seen.begun begun seen.lines kept.lines (omega arith) homed h.uptake;
     }
 
+-- the same sections go on
+pub same_go : (k : ℕ) (begun : List Started) (going : Option Going) → GoesOn k begun going begun going
+same_go k begun going = record { more = []; are = sym (append-nil begun); moves = tt; goes = λ g e. inr (g, e, refl, refl) }
+
 -- no section goes on
 pub idle_passed : (m : Machine) (old new : Course) (seen : Seen) (k : ℕ) (batches : List Batch) (done : Option NoteNews) → IsCourseOf m old seen → old.current ≡ opens.Nothing → new.current ≡ opens.Nothing → IsKept old new → new.ready ≡ old.ready
     → new.goes ≡ (old.goes && not (nat_eq old.ready (k + 260))) → new.next ≡ old.next + 1 → k ≡ old.next → old.next < 2 ^ 42 → new.ahead.items ≡ drop 1 old.ahead.items → batches ≡ batches_of (length m.boards) old.next (slice_index_or old.ahead.items 0 []) []
@@ -176,6 +180,7 @@ idle_passed m old new seen k batches done h nothing after kept ready goes next a
         told = refl;
         lines = refl;
         next = refl;
+        sections = same_go k seen.begun seen.going;
         whole = λ all w. back seen.going none all w;
         batches_are = λ all w.
             batches_are m k (slice_index_or old.ahead.items 0 []) [] (boards_in_all all) batches (are ∙ ap (λ n. batches_of (length m.boards) n (slice_index_or old.ahead.items 0 []) []) (sym at))
@@ -186,7 +191,6 @@ idle_passed m old new seen k batches done h nothing after kept ready goes next a
           (subst (λ o. IsGoing m o new seen.told seen.begun seen.going) (sym after) (record {
             none = none;
             goes = subst (λ n. IsOpen new.goes n seen.begun) (ap (λ n. n + 1) at ∙ sym next) (subst (λ g. IsOpen g (k + 1) seen.begun) (sym goes) (open_next old.goes k old.ready seen.begun open_is last));
-            known = idle.known;
             ahead = ahead_next m old.ahead.items new.ahead.items old.next new.next seen.begun ahead next idle.ahead;
           }))
           (subst (λ o. IsEarly o (k + 260) (k + 261) new) (sym after) (λ on.
@@ -200,59 +204,6 @@ idle_passed m old new seen k batches done h nothing after kept ready goes next a
         let idle : IsIdle m old seen.begun seen.going = subst (λ o. IsGoing m o old seen.told seen.begun seen.going) nothing h.going in
         i.ready idle.none ∙ ap (ready_after t.first) e ∙ ready_more t.first past s
 
-    back : (going : Option Going) → going ≡ None → (all : List Started) → AreWhole m seen.told (seen.next + 1) seen.begun going all → AreWhole m seen.told seen.next seen.begun going all
-    back None e all w = w
-    back (Some g) e all w = absurd (none_some g (sym e))
-
--- a section homes
-home_unit : (boards : List (List Release)) (k b : ℕ) → units_in (home_units k boards) b ≡ batch_at k (slice_index_or boards b [])
-home_unit [] k zero = refl
-home_unit [] k (suc b) = refl
-home_unit (x ∷ boards) k zero = refl
-home_unit (x ∷ boards) k (suc b) = home_unit boards k b
-
-pub home_passed : (m : Machine) (old new : Course) (boards : List Batches) (seen : Seen) (k : ℕ) (batches : List Batch)
-    → IsHoming m boards old seen.begun seen.going → IsCourseOf m old seen → IsKept old new → new.ready ≡ old.ready → new.start ≡ old.start → new.next ≡ old.next + 1 → k ≡ old.next → old.next < 2 ^ 42
-    → new.ahead.items ≡ drop 1 old.ahead.items → batches ≡ batches_of (length m.boards) old.next (slice_index_or old.ahead.items 0 []) (home_units k (map releases_of boards))
-    → (IsHoming m boards new seen.begun seen.going → IsGoing m new.current new seen.told seen.begun seen.going) → IsEarly new.current (k + 260) (k + 261) new
-    → (next : Seen) × IsPassed m seen next k batches None × IsCourseBy m new next (k + 260) (k + 261)
-home_passed m old new boards seen k batches i h kept ready start next at small ahead are goes early =
-    let none = i.none in
-    let wait = i.waits in
-    let done : AreDone k i.past = subst (λ n. AreDone n i.past) (sym at) i.done in
-    let ahead_is : AreAhead m old.ahead.items k i.past = subst (λ n. AreAhead m old.ahead.items n i.past) (sym at) i.ahead in
-    let front = slice_index_or old.ahead.items 0 [] in
-    let all_is : (n : ℕ) (all : List Started) → AreWhole m seen.told n seen.begun seen.going all → all ≡ i.past ++ i.last ∷ [] = λ n all w. whole_none m seen.told n seen.begun all seen.going none w ∙ i.are in (
-      behind seen seen.begun seen.going,
-      record {
-        text = refl;
-        ended = refl;
-        read = refl;
-        told = refl;
-        lines = refl;
-        next = refl;
-        whole = λ all w. back seen.going none all w;
-        batches_are = λ all w.
-            batches_are m k front (home_units k (map releases_of boards)) (boards_in_all all) batches (are ∙ ap (λ n. batches_of (length m.boards) n front (home_units k (map releases_of boards))) (sym at))
-            (λ b lt. ap (λ us. us ++ units_in (home_units k (map releases_of boards)) b) (front_units m old.ahead.items k b i.past ahead_is lt)
-            ∙ ap (λ us. units_at b k (boards_in_all i.past) ++ us) (home_unit (map releases_of boards) k b ∙ sym (i.units b k lt (omega (arith, at)))) ∙ sym (units_snoc i.past i.last b k) ∙ ap (λ x. units_at b k (boards_in_all x)) (sym (all_is (seen.next + 1) all w)));
-        done_is = λ all w. sym (ap (done_notes k 0) (all_is (seen.next + 1) all w) ∙ other_done k 0 i.past i.last done (λ e. omega (arith, e, wait, at, small)));
-      },
-      course_on m old new seen seen.begun seen.going (k + 260) (k + 261) h kept next small (omega (arith, at)) (λ hs. hs) refl (told_kept m old new seen.told seen.begun seen.going kept ready (omega (arith, next)) h.told) refl
-          (goes (record {
-            none = none;
-            past = i.past;
-            last = i.last;
-            are = i.are;
-            waits = i.waits;
-            start = start ∙ i.start;
-            late = i.late;
-            done = subst (λ n. AreDone n i.past) (sym next) (done_later old.next (old.next + 1) i.past (omega arith) i.done);
-            ahead = ahead_next m old.ahead.items new.ahead.items old.next new.next i.past ahead next i.ahead;
-            units = λ b j lt le. i.units b j lt (omega (arith, le, next));
-          })) early,
-    )
-  where
     back : (going : Option Going) → going ≡ None → (all : List Started) → AreWhole m seen.told (seen.next + 1) seen.begun going all → AreWhole m seen.told seen.next seen.begun going all
     back None e all w = w
     back (Some g) e all w = absurd (none_some g (sym e))
@@ -287,5 +238,5 @@ idle_by m old mid new own seen k batches done p nil kept ready goes current ahea
 pub advances_as : (m : Machine) (old new : Course) (o : Open) (k : ℕ) (batches : List Batch) (done : Option NoteNews) → old.current ≡ o → Advances m (record old { current = o }) k batches done new → Advances m old k batches done new
 advances_as m old new o k batches done e h = subst (λ x. Advances m (record old { current = x }) k batches done new) (sym e) h
 
-pub next_is : (m : Machine) (c : Course) (s : SectionStream) (told : Option Told) (begun : List Started) (going : Option Going) → IsMoving m s c told begun going → c.start ≤ c.next + 250 → next_of s ≡ c.next
-next_is m c s told begun going i near = let n = i.next in let b = i.start_is in omega (arith, n, b, near)
+pub next_is : (m : Machine) (c : Course) (s : SectionStream) (homes : Bool) (told : Option Told) (begun : List Started) (going : Option Going) → IsGoingOn m s homes c told begun going → c.start ≤ c.next + 250 → next_of s ≡ c.next
+next_is m c s homes told begun going i near = let n = i.next in let b = i.start_is in omega (arith, n, b, near)

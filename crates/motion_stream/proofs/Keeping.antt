@@ -1,41 +1,34 @@
 -- Turns that are clear stay so.
-use Rattle.std.proofs.Common.{◌≡◌, ℕ, ◌+◌, ◌<◌, ◌≤◌, ◌^◌, All, Bool, true, false, max, List, [], ◌∷◌, ◌++◌, length, get_or, append-nil, length-append, refl, ap, sym, subst, ◌∙◌, arith, inl, inr}
+use Rattle.std.proofs.Common.{◌≡◌, ℕ, ◌+◌, ◌<◌, ◌≤◌, All, Bool, true, false, max, List, [], ◌∷◌, ◌++◌, length, get_or, append-nil, length-append, refl, ap, sym, subst, ◌∙◌, arith, inl, inr}
 use Rattle.std.proofs.Math.Logic.{∥∥₁_elim}
 use Rattle.std.proofs.Props.{props}
 use Rattle.std.proofs.lemmas.Bool.Decides.{eqb_tells}
-use Rattle.std.proofs.lemmas.List.Elements.{All-append, All-cons, All-head, All-nil, All-tail}
-use Rattle.std.specs.Prelude.{Option, Some, None, if◌then◌else◌}
+use Rattle.std.proofs.lemmas.List.Elements.{All-head, All-nil, All-tail}
+use Rattle.std.specs.Prelude.{Option, Some, None}
 use Rattle.msg_code.specs.declared.talk.Note.{Note}
 use Rattle.msg_code.specs.declared.talk.NoteNews.{NoteNews}
 use Rattle.msg_code.specs.declared.talk.NoteNews.TheVariants as news
 use Rattle.msg_code.specs.declared.talk.WordMsg.{WordMsg}
 use Rattle.msg_code.specs.declared.unit.Batch.{Batch}
 use Rattle.plan_types.specs.declared.machine.Machine.{Machine}
-use Rattle.plan_types.specs.declared.plan.Section.{Section}
-use Rattle.plan_types.specs.declared.plan.SectionKind.{SectionKind}
-use Rattle.plan_types.specs.declared.plan.SectionKind.TheVariants.{Moves}
 use Rattle.plan_types.specs.Lines.{Clocks}
 use Rattle.motion_work.specs.Further.{AreFurther, noted_lines, told_on}
-use Rattle.motion_work.specs.Homes.{no_end}
 use Rattle.motion_work.specs.Puts.{IsPut, IsReadNews, Put, begun_notes}
-use Rattle.motion_work.specs.Seen.{AreStarted, IsPlanned, Started, ready_after}
-use Rattle.motion_work.specs.Takes.{all_answered, answered}
-use Rattle.motion_work.specs.Told.{Told, first_start, heard, tells_homed, told_at, told_of}
+use Rattle.motion_work.specs.Seen.{AreStarted, Started, ready_after}
+use Rattle.motion_work.specs.Told.{Told, first_start, heard, told_at, told_of}
 use Rattle.motion_work.specs.Turns.{done_notes}
-use Rattle.motion_work.proofs.Answering.{answers}
-use Rattle.motion_work.proofs.Feeding.{snoc_same}
 use Rattle.motion_work.proofs.Putting.{started_last}
-use Rattle.motion_work.proofs.Turning.{none_behind, ready_more}
+use Rattle.motion_work.proofs.Turning.{none_behind}
 use Rattle.motion_stream.specs.declared.course.Course.{Course}
 use Rattle.motion_stream.specs.Clear.{EndsOutside, IsClearTo, tells_sections}
-use Rattle.motion_stream.specs.Courses.{IsCourseOf, IsGoing, IsTold}
-use Rattle.motion_stream.specs.Motions.{Can, IsMore, IsPlannerOf, Makes, Planner, read_on, with_heed, with_lines, with_word}
+use Rattle.motion_stream.specs.Courses.{IsCourseOf, IsTold}
+use Rattle.motion_stream.specs.Motions.{Can, IsMore, IsPlannerOf, Makes, Planner, begun_with, ended_in, going_with, read_on, with_answer, with_lines, with_word}
 use Rattle.motion_stream.specs.Puts.{ArePutBy, HaveBegun, IsBehind}
 use Rattle.motion_stream.specs.Seen.{AreWhole, Going, Seen, count_of, sections_in}
 use Rattle.motion_stream.specs.Texts.{MayBecome}
 use Rattle.motion_stream.specs.Wholes.{AreOf, IsToldOf}
 use Rattle.motion_stream.proofs.Drawing.{whole_none}
-use Rattle.motion_stream.proofs.Laying.{sooner_text, sooner_whole, unanswered}
+use Rattle.motion_stream.proofs.Laying.{answer_whole, heard_none, none_going, sooner_text, sooner_whole}
 use Rattle.motion_stream.proofs.Planning.{split_last, told_all}
 use Rattle.motion_stream.proofs.Wholing.{are_there}
 
@@ -46,16 +39,9 @@ some_same : {X : Type 0} (x y : X) → Some x ≡ Some y → x ≡ y
 some_same x y p = cc
 
 -- a piece of the text
-no_going : (old new : Option Going) → IsMore old new → new ≡ None → old ≡ None
-no_going None None more e = refl
-no_going None (Some h) more e = refl
-no_going (Some g) None more e = absurd more
-no_going (Some g) (Some h) more e = absurd (none_some (sym e))
-
 pub text_clear : (m : Machine) (seen : Seen) (bytes : List ℕ) (end : Bool) (going : Option Going) (n : ℕ) → IsMore seen.going going → IsClearTo m seen n → IsClearTo m (read_on seen bytes end going) n
 text_clear m seen bytes end going n more cl = record {
   ends = λ all w. cl.ends all (sooner_whole m seen.told seen.next seen.begun all seen.going going more w);
-  waits = λ past s e none ends. cl.waits past s e (no_going seen.going going more none) ends;
   begins = λ t whole all others s told may w e. cl.begins t whole all others s told (sooner_text seen.ended end seen.text bytes whole may) (sooner_whole m seen.told seen.next seen.begun all seen.going going more w) e;
   unheard = cl.unheard;
 }
@@ -70,7 +56,6 @@ lines_clear m c seen w n (Some t) e h cl =
     let same : heard m seen.next w seen.told ≡ seen.told = ap (heard m seen.next w) e ∙ sym e in
     record {
       ends = λ all a. cl.ends all (subst (λ o. AreWhole m o seen.next seen.begun seen.going all) same a);
-      waits = cl.waits;
       begins = λ u whole all others s told may a is. cl.begins u whole all others s (sym same ∙ told) may (subst (λ o. AreWhole m o seen.next seen.begun seen.going all) same a) is;
       unheard = λ none. cl.unheard (sym same ∙ none);
     }
@@ -79,62 +64,25 @@ lines_clear m c seen w n None e h cl =
     let is : (all : List Started) → AreWhole m (heard m seen.next w seen.told) seen.next seen.begun seen.going all → all ≡ [] = λ all a. whole_none m (heard m seen.next w seen.told) seen.next seen.begun all seen.going h.2 a ∙ h.1 in
     record {
       ends = λ all a. subst (All (EndsOutside seen.next n)) (sym (is all a)) (All-nil (EndsOutside seen.next n));
-      waits = cl.waits;
       begins = λ u whole all others s told may a x. (let f = first_late seen.next w.turn (told_of m w) u (sym (ap (heard m seen.next w) e) ∙ told) in let r = ap (ready_after u.first) (is all a) in omega (arith, le, f, r));
       unheard = λ none. le;
     }
 
 -- an answer
-answer_by : (m : Machine) (seen : Seen) (n : ℕ) (tells : Bool) → seen.next ≤ 2 ^ 42 → ((g : Going) → seen.going ≡ Some g → all_answered seen.next seen.begun ≡ seen.begun) → IsClearTo m seen n
-    → IsClearTo m (record { text = seen.text; ended = seen.ended; read = seen.read; told = seen.told; lines = seen.lines; next = seen.next; begun = if tells then all_answered seen.next seen.begun else seen.begun; going = seen.going }) n
-answer_by m seen n false small un cl = record { ends = cl.ends; waits = cl.waits; begins = cl.begins; unheard = cl.unheard }
-answer_by m seen n true small un cl = elim (answers seen.next seen.begun) [
-  | inr e ↦ same e
-  | inl a ↦ by_going a.past a.s a.is a.waits a.started a.answer seen.going refl
-] where
-  B : List Started
-  B = all_answered seen.next seen.begun
-
-  now : Seen
-  now = record { text = seen.text; ended = seen.ended; read = seen.read; told = seen.told; lines = seen.lines; next = seen.next; begun = all_answered seen.next seen.begun; going = seen.going }
-
-  same : all_answered seen.next seen.begun ≡ seen.begun → IsClearTo m now n
-  same e = record {
-    ends = λ all w. cl.ends all (subst (λ b. AreWhole m seen.told seen.next b seen.going all) e w);
-    waits = λ past s is none ends. cl.waits past s (sym e ∙ is) none ends;
-    begins = λ t whole all others s told may w x. cl.begins t whole all others s told may (subst (λ b. AreWhole m seen.told seen.next b seen.going all) e w) x;
-    unheard = cl.unheard;
-  }
-
-  by_going : (past : List Started) (s : Started) → seen.begun ≡ past ++ s ∷ [] → s.end ≡ no_end → s.start ≤ seen.next → all_answered seen.next seen.begun ≡ past ++ answered seen.next s ∷ [] → (going : Option Going) → seen.going ≡ going → IsClearTo m now n
-  by_going past s is waits started answer (Some g) e = same (un g e)
-  by_going past s is waits started answer None e =
-      let old : AreWhole m seen.told seen.next seen.begun seen.going seen.begun = subst (λ g. AreWhole m seen.told seen.next seen.begun g seen.begun) (sym e) refl in
-      let le : n ≤ seen.next = (let w = cl.waits past s is e waits in omega (arith, w, started)) in
-      let are : (all : List Started) → AreWhole m seen.told seen.next (all_answered seen.next seen.begun) seen.going all → all ≡ past ++ answered seen.next s ∷ [] = λ all w. whole_none m seen.told seen.next (all_answered seen.next seen.begun) all seen.going e w ∙ answer in
-      let before : All (EndsOutside seen.next n) past = fronts past (s ∷ []) (subst (All (EndsOutside seen.next n)) is (cl.ends seen.begun old)) in
-      record {
-        ends = λ all w. subst (All (EndsOutside seen.next n)) (sym (are all w)) (All-append (EndsOutside seen.next n) past (answered seen.next s ∷ []) before (All-cons (EndsOutside seen.next n) (answered seen.next s) [] (inr le) (All-nil (EndsOutside seen.next n))));
-        waits = λ p x is_new none ends. omega (arith, le);
-        begins = λ t whole all others x told may w e2. (let r = ap (ready_after t.first) (are all w) ∙ ready_more t.first past (answered seen.next s) in omega (arith, r, le));
-        unheard = cl.unheard;
-      }
-    where
-      fronts : (xs ys : List Started) → All (EndsOutside seen.next n) (xs ++ ys) → All (EndsOutside seen.next n) xs
-      fronts [] ys h = All-nil (EndsOutside seen.next n)
-      fronts (x ∷ xs) ys h = All-cons (EndsOutside seen.next n) x xs (All-head (EndsOutside seen.next n) x (xs ++ ys) h) (fronts xs ys (All-tail (EndsOutside seen.next n) x (xs ++ ys) h))
-
-heed_clear : (p : Planner) (seen : Seen) (w : WordMsg) (n : ℕ) → IsPlannerOf p seen → IsClearTo p.machine seen n → IsClearTo p.machine (with_heed p.machine seen w) n
-heed_clear p seen w n h cl =
+answer_clear : (p : Planner) (seen : Seen) (w : WordMsg) (n : ℕ) → (seen.told ≡ None → seen.going ≡ None) → IsClearTo p.machine seen n → IsClearTo p.machine (with_answer p.machine seen w) n
+answer_clear p seen w n none cl =
     let m = p.machine in
-    let c = p.course in
-    let next = h.next in
-    let small = h.small in
-    answer_by m (with_lines m seen w) n (tells_homed w.news) (omega (arith, next, small)) (λ g e. unanswered m c.current c seen.told seen.begun seen.next g next (omega (arith, next, small)) (subst (λ (x : Option Going). IsGoing m c.current c seen.told seen.begun x) e h.going))
-    (lines_clear m c seen w n seen.told refl h.told cl)
+    let was : (all : List Started) → AreWhole m seen.told seen.next (begun_with seen.begun (ended_in m seen w)) (going_with seen.going (ended_in m seen w)) all → AreWhole m seen.told seen.next seen.begun seen.going all = answer_whole m seen w none in
+    record {
+      ends = λ all a. cl.ends all (was all a);
+      begins = λ t whole all others s told may a e. cl.begins t whole all others s told may (was all a) e;
+      unheard = cl.unheard;
+    }
 
 pub word_clear : (p : Planner) (seen : Seen) (w : WordMsg) (n : ℕ) → IsPlannerOf p seen → IsClearTo p.machine seen n → IsClearTo p.machine (with_word p.machine seen w) n
-word_clear p seen w n h cl = let c = heed_clear p seen w n h cl in record { ends = c.ends; waits = c.waits; begins = c.begins; unheard = c.unheard }
+word_clear p seen w n h cl =
+    let c = answer_clear p (with_lines p.machine seen w) w n (heard_none p.machine seen.next w seen.told seen.going (none_going p.machine p.course seen.told seen.begun seen.going h.told)) (lines_clear p.machine p.course seen w n seen.told refl h.told cl) in
+    record { ends = c.ends; begins = c.begins; unheard = c.unheard }
 
 -- a turn
 whole_count : (m : Machine) (told : Option Told) (next : ℕ) (begun all : List Started) (going : Option Going) → AreWhole m told next begun going all → length all ≡ count_of begun going
@@ -188,7 +136,6 @@ not_begun m c seen next k n ns h is cl lt = ∥∥₁_elim (are_there P next nex
 behind_clear : (m : Machine) (c : Course) (seen next : Seen) (k n : ℕ) (ns : List NoteNews) → k ≡ seen.next → IsCourseOf m c next → IsBehind m seen next k ns → IsClearTo m seen n → k < n → IsClearTo m next n
 behind_clear m c seen next k n ns at h is cl lt = record {
   ends = λ all w. (let o = same all w in subst (All (EndsOutside next.next n)) (sym o.2) (λ i d l. later (get_or o.0 i d) (cl.ends o.0 o.1 i d l)));
-  waits = λ past s e none ends. (let own : AreWhole m next.told next.next next.begun next.going next.begun = subst (λ g. AreWhole m next.told next.next next.begun g next.begun) (sym none) refl in let o = same next.begun own in by_going past s e ends o.0 o.1 (sym o.2 ∙ e) seen.going refl);
   begins = λ t whole all others s told may w e.
       let o = same all w in
       let z = told_first ns seen.told t (sym is.told ∙ told) in
@@ -210,27 +157,6 @@ behind_clear m c seen next k n ns at h is cl lt = record {
 
   later : (s : Started) → EndsOutside seen.next n s → EndsOutside next.next n s
   later s o = elim o [ inl before ↦ inl (let a = is.next in omega (arith, before, a)) | inr le ↦ inr le ]
-
-  -- a section of moves has no answer to wait for
-  moving : (told : Option Told) (past : List Started) (s : Started) → next.begun ≡ past ++ s ∷ [] → s.section.kind ≡ Moves → s.end ≡ no_end → IsTold m c told next.begun next.going → ⊥
-  moving None past s e kind ends d = none_behind past s (sym d.1 ∙ e)
-  moving (Some t) past s e kind ends d = ∥∥₁_elim d.started (hlevel props) (λ all.
-      let planned = (started_last m t.clocks t.first past s (subst (AreStarted m t.clocks t.first) e all)).planned in
-      let known = (subst (λ (x : SectionKind). IsPlanned x m t.clocks s) kind planned).known in
-      omega (arith, known, ends))
-
-  continued : (told : Option Told) (past old : List Started) (s : Started) (g : Going) → AreWhole m told seen.next seen.begun (Some g) old → old ≡ past ++ s ∷ [] → s.section.kind ≡ Moves
-  continued None past old s g w e = absurd w
-  continued (Some t) past old s g w e =
-      let x = (snoc_same seen.begun past w.0 s (sym w.1 ∙ e)).1 in
-      ap (λ (y : Started). y.section.kind) (sym x) ∙ ap (λ (y : Section). y.kind) w.2.section
-
-  by_going : (past : List Started) (s : Started) → next.begun ≡ past ++ s ∷ [] → s.end ≡ no_end → (old : List Started) → AreWhole m seen.told seen.next seen.begun seen.going old → old ≡ past ++ s ∷ [] → (going : Option Going) → seen.going ≡ going → n ≤ max next.next s.start
-  by_going past s e ends old w are None none =
-      let le = cl.waits past s (sym (whole_none m seen.told seen.next seen.begun old seen.going none w) ∙ are) none ends in
-      let a = is.next in
-      omega (arith, le, a)
-  by_going past s e ends old w are (Some g) some = absurd (moving next.told past s e (continued seen.told past old s g (subst (λ x. AreWhole m seen.told seen.next seen.begun x old) some w) are) ends h.told)
 
 -- the note of a turn that is clear
 no_done : (k n i : ℕ) (all : List Started) → k < n → All (EndsOutside k n) all → done_notes k i all ≡ []

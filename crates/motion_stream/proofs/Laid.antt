@@ -12,7 +12,6 @@ use Rattle.section_feed.proofs.Lasts.{kept-lasting}
 use Rattle.section_feed.proofs.Staying.{last-stays}
 use Rattle.section_feed.proofs.Taken.{steps-before}
 use Rattle.motion_work.specs.Seen.{Started}
-use Rattle.motion_work.specs.Takes.{answered}
 use Rattle.motion_stream.specs.Courses.{AreHomedBy, AreLaid, IsLaid}
 
 -- by a later turn
@@ -24,22 +23,10 @@ pub laid_later : (m : Machine) (clocks : List Clocks) (a b : ℕ) (begun : List 
 laid_later m clocks a b [] le h = tt
 laid_later m clocks a b (s ∷ begun) le h = (one_later s.section.kind m clocks a b s le h.0, laid_later m clocks a b begun le h.1)
 
--- one more, and another one in place of the last
+-- one more
 pub laid_more : (m : Machine) (clocks : List Clocks) (low : ℕ) (begun : List Started) (s : Started) → AreLaid m clocks low begun → IsLaid s.section.kind m clocks low s → AreLaid m clocks low (begun ++ s ∷ [])
 laid_more m clocks low [] s h one = (one, tt)
 laid_more m clocks low (x ∷ begun) s h one = (h.0, laid_more m clocks low begun s h.1 one)
-
-laid_last : (m : Machine) (clocks : List Clocks) (low : ℕ) (past : List Started) (s t : Started) → (IsLaid s.section.kind m clocks low s → IsLaid t.section.kind m clocks low t) → AreLaid m clocks low (past ++ s ∷ []) → AreLaid m clocks low (past ++ t ∷ [])
-laid_last m clocks low [] s t more h = (more h.0, tt)
-laid_last m clocks low (x ∷ past) s t more h = (h.0, laid_last m clocks low past s t more h.1)
-
-answered_same : (kind : SectionKind) (m : Machine) (clocks : List Clocks) (low next : ℕ) (s : Started) → IsLaid kind m clocks low s → IsLaid kind m clocks low (answered next s)
-answered_same Moves m clocks low next s h = h
-answered_same (Home axis) m clocks low next s h = tt
-
--- the last one has its answer
-pub laid_answered : (m : Machine) (clocks : List Clocks) (low next : ℕ) (past : List Started) (s : Started) → AreLaid m clocks low (past ++ s ∷ []) → AreLaid m clocks low (past ++ answered next s ∷ [])
-laid_answered m clocks low next past s h = laid_last m clocks low past s (answered next s) (answered_same s.section.kind m clocks low next s) h
 
 -- sections that start before a turn, and whose planned steps are before it
 abbrev pub EndsBy : SectionKind → Machine → List Clocks → ℕ → Started → Type 0

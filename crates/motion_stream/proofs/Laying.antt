@@ -1,33 +1,32 @@
 -- What was put stays as it is told.
 use Rattle.std.proofs.Common.{◌≡◌, ℕ, ◌+◌, ◌<◌, ◌≤◌, Bool, true, false, List, [], ◌∷◌, ◌++◌, All, length, append-nil, append_assoc, length-append, refl, ap, sym, subst, ◌∙◌, arith, inl, inr}
 use Rattle.std.proofs.lemmas.List.Elements.{All-append, All-cons, All-nil}
-use Rattle.std.specs.Prelude.{◌^◌, Option, Some, None, if◌then◌else◌}
+use Rattle.std.specs.Prelude.{◌&&◌, nat_le, Option, Some, None, if◌then◌else◌}
 use Rattle.msg_code.specs.declared.talk.WordMsg.{WordMsg}
-use Rattle.motion_work.specs.Takes.{all_answered}
-use Rattle.motion_work.proofs.Answering.{answers}
 use Rattle.motion_stream.specs.declared.course.Course.{Course}
-use Rattle.motion_stream.specs.declared.course.Open.{Open}
-use Rattle.motion_stream.specs.declared.course.Open.TheVariants as opens
 use Rattle.gcode_program.specs.Readers.{section_with}
 use Rattle.msg_code.specs.declared.talk.Note.{Note}
 use Rattle.msg_code.specs.declared.unit.Batch.{Batch}
 use Rattle.gcode_program.specs.Programs.{program_sections}
 use Rattle.plan_types.specs.declared.machine.Machine.{Machine}
-use Rattle.plan_types.specs.declared.plan.SectionKind.TheVariants.{Moves}
+use Rattle.plan_types.specs.declared.plan.SectionKind.{SectionKind}
+use Rattle.plan_types.specs.declared.plan.SectionKind.TheVariants.{Home, Moves}
+use Rattle.std.proofs.lemmas.Bool.Decides.{leb_tells}
 use Rattle.step_feed.specs.Pacing.{Release, batch_at}
 use Rattle.step_feed.specs.Units.{StepUnit}
 use Rattle.motion_work.specs.Feeds.{units_at}
 use Rattle.motion_work.specs.Puts.{ArePut, IsPut, Put, begun_notes}
-use Rattle.motion_work.specs.Seen.{AreDone, Started}
+use Rattle.motion_work.specs.Seen.{Started}
 use Rattle.motion_work.specs.Told.{Told, heard, tells_homed}
 use Rattle.motion_work.specs.Turns.{done_notes}
-use Rattle.motion_work.proofs.Putting.{begun_stay, done_stay, out_more, over_more, put_more, puts_answered, same_on, starts_answered}
-use Rattle.motion_stream.specs.Courses.{IsCourseOf, IsGoing, IsTold}
-use Rattle.motion_stream.specs.Motions.{Can, Hears, IsMore, IsPlannerOf, Makes, Planner, Reads, read_on, with_answer, with_heed, with_word}
+use Rattle.motion_work.proofs.Putting.{begun_stay, done_stay, out_more, over_more, put_more, same_on}
+use Rattle.motion_stream.specs.Courses.{IsCourseOf, IsTold}
+use Rattle.motion_stream.specs.Motions.{Can, Hears, IsMore, IsPlannerOf, Makes, Planner, Reads, answered, begun_with, ended_in, going_with, hears_answer, read_on, with_lines, with_word}
 use Rattle.motion_stream.specs.Puts.{ArePutBy, IsBehind, IsNew, IsPutOf}
-use Rattle.motion_stream.specs.Seen.{AreWhole, Going, Seen, nothing_seen}
+use Rattle.motion_stream.specs.Seen.{AreWhole, EndsBy, Going, Seen, homes_by, nothing_seen}
+use Rattle.motion_stream.proofs.ByKind.{answered_board, whole_moves}
 use Rattle.motion_stream.specs.Texts.{MayBecome, ended_after, text_after}
-use Rattle.motion_stream.proofs.Drawing.{boards_in_all, units_snoc, whole_none}
+use Rattle.motion_stream.proofs.Drawing.{boards_in_all, units_snoc}
 
 -- before the first turn nothing was put
 pub none_put : (m : Machine) → ArePutBy m nothing_seen []
@@ -48,14 +47,12 @@ sooner_whole m (Some t) next begun all (Some g) (Some h) more w = (
   w.0,
   w.1,
   record {
-    section = w.2.section ∙ ap (section_with Moves w.0.section.moves) more.dwell;
+    section = w.2.section ∙ ap (λ k. section_with k w.0.section.moves h.dwell) more.kind ∙ ap (section_with g.kind w.0.section.moves) more.dwell;
     moves = more.moves w.0.section.moves w.2.moves;
     start = w.2.start ∙ more.start;
-    end = w.2.end;
-    late = w.2.late;
-    known = w.2.known;
-    last = w.2.last;
-    moving = w.2.moving;
+    ends = subst (λ k. EndsBy k m next w.0) more.kind w.2.ends;
+    last = w.2.last ∙ more.last;
+    moving = w.2.moving ∙ more.moving;
     same = λ b k lt below. w.2.same b k lt below ∙ ap (λ (r : ℕ → List Release). batch_at k (r b)) more.released;
   },
 )
@@ -137,75 +134,70 @@ lines_whole m next w None begun all (Some g) h a = absurd (some_none (h refl)) w
   some_none e = cc
 lines_whole m next w (Some t) begun all going h a = a
 
+pub heard_none : (m : Machine) (next : ℕ) (w : WordMsg) (told : Option Told) (going : Option Going) → (told ≡ None → going ≡ None) → heard m next w told ≡ None → going ≡ None
+heard_none m next w None going none e = none refl
+heard_none m next w (Some t) going none e = absurd (some_none e) where
+  some_none : Some t ≡ None → ⊥
+  some_none p = cc
+
 pub none_going : (m : Machine) (c : Course) (told : Option Told) (begun : List Started) (going : Option Going) → IsTold m c told begun going → told ≡ None → going ≡ None
 none_going m c None begun going h e = h.2
 none_going m c (Some t) begun going h e = absurd (some_none e) where
   some_none : Some t ≡ None → ⊥
   some_none e = cc
 
--- an answer
-last_done : (next : ℕ) (past : List Started) (s : Started) → AreDone next (past ++ s ∷ []) → s.end < next
-last_done next [] s d = d.0
-last_done next (p ∷ past) s d = last_done next past s d.1
+-- An answer leaves of the whole sections that may be those where the one that homes ends by it.
+ends_home : (kind : SectionKind) (m : Machine) (next : ℕ) (x : Started) → homes_by kind ≡ true → x.end ≡ next → x.start ≤ next → EndsBy kind m next x
+ends_home Moves m next x home end start = absurd cc
+ends_home (Home axis) m next x home end start = omega (arith, end, start)
 
-pub unanswered : (m : Machine) (o : Open) (c : Course) (told : Option Told) (begun : List Started) (next : ℕ) (g : Going) → c.next ≡ next → next ≤ 2 ^ 42 → IsGoing m o c told begun (Some g) → all_answered next begun ≡ begun
-unanswered m opens.Nothing c told begun next g at small i = absurd (some_none i.none) where
+one_whole : (m : Machine) (told : Option Told) (next : ℕ) (begun all : List Started) (g : Going) (waits : Bool) → (homes_by g.kind && nat_le g.start next) ≡ waits → AreWhole m told next (begun_with begun (if waits then Some (answered m next g) else None)) (going_with (Some g) (if waits then Some (answered m next g) else None)) all → (told ≡ None → ⊥)
+    → AreWhole m told next begun (Some g) all
+one_whole m told next begun all g false e w on = w
+one_whole m None next begun all g true e w on = absurd (on refl)
+one_whole m (Some t) next begun all g true e w on =
+    let home = both (homes_by g.kind) (nat_le g.start next) e in
+    let start : g.start ≤ next = elim (leb_tells g.start next) [ inl p ↦ p.1 | inr p ↦ absurd (clash (sym home.1 ∙ p.0)) ] in (
+      answered m next g,
+      w,
+      record {
+        section = refl;
+        moves = whole_moves g.goes g.moves;
+        start = refl;
+        ends = ends_home g.kind m next (answered m next g) home.0 refl start;
+        last = refl;
+        moving = refl;
+        same = λ b k lt below. ap (batch_at k) (answered_board m next g b lt);
+      },
+    )
+  where
+    clash : true ≡ false → ⊥
+    clash p = cc
+
+    both : (a b : Bool) → (a && b) ≡ true → (a ≡ true) × (b ≡ true)
+    both true b e = (refl, e)
+    both false b e = absurd (clash (sym e))
+
+going_whole : (m : Machine) (told : Option Told) (next : ℕ) (begun all : List Started) (going : Option Going) (tells : Bool) → (told ≡ None → going ≡ None) → AreWhole m told next (begun_with begun (if tells then hears_answer m next going else None)) (going_with going (if tells then hears_answer m next going else None)) all
+    → AreWhole m told next begun going all
+going_whole m told next begun all going false on w = w
+going_whole m told next begun all None true on w = w
+going_whole m told next begun all (Some g) true on w = one_whole m told next begun all g (homes_by g.kind && nat_le g.start next) refl w (λ e. some_none (on e)) where
   some_none : Some g ≡ None → ⊥
   some_none e = cc
-unanswered m (opens.Home boards) c told begun next g at small i = absurd (some_none i.none) where
-  some_none : Some g ≡ None → ⊥
-  some_none e = cc
-unanswered m (opens.Moves s) c told begun next g at small i = elim (answers next begun) [
-  | inl a ↦ absurd (let d = last_done c.next a.past a.s (subst (AreDone c.next) a.is i.done) in let n = a.waits in omega (arith, d, n, at, small))
-  | inr e ↦ e
-]
 
-answer_kept : (m : Machine) (c : Course) (seen : Seen) (going : Option Going) (ps : List Put) (tells : Bool) → seen.going ≡ going → IsCourseOf m c seen → ArePutBy m seen ps
-    → ArePutBy m (record { text = seen.text; ended = seen.ended; read = seen.read; told = seen.told; lines = seen.lines; next = seen.next; begun = if tells then all_answered seen.next seen.begun else seen.begun; going = seen.going }) ps
-answer_kept m c seen going ps false e h put = record {
-  count = put.count;
-  put = λ whole all may. put.put whole all (record { text = may.text; sections = may.sections });
-  started = λ whole all may. put.started whole all (record { text = may.text; sections = may.sections });
-}
-answer_kept m c seen (Some g) ps true e h put =
-    let next = h.next in
-    let small = h.small in
-    let same = unanswered m c.current c seen.told seen.begun seen.next g next (omega (arith, next, small)) (subst (λ (x : Option Going). IsGoing m c.current c seen.told seen.begun x) e h.going) in
-    record {
-      count = put.count;
-      put = λ whole all may. put.put whole all (record { text = may.text; sections = subst (λ (b : List Started). AreWhole m seen.told seen.next b seen.going all) same may.sections });
-      started = λ whole all may. put.started whole all (record { text = may.text; sections = subst (λ (b : List Started). AreWhole m seen.told seen.next b seen.going all) same may.sections });
-    }
-answer_kept m c seen None ps true e h put =
-    let next = h.next in
-    let small = h.small in
-    let count = put.count in
-    let own : AreWhole m seen.told seen.next seen.begun seen.going seen.begun = subst (λ (x : Option Going). AreWhole m seen.told seen.next seen.begun x seen.begun) (sym e) refl in
-    let are : (all : List Started) → AreWhole m seen.told seen.next (all_answered seen.next seen.begun) seen.going all → all ≡ all_answered seen.next seen.begun = λ all w. whole_none m seen.told seen.next (all_answered seen.next seen.begun) all seen.going e w in
-    record {
-      count = count;
-      put = λ whole all may. subst (λ (b : List Started). ArePut m whole b 0 ps) (sym (are all may.sections)) (puts_answered m whole seen.next seen.begun 0 ps (omega (arith, count)) (omega (arith, next, small)) (put.put whole seen.begun (record { text = may.text; sections = own })));
-      started = λ whole all may. subst (λ (b : List Started). All (λ s. s.start < seen.next + 260) b) (sym (are all may.sections)) (starts_answered (seen.next + 260) seen.next seen.begun (put.started whole seen.begun (record { text = may.text; sections = own })));
-    }
-
-heed_kept : (m : Machine) (c : Course) (seen : Seen) (ps : List Put) (w : WordMsg) → IsCourseOf m c seen → ArePutBy m seen ps → ArePutBy m (with_heed m seen w) ps
-heed_kept m c seen ps w h put =
-    let one = answer_kept m c seen seen.going ps (tells_homed w.news) refl h put in
-    let back : (all : List Started) → AreWhole m (heard m seen.next w seen.told) seen.next (with_answer seen w).begun seen.going all → AreWhole m seen.told seen.next (with_answer seen w).begun seen.going all =
-    λ all a. lines_whole m seen.next w seen.told (with_answer seen w).begun all seen.going (none_going m c seen.told seen.begun seen.going h.told) a in
-    record {
-      count = one.count;
-      put = λ whole all may. one.put whole all (record { text = may.text; sections = back all may.sections });
-      started = λ whole all may. one.started whole all (record { text = may.text; sections = back all may.sections });
-    }
+pub answer_whole : (m : Machine) (seen : Seen) (w : WordMsg) → (seen.told ≡ None → seen.going ≡ None) → (all : List Started) → AreWhole m seen.told seen.next (begun_with seen.begun (ended_in m seen w)) (going_with seen.going (ended_in m seen w)) all → AreWhole m seen.told seen.next seen.begun seen.going all
+answer_whole m seen w on all a = going_whole m seen.told seen.next seen.begun all seen.going (tells_homed w.news) on a
 
 word_kept : (m : Machine) (c : Course) (seen : Seen) (ps : List Put) (w : WordMsg) → IsCourseOf m c seen → ArePutBy m seen ps → ArePutBy m (with_word m seen w) ps
 word_kept m c seen ps w h put =
-    let one = heed_kept m c seen ps w h put in
+    let none = none_going m c seen.told seen.begun seen.going h.told in
+    let was : (all : List Started) → AreWhole m (with_word m seen w).told seen.next (with_word m seen w).begun (with_word m seen w).going all → AreWhole m seen.told seen.next seen.begun seen.going all =
+    λ all a. lines_whole m seen.next w seen.told seen.begun all seen.going none (answer_whole m (with_lines m seen w) w (heard_none m seen.next w seen.told seen.going none) all a) in
     record {
-      count = one.count;
-      put = λ whole all may. one.put whole all (record { text = may.text; sections = may.sections });
-      started = λ whole all may. one.started whole all (record { text = may.text; sections = may.sections });
+      count = put.count;
+      put = λ whole all may. put.put whole all (record { text = may.text; sections = was all may.sections });
+      started = λ whole all may. put.started whole all (record { text = may.text; sections = was all may.sections });
     }
 
 pub word_put : (p q : Planner) (seen : Seen) (ps : List Put) (w : WordMsg) → IsPlannerOf p seen → ArePutBy p.machine seen ps → Hears p w q → IsPlannerOf q (with_word p.machine seen w) × ArePutBy q.machine (with_word p.machine seen w) ps

@@ -16,4 +16,5 @@ pub mod Limits
 pub mod Uptaking
 pub mod Homed
 pub mod Laid
+pub mod ByKind
 pub mod Leaving

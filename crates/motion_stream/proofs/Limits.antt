@@ -13,7 +13,6 @@ use Rattle.plan_types.specs.declared.machine.Machine.{Machine}
 use Rattle.plan_types.specs.declared.plan.Move.{Move}
 use Rattle.plan_types.specs.declared.plan.Section.{Section}
 use Rattle.plan_types.specs.declared.plan.SectionKind.{SectionKind}
-use Rattle.plan_types.specs.declared.plan.SectionKind.TheVariants.{Moves}
 use Rattle.plan_types.specs.Lines.{Clocks}
 use Rattle.plan_types.specs.Machines.{IsValidMachine}
 use Rattle.section_feed.specs.declared.section.SectionStream.{SectionStream}
@@ -24,7 +23,7 @@ use Rattle.motion_work.specs.Seen.{Started}
 use Rattle.motion_stream.specs.declared.course.Course.{Course}
 use Rattle.motion_stream.specs.declared.course.Open.TheVariants as opens
 use Rattle.motion_stream.specs.declared.source.Source.{Source}
-use Rattle.motion_stream.specs.Courses.{IsCourseBy, IsCourseOf, IsGoing, IsMoving}
+use Rattle.motion_stream.specs.Courses.{IsCourseBy, IsCourseOf, IsGoing, IsGoingOn}
 use Rattle.motion_stream.specs.Gone.{moves_ahead}
 use Rattle.motion_stream.specs.Seen.{Going, Seen, items_read, sections_in}
 use Rattle.motion_stream.specs.Texts.{IsSourceOf}
@@ -66,9 +65,9 @@ going_few m source text ended begun g false is goes valid h = absurd (clash goes
 going_few m source text ended begun g true is goes valid h =
     let f = source_front m source text text ended (items_read begun (Some g)) h (own_text ended text) in
     let its = source.items.items in
-    let own : items_read begun (Some g) ≡ items_of (sections_in begun) ++ (items.Begin Moves g.dwell ∷ moves_in g.moves) = ap (λ b. items_of (sections_in begun) ++ (items.Begin Moves g.dwell ∷ (moves_in g.moves ++ ending (not b)))) is ∙ ap (λ x. items_of (sections_in begun) ++ (items.Begin Moves g.dwell ∷ x)) (append-nil (moves_in g.moves)) in
-    let e : items_of (program_sections m text) ≡ items_of (sections_in begun) ++ (items.Begin Moves g.dwell ∷ (moves_in g.moves ++ (its ++ f.0))) = f.1 ∙ ap (λ x. x ++ (its ++ f.0)) own ∙ append_assoc (items_of (sections_in begun)) (items.Begin Moves g.dwell ∷ moves_in g.moves) (its ++ f.0) in
-    few_moves m text begun Moves g.dwell g.moves its f.0 valid e
+    let own : items_read begun (Some g) ≡ items_of (sections_in begun) ++ (items.Begin g.kind g.dwell ∷ moves_in g.moves) = ap (λ b. items_of (sections_in begun) ++ (items.Begin g.kind g.dwell ∷ (moves_in g.moves ++ ending (not b)))) is ∙ ap (λ x. items_of (sections_in begun) ++ (items.Begin g.kind g.dwell ∷ x)) (append-nil (moves_in g.moves)) in
+    let e : items_of (program_sections m text) ≡ items_of (sections_in begun) ++ (items.Begin g.kind g.dwell ∷ (moves_in g.moves ++ (its ++ f.0))) = f.1 ∙ ap (λ x. x ++ (its ++ f.0)) own ∙ append_assoc (items_of (sections_in begun)) (items.Begin g.kind g.dwell ∷ moves_in g.moves) (its ++ f.0) in
+    few_moves m text begun g.kind g.dwell g.moves its f.0 valid e
 
 some_same : {X : Type 0} (x y : X) → Some x ≡ Some y → x ≡ y
 some_same x y p = cc
@@ -76,20 +75,23 @@ some_same x y p = cc
 none_some : {X : Type 0} {x : X} → None ≡ Some x → ⊥
 none_some p = cc
 
-pub waiting_few : (m : Machine) (c : Course) (s : SectionStream) (seen : Seen) (source : Source) (text : List ℕ) (ended : Bool) → c.current ≡ opens.Moves s → IsCourseOf m c seen → IsSourceOf m source text ended (items_read seen.begun seen.going) → is_taking (queue_of s) ≡ true → count_in (queue_of s) + moves_ahead source.items.items ≤ 2_000_000
-waiting_few m c s seen source text ended open_is h from takes =
-    let i : IsMoving m s c seen.told seen.begun seen.going = subst (λ o. IsGoing m o c seen.told seen.begun seen.going) open_is h.going in
+pub waiting_few : (m : Machine) (c : Course) (s : SectionStream) (homes : Bool) (seen : Seen) (source : Source) (text : List ℕ) (ended : Bool) → c.current ≡ opens.Goes s homes → IsCourseOf m c seen → IsSourceOf m source text ended (items_read seen.begun seen.going) → is_taking (queue_of s) ≡ true → count_in (queue_of s) + moves_ahead source.items.items ≤ 2_000_000
+waiting_few m c s homes seen source text ended open_is h from takes =
+    let i : IsGoingOn m s homes c seen.told seen.begun seen.going = subst (λ o. IsGoing m o c seen.told seen.begun seen.going) open_is h.going in
     let few = going_few m source text ended seen.begun i.g i.g.goes refl (sym i.takes ∙ takes) h.machine (subst (λ x. IsSourceOf m source text ended (items_read seen.begun x)) i.is from) in
     let count : count_in (queue_of s) ≡ length i.g.moves = i.on.section.queue.moves_are.pushed_is in
     omega (arith, few, count)
 
--- a section that is begun
-pub begun_few : (m : Machine) (c : Course) (s : SectionStream) (seen : Seen) (turn free dwell start : ℕ) (rest its : List Item) (clocks : List Clocks) → IsCourseBy m c seen turn free → c.current ≡ opens.Nothing → c.source.items.items ≡ items.Begin Moves dwell ∷ rest → its ≡ rest → IsSectionOn m clocks start false s [] (λ b. []) → count_in (queue_of s) + moves_ahead its ≤ 2_000_000
-begun_few m c s seen turn free dwell start rest its clocks h nothing is same on =
+-- the moves of a section that is begun
+pub begun_few : (m : Machine) (c : Course) (seen : Seen) (turn free dwell : ℕ) (kind : SectionKind) (rest its : List Item) → IsCourseBy m c seen turn free → c.current ≡ opens.Nothing → c.source.items.items ≡ items.Begin kind dwell ∷ rest → its ≡ rest → moves_ahead its ≤ 2_000_000
+begun_few m c seen turn free dwell kind rest its h nothing is same =
     let none : seen.going ≡ None = (subst (λ o. IsGoing m o c seen.told seen.begun seen.going) nothing h.going).none in
     let f = source_front m c.source seen.text seen.text seen.ended (items_read seen.begun seen.going) h.source (own_text seen.ended seen.text) in
-    let e : items_of (program_sections m seen.text) ≡ items_of (sections_in seen.begun) ++ (items.Begin Moves dwell ∷ (moves_in [] ++ (rest ++ f.0))) = f.1 ∙ ap (λ x. items_read seen.begun x ++ (c.source.items.items ++ f.0)) none ∙ ap (λ (x : List Item). items_of (sections_in seen.begun) ++ (x ++ f.0)) is in
-    let few = few_moves m seen.text seen.begun Moves dwell [] rest f.0 h.machine e in
-    let count : count_in (queue_of s) ≡ 0 = on.section.queue.moves_are.pushed_is in
+    let e : items_of (program_sections m seen.text) ≡ items_of (sections_in seen.begun) ++ (items.Begin kind dwell ∷ (moves_in [] ++ (rest ++ f.0))) = f.1 ∙ ap (λ x. items_read seen.begun x ++ (c.source.items.items ++ f.0)) none ∙ ap (λ (x : List Item). items_of (sections_in seen.begun) ++ (x ++ f.0)) is in
+    let few = few_moves m seen.text seen.begun kind dwell [] rest f.0 h.machine e in
     let ahead = ap moves_ahead same in
-    omega (arith, few, count, ahead)
+    omega (arith, few, ahead)
+
+-- of a section of which none was pushed
+pub none_pushed : (m : Machine) (clocks : List Clocks) (start : ℕ) (homing : Bool) (s : SectionStream) → IsSectionOn m clocks start homing s [] (λ b. []) → count_in (queue_of s) ≡ 0
+none_pushed m clocks start homing s on = on.section.queue.moves_are.pushed_is

@@ -1,14 +1,11 @@
 -- A section that is begun.
-use Rattle.std.proofs.Common.{◌≡◌, ℕ, zero, suc, ◌+◌, ◌*◌, ◌<◌, ◌≤◌, ◌^◌, Bool, true, false, not, max, List, [], ◌∷◌, ◌++◌, length, map, append_assoc, length-append, refl, ap, sym, subst, ◌∙◌, arith, inl, inr}
-use Rattle.std.proofs.Math.Logic.{∥∥₁_map}
-use Rattle.std.proofs.lemmas.List.{map-append}
+use Rattle.std.proofs.Common.{◌≡◌, ℕ, zero, suc, ◌+◌, ◌*◌, ◌<◌, ◌≤◌, ◌^◌, Bool, true, false, not, max, List, [], ◌∷◌, ◌++◌, length, append-nil, append_assoc, refl, ap, sym, subst, ◌∙◌, arith, inl, inr}
 use Rattle.std.specs.Prelude.{◌-◌, ◌/◌, All, Option, Some, None}
 use Rattle.gcode_program.specs.declared.items.Item.{Item}
 use Rattle.gcode_program.specs.declared.items.Item.TheVariants as items
 use Rattle.gcode_program.specs.Items.{IsGood, ending, items_of, moves_in}
 use Rattle.gcode_program.specs.Reader.{IsAll}
-use Rattle.gcode_program.specs.Readers.{IsReaderOf, section_with}
-use Rattle.gcode_program.proofs.Telling.{items_append}
+use Rattle.gcode_program.specs.Readers.{IsReaderOf}
 use Rattle.msg_code.specs.declared.talk.NoteNews.{NoteNews}
 use Rattle.msg_code.specs.declared.talk.NoteNews.TheVariants as news
 use Rattle.plan_types.specs.declared.machine.Machine.{Machine}
@@ -19,24 +16,13 @@ use Rattle.plan_types.specs.declared.plan.SectionKind.{SectionKind}
 use Rattle.plan_types.specs.declared.plan.SectionKind.TheVariants.{Home, Moves}
 use Rattle.plan_types.specs.Clock.{turn_ns}
 use Rattle.plan_types.specs.Lines.{Clocks, lines_tick}
-use Rattle.plan_types.specs.Speeds.{greatest_speeds}
 use Rattle.section_feed.specs.declared.section.SectionStream.{SectionStream}
 use Rattle.section_feed.specs.On.{IsSectionOn}
-use Rattle.section_feed.specs.Sections.{next_of}
-use Rattle.step_feed.specs.Pacing.{Release}
-use Rattle.step_feed.specs.declared.whole.Batches.{Batches}
-use Rattle.motion_work.specs.Feeds.{releases_of}
-use Rattle.motion_work.specs.Homes.{AreHomesOnBoards, last_step, moving_in, no_end}
-use Rattle.motion_work.proofs.Sending.{sent_more}
-use Rattle.motion_work.specs.Seen.{AreBoardClocks, AreDone, IsHomed, IsOpen, IsStarted, Started, ready_after}
+use Rattle.motion_work.specs.Seen.{AreBoardClocks, AreDone, IsOpen, Started, ready_after}
 use Rattle.motion_work.specs.Told.{Told}
-use Rattle.motion_work.proofs.Putting.{early_units}
-use Rattle.motion_work.specs.Begins.{AreOnBoardsBy}
-use Rattle.motion_work.specs.Feeds.{fed_of, limited, whole_of}
-use Rattle.motion_work.specs.declared.feed.Fed.{Fed}
 use Rattle.motion_work.proofs.Homing.{near_short}
 use Rattle.std.proofs.Math.Nat.{mul-le-mul_left}
-use Rattle.std.proofs.lemmas.List.Elements.{All-cons, All-head, All-nil, All-tail}
+use Rattle.std.proofs.lemmas.List.Elements.{All-cons, All-head, All-nil}
 use Rattle.plan_types.specs.declared.plan.Line.{Line}
 use Rattle.plan_types.specs.Clock.{tick, tick_limit}
 use Rattle.plan_types.specs.Machines.{IsValidMachine}
@@ -47,28 +33,25 @@ use Rattle.section_plan.specs.Runs.{IsPlannable, IsReadyBoard, move_ns}
 use Rattle.section_stream.specs.Apart.{AreApart}
 use Rattle.section_feed.specs.Boards.{IsLasting}
 use Rattle.section_feed.proofs.Lasts.{kept-lasting, last-soon, lines-small}
-use Rattle.section_feed.proofs.Ends.{end-after}
-use Rattle.motion_work.proofs.Turning.{clocks_later, end_after, ready_more, started_more}
+use Rattle.motion_work.proofs.Turning.{clocks_later, end_after, ready_more}
 use Rattle.motion_stream.specs.declared.course.BoardLines.{BoardLines}
 use Rattle.motion_stream.specs.declared.course.Course.{Course}
 use Rattle.motion_stream.specs.declared.course.Open.{Open}
 use Rattle.motion_stream.specs.declared.course.Open.TheVariants as opens
 use Rattle.motion_stream.specs.declared.source.Source.{Source}
-use Rattle.motion_stream.proofs.Laid.{laid_later, laid_more}
-use Rattle.motion_stream.specs.Courses.{AreAhead, IsConnected, IsCourseBy, IsCourseOf, IsEarly, IsGoing, IsHoming, IsIdle, IsLater, IsTold, IsUptake}
-use Rattle.motion_stream.specs.Gone.{HasTaken}
-use Rattle.motion_stream.specs.Seen.{AreWhole, Going, Seen, count_of, items_read, moves_end, sections_in}
+use Rattle.motion_stream.proofs.Drawing.{same_go, some_same}
+use Rattle.motion_stream.proofs.Laid.{laid_later}
+use Rattle.motion_stream.specs.Courses.{AreAhead, GoesAs, IsConnected, IsCourseBy, IsCourseOf, IsEarly, IsGoing, IsIdle, IsLater, IsTold, IsUptake}
+use Rattle.motion_stream.specs.Gone.{HasOpened, TellsAs}
+use Rattle.motion_stream.specs.Seen.{AreWhole, Going, Seen, count_of, homes_by, items_read, sections_in}
+use Rattle.motion_stream.proofs.ByKind.{starts_late}
 use Rattle.motion_stream.specs.Steps.{AreBegun, IsBegun, IsDue, IsNotDue}
 use Rattle.motion_stream.specs.Texts.{IsSourceOf}
 use Rattle.motion_stream.proofs.Sourcing.{waiting_good}
-use Rattle.motion_stream.proofs.Drawing.{uptake_kept}
-use Rattle.motion_stream.proofs.Homed.{homed_later, homed_more}
+use Rattle.motion_stream.proofs.Homed.{homed_later}
 
 clash : true ≡ false → ⊥
 clash p = cc
-
-some_same : {X : Type 0} (x y : X) → Some x ≡ Some y → x ≡ y
-some_same x y p = cc
 
 none_some : {X : Type 0} (x : X) → None ≡ Some x → ⊥
 none_some x p = cc
@@ -159,31 +142,38 @@ not_not : (b : Bool) → not (not b) ≡ b
 not_not true = refl
 not_not false = refl
 
--- a section of moves that was begun: these moves were read
-abbrev pub fresh : ℕ → ℕ → List Move → Bool → Going
-fresh dwell start moves ends = record { dwell = dwell; start = start; moves = moves; goes = not ends; released = λ b. [] }
+-- a section that was begun: these moves were read
+abbrev pub fresh : SectionKind → ℕ → ℕ → List Move → Bool → ℕ → ℕ → Going
+fresh kind dwell start moves ends last moving = record { kind = kind; dwell = dwell; start = start; moves = moves; goes = not ends; last = last; moving = moving; released = λ b. [] }
 
-moves_source : (begun : List Started) (dwell start : ℕ) (more : List Move) (ends : Bool) (rest left : List Item) → rest ≡ (moves_in more ++ ending ends) ++ left
-    → items_of (sections_in begun) ++ items.Begin Moves dwell ∷ rest ≡ items_read begun (Some (fresh dwell start more ends)) ++ left
-moves_source begun dwell start more ends rest left is =
-    ap (λ r. items_of (sections_in begun) ++ items.Begin Moves dwell ∷ r) (is ∙ ap (λ e. (moves_in more ++ ending e) ++ left) (sym (not_not ends)))
-    ∙ sym (append_assoc (items_of (sections_in begun)) (items.Begin Moves dwell ∷ (moves_in more ++ ending (not (not ends)))) left)
+section_source : (begun : List Started) (kind : SectionKind) (dwell start last moving : ℕ) (more : List Move) (ends : Bool) (rest left : List Item) → rest ≡ (moves_in more ++ ending ends) ++ left
+    → items_of (sections_in begun) ++ items.Begin kind dwell ∷ rest ≡ items_read begun (Some (fresh kind dwell start more ends last moving)) ++ left
+section_source begun kind dwell start last moving more ends rest left is =
+    ap (λ r. items_of (sections_in begun) ++ items.Begin kind dwell ∷ r) (is ∙ ap (λ e. (moves_in more ++ ending e) ++ left) (sym (not_not ends)))
+    ∙ sym (append_assoc (items_of (sections_in begun)) (items.Begin kind dwell ∷ (moves_in more ++ ending (not (not ends)))) left)
 
-pub moves_begun : (m : Machine) (old new : Course) (seen : Seen) (k start dwell : ℕ) (rest : List Item) (first s : SectionStream) (n : NoteNews) → IsCourseBy m old seen (k + 260) (k + 261) → old.next ≡ k + 1 → k < 2 ^ 42
-    → IsDueIn m old seen k start dwell Moves rest → old.source.items.items ≡ items.Begin Moves dwell ∷ rest → HasTaken first s rest new.source.items.items
-    → IsSectionOn m old.lines.each.items start false first [] (λ b. []) → next_of first + 250 ≡ start → IsOpened old new start old.lines.homed → new.current ≡ opens.Moves s → new.ready ≡ old.ready → n ≡ news.Start old.place Moves start 0 0
+fresh_as : (kind : SectionKind) (m : Machine) (clocks : List Clocks) (next homed dwell start last moving : ℕ) (moves : List Move) (ends : Bool) → TellsAs kind m clocks start moves ends last moving → next + 1 ≤ start → last ≤ homed → GoesAs kind m clocks next homed (fresh kind dwell start moves ends last moving)
+fresh_as Moves m clocks next homed dwell start last moving moves ends tells soon low = record { late = λ all f. (let e = end_after m clocks all start in omega (arith, e, soon)); last = tells.0; moving = tells.1 }
+fresh_as (Home axis) m clocks next homed dwell start last moving moves ends tells soon low = record { whole = ap not tells.0; last = tells.1; moving = tells.2; low = low }
+
+pub section_begun : (m : Machine) (old new : Course) (seen : Seen) (k start dwell last moving : ℕ) (kind : SectionKind) (rest : List Item) (s : SectionStream) (homes : Bool) (n : NoteNews) → IsCourseBy m old seen (k + 260) (k + 261) → old.next ≡ k + 1 → k < 2 ^ 42
+    → IsDueIn m old seen k start dwell kind rest → old.source.items.items ≡ items.Begin kind dwell ∷ rest → HasOpened m old.lines.each.items kind start rest new.source.items.items s last moving
+    → IsOpened old new start (max old.lines.homed last) → new.current ≡ opens.Goes s homes → homes ≡ homes_by kind → new.ready ≡ old.ready → n ≡ news.Start old.place kind start last moving
     → (next : Seen) × IsBegun m seen next k (Some n) × IsCourseOf m new next
-moves_begun m old new seen k start dwell rest first s n h next small d its taken on from o moves ready told =
+section_begun m old new seen k start dwell last moving kind rest s homes n h next small d its opened o current homes_is ready told =
     let t = d.t in
     let none = d.idle.none in
-    let g = fresh dwell start taken.more taken.ends in
+    let g = fresh kind dwell start opened.moves opened.ends last moving in
     let exact = d.exact in
     let n' = o.next in
     let seen_next : seen.next ≡ k + 1 = sym h.next ∙ next in
     let place : old.place ≡ length seen.begun = h.place ∙ ap (count_of seen.begun) none in
     let few = h.few in
     let p' = o.place in
-    let its_next = taken.next in (
+    let from = opened.next in
+    let homed = ap (λ (l : BoardLines). l.homed) o.lines in
+    let on : IsSectionOn m t.clocks start (homes_by kind) s opened.moves (λ b. []) = subst (λ c. IsSectionOn m c start (homes_by kind) s opened.moves (λ b. [])) d.is.lines opened.on in
+    let tells : TellsAs kind m t.clocks start opened.moves opened.ends last moving = subst (λ c. TellsAs kind m c start opened.moves opened.ends last moving) d.is.lines opened.tells in (
       with_begun seen seen.begun (Some g),
       record {
         text = refl;
@@ -192,12 +182,13 @@ moves_begun m old new seen k start dwell rest first s n h next small d its taken
         told = refl;
         lines = refl;
         next = refl;
+        sections = record { more = []; are = sym (append-nil seen.begun); moves = tt; goes = λ x e. inl (ap (λ (y : Going). y.start) (some_same x g (sym e)) ∙ exact) };
         grown = λ all w. grown_by seen.told d.told_is all w none seen_next place told exact;
       },
       record {
         machine = h.machine;
         source = source_on m old.source new.source seen.text seen.ended (items_read seen.begun seen.going) (items_read seen.begun (Some g)) o.reader o.end o.ended
-            (ap (λ x. items_read seen.begun x ++ old.source.items.items) none ∙ ap (λ is. items_of (sections_in seen.begun) ++ is) its ∙ moves_source seen.begun dwell start taken.more taken.ends rest new.source.items.items taken.items_are) h.source;
+            (ap (λ x. items_read seen.begun x ++ old.source.items.items) none ∙ ap (λ is. items_of (sections_in seen.begun) ++ is) its ∙ section_source seen.begun kind dwell start last moving opened.moves opened.ends rest new.source.items.items opened.items_are) h.source;
         read = o.read ∙ h.read;
         told = subst (λ x. IsTold m new x seen.begun (Some g)) (sym d.told_is) (record {
           connected = o.connected ∙ d.is.connected;
@@ -214,39 +205,40 @@ moves_begun m old new seen k start dwell rest first s n h next small d its taken
         small = omega (arith, n', next, small);
         place = p' ∙ ap (λ x. x + 1) place;
         few = omega (arith, few, p', n', next);
-        going = subst (λ x. IsGoing m x new seen.told seen.begun (Some g)) (sym moves) (record {
+        going = subst (λ x. IsGoing m x new seen.told seen.begun (Some g)) (sym current) (record {
           g = g;
           is = refl;
+          homes_is = homes_is;
           t = t;
           told_is = d.told_is;
-          on = subst (λ c. IsSectionOn m c start false s taken.more (λ b. [])) d.is.lines (taken.on m old.lines.each.items start [] (λ b. []) on);
+          on = subst (λ b. IsSectionOn m t.clocks start b s opened.moves (λ b. [])) (sym homes_is) on;
           start = d.start_is;
           start_is = o.start_is;
           soon = omega (arith, exact, n', next);
-          takes = taken.takes;
-          next = omega (arith, its_next, from, exact, n', next);
+          takes = opened.takes;
+          next = omega (arith, from, exact, n', next);
           done = subst (λ x. AreDone x seen.begun) (sym next ∙ sym n') d.over;
-          late = λ all f. let e = end_after m t.clocks all start in omega (arith, e, exact, n', next);
+          goes_as = fresh_as kind m t.clocks new.next new.lines.homed dwell start last moving opened.moves opened.ends tells (omega (arith, exact, n', next)) (omega (arith, homed));
           fresh = λ e b. refl;
           rested = λ e. absurd (omega (arith, e, exact, n', next));
           before = λ b. tt;
           ahead = subst (λ x. AreAhead m x.items new.next seen.begun) (sym o.ahead) (subst (λ x. AreAhead m old.ahead.items x seen.begun) (sym n') d.idle.ahead);
         });
-        early = subst (λ x. IsEarly x (new.next + 260) (new.next + 260) new) (sym moves) tt;
-        uptake = uptake_kept old.lines new.lines seen.next seen.next seen.begun seen.begun seen.lines o.lines (omega arith) (λ hs. hs) h.uptake;
+        early = subst (λ x. IsEarly x (new.next + 260) (new.next + 260) new) (sym current) tt;
+        uptake = subst (λ (y : BoardLines). IsUptake y seen.next seen.begun seen.lines) (sym o.lines) (record {
+          waiting = h.uptake.waiting;
+          homed = homed_later old.lines.homed (max old.lines.homed last) seen.next seen.next seen.begun (omega arith) (omega arith) h.uptake.homed;
+        });
       },
     )
   where
-    grown_by : (told : Option Told) → told ≡ Some d.t → (all : List Started) → AreWhole m told seen.next seen.begun (Some (fresh dwell start taken.more taken.ends)) all → seen.going ≡ None → seen.next ≡ k + 1 → old.place ≡ length seen.begun → n ≡ news.Start old.place Moves start 0 0 → start ≡ k + 260
+    grown_by : (told : Option Told) → told ≡ Some d.t → (all : List Started) → AreWhole m told seen.next seen.begun (Some (fresh kind dwell start opened.moves opened.ends last moving)) all → seen.going ≡ None → seen.next ≡ k + 1 → old.place ≡ length seen.begun → n ≡ news.Start old.place kind start last moving → start ≡ k + 260
         → AreBegun m seen k (Some n) all
     grown_by None e all w none at place news_is exact = absurd (none_some d.t e)
     grown_by (Some u) e all w none at place news_is exact =
         let x = w.0 in
         let is = w.2 in
-        let ends = is.end in
         let starts = is.start in
-        let ea = end-after m.cruise x.section.moves (greatest_speeds x.section.moves m.scv) (x.start * turn_ns) in
-        let over : x.start ≤ moves_end m x.section.moves x.start = omega (arith, ea) in
         record {
           before = seen.begun;
           whole = whole_of seen.going none;
@@ -256,12 +248,11 @@ moves_begun m old new seen k start dwell rest first s n h next small d its taken
             record {
               new = record {
                 start = starts ∙ exact;
-                late = omega (arith, over, ends);
-                waits = λ axis home. absurd (moves_home axis (sym (ap (λ (z : Section). z.kind) is.section) ∙ home));
+                late = starts_late kind m seen.next x is.ends;
                 none = λ b j lt le. is.same b j lt (omega (arith, le, at));
               };
-              told = ap Some (news_is ∙ ap (λ y. news.Start y Moves start 0 0) place ∙ ap (λ y. news.Start (length seen.begun) y start 0 0) (sym (ap (λ (z : Section). z.kind) is.section))
-                  ∙ ap (λ y. news.Start (length seen.begun) x.section.kind y 0 0) (sym starts) ∙ ap (λ y. news.Start (length seen.begun) x.section.kind x.start y 0) (sym is.last) ∙ ap (λ y. news.Start (length seen.begun) x.section.kind x.start x.last y) (sym is.moving));
+              told = ap Some (news_is ∙ ap (λ y. news.Start y kind start last moving) place ∙ ap (λ y. news.Start (length seen.begun) y start last moving) (sym (ap (λ (z : Section). z.kind) is.section))
+                  ∙ ap (λ y. news.Start (length seen.begun) x.section.kind y last moving) (sym starts) ∙ ap (λ y. news.Start (length seen.begun) x.section.kind x.start y moving) (sym is.last) ∙ ap (λ y. news.Start (length seen.begun) x.section.kind x.start x.last y) (sym is.moving));
             },
           );
         }
@@ -269,114 +260,6 @@ moves_begun m old new seen k start dwell rest first s n h next small d its taken
         whole_of : (going : Option Going) → going ≡ None → AreWhole m seen.told seen.next seen.begun going seen.begun
         whole_of None e = refl
         whole_of (Some g) e = absurd (none_some g (sym e))
-
--- a section that homes, as it is begun
-abbrev pub homed : ℕ → ℕ → ℕ → ℕ → Move → ℕ → List (List Release) → Started
-homed axis dwell start last one moving boards = record { section = section_with (Home axis) (one ∷ []) dwell; start = start; end = no_end; last = last; moving = moving; boards = boards }
-
-home_moves : {axis : ℕ} → Home axis ≡ Moves → ⊥
-home_moves p = cc
-
-pub home_begun : (m : Machine) (old new : Course) (seen : Seen) (k start dwell axis last moving : ℕ) (one : Move) (rest : List Item) (boards : List Batches) (n : NoteNews) → IsCourseBy m old seen (k + 260) (k + 261) → old.next ≡ k + 1 → k < 2 ^ 42
-    → IsDueIn m old seen k start dwell (Home axis) rest → old.source.items.items ≡ items.Begin (Home axis) dwell ∷ items.Move one ∷ items.End ∷ new.source.items.items
-    → AreHomesOnBoards m old.lines.each.items (one ∷ []) start (map releases_of boards) → last ≡ last_step m old.lines.each.items (one ∷ []) start → moving ≡ moving_in m (one ∷ []) → IsOpened old new start (max old.lines.homed last)
-    → (IsHoming m boards new (seen.begun ++ homed axis dwell start last one moving (map releases_of boards) ∷ []) None → IsGoing m new.current new seen.told (seen.begun ++ homed axis dwell start last one moving (map releases_of boards) ∷ []) None) → IsEarly new.current (new.next + 260) (new.next + 260) new
-    → new.ready ≡ no_end + 260 → n ≡ news.Start old.place (Home axis) start last moving → (next : Seen) × IsBegun m seen next k (Some n) × IsCourseOf m new next
-home_begun m old new seen k start dwell axis last moving one rest boards n h next small d its on last_is moving_is o goes early ready told =
-    let t = d.t in
-    let none = d.idle.none in
-    let x = homed axis dwell start last one moving (map releases_of boards) in
-    let begun = seen.begun ++ x ∷ [] in
-    let exact = d.exact in
-    let n' = o.next in
-    let seen_next : seen.next ≡ k + 1 = sym h.next ∙ next in
-    let place : old.place ≡ length seen.begun = h.place ∙ ap (count_of seen.begun) none in
-    let few = h.few in
-    let p' = o.place in
-    let l = d.first in
-    let started : IsStarted m t.clocks (ready_after t.first seen.begun) x = record {
-      start = d.start_is;
-      planned = subst (λ c. IsHomed m c x) d.is.lines (record {
-        late = omega (arith, exact, small);
-        last = last_is;
-        moving = moving_is;
-        planned = map releases_of boards;
-        are = on;
-        boards = inl (refl, refl);
-      });
-    } in
-    let items_are : items_read seen.begun seen.going ++ old.source.items.items ≡ items_read begun None ++ new.source.items.items =
-    ap (λ y. items_read seen.begun y ++ old.source.items.items) none ∙ ap (λ is. items_of (sections_in seen.begun) ++ is) its
-    ∙ sym (append_assoc (items_of (sections_in seen.begun)) (items.Begin (Home axis) dwell ∷ items.Move one ∷ items.End ∷ []) new.source.items.items)
-    ∙ ap (λ is. is ++ new.source.items.items) (sym (ap items_of (map-append (λ (y : Started). y.section) seen.begun (x ∷ [])) ∙ items_append (sections_in seen.begun) (x.section ∷ []))) in (
-      with_begun seen begun None,
-      record {
-        text = refl;
-        ended = refl;
-        read = refl;
-        told = refl;
-        lines = refl;
-        next = refl;
-        grown = λ all w. record {
-          before = seen.begun;
-          whole = whole_of seen.going none;
-          are = inr (
-            x,
-            w,
-            record {
-              new = record {
-                start = exact;
-                late = omega (arith, exact, small);
-                waits = λ other home. refl;
-                none = λ b j lt le. early_units m t.clocks (ready_after t.first seen.begun) x b j started lt (omega (arith, le, exact));
-              };
-              told = ap Some (told ∙ ap (λ y. news.Start y (Home axis) start last moving) place);
-            },
-          );
-        };
-      },
-      record {
-        machine = h.machine;
-        source = source_on m old.source new.source seen.text seen.ended (items_read seen.begun seen.going) (items_read begun None) o.reader o.end o.ended items_are h.source;
-        read = o.read ∙ h.read;
-        told = subst (λ y. IsTold m new y begun None) (sym d.told_is) (record {
-          connected = o.connected ∙ d.is.connected;
-          lines = ap (λ y. y.each.items) o.lines ∙ d.is.lines;
-          ready = λ e. ready ∙ sym (ready_more t.first seen.begun x);
-          started = ∥∥₁_map d.is.started (λ all. started_more m t.clocks t.first seen.begun x all started);
-          sent = ∥∥₁_map d.is.sent (λ all. sent_more m t.clocks seen.begun x all (λ k. absurd (home_moves k)));
-          clocks = d.is.clocks;
-          laid = laid_more m t.clocks (new.next + 268) seen.begun x (laid_later m t.clocks (old.next + 268) (new.next + 268) seen.begun (omega (arith, n', next)) d.is.laid) tt;
-          first = d.is.first;
-          late = let r = ready_more t.first seen.begun x in omega (arith, r, l, exact, small);
-        });
-        next = o.next ∙ h.next;
-        small = omega (arith, n', next, small);
-        place = p' ∙ ap (λ y. y + 1) place ∙ sym (length-append seen.begun (x ∷ []));
-        few = omega (arith, few, p', n', next);
-        going = goes (record {
-          none = refl;
-          past = seen.begun;
-          last = x;
-          are = refl;
-          waits = refl;
-          start = o.start_is;
-          late = omega (arith, exact, small);
-          done = subst (λ y. AreDone y seen.begun) (sym next ∙ sym n') d.over;
-          ahead = subst (λ y. AreAhead m y.items new.next seen.begun) (sym o.ahead) (subst (λ y. AreAhead m old.ahead.items y seen.begun) (sym n') d.idle.ahead);
-          units = λ b j lt le. refl;
-        });
-        early = early;
-        uptake = subst (λ (y : BoardLines). IsUptake y seen.next begun seen.lines) (sym o.lines) (record {
-          waiting = h.uptake.waiting;
-          homed = homed_more (max old.lines.homed last) seen.next seen.begun x (homed_later old.lines.homed (max old.lines.homed last) seen.next seen.next seen.begun (omega arith) (omega arith) h.uptake.homed) (inr (omega arith, inr refl));
-        });
-      },
-    )
-  where
-    whole_of : (going : Option Going) → going ≡ None → AreWhole m seen.told seen.next seen.begun going seen.begun
-    whole_of None e = refl
-    whole_of (Some g) e = absurd (none_some g (sym e))
 
 -- none is due
 not_later : (c : Course) (k : ℕ) (end : Option ReadEnd) (its : List Item) → ((kind : SectionKind) (dwell : ℕ) (rest : List Item) → its ≡ items.Begin kind dwell ∷ rest → k + 260 < c.ready + dwell) → IsLater (k + 260) (k + 261) c.ready end its → IsLater (k + 261) (k + 261) c.ready end its
@@ -392,8 +275,7 @@ not_later c k (Some e) (items.End ∷ its) due l = tt
 still_early : (o : Open) (c : Course) (k : ℕ) → (o ≡ opens.Nothing → c.connected ≡ true → (kind : SectionKind) (dwell : ℕ) (rest : List Item) → c.source.items.items ≡ items.Begin kind dwell ∷ rest → k + 260 < c.ready + dwell)
     → IsEarly o (k + 260) (k + 261) c → IsEarly o (k + 261) (k + 261) c
 still_early opens.Nothing c k due e = λ on. not_later c k c.source.end c.source.items.items (due refl on) (e on)
-still_early (opens.Home boards) c k due e = tt
-still_early (opens.Moves s) c k due e = tt
+still_early (opens.Goes s homes) c k due e = tt
 
 pub none_begun : (m : Machine) (c : Course) (seen : Seen) (k : ℕ) → c.next ≡ k + 1 → IsNotDue c (k + 260) → IsCourseBy m c seen (k + 260) (k + 261) → (next : Seen) × IsBegun m seen next k None × IsCourseOf m c next
 none_begun m c seen k next due h =
@@ -406,6 +288,7 @@ none_begun m c seen k next due h =
         told = refl;
         lines = refl;
         next = refl;
+        sections = same_go k seen.begun seen.going;
         grown = λ all w. record { before = all; whole = w; are = inl (refl, refl) };
       },
       record {
@@ -439,19 +322,8 @@ pub due_good : (m : Machine) (c : Course) (seen : Seen) (turn free : ℕ) → Is
 due_good m c seen turn free h = waiting_good m c.source seen.text seen.ended (items_read seen.begun seen.going) h.source
 
 -- the one move of a homing section
-same_first : (x y : Item) (xs ys zs : List Item) → zs ≡ x ∷ xs → zs ≡ y ∷ ys → (x ≡ y) × (xs ≡ ys)
-same_first x y xs ys zs e f = (head (sym e ∙ f), tail (sym e ∙ f)) where
-  head : x ∷ xs ≡ y ∷ ys → x ≡ y
-  head h = cc
-
-  tail : x ∷ xs ≡ y ∷ ys → xs ≡ ys
-  tail h = cc
-
-pub home_items : (begins first one : Item) (rest left its : List Item) → its ≡ first ∷ rest → its ≡ begins ∷ one ∷ items.End ∷ left → its ≡ first ∷ one ∷ items.End ∷ left
-home_items begins first one rest left its e f = f ∙ ap (λ (x : Item). x ∷ one ∷ items.End ∷ left) (sym (same_first first begins rest (one ∷ items.End ∷ left) its e f).0)
-
-pub home_good : (begins : Item) (one : Move) (left its : List Item) → its ≡ begins ∷ items.Move one ∷ left → All IsGood its → IsGood (items.Move one)
-home_good begins one left its e h = All-head IsGood (items.Move one) left (All-tail IsGood begins (items.Move one ∷ left) (subst (λ (is : List Item). All IsGood is) e h))
+pub home_good : (one : Move) (left its : List Item) → its ≡ items.Move one ∷ left → All IsGood its → IsGood (items.Move one)
+home_good one left its e h = All-head IsGood (items.Move one) left (subst (λ (is : List Item). All IsGood is) e h)
 
 pub one_all : {X : Type 0} (P : X → Type 0) (x : X) → P x → All P (x ∷ [])
 one_all P x p = All-cons P x [] p (All-nil P)
@@ -505,7 +377,3 @@ home_ready m clocks one start valid h early small good = record {
   some = omega arith;
   turn_small = omega (arith, small);
 }
-
--- the units of a homing section that is planned
-pub home_boards : (m : Machine) (clocks : List Clocks) (moves : List Move) (start : ℕ) (f : Fed) → f.until ≡ None → AreOnBoardsBy true m clocks moves start (fed_of f) → AreHomesOnBoards m clocks moves start (map releases_of f.boards.items)
-home_boards m clocks moves start f none h = subst (λ (b : List (List Release)). AreHomesOnBoards m clocks moves start b) (ap (λ u. limited u (whole_of f)) none) h

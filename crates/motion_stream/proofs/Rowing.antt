@@ -3,16 +3,11 @@ use Rattle.std.proofs.Common.{◌≡◌, ℕ, zero, suc, ◌+◌, ◌<◌, ◌�
 use Rattle.std.proofs.lemmas.Bool.{cases_lt}
 use Rattle.std.proofs.lemmas.List.FromFn.{get_or-map-range_with_len}
 use Rattle.std.specs.List.{range_with_len}
-use Rattle.std.proofs.lemmas.List.{map-append, take_more}
-use Rattle.std.proofs.Common.{take}
 use Rattle.std.proofs.lemmas.Bool.Decides.{eqb_tells}
 use Rattle.std.specs.Prelude.{◌==◌, slice_index_or, true, false}
-use Rattle.step_feed.specs.Pacing.{batch_at}
 use Rattle.step_feed.specs.Units.{StepUnit}
-use Rattle.step_feed.specs.declared.whole.Batches.{Batches}
-use Rattle.motion_work.specs.Feeds.{releases_of}
 use Rattle.motion_stream.specs.Courses.{row_at}
-use Rattle.motion_stream.specs.Rows.{AreJoined, home_units, units_in}
+use Rattle.motion_stream.specs.Rows.{AreJoined, units_in}
 
 pub none_at : {X : Type 0} (xs : List X) (i : ℕ) (d : X) → length xs ≤ i → get_or xs i d ≡ d
 none_at [] zero d le = refl
@@ -96,15 +91,6 @@ made_at f boards b row is lt = ap (λ r. slice_index_or r b []) is ∙ get_or-ma
 -- one empty, the other is all
 pub joined_none : (boards : ℕ) (one two : List (List (List StepUnit))) → one ≡ [] → AreJoined boards one two two
 joined_none boards one two none = record { units = λ i b lt. sym (ap (λ rows. row_at rows i b ++ row_at two i b) none ∙ ap (λ us. us ++ row_at two i b) (empty_row i b)) }
-
--- the units of one board more of a homing section
-pub home_more : (turn : ℕ) (boards : List Batches) (i : ℕ) (x : Batches) (row new : List (List StepUnit)) (us : List StepUnit) → i < length boards → x ≡ get_or boards i x → row ≡ home_units turn (map releases_of (take i boards)) → new ≡ row ++ us ∷ [] → us ≡ batch_at turn (releases_of x)
-    → new ≡ home_units turn (map releases_of (take (i + 1) boards))
-home_more turn boards i x row new us lt is before are here =
-    let f : Batches → List StepUnit = λ y. batch_at turn (releases_of y) in
-    let more : take (i + 1) boards ≡ take i boards ++ x ∷ [] = take_more boards i x lt ∙ ap (λ (y : Batches). take i boards ++ y ∷ []) (sym is) in
-    are ∙ ap (λ r. r ++ us ∷ []) before ∙ ap (λ (u : List StepUnit). home_units turn (map releases_of (take i boards)) ++ u ∷ []) here
-    ∙ sym (map-append (batch_at turn) (map releases_of (take i boards)) (releases_of x ∷ [])) ∙ ap (map (batch_at turn)) (sym (map-append releases_of (take i boards) (x ∷ []))) ∙ ap (λ (bs : List Batches). home_units turn (map releases_of bs)) (sym more)
 
 -- a queue without a length is empty
 pub empty_is : {X : Type 0} (n : ℕ) (xs : List X) → true ≡ (n == 0) → n ≡ length xs → xs ≡ []

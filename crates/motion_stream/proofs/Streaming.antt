@@ -1,22 +1,15 @@
 -- A turn of a section whose moves still come.
-use Rattle.std.proofs.Common.{◌≡◌, ℕ, zero, suc, ◌+◌, ◌<◌, ◌≤◌, ◌^◌, Bool, true, false, not, List, [], ◌∷◌, ◌++◌, drop, length, map, append-nil, length-append, refl, ap, sym, subst, ◌∙◌, arith, inl, inr}
+use Rattle.std.proofs.Common.{◌≡◌, ℕ, zero, suc, ◌+◌, ◌<◌, ◌≤◌, ◌^◌, Bool, true, false, not, List, [], ◌∷◌, ◌++◌, drop, length, append-nil, length-append, refl, ap, sym, subst, ◌∙◌, arith, inl, inr}
 use Rattle.std.proofs.Math.Logic.{∥∥₁_elim, ∥∥₁_map, ∥∥₁_prop}
-use Rattle.std.proofs.lemmas.Grind.{merely}
-use Rattle.std.proofs.lemmas.Bool.{cases_lt}
-use Rattle.std.proofs.lemmas.List.{map-append}
-use Rattle.std.proofs.lemmas.List.FromFn.{get_or-map-range_with_len, length-map-range_with_len}
-use Rattle.std.specs.List.{range_with_len}
+use Rattle.std.proofs.lemmas.List.FromFn.{length-map-range_with_len}
 use Rattle.std.specs.Prelude.{All, Option, Some, None, slice_index_or}
 use Rattle.gcode_program.specs.declared.items.Item.TheVariants as items
-use Rattle.gcode_program.specs.Items.{ending, items_of, moves_in}
-use Rattle.gcode_program.specs.Readers.{section_with}
-use Rattle.gcode_program.proofs.Telling.{items_append}
 use Rattle.msg_code.specs.declared.unit.Batch.{Batch}
 use Rattle.plan_types.specs.declared.machine.Machine.{Machine}
 use Rattle.plan_types.specs.declared.plan.Move.{Move}
 use Rattle.plan_types.specs.declared.plan.SectionKind.TheVariants.{Moves}
 use Rattle.plan_types.specs.Lines.{Clocks}
-use Rattle.plan_types.specs.Sections.{section_end}
+use Rattle.plan_types.specs.Sections.{for_each_stepper, latest, section_end, stepper_end}
 use Rattle.section_feed.specs.declared.section.SectionStream.{SectionStream}
 use Rattle.section_feed.specs.Going.{IsPackedTo}
 use Rattle.section_feed.specs.On.{IsSectionOn}
@@ -35,22 +28,22 @@ use Rattle.section_units.specs.Sections.{AreBefore}
 use Rattle.step_feed.specs.Pacing.{Release, at_turn, batch_at}
 use Rattle.step_feed.specs.Units.{StepUnit}
 use Rattle.motion_work.specs.Feeds.{units_at}
-use Rattle.motion_work.specs.Homes.{no_end}
-use Rattle.motion_work.specs.Seen.{AreDone, IsOpen, Started}
+use Rattle.motion_work.specs.Seen.{AreDone, IsOpen, IsPlanned, Started}
 use Rattle.motion_work.specs.Told.{Told}
 use Rattle.motion_work.specs.Turns.{done_notes}
-use Rattle.motion_work.proofs.Feeding.{snoc_same}
 use Rattle.motion_work.proofs.Turning.{done_later, end_after, other_done, ready_more, started_more}
 use Rattle.motion_stream.specs.declared.course.Course.{Course}
 use Rattle.motion_stream.specs.declared.course.Open.TheVariants as opens
 use Rattle.motion_stream.proofs.Laid.{laid_later, laid_more}
 use Rattle.section_feed.proofs.Laid.{section-laid}
-use Rattle.motion_stream.specs.Courses.{AreAhead, IsConnected, IsCourseBy, IsCourseOf, IsEarly, IsGoing, IsMoving, IsTold, row_at}
+use Rattle.motion_stream.specs.Courses.{AreAhead, IsConnected, IsCourseBy, IsCourseOf, IsEarly, IsGoing, IsGoingOn, IsLaid, GoesAs, MovesOn, IsTold, row_at}
 use Rattle.motion_stream.specs.Gone.{HasEnded, HasGivenRows, released_in}
 use Rattle.motion_stream.specs.Rows.{AreJoined, batches_of, units_in}
-use Rattle.motion_stream.specs.Seen.{AreWhole, Going, IsContinued, Seen, count_of, items_read, sections_in}
+use Rattle.motion_stream.specs.Motions.{answered}
+use Rattle.motion_stream.specs.Seen.{AreWhole, EndsBy, Going, IsContinued, Seen, count_of, homes_by, items_read, moves_end}
+use Rattle.motion_stream.proofs.ByKind.{all_of, answered_board, answered_items, continued_sooner, ends_late, ends_sooner, goes_by, moves_kind, whole_moves}
 use Rattle.motion_stream.specs.Steps.{IsPassed}
-use Rattle.motion_stream.proofs.Drawing.{IsKept, ahead_next, batches_are, behind, boards_in_all, course_on, front_units, later_easy, no_units, told_kept, units_snoc}
+use Rattle.motion_stream.proofs.Drawing.{IsKept, ahead_next, batches_are, behind, boards_in_all, course_on, front_units, later_easy, no_units, same_go, some_same, told_kept, units_snoc}
 use Rattle.motion_stream.proofs.Homed.{homed_more}
 use Rattle.motion_stream.proofs.Rowing.{no_row}
 use Rattle.motion_stream.proofs.Taking.{same_released, section_on}
@@ -58,9 +51,6 @@ use Rattle.section_stream.specs.Steppers.{StepperKind}
 
 clash : true ≡ false → ⊥
 clash p = cc
-
-some_same : {X : Type 0} (x y : X) → Some x ≡ Some y → x ≡ y
-some_same x y p = cc
 
 none_some : {X : Type 0} (x : X) → None ≡ Some x → ⊥
 none_some x p = cc
@@ -84,17 +74,17 @@ is_last m (Some x) next begun all (Some y) t g told goes l =
     (l.s, l.are, subst (λ (z : Going). IsContinued m next z l.s) (sym (some_same y g goes)) l.is)
 
 -- a section that goes on does not end by the next turn
-pub not_done : (m : Machine) (k next : ℕ) (begun : List Started) (g : Going) (s : Started) → AreDone k begun → k ≤ next → IsContinued m next g s → [] ≡ done_notes k 0 (begun ++ s ∷ [])
+pub not_done : (m : Machine) (k next : ℕ) (begun : List Started) (g : Going) (s : Started) → AreDone k begun → k < next → IsContinued m next g s → [] ≡ done_notes k 0 (begun ++ s ∷ [])
 not_done m k next begun g s done before is =
-    let l = is.late in
+    let l = ends_late g.kind m next s is.ends in
     sym (other_done k 0 begun s done (λ x. omega (arith, x, before, l)))
 
 -- a turn before the first one of a section
-pub before_passed : (m : Machine) (old new : Course) (s : SectionStream) (seen : Seen) (k : ℕ) (batches : List Batch) → IsMoving m s old seen.told seen.begun seen.going → IsCourseOf m old seen → IsKept old new → new.ready ≡ old.ready → new.start ≡ old.start → new.next ≡ old.next + 1
+pub before_passed : (m : Machine) (old new : Course) (s : SectionStream) (homes : Bool) (seen : Seen) (k : ℕ) (batches : List Batch) → IsGoingOn m s homes old seen.told seen.begun seen.going → IsCourseOf m old seen → IsKept old new → new.ready ≡ old.ready → new.start ≡ old.start → new.next ≡ old.next + 1
     → k ≡ old.next → old.next < 2 ^ 42 → old.next + 250 < old.start → new.ahead.items ≡ drop 1 old.ahead.items → batches ≡ batches_of (length m.boards) old.next (slice_index_or old.ahead.items 0 []) []
-    → (IsMoving m s new seen.told seen.begun seen.going → IsGoing m new.current new seen.told seen.begun seen.going) → IsEarly new.current (k + 260) (k + 261) new
+    → (IsGoingOn m s homes new seen.told seen.begun seen.going → IsGoing m new.current new seen.told seen.begun seen.going) → IsEarly new.current (k + 260) (k + 261) new
     → (next : Seen) × IsPassed m seen next k batches None × IsCourseBy m new next (k + 260) (k + 261)
-before_passed m old new s seen k batches i h kept ready start next at small far ahead are goes early =
+before_passed m old new s homes seen k batches i h kept ready start next at small far ahead are goes early =
     let g = i.g in
     let begins = i.start_is in
     let front = slice_index_or old.ahead.items 0 [] in
@@ -112,9 +102,10 @@ before_passed m old new s seen k batches i h kept ready start next at small far 
         told = refl;
         lines = refl;
         next = refl;
+        sections = same_go k seen.begun seen.going;
         whole = λ all w.
             let l = known (seen.next + 1) all w in
-            is_last m seen.told seen.next seen.begun all seen.going i.t g i.told_is i.is (record { s = l.s; are = l.are; is = sooner seen.next (seen.next + 1) g l.s (omega arith) l.is });
+            is_last m seen.told seen.next seen.begun all seen.going i.t g i.told_is i.is (record { s = l.s; are = l.are; is = continued_sooner m seen.next (seen.next + 1) g l.s (omega arith) l.is });
         batches_are = λ all w.
             let l = known (seen.next + 1) all w in
             batches_are m k front [] (boards_in_all all) batches (are ∙ ap (λ n. batches_of (length m.boards) n front []) (sym at))
@@ -128,6 +119,7 @@ before_passed m old new s seen k batches i h kept ready start next at small far 
           (goes (record {
             g = g;
             is = i.is;
+            homes_is = i.homes_is;
             t = i.t;
             told_is = i.told_is;
             on = i.on;
@@ -137,27 +129,24 @@ before_passed m old new s seen k batches i h kept ready start next at small far 
             takes = i.takes;
             next = omega (arith, its, next, far, begins);
             done = subst (λ n. AreDone n seen.begun) (sym next) (done_later old.next (old.next + 1) seen.begun (omega arith) i.done);
-            late = λ all f. let e = end_after m i.t.clocks all g.start in omega (arith, e, next, far, begins);
+            goes_as = goes_by g.kind m i.t.clocks old.next new.next old.lines.homed new.lines.homed g g (λ off all f. let e = end_after m i.t.clocks all g.start in omega (arith, e, next, far, begins)) (ap (λ l. l.homed) kept.lines) refl refl refl refl refl i.goes_as;
             fresh = λ e. none;
             rested = λ e. absurd (omega (arith, e, next, far, begins));
             before = λ b. subst (AreBefore new.next) (sym (none b)) tt;
             ahead = ahead_next m old.ahead.items new.ahead.items old.next new.next seen.begun ahead next i.ahead;
           })) early,
     )
-  where
-    sooner : (next later : ℕ) (g : Going) (x : Started) → next ≤ later → IsContinued m later g x → IsContinued m next g x
-    sooner next later g x le c = record { section = c.section; moves = c.moves; start = c.start; end = c.end; late = let l = c.late in omega (arith, l, le); known = c.known; last = c.last; moving = c.moving; same = λ b j lt below. c.same b j lt (omega (arith, below, le)) }
 
 -- units of one more turn
 abbrev pub more_released : Going → ℕ → List (List StepUnit) → ℕ → List Release
 more_released g k own b = g.released b ++ at_turn k (slice_index_or own b [])
 
 abbrev pub going_more : Going → ℕ → List (List StepUnit) → Going
-going_more g k own = record { dwell = g.dwell; start = g.start; moves = g.moves; goes = g.goes; released = more_released g k own }
+going_more g k own = record { kind = g.kind; dwell = g.dwell; start = g.start; moves = g.moves; goes = g.goes; last = g.last; moving = g.moving; released = more_released g k own }
 
 -- a section behind a turn whose units it gave
 pub record HasDrawn (old new : SectionStream) (k : ℕ) (own : List (List StepUnit)) : Type 0 where
-  pub on : (m : Machine) (clocks : List Clocks) (start : ℕ) (moves : List Move) (released : ℕ → List Release) → IsSectionOn m clocks start false old moves released → IsSectionOn m clocks start false new moves (λ b. released b ++ at_turn k (slice_index_or own b []))
+  pub on : (m : Machine) (clocks : List Clocks) (start : ℕ) (homing : Bool) (moves : List Move) (released : ℕ → List Release) → IsSectionOn m clocks start homing old moves released → IsSectionOn m clocks start homing new moves (λ b. released b ++ at_turn k (slice_index_or own b []))
   pub takes : is_taking (queue_of new) ≡ is_taking (queue_of old)
   pub next : next_of new ≡ k + 1
   pub rested : AreAllRested (next_of new + 250) (boards_in new)
@@ -168,21 +157,19 @@ drawn_sooner m k next g own x at c = record {
   section = c.section;
   moves = c.moves;
   start = c.start;
-  end = c.end;
-  late = let l = c.late in omega (arith, l);
-  known = c.known;
+  ends = ends_sooner g.kind m next (next + 1) x (omega arith) c.ends;
   last = c.last;
   moving = c.moving;
   same = λ b j lt below. c.same b j lt (omega (arith, below)) ∙ batch-earlier j k (g.released b) (slice_index_or own b []) (omega (arith, below, at));
 }
 
 -- a turn whose units a section gives, and behind which it goes on
-pub drawn_passed : (m : Machine) (old new : Course) (s later : SectionStream) (own : List (List StepUnit)) (seen : Seen) (k : ℕ) (batches : List Batch) → IsMoving m s old seen.told seen.begun seen.going → IsCourseOf m old seen → IsKept old new → new.ready ≡ old.ready → new.start ≡ old.start
+pub drawn_passed : (m : Machine) (old new : Course) (s later : SectionStream) (homes : Bool) (own : List (List StepUnit)) (seen : Seen) (k : ℕ) (batches : List Batch) → IsGoingOn m s homes old seen.told seen.begun seen.going → IsCourseOf m old seen → IsKept old new → new.ready ≡ old.ready → new.start ≡ old.start
     → new.next ≡ old.next + 1 → k ≡ old.next → old.next < 2 ^ 42 → old.start ≤ old.next + 250 → new.ahead.items ≡ drop 1 old.ahead.items → batches ≡ batches_of (length m.boards) old.next (slice_index_or old.ahead.items 0 []) own
-    → HasDrawn s later k own → All (IsPackedTo (next_of later + 251)) (boards_in later) → IsLeft later
-    → ((begun : List Started) (going : Option Going) → IsMoving m later new seen.told begun going → IsGoing m new.current new seen.told begun going) → IsEarly new.current (k + 260) (k + 261) new
+    → HasDrawn s later k own → All (IsPackedTo (next_of later + 251)) (boards_in later) → (homes ≡ false → IsLeft later)
+    → ((begun : List Started) (going : Option Going) → IsGoingOn m later homes new seen.told begun going → IsGoing m new.current new seen.told begun going) → IsEarly new.current (k + 260) (k + 261) new
     → (next : Seen) × IsPassed m seen next k batches None × IsCourseBy m new next (k + 260) (k + 261)
-drawn_passed m old new s later own seen k batches i h kept ready start next at small near ahead are drawn packed left goes early =
+drawn_passed m old new s later homes own seen k batches i h kept ready start next at small near ahead are drawn packed left goes early =
     let g = i.g in
     let g' = going_more g k own in
     let begins = i.start_is in
@@ -192,11 +179,11 @@ drawn_passed m old new s later own seen k batches i h kept ready start next at s
     let before : (b : ℕ) → AreBefore k (g.released b) = λ b. subst (λ n. AreBefore n (g.released b)) (sym at) (i.before b) in
     let known : (all : List Started) → AreWhole m seen.told (seen.next + 1) seen.begun (Some g') all → IsLast m (seen.next + 1) seen.begun g' all = λ all w. last_is m seen.told (seen.next + 1) seen.begun all (Some g') i.t g' i.told_is refl w in
     let same = h.next in
-    let on = drawn.on m i.t.clocks g.start g.moves g.released i.on in
+    let on = drawn.on m i.t.clocks g.start homes g.moves g.released i.on in
     let takes : is_taking (queue_of later) ≡ g.goes = drawn.takes ∙ i.takes in
-    let after : (all : List Move) → IsFuture g.goes g.moves all → new.next + 1 ≤ section_end m i.t.clocks all g.start = λ all f.
+    let after : homes_by g.kind ≡ false → (all : List Move) → IsFuture g.goes g.moves all → new.next + 1 ≤ section_end m i.t.clocks all g.start = λ off all f.
     let turn = drawn.next in
-    let l = section-left m i.t.clocks g.start false later g.moves all (more_released g k own) (next_of later + 251) on (subst (λ t. IsFuture t g.moves all) (sym takes) f) packed (omega (arith, turn, at, small)) left in
+    let l = section-left m i.t.clocks g.start homes later g.moves all (more_released g k own) (next_of later + 251) on (subst (λ t. IsFuture t g.moves all) (sym takes) f) packed (omega (arith, turn, at, small)) (left (i.homes_is ∙ off)) in
     omega (arith, l, turn, next, at) in (
       behind seen seen.begun (Some g'),
       record {
@@ -206,6 +193,7 @@ drawn_passed m old new s later own seen k batches i h kept ready start next at s
         told = refl;
         lines = refl;
         next = refl;
+        sections = record { more = []; are = sym (append-nil seen.begun); moves = tt; goes = λ x e. (let same = some_same x g' (sym e) in inr (g, i.is, ap (λ (y : Going). y.kind) same, ap (λ (y : Going). y.start) same)) };
         whole = λ all w.
             let l = known all w in
             is_last m seen.told seen.next seen.begun all seen.going i.t g i.told_is i.is (record { s = l.s; are = l.are; is = drawn_sooner m k seen.next g own l.s (at ∙ same) l.is });
@@ -222,6 +210,7 @@ drawn_passed m old new s later own seen k batches i h kept ready start next at s
           (goes seen.begun (Some g') (record {
             g = g';
             is = refl;
+            homes_is = i.homes_is;
             t = i.t;
             told_is = i.told_is;
             on = on;
@@ -231,7 +220,7 @@ drawn_passed m old new s later own seen k batches i h kept ready start next at s
             takes = takes;
             next = let n = drawn.next in omega (arith, n, next, at, near, begins);
             done = subst (λ n. AreDone n seen.begun) (sym next) (done_later old.next (old.next + 1) seen.begun (omega arith) i.done);
-            late = after;
+            goes_as = goes_by g.kind m i.t.clocks old.next new.next old.lines.homed new.lines.homed g g' after (ap (λ l. l.homed) kept.lines) refl refl refl refl refl i.goes_as;
             fresh = λ e. absurd (omega (arith, e, next, near, begins));
             rested = λ e. drawn.rested;
             before = λ b. subst (λ n. AreBefore n (more_released g k own b)) (let e : k + 1 ≡ new.next = omega (arith, at, next) in e) (before-more k (g.released b) (slice_index_or own b []) (before b));
@@ -279,43 +268,21 @@ rows_at turn (row ∷ rows) b (suc i) =
 abbrev pub all_released : Going → ℕ → List (List StepUnit) → List (List (List StepUnit)) → ℕ → List Release
 all_released g k own rows b = more_released g k own b ++ released_in (k + 1) rows b
 
+abbrev pub going_all : Going → ℕ → List (List StepUnit) → List (List (List StepUnit)) → Going
+going_all g k own rows = record { kind = g.kind; dwell = g.dwell; start = g.start; moves = g.moves; goes = g.goes; last = g.last; moving = g.moving; released = all_released g k own rows }
+
 abbrev pub closed : Machine → Going → ℕ → List (List StepUnit) → List (List (List StepUnit)) → ℕ → Started
-closed m g k own rows end = record {
-  section = section_with Moves g.moves g.dwell;
-  start = g.start;
-  end = end;
-  last = 0;
-  moving = 0;
-  boards = map (all_released g k own rows) (range_with_len 0 (length m.boards));
-}
+closed m g k own rows end = answered m end (going_all g k own rows)
 
 closed_board : (m : Machine) (g : Going) (k : ℕ) (own : List (List StepUnit)) (rows : List (List (List StepUnit))) (end b : ℕ) → b < length m.boards → slice_index_or (closed m g k own rows end).boards b [] ≡ all_released g k own rows b
-closed_board m g k own rows end b lt = get_or-map-range_with_len (all_released g k own rows) 0 (length m.boards) b b [] lt (let e : 0 + b ≡ b = omega arith in e)
-
--- what holds of each of some boards, holds of all
-all_of : (P : ℕ → Type 0) (n : ℕ) → ((b : ℕ) → b < n → ∥ P b ∥₁) → ∥ ((b : ℕ) → b < n → P b) ∥₁
-all_of P zero each = merely (λ b lt. absurd (omega (arith, lt)))
-all_of P (suc n) each = ∥∥₁_elim (each n (omega arith)) ∥∥₁_prop (λ last. ∥∥₁_map (all_of P n (λ b lt. each b (omega (arith, lt)))) (one_more last)) where
-  one_more : P n → ((b : ℕ) → b < n → P b) → (b : ℕ) → b < suc n → P b
-  one_more last before b lt = elim (cases_lt b n) [ inl below ↦ before b below | inr over ↦ (let e : n ≡ b = omega (arith, over, lt) in subst P e last) ]
-
--- its moves are all there are
-whole_moves : (goes : Bool) (moves : List Move) → IsFuture goes moves moves
-whole_moves true moves = ([], sym (append-nil moves))
-whole_moves false moves = refl
-
--- what was told of it
-closed_items : (begun : List Started) (g : Going) (s : Started) → g.goes ≡ false → s.section ≡ section_with Moves g.moves g.dwell → items_read (begun ++ s ∷ []) None ≡ items_read begun (Some g)
-closed_items begun g s over is =
-    let own : items_of (s.section ∷ []) ≡ items.Begin Moves g.dwell ∷ (moves_in g.moves ++ ending (not g.goes)) = ap (λ x. items_of (x ∷ [])) is ∙ append-nil (items.Begin Moves g.dwell ∷ (moves_in g.moves ++ items.End ∷ [])) ∙ ap (λ e. items.Begin Moves g.dwell ∷ (moves_in g.moves ++ ending (not e))) (sym over) in
-    ap items_of (map-append (λ (x : Started). x.section) begun (s ∷ [])) ∙ items_append (sections_in begun) (s.section ∷ []) ∙ ap (λ x. items_of (sections_in begun) ++ x) own
+closed_board m g k own rows end b lt = answered_board m end (going_all g k own rows) b lt
 
 -- a turn whose units a section gives, and behind which its end is known
-pub ended_passed : (m : Machine) (old new : Course) (s later last : SectionStream) (own : List (List StepUnit)) (rows : List (List (List StepUnit))) (end : ℕ) (seen : Seen) (k : ℕ) (batches : List Batch) → IsMoving m s old seen.told seen.begun seen.going → IsCourseOf m old seen → IsKept old new
+pub ended_passed : (m : Machine) (old new : Course) (s later last : SectionStream) (homes : Bool) (own : List (List StepUnit)) (rows : List (List (List StepUnit))) (end : ℕ) (seen : Seen) (k : ℕ) (batches : List Batch) → homes ≡ false → IsGoingOn m s homes old seen.told seen.begun seen.going → IsCourseOf m old seen → IsKept old new
     → new.next ≡ old.next + 1 → k ≡ old.next → old.next < 2 ^ 42 → batches ≡ batches_of (length m.boards) old.next (slice_index_or old.ahead.items 0 []) own → HasDrawn s later k own → (e : ℕ) × IsDrawn (queue_of later) × ArePast e (boards_in later) → HasGivenRows later last (k + 1) rows → HasEnded last end
     → new.ready ≡ end + 260 → new.goes ≡ true → new.current ≡ opens.Nothing → AreJoined (length m.boards) (drop 1 old.ahead.items) rows new.ahead.items
     → (next : Seen) × IsPassed m seen next k batches None × IsCourseBy m new next (k + 260) (k + 261)
-ended_passed m old new s later last own rows end seen k batches i h kept next at small are drawn past given ended ready goes nothing joined =
+ended_passed m old new s later last homes own rows end seen k batches off i h kept next at small are drawn past given ended ready goes nothing joined =
     let g = i.g in
     let t = i.t in
     let front = slice_index_or old.ahead.items 0 [] in
@@ -326,9 +293,13 @@ ended_passed m old new s later last own rows end seen k batches i h kept next at
     let done : AreDone k seen.begun = subst (λ n. AreDone n seen.begun) (sym at) i.done in
     let before : (b : ℕ) → AreBefore k (g.released b) = λ b. subst (λ n. AreBefore n (g.released b)) (sym at) (i.before b) in
     let over : g.goes ≡ false = sym (given.takes ∙ drawn.takes ∙ i.takes) ∙ ended.drawn.over in
-    let on : IsSectionOn m t.clocks g.start false last g.moves (all_released g k own rows) = given.on m t.clocks g.start g.moves (more_released g k own) (drawn.on m t.clocks g.start g.moves g.released i.on) in
+    let kind : g.kind ≡ Moves = moves_kind g.kind (sym i.homes_is ∙ off) in
+    let goes_as : MovesOn m t.clocks old.next g = subst (λ k. GoesAs k m t.clocks old.next old.lines.homed g) kind i.goes_as in
+    let begins : IsSectionOn m t.clocks g.start false s g.moves g.released = subst (λ b. IsSectionOn m t.clocks g.start b s g.moves g.released) off i.on in
+    let gives : IsSectionOn m t.clocks g.start false later g.moves (more_released g k own) = drawn.on m t.clocks g.start false g.moves g.released begins in
+    let on : IsSectionOn m t.clocks g.start false last g.moves (all_released g k own rows) = given.on m t.clocks g.start false g.moves (more_released g k own) gives in
     let end_is : end ≡ section_end m t.clocks g.moves g.start = section-ends m t.clocks g.start false last g.moves (all_released g k own rows) end on ended.drawn ended.past ended.value in
-    let late : k + 1 ≤ end = (let l = i.late g.moves (whole_moves g.goes g.moves) in omega (arith, l, at, end_is)) in
+    let late : k + 1 ≤ end = (let l = goes_as.late g.moves (whole_moves g.goes g.moves) in omega (arith, l, at, end_is)) in
     let starts : g.start ≤ end = (let e = end_after m t.clocks g.moves g.start in omega (arith, e, end_is)) in
     let known : IsConnected m old t seen.begun seen.going = connected seen.told i.told_is h.told in
     let same_all : (all : List Started) → AreWhole m seen.told (seen.next + 1) begun None all → all ≡ begun = λ all w. w in
@@ -345,6 +316,7 @@ ended_passed m old new s later last own rows end seen k batches i h kept next at
         told = refl;
         lines = refl;
         next = refl;
+        sections = record { more = x ∷ []; are = refl; moves = (kind, tt); goes = λ y e. absurd (none_some y e) };
         whole = λ all w. is_last m seen.told seen.next seen.begun all seen.going t g i.told_is i.is (record {
           s = x;
           are = w;
@@ -352,9 +324,7 @@ ended_passed m old new s later last own rows end seen k batches i h kept next at
             section = refl;
             moves = whole_moves g.goes g.moves;
             start = refl;
-            end = omega (arith, end_is);
-            late = omega (arith, late, at, same);
-            known = ended.small;
+            ends = subst (λ z. EndsBy z m seen.next x) (sym kind) (let low : moves_end m g.moves g.start ≤ end = omega (arith, end_is) in low, omega (arith, late, at, same), ended.small);
             last = refl;
             moving = refl;
             same = λ b j lt below. early b j lt (omega (arith, below, at, same)) ∙ batch-earlier j k (g.released b) (slice_index_or own b []) (omega (arith, below, at, same));
@@ -366,12 +336,11 @@ ended_passed m old new s later last own rows end seen k batches i h kept next at
             ∙ sym (units_snoc seen.begun x b k) ∙ ap (λ ss. units_at b k (boards_in_all ss)) (sym w));
         done_is = λ all w. sym (ap (done_notes k 0) w ∙ other_done k 0 seen.begun x done (λ e. omega (arith, e, late)));
       },
-      course_on m old new seen begun None (k + 260) (k + 261) h kept next small (omega (arith, at)) (λ hs. homed_more old.lines.homed (seen.next + 1) seen.begun x hs (inl refl)) (closed_items seen.begun g x over refl ∙ ap (items_read seen.begun) (sym i.is)) (told_more seen.told i.told_is x refl end_is known on late starts ready)
+      course_on m old new seen begun None (k + 260) (k + 261) h kept next small (omega (arith, at)) (λ hs. homed_more old.lines.homed (seen.next + 1) seen.begun x hs (inl kind)) (answered_items seen.begun g x over refl ∙ ap (items_read seen.begun) (sym i.is)) (told_more seen.told i.told_is x refl end_is known kind goes_as gives on late starts ready)
           (length-append seen.begun (x ∷ []) ∙ ap (count_of seen.begun) (sym i.is))
           (subst (λ o. IsGoing m o new seen.told begun None) (sym nothing) (record {
             none = refl;
             goes = subst (λ b. IsOpen b new.next begun) (sym goes) (seen.begun, x, refl, subst (λ n. AreDone n seen.begun) (sym next) (done_later old.next (old.next + 1) seen.begun (omega arith) i.done), omega (arith, late, next, at), starts);
-            known = λ past y e. subst (λ (z : Started). z.end < no_end) (snoc_same seen.begun past x y e).1 ended.small;
             ahead = record {
               units = λ j b lt.
                   let e : new.next + j ≡ k + 1 + j = omega (arith, next, at) in
@@ -388,36 +357,38 @@ ended_passed m old new s later last own rows end seen k batches i h kept next at
     connected None e c = absurd (none_some i.t e)
     connected (Some u) e c = subst (λ (z : Told). IsConnected m old z seen.begun seen.going) (some_same u i.t e) c
 
-    told_more : (told : Option Told) → told ≡ Some i.t → (x : Started) → x ≡ closed m i.g k own rows end → end ≡ section_end m i.t.clocks i.g.moves i.g.start → IsConnected m old i.t seen.begun seen.going → IsSectionOn m i.t.clocks i.g.start false last i.g.moves (all_released i.g k own rows) → k + 1 ≤ end → i.g.start ≤ end → new.ready ≡ end + 260
+    told_more : (told : Option Told) → told ≡ Some i.t → (x : Started) → x ≡ closed m i.g k own rows end → end ≡ section_end m i.t.clocks i.g.moves i.g.start → IsConnected m old i.t seen.begun seen.going → i.g.kind ≡ Moves → MovesOn m i.t.clocks old.next i.g → IsSectionOn m i.t.clocks i.g.start false later i.g.moves (more_released i.g k own) → IsSectionOn m i.t.clocks i.g.start false last i.g.moves (all_released i.g k own rows) → k + 1 ≤ end → i.g.start ≤ end → new.ready ≡ end + 260
         → IsTold m new told (seen.begun ++ closed m i.g k own rows end ∷ []) None
-    told_more None e x xs end_is c on late starts ready = absurd (none_some i.t e)
-    told_more (Some u) e x xs end_is c on late starts ready = subst (λ (z : Told). IsConnected m new z (seen.begun ++ closed m i.g k own rows end ∷ []) None) (sym (some_same u i.t e)) (record {
+    told_more None e x xs end_is c kind moves gives on late starts ready = absurd (none_some i.t e)
+    told_more (Some u) e x xs end_is c kind moves gives on late starts ready = subst (λ (z : Told). IsConnected m new z (seen.begun ++ closed m i.g k own rows end ∷ []) None) (sym (some_same u i.t e)) (record {
       connected = kept.connected ∙ c.connected;
       lines = ap (λ l. l.each.items) kept.lines ∙ c.lines;
       ready = λ n. ready ∙ sym (ready_more i.t.first seen.begun (closed m i.g k own rows end));
       started = ∥∥₁_elim c.started ∥∥₁_prop (λ all. ∥∥₁_map (all_of (λ b. IsOnBoard m i.t.clocks i.g.moves i.g.start b (all_released i.g k own rows b)) (length m.boards)
-          (λ b lt. section-on m i.t.clocks i.g.start last i.g.moves (all_released i.g k own rows) end b on ended.drawn ended.released ended.past ended.value lt)) (λ each. started_more m i.t.clocks i.t.first seen.begun (closed m i.g k own rows end) all (record {
+          (λ b lt. section-on m i.t.clocks i.g.start false last i.g.moves (all_released i.g k own rows) end b on ended.drawn ended.released ended.past ended.value lt)) (λ each. started_more m i.t.clocks i.t.first seen.begun (closed m i.g k own rows end) all (record {
             start = i.start;
-            planned = record {
+            planned = subst (λ z. IsPlanned z m i.t.clocks (closed m i.g k own rows end)) (sym kind) (record {
               end = end_is;
               known = ended.small;
-              last = refl;
-              moving = refl;
+              last = moves.last;
+              moving = moves.moving;
               boards = record {
                 count = length-map-range_with_len (all_released i.g k own rows) 0 (length m.boards);
                 each = λ b lt. subst (IsOnBoard m i.t.clocks i.g.moves i.g.start b) (sym (closed_board m i.g k own rows end b lt)) (each b lt);
               };
-            };
+            });
           })));
       sent = ∥∥₁_elim c.sent ∥∥₁_prop (λ all. ∥∥₁_map (all_of (λ b. AreSentOn m i.t.clocks i.g.moves i.g.start b (all_released i.g k own rows b)) (length m.boards)
-          (λ b lt. section-sent m i.t.clocks i.g.start last i.g.moves i.g.moves (all_released i.g k own rows) b on (whole_moves (is_taking (queue_of last)) i.g.moves) lt)) (λ each. sent_more m i.t.clocks seen.begun (closed m i.g k own rows end) all
-          (λ kind b lt. subst (AreSentOn m i.t.clocks i.g.moves i.g.start b) (sym (closed_board m i.g k own rows end b lt)) (each b lt))));
+          (λ b lt. section-sent m i.t.clocks i.g.start false last i.g.moves i.g.moves (all_released i.g k own rows) b on (whole_moves (is_taking (queue_of last)) i.g.moves) lt)) (λ each. sent_more m i.t.clocks seen.begun (closed m i.g k own rows end) all
+          (λ b lt. subst (AreSentOn m i.t.clocks i.g.moves i.g.start b) (sym (closed_board m i.g k own rows end b lt)) (each b lt))));
       clocks = c.clocks;
       laid = laid_more m i.t.clocks (new.next + 268) seen.begun (closed m i.g k own rows end) (laid_later m i.t.clocks (old.next + 268) (new.next + 268) seen.begun (omega (arith, next)) c.laid) (
           let soon = i.soon in
-          let laid = section-laid m i.t.clocks i.g.start false later i.g.moves (more_released i.g k own) past.0 (drawn.on m i.t.clocks i.g.start i.g.moves i.g.released i.on) past.1 past.2 in
+          let laid = section-laid m i.t.clocks i.g.start false later i.g.moves (more_released i.g k own) past.0 gives past.1 past.2 in
           let its = drawn.next in
-          (omega (arith, soon, next), omega (arith, laid, its, soon, next, at)));
+          let low : i.g.start ≤ new.next + 268 = omega (arith, soon, next) in
+          let last_low : latest (for_each_stepper m (stepper_end m i.t.clocks i.g.moves i.g.start)) ≤ new.next + 268 = omega (arith, laid, its, soon, next, at) in
+          subst (λ z. IsLaid z m i.t.clocks (new.next + 268) (closed m i.g k own rows end)) (sym kind) (low, last_low));
       first = c.first;
       late = let r = ready_more i.t.first seen.begun (closed m i.g k own rows end) in let st = i.start in let f = c.late in omega (arith, r, st, f, starts);
     })
@@ -428,8 +399,8 @@ pub has_drawn : (old new : SectionStream) (k : ℕ) (own : List (List StepUnit))
     → ((scv : ℕ) (moves : List Move) (kinds : ℕ → ℕ → StepperKind) (base : ℕ → ℕ) (released : ℕ → List Release) → IsSectionOf old scv moves kinds base released → IsSectionOf new scv moves kinds base (λ x. released x ++ at_turn (next_of old) (slice_index_or own x [])))
     → HasDrawn old new k own
 has_drawn old new k own at takes next rested boards sets cruise begin on = record {
-  on = λ m clocks start moves released i. same_released m clocks start new moves (λ x. released x ++ at_turn (next_of old) (slice_index_or own x [])) (λ x. released x ++ at_turn k (slice_index_or own x [])) (λ x. ap (λ t. released x ++ at_turn t (slice_index_or own x [])) at)
-      (section_on m clocks start old new moves moves released (λ x. released x ++ at_turn (next_of old) (slice_index_or own x [])) boards sets cruise begin (λ scv kinds base j. on scv moves kinds base released j) i);
+  on = λ m clocks start homing moves released i. same_released m clocks start homing new moves (λ x. released x ++ at_turn (next_of old) (slice_index_or own x [])) (λ x. released x ++ at_turn k (slice_index_or own x [])) (λ x. ap (λ t. released x ++ at_turn t (slice_index_or own x [])) at)
+      (section_on m clocks start homing old new moves moves released (λ x. released x ++ at_turn (next_of old) (slice_index_or own x [])) boards sets cruise begin (λ scv kinds base j. on scv moves kinds base released j) i);
   takes = takes;
   next = next ∙ ap (λ n. n + 1) at;
   rested = rested;

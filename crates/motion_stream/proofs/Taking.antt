@@ -31,17 +31,17 @@ use Rattle.motion_work.proofs.Homing.{near_short}
 use Rattle.motion_stream.specs.Gone.{HasGivenRows, HasTaken, released_in}
 
 -- a section's stream that changed, and what was pushed and released
-pub section_on : (m : Machine) (clocks : List Clocks) (turn : ℕ) (old new : SectionStream) (moves all : List Move) (released given : ℕ → List Release) → boards_of new ≡ boards_of old → sets_of new ≡ sets_of old
+pub section_on : (m : Machine) (clocks : List Clocks) (turn : ℕ) (homing : Bool) (old new : SectionStream) (moves all : List Move) (released given : ℕ → List Release) → boards_of new ≡ boards_of old → sets_of new ≡ sets_of old
     → cruise_in (queue_of new) ≡ cruise_in (queue_of old) → begin_in (queue_of new) ≡ begin_in (queue_of old)
     → ((scv : ℕ) (kinds : ℕ → ℕ → StepperKind) (base : ℕ → ℕ) → IsSectionOf old scv moves kinds base released → IsSectionOf new scv all kinds base given)
-    → IsSectionOn m clocks turn false old moves released → IsSectionOn m clocks turn false new all given
-section_on m clocks turn old new moves all released given boards sets cruise begin on h = record {
+    → IsSectionOn m clocks turn homing old moves released → IsSectionOn m clocks turn homing new all given
+section_on m clocks turn homing old new moves all released given boards sets cruise begin on h = record {
   machine = h.machine;
   count = h.count;
   freq = h.freq;
   lead = h.lead;
   may_start = h.may_start;
-  section = on m.scv (λ b. board_kinds m (clocks_at clocks b) b turn false) (λ b. lines_tick (clocks_at clocks b) (turn * turn_ns)) h.section;
+  section = on m.scv (λ b. board_kinds m (clocks_at clocks b) b turn homing) (λ b. lines_tick (clocks_at clocks b) (turn * turn_ns)) h.section;
   boards = boards ∙ h.boards;
   sets = λ b d lt. ap (λ (s : List BoardSet). slice_index_or s b d) sets ∙ h.sets b d lt;
   cruise = cruise ∙ h.cruise;
@@ -49,9 +49,9 @@ section_on m clocks turn old new moves all released given boards sets cruise beg
 }
 
 -- the same units, board by board
-pub same_released : (m : Machine) (clocks : List Clocks) (turn : ℕ) (s : SectionStream) (moves : List Move) (released given : ℕ → List Release) → ((b : ℕ) → released b ≡ given b) → IsSectionOn m clocks turn false s moves released → IsSectionOn m clocks turn false s moves given
-same_released m clocks turn s moves released given same h =
-    section_on m clocks turn s s moves moves released given refl refl refl refl (λ scv kinds base i. record {
+pub same_released : (m : Machine) (clocks : List Clocks) (turn : ℕ) (homing : Bool) (s : SectionStream) (moves : List Move) (released given : ℕ → List Release) → ((b : ℕ) → released b ≡ given b) → IsSectionOn m clocks turn homing s moves released → IsSectionOn m clocks turn homing s moves given
+same_released m clocks turn homing s moves released given same h =
+    section_on m clocks turn homing s s moves moves released given refl refl refl refl (λ scv kinds base i. record {
       parts = i.parts;
       queue = i.queue;
       boards = record {
@@ -79,7 +79,7 @@ took_none s waiting takes = record {
   ends = false;
   items_are = refl;
   takes = takes;
-  on = λ m clocks turn moves released h. subst (λ (ms : List Move). IsSectionOn m clocks turn false s ms released) (sym (append-nil moves)) h;
+  on = λ m clocks turn homing moves released h. subst (λ (ms : List Move). IsSectionOn m clocks turn homing s ms released) (sym (append-nil moves)) h;
   next = refl;
   boards = refl;
 }
@@ -98,7 +98,7 @@ took_more a b c one two three takes h k =
       ends = k.ends;
       items_are = first ∙ ap (λ is. moves_in h.more ++ is) (k.items_are ∙ append_assoc (moves_in k.more) (ending k.ends) three) ∙ sym (moves_more h.more k.more (ending k.ends ++ three)) ∙ sym (append_assoc (moves_in (h.more ++ k.more)) (ending k.ends) three);
       takes = k.takes;
-      on = λ m clocks turn moves released i. subst (λ (ms : List Move). IsSectionOn m clocks turn false c ms released) (append_assoc moves h.more k.more) (k.on m clocks turn (moves ++ h.more) released (h.on m clocks turn moves released i));
+      on = λ m clocks turn homing moves released i. subst (λ (ms : List Move). IsSectionOn m clocks turn homing c ms released) (append_assoc moves h.more k.more) (k.on m clocks turn homing (moves ++ h.more) released (h.on m clocks turn homing moves released i));
       next = k.next ∙ h.next;
       boards = k.boards ∙ h.boards;
     }
@@ -114,15 +114,15 @@ rows_more turn at (r ∷ rows) row b is =
     ap (λ x. at_turn turn (slice_index_or r b []) ++ x) (rows_more (turn + 1) at rows row b (omega (arith, is))) ∙ sym (append_assoc (at_turn turn (slice_index_or r b [])) (released_in (turn + 1) rows b) (at_turn at (slice_index_or row b [])))
 
 pub given_none : (s : SectionStream) (turn : ℕ) → HasGivenRows s s turn []
-given_none s turn = record { on = λ m clocks start moves released h. same_released m clocks start s moves released (λ b. released b ++ []) (λ b. sym (append-nil (released b))) h; takes = refl }
+given_none s turn = record { on = λ m clocks start homing moves released h. same_released m clocks start homing s moves released (λ b. released b ++ []) (λ b. sym (append-nil (released b))) h; takes = refl }
 
 pub given_more : (a b c : SectionStream) (turn at : ℕ) (rows all : List (List (List StepUnit))) (row : List (List StepUnit)) → HasGivenRows a b turn rows → at ≡ turn + length rows → all ≡ rows ++ row ∷ [] → is_taking (queue_of c) ≡ is_taking (queue_of b)
-    → ((m : Machine) (clocks : List Clocks) (start : ℕ) (moves : List Move) (released : ℕ → List Release) → IsSectionOn m clocks start false b moves released → IsSectionOn m clocks start false c moves (λ x. released x ++ at_turn at (slice_index_or row x [])))
+    → ((m : Machine) (clocks : List Clocks) (start : ℕ) (homing : Bool) (moves : List Move) (released : ℕ → List Release) → IsSectionOn m clocks start homing b moves released → IsSectionOn m clocks start homing c moves (λ x. released x ++ at_turn at (slice_index_or row x [])))
     → HasGivenRows a c turn all
 given_more a b c turn at rows all row h is are takes on = record {
-  on = λ m clocks start moves released i. same_released m clocks start c moves (λ x. (released x ++ released_in turn rows x) ++ at_turn at (slice_index_or row x [])) (λ x. released x ++ released_in turn all x)
+  on = λ m clocks start homing moves released i. same_released m clocks start homing c moves (λ x. (released x ++ released_in turn rows x) ++ at_turn at (slice_index_or row x [])) (λ x. released x ++ released_in turn all x)
       (λ x. append_assoc (released x) (released_in turn rows x) (at_turn at (slice_index_or row x [])) ∙ ap (λ y. released x ++ y) (sym (rows_more turn at rows row x is) ∙ ap (λ rs. released_in turn rs x) (sym are)))
-      (on m clocks start moves (λ x. released x ++ released_in turn rows x) (h.on m clocks start moves released i));
+      (on m clocks start homing moves (λ x. released x ++ released_in turn rows x) (h.on m clocks start homing moves released i));
   takes = takes ∙ h.takes;
 }
 
@@ -143,7 +143,7 @@ took_move old new one rest waiting left is are takes next same boards sets cruis
   ends = false;
   items_are = is ∙ ap (λ r. items.Move one ∷ r) (sym (are ∙ ap (drop 1) is));
   takes = takes;
-  on = λ m clocks turn moves released h. section_on m clocks turn old new moves (moves ++ one ∷ []) released released boards sets cruise begin (λ scv kinds base i. on scv moves kinds base released i) h;
+  on = λ m clocks turn homing moves released h. section_on m clocks turn homing old new moves (moves ++ one ∷ []) released released boards sets cruise begin (λ scv kinds base i. on scv moves kinds base released i) h;
   next = next;
   boards = ap (λ b. b.items) same;
 }
@@ -157,7 +157,7 @@ took_end old new rest waiting left is are takes next same boards sets cruise beg
   ends = true;
   items_are = is ∙ ap (λ r. items.End ∷ r) (sym (are ∙ ap (drop 1) is));
   takes = takes;
-  on = λ m clocks turn moves released h. subst (λ (ms : List Move). IsSectionOn m clocks turn false new ms released) (sym (append-nil moves)) (section_on m clocks turn old new moves moves released released boards sets cruise begin (λ scv kinds base i. on scv moves kinds base released i) h);
+  on = λ m clocks turn homing moves released h. subst (λ (ms : List Move). IsSectionOn m clocks turn homing new ms released) (sym (append-nil moves)) (section_on m clocks turn homing old new moves moves released released boards sets cruise begin (λ scv kinds base i. on scv moves kinds base released i) h);
   next = next;
   boards = ap (λ b. b.items) same;
 }
@@ -170,10 +170,10 @@ pub first_short : (one : Move) (rest waiting : List Item) → waiting ≡ items.
 first_short one rest waiting is h = good_short one rest (subst (λ (is : List Item). All IsGood is) is h)
 
 -- a new section
-pub new_on : (m : Machine) (clocks : List Clocks) (start : ℕ) (s : SectionStream) (q : MoveQueue) → IsValidMachine m → AreBoardClocks m clocks start → ((x : ℕ) → x < length m.boards → (clocks_at clocks x).first.clock < 2 ^ 62) → 250 ≤ start → start < 2 ^ 43
-    → IsSectionOf s m.scv [] (λ b. board_kinds m (clocks_at clocks b) b start false) (λ b. lines_tick (clocks_at clocks b) (start * turn_ns)) (λ b. []) → boards_of s ≡ length m.boards → ((b : ℕ) (d : BoardSet) → b < length m.boards → slice_index_or (sets_of s) b d ≡ start_set m clocks start b)
-    → queue_of s ≡ q → cruise_in q ≡ m.cruise → begin_in q ≡ start * turn_ns → IsSectionOn m clocks start false s [] (λ b. [])
-new_on m clocks start s q valid h early lead small section boards sets queue cruise begin = record {
+pub new_on : (m : Machine) (clocks : List Clocks) (start : ℕ) (homing : Bool) (s : SectionStream) (q : MoveQueue) → IsValidMachine m → AreBoardClocks m clocks start → ((x : ℕ) → x < length m.boards → (clocks_at clocks x).first.clock < 2 ^ 62) → 250 ≤ start → start < 2 ^ 43
+    → IsSectionOf s m.scv [] (λ b. board_kinds m (clocks_at clocks b) b start homing) (λ b. lines_tick (clocks_at clocks b) (start * turn_ns)) (λ b. []) → boards_of s ≡ length m.boards → ((b : ℕ) (d : BoardSet) → b < length m.boards → slice_index_or (sets_of s) b d ≡ start_set m clocks start b)
+    → queue_of s ≡ q → cruise_in q ≡ m.cruise → begin_in q ≡ start * turn_ns → IsSectionOn m clocks start homing s [] (λ b. [])
+new_on m clocks start homing s q valid h early lead small section boards sets queue cruise begin = record {
   machine = valid;
   count = h.count;
   freq = h.freq;
@@ -192,6 +192,16 @@ pub given_next : (a b c : SectionStream) (turn at : ℕ) (rows all : List (List 
     → ((scv : ℕ) (moves : List Move) (kinds : ℕ → ℕ → StepperKind) (base : ℕ → ℕ) (released : ℕ → List Release) → IsSectionOf b scv moves kinds base released → IsSectionOf c scv moves kinds base (λ x. released x ++ at_turn (next_of b) (slice_index_or row x [])))
     → HasGivenRows a c turn all
 given_next a b c turn at rows all row h is are next takes boards sets cruise begin on =
-    given_more a b c turn at rows all row h is are takes (λ m clocks start moves released i.
-    same_released m clocks start c moves (λ x. released x ++ at_turn (next_of b) (slice_index_or row x [])) (λ x. released x ++ at_turn at (slice_index_or row x [])) (λ x. ap (λ t. released x ++ at_turn t (slice_index_or row x [])) next)
-    (section_on m clocks start b c moves moves released (λ x. released x ++ at_turn (next_of b) (slice_index_or row x [])) boards sets cruise begin (λ scv kinds base j. on scv moves kinds base released j) i))
+    given_more a b c turn at rows all row h is are takes (λ m clocks start homing moves released i.
+    same_released m clocks start homing c moves (λ x. released x ++ at_turn (next_of b) (slice_index_or row x [])) (λ x. released x ++ at_turn at (slice_index_or row x [])) (λ x. ap (λ t. released x ++ at_turn t (slice_index_or row x [])) next)
+    (section_on m clocks start homing b c moves moves released (λ x. released x ++ at_turn (next_of b) (slice_index_or row x [])) boards sets cruise begin (λ scv kinds base j. on scv moves kinds base released j) i))
+
+-- a section that took its one move and its end
+pub home_on : (m : Machine) (clocks : List Clocks) (start : ℕ) (homing : Bool) (first mid last : SectionStream) (one : Move) → boards_of mid ≡ boards_of first → sets_of mid ≡ sets_of first → cruise_in (queue_of mid) ≡ cruise_in (queue_of first) → begin_in (queue_of mid) ≡ begin_in (queue_of first)
+    → ((scv : ℕ) (moves : List Move) (kinds : ℕ → ℕ → StepperKind) (base : ℕ → ℕ) (released : ℕ → List Release) → IsSectionOf first scv moves kinds base released → IsSectionOf mid scv (moves ++ one ∷ []) kinds base released)
+    → boards_of last ≡ boards_of mid → sets_of last ≡ sets_of mid → cruise_in (queue_of last) ≡ cruise_in (queue_of mid) → begin_in (queue_of last) ≡ begin_in (queue_of mid)
+    → ((scv : ℕ) (moves : List Move) (kinds : ℕ → ℕ → StepperKind) (base : ℕ → ℕ) (released : ℕ → List Release) → IsSectionOf mid scv moves kinds base released → IsSectionOf last scv moves kinds base released)
+    → IsSectionOn m clocks start homing first [] (λ b. []) → IsSectionOn m clocks start homing last (one ∷ []) (λ b. [])
+home_on m clocks start homing first mid last one boards sets cruise begin pushed boards' sets' cruise' begin' finished h =
+    section_on m clocks start homing mid last (one ∷ []) (one ∷ []) (λ b. []) (λ b. []) boards' sets' cruise' begin' (λ scv kinds base i. finished scv (one ∷ []) kinds base (λ b. []) i)
+    (section_on m clocks start homing first mid [] (one ∷ []) (λ b. []) (λ b. []) boards sets cruise begin (λ scv kinds base i. pushed scv [] kinds base (λ b. []) i) h)

@@ -1,5 +1,5 @@
 -- A turn, from its parts.
-use Rattle.std.proofs.Common.{◌≡◌, ℕ, zero, suc, ◌+◌, ◌-◌, ◌<◌, ◌≤◌, ◌^◌, Bool, true, false, not, List, [], ◌∷◌, ◌++◌, All, length, map, append-nil, refl, ap, sym, subst, ◌∙◌, arith, inl, inr}
+use Rattle.std.proofs.Common.{◌≡◌, ℕ, zero, suc, ◌+◌, ◌-◌, ◌<◌, ◌≤◌, ◌^◌, Bool, true, false, not, List, [], ◌∷◌, ◌++◌, All, length, append-nil, append_assoc, refl, ap, sym, subst, ◌∙◌, arith, inl, inr}
 use Rattle.std.proofs.lemmas.List.{length-map, take_more}
 use Rattle.std.proofs.Common.{get_or, take}
 use Rattle.std.specs.Prelude.{◌⊎◌, slice_index_or, Option, Some, None}
@@ -25,7 +25,7 @@ use Rattle.motion_work.specs.Feeds.{batches_at, units_at}
 use Rattle.motion_work.specs.Puts.{IsPut, IsReadNews, begun_notes}
 use Rattle.motion_work.specs.declared.told.BoardLine.{BoardLine}
 use Rattle.motion_work.specs.Further.{AreFurther, WereHeard, told_on}
-use Rattle.motion_work.specs.Seen.{AreDone, AreOut, AreOver, IsOpen, Started}
+use Rattle.motion_work.specs.Seen.{AreDone, AreMoves, AreOut, AreOver, IsOpen, Started}
 use Rattle.motion_work.specs.Turns.{done_notes, start_notes}
 use Rattle.motion_work.specs.Told.{Told}
 use Rattle.motion_work.proofs.Putting.{begun_before, begun_last, done_stay, over_more, same_on}
@@ -35,10 +35,10 @@ use Rattle.motion_stream.specs.declared.course.Open.TheVariants as opens
 use Rattle.motion_stream.specs.Courses.{IsCourseBy, IsCourseOf, IsEarly, IsGoing, IsIdle, IsTold, row_at}
 use Rattle.motion_stream.specs.Motions.{AreEarly, Turns}
 use Rattle.motion_stream.specs.News.{HasPutAll, IsPlain, begins_in, read_news}
-use Rattle.motion_stream.specs.Puts.{AreGrown, HaveBegun, IsNew}
+use Rattle.motion_stream.specs.Puts.{AreGrown, GoesOn, HaveBegun, IsNew}
 use Rattle.motion_stream.specs.Seen.{AreWhole, Going, MayBe, Seen, count_of, items_read, sections_in}
 use Rattle.motion_stream.specs.Steps.{Advances, AreBegun, Begins, IsPassed}
-use Rattle.motion_stream.specs.Uptakes.{TakesUp, lined}
+use Rattle.motion_stream.specs.Uptakes.{IsClosed, TakesUp, lined}
 use Rattle.motion_stream.proofs.Drawing.{boards_in_all, units_snoc, whole_none}
 use Rattle.motion_stream.proofs.Opening.{linked}
 use Rattle.motion_stream.proofs.Rowing.{no_row}
@@ -74,7 +74,7 @@ begins_read begun None = begins_of (sections_in begun) ∙ length-map begun (λ 
 begins_read begun (Some g) =
     let front = begins_of (sections_in begun) ∙ length-map begun (λ (s : Started). s.section) in
     let own : begins_in (moves_in g.moves ++ ending (not g.goes)) ≡ 0 = no_moves g.moves (ending (not g.goes)) ∙ ending_none (not g.goes) in
-    let e = begins_append (items_of (sections_in begun)) (items.Begin Moves g.dwell ∷ (moves_in g.moves ++ ending (not g.goes))) in
+    let e = begins_append (items_of (sections_in begun)) (items.Begin g.kind g.dwell ∷ (moves_in g.moves ++ ending (not g.goes))) in
     omega (arith, front, own, e)
 
 -- how many sections it has
@@ -123,11 +123,11 @@ read_on m old new seen read e h = subst (λ c. IsCourseOf m c (record { text = s
     told_as (Some t) i = record { connected = i.connected; lines = i.lines; ready = i.ready; started = i.started; sent = i.sent; clocks = i.clocks; laid = i.laid; first = i.first; late = i.late }
 
     going_as : (o : Open) → IsGoing m o old seen.told seen.begun seen.going → IsGoing m o (record old { read = read }) seen.told seen.begun seen.going
-    going_as opens.Nothing i = record { none = i.none; goes = i.goes; known = i.known; ahead = i.ahead }
-    going_as (opens.Home boards) i = record { none = i.none; past = i.past; last = i.last; are = i.are; waits = i.waits; start = i.start; late = i.late; done = i.done; ahead = i.ahead; units = i.units }
-    going_as (opens.Moves s) i = record {
+    going_as opens.Nothing i = record { none = i.none; goes = i.goes; ahead = i.ahead }
+    going_as (opens.Goes s homes) i = record {
       g = i.g;
       is = i.is;
+      homes_is = i.homes_is;
       t = i.t;
       told_is = i.told_is;
       on = i.on;
@@ -137,7 +137,7 @@ read_on m old new seen read e h = subst (λ c. IsCourseOf m c (record { text = s
       takes = i.takes;
       next = i.next;
       done = i.done;
-      late = i.late;
+      goes_as = i.goes_as;
       fresh = i.fresh;
       rested = i.rested;
       before = i.before;
@@ -146,8 +146,7 @@ read_on m old new seen read e h = subst (λ c. IsCourseOf m c (record { text = s
 
     early_as : (o : Open) → IsEarly o (old.next + 260) (old.next + 260) old → IsEarly o (old.next + 260) (old.next + 260) (record old { read = read })
     early_as opens.Nothing i = i
-    early_as (opens.Home boards) i = i
-    early_as (opens.Moves s) i = i
+    early_as (opens.Goes s homes) i = i
 
 -- the batches of one section more, of which nothing is released
 batches_more : (m : Machine) (k : ℕ) (before : List Started) (s : Started) → IsNew m k s → batches_at (length m.boards) k (boards_in_all before) ≡ batches_at (length m.boards) k (boards_in_all (before ++ s ∷ []))
@@ -194,10 +193,10 @@ whole_lined m ns (Some t) next begun all None w = w
 whole_lined m ns (Some t) next begun all (Some g) w = w
 
 -- a section of moves that may follow changes nothing of those that home
-over_whole : (k : ℕ) (m : Machine) (told : Option Told) (next : ℕ) (begun all : List Started) (going : Option Going) → AreWhole m told next begun going all → AreOver k begun → AreOver k all
-over_whole k m told next begun all None w over = subst (AreOver k) (sym w) over
-over_whole k m None next begun all (Some g) w over = absurd w
-over_whole k m (Some t) next begun all (Some g) w over = subst (AreOver k) (sym w.1) (over_more k begun w.0 over (inl (ap (λ (x : Section). x.kind) w.2.section)))
+over_whole : (k : ℕ) (m : Machine) (told : Option Told) (next : ℕ) (begun all : List Started) (going : Option Going) → AreWhole m told next begun going all → AreOver k begun → ((g : Going) → going ≡ Some g → g.kind ≡ Moves) → AreOver k all
+over_whole k m told next begun all None w over moves = subst (AreOver k) (sym w) over
+over_whole k m None next begun all (Some g) w over moves = absurd w
+over_whole k m (Some t) next begun all (Some g) w over moves = subst (AreOver k) (sym w.1) (over_more k begun w.0 over (inl (ap (λ (x : Section). x.kind) w.2.section ∙ moves g refl)))
 
 none_left : {X : Type 0} (xs ys : List X) → xs ++ ys ≡ [] → (xs ≡ []) × (ys ≡ [])
 none_left [] ys e = (refl, e)
@@ -236,6 +235,22 @@ out_known m c seen whole all k turn free false (Some x) (inr (e, put)) h may at 
     let is = whole_none m seen.told seen.next seen.begun all seen.going i.none may.sections in
     inr (subst (AreOut (length m.boards) k n) (sym is) (all_out (length m.boards) k c.next n seen.begun (omega (arith, count, place, left)) at done none))
 
+-- one step behind another
+moves_both : (xs ys : List Started) → AreMoves xs → AreMoves ys → AreMoves (xs ++ ys)
+moves_both [] ys a b = b
+moves_both (x ∷ xs) ys a b = (a.0, moves_both xs ys a.1 b)
+
+both_go : (k : ℕ) (a b c : List Started) (x y z : Option Going) → GoesOn k a x b y → GoesOn k b y c z → GoesOn k a x c z
+both_go k a b c x y z h i = record {
+  more = h.more ++ i.more;
+  are = i.are ∙ ap (λ s. s ++ i.more) h.are ∙ append_assoc a h.more i.more;
+  moves = moves_both h.more i.more h.moves i.moves;
+  goes = λ g e. elim (i.goes g e) [
+    | inl start ↦ inl start
+    | inr p ↦ let (f, was, kind, start) = p in elim (h.goes f was) [ inl at ↦ inl (start ∙ at) | inr q ↦ let (d, first, kind', start') = q in inr (d, first, kind ∙ kind', start ∙ start') ]
+  ];
+}
+
 -- a turn
 pub turned : (m : Machine) (old first mid begun new : Course) (k : ℕ) (further : List NoteNews) (batches : List Batch) (done start : Option NoteNews) (note : Note) (read : Bool) (end : Option ReadEnd) → (end ≡ None) ⊎ ((end ≡ begun.source.end) × HasPutAll begun) → old.next ≡ k → IsPlain done → IsPlain start
     → IsPlain (read_news begun.read end (begun.place + begins_in begun.source.items.items)) → TakesUp m old k further first → Advances m first k batches done mid → Begins m mid k start begun → new ≡ record begun { read = read } → note.turn ≡ k
@@ -262,6 +277,7 @@ turned m old first mid begun new k further batches done start note read end know
         lines = q.lines ∙ p.lines;
         heard = subst (WereHeard seen.lines) (sym told) (heard_plain seen.lines done tail plain_done (heard_plain seen.lines start (r ++ further) plain_start (heard_plain seen.lines (read_news begun.read end (begun.place + begins_in begun.source.items.items)) further plain_read u.1)));
         next = q.next ∙ p.next;
+        sections = both_go k seen.begun a.0.begun next.begun seen.going a.0.going next.going p.sections q.sections;
         grown = λ all w. grown_by all (q.grown all w) p;
       },
       λ started whole all may. put_by all whole (q.grown all may.sections) p started u.0 u.2 (told_known m begun next whole all (begun.next + 260) (begun.next + 260) begun.read end (elim known [ inl e ↦ inl e | inr e ↦ inr e.0 ]) b.2 (record { text = may.text; sections = may.sections }))
@@ -272,14 +288,14 @@ turned m old first mid begun new k further batches done start note read end know
     grown_by : {a : Seen} (all : List Started) → AreBegun m a k start all → IsPassed m (lined seen further) a k batches done → AreGrown m seen k all
     grown_by all g p = record { old = g.before; whole = whole_lined m further seen.told seen.next seen.begun g.before seen.going (p.whole g.before g.whole); are = elim g.are [ inl e ↦ inl e.0 | inr e ↦ inr (e.0, e.1, e.2.new) ] }
 
-    put_by : {a : Seen} (all : List Started) (whole : List ℕ) → AreBegun m a k start all → IsPassed m (lined seen further) a k batches done → HaveBegun m seen k → AreFurther k further → (further ≡ []) ⊎ AreOver k seen.begun
+    put_by : {a : Seen} (all : List Started) (whole : List ℕ) → AreBegun m a k start all → IsPassed m (lined seen further) a k batches done → HaveBegun m seen k → AreFurther k further → (further ≡ []) ⊎ IsClosed k seen
         → IsReadNews m whole (listed (read_news begun.read end (begun.place + begins_in begun.source.items.items)))
         → (listed (read_news begun.read end (begun.place + begins_in begun.source.items.items)) ≡ []) ⊎ AreOut (length m.boards) k (length (program_sections m whole)) all → IsPut m whole all k (record { batches = batches; note = note })
     put_by all whole g p started is_further home is_read out =
         let before = g.before in
         let was = whole_lined m further seen.told seen.next seen.begun before seen.going (p.whole before g.whole) in
         let early : All (λ s. s.start < k + 260) before = started before was in
-        let over : AreOver k seen.begun → AreOver k before = over_whole k m seen.told seen.next seen.begun before seen.going was in
+        let over : IsClosed k seen → AreOver k before = λ closed. over_whole k m seen.told seen.next seen.begun before seen.going was closed.begun closed.going in
         let r = listed (read_news begun.read end (begun.place + begins_in begun.source.items.items)) ++ further in
         let d = p.done_is before g.whole in
         let none : begun_notes k 0 before ≡ [] = begun_before k 0 before early in

@@ -1,5 +1,5 @@
 -- A further clock line of a board is taken up.
-use Rattle.std.proofs.Common.{◌≡◌, ℕ, ◌+◌, ◌*◌, ◌<◌, ◌≤◌, ◌^◌, true, false, max, List, [], ◌∷◌, ◌++◌, All, length, append-nil, append_assoc, refl, ap, sym, subst, ◌∙◌, arith, inl, inr}
+use Rattle.std.proofs.Common.{◌≡◌, ℕ, ◌+◌, ◌*◌, ◌<◌, ◌≤◌, ◌^◌, Bool, true, false, max, List, [], ◌∷◌, ◌++◌, All, length, append-nil, append_assoc, refl, ap, sym, subst, ◌∙◌, arith, inl, inr}
 use Rattle.std.proofs.Math.Logic.{∥∥₁_elim, ∥∥₁_map, ∥∥₁_prop}
 use Rattle.std.proofs.lemmas.Bool.{cases_eq}
 use Rattle.std.proofs.lemmas.List.{get_or_default, length-set}
@@ -12,7 +12,7 @@ use Rattle.plan_types.specs.declared.plan.SectionKind.{SectionKind}
 use Rattle.plan_types.specs.declared.plan.SectionKind.TheVariants.{Home, Moves}
 use Rattle.plan_types.specs.Clock.{turn_ns}
 use Rattle.plan_types.specs.Lines.{Clocks}
-use Rattle.plan_types.specs.Sections.{clocks_at, section_end}
+use Rattle.plan_types.specs.Sections.{clocks_at, for_each_stepper, latest, stepper_end}
 use Rattle.plan_types.specs.Valid.{IsValidLine}
 use Rattle.clock_line.specs.Kept.{added}
 use Rattle.section_feed.specs.declared.queue.MoveQueue.{MoveQueue}
@@ -32,24 +32,25 @@ use Rattle.section_feed.proofs.Staying.{all-sent-stays, boards-stay, end-stays, 
 use Rattle.section_feed.proofs.Taken.{end-late, steps-before}
 use Rattle.motion_work.specs.declared.told.BoardLine.{BoardLine}
 use Rattle.motion_work.specs.Further.{AreFurther, WasHeard, WereHeard, noted_lines, told_on}
-use Rattle.motion_work.specs.Seen.{AreAllSent, AreBoardClocks, AreDone, AreOver, AreStarted, IsPlanned, IsSentOf, Started, ready_after}
+use Rattle.motion_work.specs.Seen.{AreAllSent, AreBoardClocks, AreDone, AreStarted, IsPlanned, IsSentOf, Started, ready_after}
 use Rattle.motion_work.specs.Told.{Told}
 use Rattle.motion_work.proofs.Staying.{homed_stays}
 use Rattle.motion_stream.specs.declared.course.BoardLines.{BoardLines}
 use Rattle.motion_stream.specs.declared.course.Course.{Course}
 use Rattle.motion_stream.specs.declared.course.Open.{Open}
 use Rattle.motion_stream.specs.declared.course.Open.TheVariants as opens
-use Rattle.motion_stream.specs.Courses.{AreAhead, AreHomedBy, AreLaid, IsConnected, IsCourseOf, IsEarly, IsGoing, IsMoving, IsSound, IsTold, IsUptake}
+use Rattle.motion_stream.specs.Courses.{AreAhead, AreHomedBy, AreLaid, IsConnected, GoesAs, IsCourseOf, IsEarly, IsGoing, IsGoingOn, IsSound, IsTold, IsUptake, MovesOn}
 use Rattle.motion_stream.specs.Motions.{AreEarly}
-use Rattle.motion_stream.specs.Seen.{Seen}
-use Rattle.motion_stream.specs.Uptakes.{AddsTo, HasTold, IsOpenTo, MayAdd, MayAddTo, TakesOne, lined}
+use Rattle.motion_stream.specs.Seen.{Going, Seen, homes_by}
+use Rattle.motion_stream.proofs.ByKind.{moves_kind}
+use Rattle.motion_stream.specs.Uptakes.{AddsTo, HasTold, IsClosed, IsOpenTo, MayAdd, MayAddTo, TakesOne, lined}
 use Rattle.motion_stream.proofs.Opening.{IsLinked, linked}
 use Rattle.motion_stream.proofs.Hearing.{also_heard, last_heard}
-use Rattle.motion_stream.proofs.Homed.{done_known, idle_known, over_by}
+use Rattle.motion_stream.proofs.Homed.{over_by}
 use Rattle.motion_stream.proofs.Laid.{EndBy, EndsBy, end_by, laid_stay}
 
-clash : true ≡ false → ⊥
-clash p = cc
+some_same : {X : Type 0} (x y : X) → Some x ≡ Some y → x ≡ y
+some_same x y p = cc
 
 -- the lines of all boards with one more
 first_line : (clocks : List Clocks) (b a turn : ℕ) (line : Line) → b < length clocks → (clocks_at (line_at clocks b turn line) a).first ≡ (clocks_at clocks a).first
@@ -89,7 +90,7 @@ one_stays Moves m clocks s b turn line inside lasting may low moved =
       known = moved.known;
       last = moved.last;
       moving = moved.moving;
-      boards = boards-stay m clocks ms s.start b turn line s.boards inside start lasting may before moved.boards;
+      boards = boards-stay false m clocks ms s.start b turn line s.boards inside start lasting may before moved.boards;
     }
 one_stays (Home axis) m clocks s b turn line inside lasting may low homed =
     let last = homed.last in
@@ -102,21 +103,22 @@ begun_stay m clocks ready b turn line (s ∷ begun) inside lasting may ends all 
   begun_stay m clocks (s.end + 260) b turn line begun inside lasting may ends.1 all.1,
 )
 
-one_sent : (kind : SectionKind) (m : Machine) (clocks : List Clocks) (s : Started) (b turn : ℕ) (line : Line) → s.section.kind ≡ kind → b < length clocks → IsLasting (clocks_at clocks b) → MayTake (clocks_at clocks b) turn line → EndsBy kind m clocks turn s → IsPlanned kind m clocks s → (s.section.kind ≡ Moves → IsSentOf m clocks s) → s.section.kind ≡ Moves → IsSentOf m (line_at clocks b turn line) s
-one_sent Moves m clocks s b turn line is inside lasting may low moved sent kind =
+-- it starts before the turn, and its last step is before it
+ends_before : (kind : SectionKind) (m : Machine) (clocks : List Clocks) (turn : ℕ) (s : Started) → EndsBy kind m clocks turn s → IsPlanned kind m clocks s → (s.start < turn) × (latest (for_each_stepper m (stepper_end m clocks s.section.moves s.start)) < turn)
+ends_before Moves m clocks turn s low moved = low
+ends_before (Home axis) m clocks turn s low homed = (let last = homed.last in let start : s.start < turn = omega (arith, last, low) in start, let last = homed.last in omega (arith, last, low))
+
+one_sent : (kind : SectionKind) (m : Machine) (clocks : List Clocks) (s : Started) (b turn : ℕ) (line : Line) → b < length clocks → IsLasting (clocks_at clocks b) → MayTake (clocks_at clocks b) turn line → EndsBy kind m clocks turn s → IsPlanned kind m clocks s → IsSentOf m clocks s → IsSentOf m (line_at clocks b turn line) s
+one_sent kind m clocks s b turn line inside lasting may low planned sent =
     let ms = s.section.moves in
-    let start = low.0 in
-    let before = steps-before m clocks ms s.start b turn (kept-lasting (clocks_at clocks b) lasting) low.1 in
-    λ k lt. all-sent-stays m clocks ms s.start b turn k line _ inside start lasting may before (sent kind k lt)
-one_sent (Home axis) m clocks s b turn line is inside lasting may low homed sent kind = absurd (clash (sym is ∙ kind))
-  where
-    clash : Home axis ≡ Moves → ⊥
-    clash p = cc
+    let early = ends_before kind m clocks turn s low planned in
+    let before = steps-before m clocks ms s.start b turn (kept-lasting (clocks_at clocks b) lasting) early.1 in
+    λ k lt. all-sent-stays m clocks ms s.start b turn k line _ inside early.0 lasting may before (sent k lt)
 
 sent_stay : (m : Machine) (clocks : List Clocks) (ready b turn : ℕ) (line : Line) (begun : List Started) → b < length clocks → IsLasting (clocks_at clocks b) → MayTake (clocks_at clocks b) turn line → EndBy m clocks turn begun → AreStarted m clocks ready begun → AreAllSent m clocks begun → AreAllSent m (line_at clocks b turn line) begun
 sent_stay m clocks ready b turn line [] inside lasting may ends all sent = tt
 sent_stay m clocks ready b turn line (s ∷ begun) inside lasting may ends all sent = (
-  one_sent s.section.kind m clocks s b turn line refl inside lasting may ends.0 all.0.planned sent.0,
+  one_sent s.section.kind m clocks s b turn line inside lasting may ends.0 all.0.planned sent.0,
   sent_stay m clocks (s.end + 260) b turn line begun inside lasting may ends.1 all.1 sent.1,
 )
 
@@ -165,8 +167,8 @@ module _ (m : Machine) (old new : Course) (seen : Seen) (k b turn : ℕ) (line :
   }
 
   -- a section that goes on takes up the line
-  going_on : (s s' : SectionStream) (more : Option Told) → more ≡ Some later → IsMoving m s old seen.told seen.begun seen.going → HasLine b turn line s s' → new.start ≡ old.start → new.next ≡ old.next → new.ahead ≡ old.ahead → IsMoving m s' new more seen.begun seen.going
-  going_on s s' more told i has start next ahead =
+  going_on : (s s' : SectionStream) (homes : Bool) (more : Option Told) → homes ≡ false → more ≡ Some later → IsGoingOn m s homes old seen.told seen.begun seen.going → HasLine b turn line s s' → new.start ≡ old.start → new.next ≡ old.next → new.ahead ≡ old.ahead → IsGoingOn m s' homes new more seen.begun seen.going
+  going_on s s' homes more off told i has start next ahead =
       let g = i.g in
       let same : i.t ≡ t = (let e : Some i.t ≡ Some t = sym i.told_is ∙ l.told_is in cc) in
       let soon = i.soon in
@@ -174,22 +176,26 @@ module _ (m : Machine) (old new : Course) (seen : Seen) (k b turn : ℕ) (line :
       let e = next in
       let hn = has.next in
       let begun : g.start < turn = omega (arith, soon, at, is) in
+      let kind : g.kind ≡ Moves = moves_kind g.kind (sym i.homes_is ∙ off) in
+      let moves : MovesOn m t.clocks old.next g = subst (λ (z : Told). MovesOn m z.clocks old.next g) same (subst (λ k. GoesAs k m i.t.clocks old.next old.lines.homed g) kind i.goes_as) in
       record {
         g = g;
         is = i.is;
+        homes_is = i.homes_is;
         t = later;
         told_is = told;
-        on = section-lined m t.clocks g.start false s s' g.moves g.released b turn line (subst (λ (z : Told). IsSectionOn m z.clocks g.start false s g.moves g.released) same i.on) lt begun may_take has;
+        on = section-lined m t.clocks g.start homes s s' g.moves g.released b turn line (subst (λ (z : Told). IsSectionOn m z.clocks g.start homes s g.moves g.released) same i.on) lt begun may_take has;
         start = i.start ∙ ap (λ (z : Told). ready_after z.first seen.begun + g.dwell) same;
         start_is = start ∙ i.start_is;
         soon = omega (arith, soon, e);
         takes = ap (λ (q : MoveQueue). is_taking q) has.queue ∙ i.takes;
         next = has.next ∙ n ∙ ap (λ z. max z (g.start - 250)) (sym next);
         done = subst (λ z. AreDone z seen.begun) (sym next) i.done;
-        late = λ all f.
-            let was : old.next + 1 ≤ section_end m t.clocks all g.start = subst (λ (z : Told). old.next + 1 ≤ section_end m z.clocks all g.start) same (i.late all f) in
-            let now = end-late m t.clocks all g.start b turn (old.next + 1) line inside begun lasting may_take (omega (arith, at, is)) was in
-            omega (arith, now, e);
+        goes_as = subst (λ k. GoesAs k m later.clocks new.next new.lines.homed g) (sym kind) (record {
+          late = λ all f. (let now = end-late m t.clocks all g.start b turn (old.next + 1) line inside begun lasting may_take (omega (arith, at, is)) (moves.late all f) in omega (arith, now, e));
+          last = moves.last;
+          moving = moves.moving;
+        });
         fresh = λ far. i.fresh (omega (arith, far, e));
         rested = λ near.
             let old_rested = i.rested (omega (arith, near, e)) in
@@ -200,8 +206,8 @@ module _ (m : Machine) (old new : Course) (seen : Seen) (k b turn : ℕ) (line :
       }
 
   -- what may be asked of a section
-  may_add : (s : SectionStream) → IsMoving m s old seen.told seen.begun seen.going → MayAdd s b turn line
-  may_add s i =
+  may_add : (s : SectionStream) (homes : Bool) → IsGoingOn m s homes old seen.told seen.begun seen.going → MayAdd s b turn line
+  may_add s homes i =
       let same : i.t ≡ t = (let e : Some i.t ≡ Some t = sym i.told_is ∙ l.told_is in cc) in
       let boards = i.on.boards in
       let n = i.next in
@@ -216,8 +222,7 @@ module _ (m : Machine) (old new : Course) (seen : Seen) (k b turn : ℕ) (line :
 
 pub open_on : (c : Course) (o : Open) → IsOpenTo c o → (c.connected ≡ true) × (c.lines.homed ≤ c.next + 269)
 open_on c opens.Nothing h = (h.0, h.1)
-open_on c (opens.Moves s) h = (h.0, h.1)
-open_on c (opens.Home boards) h = absurd h
+open_on c (opens.Goes s homes) h = (h.1, h.2)
 
 -- a line that was heard of is taken up, and told
 pub line_taken : (m : Machine) (old : Course) (now : Open) (lines : BoardLines) (seen : Seen) (k b turn : ℕ) (line : Line) (before : List NoteNews) → IsCourseOf m old seen → old.next ≡ k → turn ≡ k + 277 → IsOpenTo old old.current → AreEarly m old → b < length m.boards
@@ -266,15 +271,14 @@ line_taken m old now lines seen k b turn line before h at is op early lt may add
     by : (o : Open) → old.current ≡ o → IsGoing m o old seen.told seen.begun seen.going → IsOpenTo old o → AddsTo b turn line o now → IsEarly o (old.next + 260) (old.next + 260) old → HasTold m seen k before (before ++ more) new
     by opens.Nothing e i op a soon =
         made op.0 op.1
-        (subst (λ (x : Open). IsGoing m x new (told_on more seen.told) seen.begun seen.going) (sym a) (record { none = i.none; goes = i.goes; known = i.known; ahead = i.ahead }))
+        (subst (λ (x : Open). IsGoing m x new (told_on more seen.told) seen.begun seen.going) (sym a) (record { none = i.none; goes = i.goes; ahead = i.ahead }))
         (subst (λ (x : Open). IsEarly x (old.next + 260) (old.next + 260) new) (sym a) soon)
-    by (opens.Moves s) e i op a soon =
+    by (opens.Goes s homes) e i op a soon =
         let s' = a.0 in
-        made op.0 op.1
+        made op.1 op.2
         (subst (λ (x : Open). IsGoing m x new (told_on more seen.told) seen.begun seen.going) (sym a.1)
-        (going_on m old new seen k b turn line h at is op.0 lt early may s s' (told_on more seen.told) (told_later m old new seen k b turn line h at is op.0 lt early may b (turn * turn_ns) refl refl) i a.2 refl refl refl))
+        (going_on m old new seen k b turn line h at is op.1 lt early may s s' homes (told_on more seen.told) op.0 (told_later m old new seen k b turn line h at is op.1 lt early may b (turn * turn_ns) refl refl) i a.2 refl refl refl))
         (subst (λ (x : Open). IsEarly x (old.next + 260) (old.next + 260) new) (sym a.1) tt)
-    by (opens.Home boards) e i op a soon = absurd op
 
 -- what may be asked of what goes on
 pub may_add_to : (m : Machine) (c : Course) (seen : Seen) (k b turn : ℕ) (line : Line) → IsCourseOf m c seen → c.next ≡ k → turn ≡ k + 277 → IsOpenTo c c.current → AreEarly m c → b < length m.boards → MayTake (clocks_at c.lines.each.items b) turn line → MayAddTo c.current b turn line
@@ -282,23 +286,21 @@ may_add_to m c seen k b turn line h at is op early lt may = by c.current h.going
   where
     by : (o : Open) → IsGoing m o c seen.told seen.begun seen.going → IsOpenTo c o → MayAddTo o b turn line
     by opens.Nothing i op = tt
-    by (opens.Moves s) i op = may_add m c c seen k b turn line h at is op.0 lt early may s i
-    by (opens.Home boards) i op = absurd op
+    by (opens.Goes s homes) i op = may_add m c c seen k b turn line h at is op.1 lt early may s homes i
 
--- all sections that home are over where lines may be taken up
-pub open_over : (m : Machine) (c : Course) (seen : Seen) (k : ℕ) → IsCourseOf m c seen → c.next ≡ k → IsOpenTo c c.current → AreOver k seen.begun
-open_over m c seen k h at op = by c.current h.going op
+-- all sections that homed are over where lines may be taken up, and none homes
+pub open_over : (m : Machine) (c : Course) (seen : Seen) (k : ℕ) → IsCourseOf m c seen → c.next ≡ k → IsOpenTo c c.current → IsClosed k seen
+open_over m c seen k h at op = record {
+  begun = over_by c.lines.homed seen.next k seen.begun (sym h.next ∙ at) (let low = (open_on c c.current op).1 in omega (arith, low, at)) h.uptake.homed;
+  going = λ g e. by c.current h.going op g e;
+}
   where
-    same : c.next ≡ seen.next
-    same = h.next
+    none_some : (g : Going) → None ≡ Some g → ⊥
+    none_some g p = cc
 
-    small : c.next ≤ 2 ^ 42
-    small = h.small
-
-    by : (o : Open) → IsGoing m o c seen.told seen.begun seen.going → IsOpenTo c o → AreOver k seen.begun
-    by opens.Nothing i op = over_by c.lines.homed seen.next k seen.begun (sym same ∙ at) (let low = op.1 in omega (arith, low, at)) h.uptake.homed (idle_known c.goes c.next seen.begun small i.goes i.known)
-    by (opens.Moves s) i op = over_by c.lines.homed seen.next k seen.begun (sym same ∙ at) (let low = op.1 in omega (arith, low, at)) h.uptake.homed (done_known c.next seen.begun small i.done)
-    by (opens.Home boards) i op = absurd op
+    by : (o : Open) → IsGoing m o c seen.told seen.begun seen.going → IsOpenTo c o → (g : Going) → seen.going ≡ Some g → g.kind ≡ Moves
+    by opens.Nothing i op g e = absurd (none_some g (sym i.none ∙ e))
+    by (opens.Goes s homes) i op g e = moves_kind g.kind (ap (λ (x : Going). homes_by x.kind) (some_same g i.g (sym e ∙ i.is)) ∙ sym i.homes_is ∙ op.0)
 
 -- a line that is passed over
 pub line_passed : (m : Machine) (c : Course) (seen : Seen) (k : ℕ) (before : List NoteNews) → IsCourseOf m c seen → HasTold m seen k before before c

@@ -11,7 +11,6 @@ use Rattle.plan_types.specs.Clock.{turn_ns}
 use Rattle.section_feed.specs.declared.section.SectionStream.{SectionStream}
 use Rattle.section_feed.specs.Queues.{settled_to}
 use Rattle.section_feed.specs.Sections.{queue_of}
-use Rattle.motion_work.specs.Homes.{no_end}
 use Rattle.motion_work.specs.Seen.{Started, ready_after}
 use Rattle.motion_work.specs.Told.{Told}
 use Rattle.motion_stream.specs.declared.course.Course.{Course}
@@ -45,8 +44,7 @@ idle_clear c =
 -- end that are settled.
 abbrev pub clear_by : Course → Open → ℕ
 clear_by c opens.Nothing = idle_clear c
-clear_by c (opens.Home boards) = max c.next c.start
-clear_by c (opens.Moves s) = max (settled_turn s) c.next
+clear_by c (opens.Goes s homes) = if homes then max c.next c.start else max (settled_turn s) c.next
 
 abbrev pub clear_of : Course → ℕ
 clear_of c = clear_by c c.current
@@ -55,11 +53,10 @@ clear_of c = clear_by c c.current
 abbrev pub EndsOutside : ℕ → ℕ → Started → Type 0
 EndsOutside next n s = (s.end < next) ⊎ (n ≤ s.end)
 
--- Turns are clear up to n, from the next one on, whatever text follows: none of the sections that were begun ends in them, and an answer
--- may end none that homes; and none of the text's sections behind these is begun in them, 260 turns before it starts.
+-- Turns are clear up to n, from the next one on, whatever text and answers follow: none of the sections that were begun ends in them, and
+-- none of the text's sections behind these is begun in them, 260 turns before it starts.
 pub record IsClearTo (m : Machine) (seen : Seen) (n : ℕ) : Type 0 where
   pub ends : (all : List Started) → AreWhole m seen.told seen.next seen.begun seen.going all → All (EndsOutside seen.next n) all
-  pub waits : (past : List Started) (s : Started) → seen.begun ≡ past ++ s ∷ [] → seen.going ≡ None → s.end ≡ no_end → n ≤ max seen.next s.start
   pub begins : (t : Told) (whole : List ℕ) (all : List Started) (others : List Section) (s : Section) → seen.told ≡ Some t → MayBecome seen.ended seen.text whole → AreWhole m seen.told seen.next seen.begun seen.going all → program_sections m whole ≡ sections_in all ++ s ∷ others
       → n + 260 ≤ ready_after t.first all + s.dwell
   pub unheard : seen.told ≡ None → n ≤ seen.next

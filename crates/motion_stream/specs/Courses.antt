@@ -1,5 +1,5 @@
 -- Where a motion machine is, by what it has seen.
-use Rattle.std.specs.Prelude.{◌≡◌, ◌⊎◌, ℕ, ◌+◌, ◌-◌, ◌^◌, ◌<◌, ◌≤◌, All, true, false, List, [], ◌∷◌, ◌++◌, length, map, max, slice_index_or, Option, Some, None}
+use Rattle.std.specs.Prelude.{◌≡◌, ◌⊎◌, ℕ, ◌+◌, ◌-◌, ◌^◌, ◌<◌, ◌≤◌, All, Bool, true, false, List, [], ◌∷◌, length, map, max, slice_index_or, Option, Some, None}
 use Rattle.gcode_program.specs.declared.items.Item.{Item}
 use Rattle.gcode_program.specs.declared.items.Item.TheVariants as items
 use Rattle.plan_types.specs.declared.machine.Machine.{Machine}
@@ -17,11 +17,9 @@ use Rattle.section_feed.specs.Rests.{AreAllRested}
 use Rattle.section_feed.specs.Sections.{boards_in, next_of, queue_of}
 use Rattle.section_stream.specs.Looking.{IsFuture}
 use Rattle.section_units.specs.Sections.{AreBefore}
-use Rattle.step_feed.specs.Pacing.{batch_at}
 use Rattle.step_feed.specs.Units.{StepUnit}
-use Rattle.step_feed.specs.declared.whole.Batches.{Batches}
-use Rattle.motion_work.specs.Feeds.{releases_of, units_at}
-use Rattle.motion_work.specs.Homes.{no_end}
+use Rattle.motion_work.specs.Feeds.{units_at}
+use Rattle.motion_work.specs.Homes.{last_step, moving_in}
 use Rattle.motion_work.specs.declared.told.BoardLine.{BoardLine}
 use Rattle.motion_work.specs.Further.{WasHeard}
 use Rattle.motion_work.specs.Seen.{AreAllSent, AreBoardClocks, AreDone, AreStarted, IsOpen, Started, ready_after}
@@ -30,7 +28,7 @@ use Rattle.motion_stream.specs.declared.course.BoardLines.{BoardLines}
 use Rattle.motion_stream.specs.declared.course.Course.{Course}
 use Rattle.motion_stream.specs.declared.course.Open.{Open}
 use Rattle.motion_stream.specs.declared.course.Open.TheVariants as opens
-use Rattle.motion_stream.specs.Seen.{Going, Seen, count_of, items_read}
+use Rattle.motion_stream.specs.Seen.{Going, Seen, count_of, homes_by, items_read}
 use Rattle.motion_stream.specs.Texts.{IsSourceOf}
 
 -- the units of a board in a turn, of some turns one behind the other
@@ -45,37 +43,42 @@ pub record AreAhead (m : Machine) (rows : List (List (List StepUnit))) (next : �
 pub record IsIdle (m : Machine) (c : Course) (begun : List Started) (going : Option Going) : Type 0 where
   pub none : going ≡ None
   pub goes : IsOpen c.goes c.next begun
-  pub known : (past : List Started) (s : Started) → begun ≡ past ++ s ∷ [] → s.end < no_end
   pub ahead : AreAhead m c.ahead.items c.next begun
 
--- the last section homes, and has no answer yet
-pub record IsHoming (m : Machine) (boards : List Batches) (c : Course) (begun : List Started) (going : Option Going) : Type 0 where
-  pub none : going ≡ None
-  pub past : List Started
-  pub last : Started
-  pub are : begun ≡ past ++ last ∷ []
-  pub waits : last.end ≡ no_end
-  pub start : c.start ≡ last.start
-  pub late : last.start ≤ no_end
-  pub done : AreDone c.next past
-  pub ahead : AreAhead m c.ahead.items c.next past
-  pub units : (b k : ℕ) → b < length m.boards → c.next ≤ k → batch_at k (slice_index_or last.boards b []) ≡ batch_at k (slice_index_or (map releases_of boards) b [])
+-- A section of moves goes on: whatever moves follow, it ends behind the next turn.
+pub record MovesOn (m : Machine) (clocks : List Clocks) (next : ℕ) (g : Going) : Type 0 where
+  pub late : (all : List Move) → IsFuture g.goes g.moves all → next + 1 ≤ section_end m clocks all g.start
+  pub last : g.last ≡ 0
+  pub moving : g.moving ≡ 0
 
--- a section of moves goes on, whose stream has given what was released, and gives the next units in the next turn, or 250 turns
--- before the section starts
-pub record IsMoving (m : Machine) (s : SectionStream) (c : Course) (told : Option Told) (begun : List Started) (going : Option Going) : Type 0 where
+-- A section that homes goes on: it has all its moves, its last step is planned in a turn that is known, and by another one or before.
+pub record HomesOn (m : Machine) (clocks : List Clocks) (homed : ℕ) (g : Going) : Type 0 where
+  pub whole : g.goes ≡ false
+  pub last : g.last ≡ last_step m clocks g.moves g.start
+  pub moving : g.moving ≡ moving_in m g.moves
+  pub low : g.last ≤ homed
+
+-- so does one of a kind
+abbrev pub GoesAs : SectionKind → Machine → List Clocks → ℕ → ℕ → Going → Type 0
+GoesAs Moves m clocks next homed g = MovesOn m clocks next g
+GoesAs (Home axis) m clocks next homed g = HomesOn m clocks homed g
+
+-- A section goes on, whose stream has given what was released, and gives the next units in the next turn, or 250 turns before the
+-- section starts.
+pub record IsGoingOn (m : Machine) (s : SectionStream) (homes : Bool) (c : Course) (told : Option Told) (begun : List Started) (going : Option Going) : Type 0 where
   pub g : Going
   pub is : going ≡ Some g
+  pub homes_is : homes ≡ homes_by g.kind
   pub t : Told
   pub told_is : told ≡ Some t
-  pub on : IsSectionOn m t.clocks g.start false s g.moves g.released
+  pub on : IsSectionOn m t.clocks g.start homes s g.moves g.released
   pub start : g.start ≡ ready_after t.first begun + g.dwell
   pub start_is : c.start ≡ g.start
   pub soon : g.start < c.next + 260
   pub takes : is_taking (queue_of s) ≡ g.goes
   pub next : next_of s ≡ max c.next (g.start - 250)
   pub done : AreDone c.next begun
-  pub late : (all : List Move) → IsFuture g.goes g.moves all → c.next + 1 ≤ section_end m t.clocks all g.start
+  pub goes_as : GoesAs g.kind m t.clocks c.next c.lines.homed g
   pub fresh : c.next + 250 ≤ g.start → (b : ℕ) → g.released b ≡ []
   pub rested : g.start < c.next + 250 → AreAllRested (next_of s + 250) (boards_in s)
   pub before : (b : ℕ) → AreBefore c.next (g.released b)
@@ -84,8 +87,7 @@ pub record IsMoving (m : Machine) (s : SectionStream) (c : Course) (told : Optio
 -- what goes on
 abbrev pub IsGoing : Machine → Open → Course → Option Told → List Started → Option Going → Type 0
 IsGoing m opens.Nothing c told begun going = IsIdle m c begun going
-IsGoing m (opens.Home boards) c told begun going = IsHoming m boards.items c begun going
-IsGoing m (opens.Moves s) c told begun going = IsMoving m s c told begun going
+IsGoing m (opens.Goes s homes) c told begun going = IsGoingOn m s homes c told begun going
 
 -- Of a section of moves the last planned step, and its start, are in a turn or an earlier one; and so of some sections.
 abbrev pub IsLaid : SectionKind → Machine → List Clocks → ℕ → Started → Type 0
@@ -123,15 +125,14 @@ IsLater turn free ready end (other ∷ rest) = Unit {0}
 
 abbrev pub IsEarly : Open → ℕ → ℕ → Course → Type 0
 IsEarly opens.Nothing turn free c = c.connected ≡ true → IsLater turn free c.ready c.source.end c.source.items.items
-IsEarly (opens.Home boards) turn free c = Unit {0}
-IsEarly (opens.Moves s) turn free c = Unit {0}
+IsEarly (opens.Goes s homes) turn free c = Unit {0}
 
--- Of each of some sections that homes the last planned step is in a turn or earlier, and it has no answer yet, or ended by the next turn.
+-- Of each of some sections that homes the last planned step is in a turn or earlier, and it ended by the next turn.
 abbrev pub AreHomedBy : ℕ → ℕ → List Started → Type 0
 AreHomedBy homed next [] = Unit {0}
-AreHomedBy homed next (s ∷ begun) = ((s.section.kind ≡ Moves) ⊎ ((s.last ≤ homed) × ((s.end ≤ next) ⊎ (s.end ≡ no_end)))) × AreHomedBy homed next begun
+AreHomedBy homed next (s ∷ begun) = ((s.section.kind ≡ Moves) ⊎ ((s.last ≤ homed) × (s.end ≤ next))) × AreHomedBy homed next begun
 
--- The further lines that wait were heard of; and it is known by which turn all steps of sections that home are planned.
+-- The further lines that wait were heard of; and it is known by which turn all steps of sections that homed are planned.
 pub record IsUptake (lines : BoardLines) (next : ℕ) (begun : List Started) (heard : List BoardLine) : Type 0 where
   pub waiting : All (λ l. WasHeard l.board l.line heard) lines.waiting.items
   pub homed : AreHomedBy lines.homed next begun

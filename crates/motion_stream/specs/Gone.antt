@@ -1,15 +1,21 @@
 -- A section's stream that goes on.
-use Rattle.std.specs.Prelude.{◌≡◌, ℕ, ◌+◌, Bool, true, false, not, List, [], ◌∷◌, ◌++◌, ◌<◌, ◌/◌, max, slice_index_or}
+use Rattle.std.specs.Prelude.{◌≡◌, ℕ, ◌+◌, ◌^◌, Bool, true, false, not, List, [], ◌∷◌, ◌++◌, ◌<◌, ◌≤◌, ◌/◌, All, length, max, slice_index_or}
 use Rattle.gcode_program.specs.declared.items.Item.{Item}
 use Rattle.gcode_program.specs.declared.items.Item.TheVariants as items
-use Rattle.gcode_program.specs.Items.{ending, moves_in}
+use Rattle.gcode_program.specs.Items.{IsGood, ending, moves_in}
 use Rattle.plan_types.specs.declared.machine.Machine.{Machine}
 use Rattle.plan_types.specs.declared.plan.Move.{Move}
 use Rattle.plan_types.specs.Lines.{Clocks}
 use Rattle.section_feed.specs.declared.section.SectionStream.{SectionStream}
 use Rattle.section_feed.specs.On.{IsSectionOn}
 use Rattle.plan_types.specs.Clock.{turn_ns}
-use Rattle.motion_work.specs.Homes.{no_end}
+use Rattle.motion_work.specs.Homes.{last_step, moving_in, no_end}
+use Rattle.motion_work.specs.Seen.{AreBoardClocks}
+use Rattle.motion_stream.specs.Seen.{homes_by}
+use Rattle.plan_types.specs.declared.plan.SectionKind.{SectionKind}
+use Rattle.plan_types.specs.declared.plan.SectionKind.TheVariants.{Home, Moves}
+use Rattle.plan_types.specs.Machines.{IsValidMachine}
+use Rattle.plan_types.specs.Sections.{clocks_at}
 use Rattle.section_feed.specs.AllBoards.{ArePast, AreReleased, last_of}
 use Rattle.section_feed.specs.Queues.{IsDrawn, drawn_to, is_taking}
 use Rattle.section_feed.specs.Sections.{boards_in, next_of, queue_of}
@@ -28,7 +34,7 @@ pub record HasTaken (old new : SectionStream) (waiting left : List Item) : Type 
   pub ends : Bool
   pub items_are : waiting ≡ (moves_in more ++ ending ends) ++ left
   pub takes : is_taking (queue_of new) ≡ not ends
-  pub on : (m : Machine) (clocks : List Clocks) (turn : ℕ) (moves : List Move) (released : ℕ → List Release) → IsSectionOn m clocks turn false old moves released → IsSectionOn m clocks turn false new (moves ++ more) released
+  pub on : (m : Machine) (clocks : List Clocks) (turn : ℕ) (homing : Bool) (moves : List Move) (released : ℕ → List Release) → IsSectionOn m clocks turn homing old moves released → IsSectionOn m clocks turn homing new (moves ++ more) released
   pub next : next_of new ≡ next_of old
   pub boards : boards_in new ≡ boards_in old
 
@@ -40,6 +46,31 @@ HasHeardBy false old new waiting left = (new ≡ old) × (left ≡ waiting)
 abbrev pub HasHeard : SectionStream → SectionStream → List Item → List Item → Type 0
 HasHeard old new waiting left = HasHeardBy (is_taking (queue_of old)) old new waiting left
 
+-- A section may be opened that starts in a turn on a machine whose boards have these lines, and takes what waits.
+pub record MayOpen (m : Machine) (clocks : List Clocks) (start : ℕ) (waiting : List Item) : Type 0 where
+  pub machine : IsValidMachine m
+  pub boards : AreBoardClocks m clocks start
+  pub early : (b : ℕ) → b < length m.boards → (clocks_at clocks b).first.clock < 2 ^ 62
+  pub late : 250 ≤ start
+  pub small : start < 2 ^ 42 + 260
+  pub good : All IsGood waiting
+  pub few : moves_ahead waiting ≤ 2_000_000
+
+-- of one that homes all moves are there, and it is known when its last step is planned and which steppers move in it
+abbrev pub TellsAs : SectionKind → Machine → List Clocks → ℕ → List Move → Bool → ℕ → ℕ → Type 0
+TellsAs Moves m clocks start moves ends last moving = (last ≡ 0) × (moving ≡ 0)
+TellsAs (Home axis) m clocks start moves ends last moving = (ends ≡ true) × (last ≡ last_step m clocks moves start) × (moving ≡ moving_in m moves)
+
+-- A section of a kind was opened that starts in a turn: of what waits it took moves, and maybe its end behind them.
+pub record HasOpened (m : Machine) (clocks : List Clocks) (kind : SectionKind) (start : ℕ) (waiting left : List Item) (s : SectionStream) (last moving : ℕ) : Type 0 where
+  pub moves : List Move
+  pub ends : Bool
+  pub items_are : waiting ≡ (moves_in moves ++ ending ends) ++ left
+  pub takes : is_taking (queue_of s) ≡ not ends
+  pub on : IsSectionOn m clocks start (homes_by kind) s moves (λ b. [])
+  pub next : next_of s + 250 ≡ start
+  pub tells : TellsAs kind m clocks start moves ends last moving
+
 -- the units that a board releases in some turns one behind the other, of which this is the first
 abbrev pub released_in : ℕ → List (List (List StepUnit)) → ℕ → List Release
 released_in turn [] b = []
@@ -47,7 +78,7 @@ released_in turn (row ∷ rows) b = at_turn turn (slice_index_or row b []) ++ re
 
 -- a stream that gave these units, from the next turn on
 pub record HasGivenRows (old new : SectionStream) (turn : ℕ) (rows : List (List (List StepUnit))) : Type 0 where
-  pub on : (m : Machine) (clocks : List Clocks) (start : ℕ) (moves : List Move) (released : ℕ → List Release) → IsSectionOn m clocks start false old moves released → IsSectionOn m clocks start false new moves (λ b. released b ++ released_in turn rows b)
+  pub on : (m : Machine) (clocks : List Clocks) (start : ℕ) (homing : Bool) (moves : List Move) (released : ℕ → List Release) → IsSectionOn m clocks start homing old moves released → IsSectionOn m clocks start homing new moves (λ b. released b ++ released_in turn rows b)
   pub takes : is_taking (queue_of new) ≡ is_taking (queue_of old)
 
 -- all moves of a section came, all its steps are planned and all its units are given, and so the turn is known in which it ends

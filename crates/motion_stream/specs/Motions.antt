@@ -1,6 +1,8 @@
 -- The motion machine, as its callers see it.
-use Rattle.std.specs.Prelude.{◌≡◌, ℕ, ◌+◌, ◌-◌, ◌*◌, ◌^◌, ◌<◌, ◌&&◌, Bool, true, false, is_none, List, [], ◌∷◌, ◌++◌, length, nat_le, nat_lt, Option, Some, None, if◌then◌else◌}
+use Rattle.std.specs.Prelude.{◌≡◌, ℕ, ◌+◌, ◌-◌, ◌*◌, ◌^◌, ◌<◌, ◌&&◌, Bool, true, false, is_none, List, [], ◌∷◌, ◌++◌, length, map, nat_le, nat_lt, Option, Some, None, if◌then◌else◌}
+use Rattle.std.specs.List.{range_with_len}
 use Rattle.gcode_program.specs.declared.items.Item.{Item}
+use Rattle.gcode_program.specs.Readers.{section_with}
 use Rattle.msg_code.specs.declared.talk.Note.{Note}
 use Rattle.msg_code.specs.declared.talk.WordMsg.{WordMsg}
 use Rattle.msg_code.specs.declared.unit.Batch.{Batch}
@@ -11,14 +13,14 @@ use Rattle.plan_types.specs.declared.plan.Move.{Move}
 use Rattle.section_stream.specs.Looking.{IsFuture}
 use Rattle.section_feed.specs.Queues.{is_taking, settled_to}
 use Rattle.section_feed.specs.Sections.{queue_of}
-use Rattle.motion_work.specs.Takes.{all_answered}
+use Rattle.motion_work.specs.Seen.{Started}
 use Rattle.motion_work.specs.Told.{heard, lines_in, tells_homed}
 use Rattle.motion_stream.specs.declared.course.Course.{Course}
 use Rattle.motion_stream.specs.declared.course.Open.{Open}
 use Rattle.motion_stream.specs.declared.course.Open.TheVariants as opens
 use Rattle.motion_stream.specs.Courses.{IsCourseOf}
 use Rattle.motion_stream.specs.Puts.{IsBehind, IsPutOf}
-use Rattle.motion_stream.specs.Seen.{Going, Seen}
+use Rattle.motion_stream.specs.Seen.{Going, Seen, homes_by}
 use Rattle.motion_stream.specs.Texts.{ended_after, text_after}
 
 -- a machine on a printer, and where it is
@@ -33,8 +35,7 @@ IsPlannerOf p seen = IsCourseOf p.machine p.course seen
 -- a homing section waits for its answer in a turn
 abbrev pub waits_by : Open → ℕ → ℕ → Bool
 waits_by opens.Nothing start k = false
-waits_by (opens.Moves s) start k = false
-waits_by (opens.Home boards) start k = nat_le start k
+waits_by (opens.Goes s homes) start k = homes && nat_le start k
 
 -- The word that must be taken before the batches of turn k: while connecting, and while a homing section waits for its answer,
 -- that of the same turn, else that of 64 turns before.
@@ -50,8 +51,7 @@ is_none_left (i ∷ is) = false
 -- Of what is needed for turn k something is not read: of a section that goes on the moves that are settled end before turn k + 261;
 -- or the next section has not begun in the text, and may start by turn k + 260.
 abbrev pub lacks : Course → Open → ℕ → Bool
-lacks c (opens.Home boards) k = false
-lacks c (opens.Moves s) k = is_taking (queue_of s) && nat_lt (settled_to (queue_of s)) ((k + 261) * turn_ns)
+lacks c (opens.Goes s homes) k = is_taking (queue_of s) && nat_lt (settled_to (queue_of s)) ((k + 261) * turn_ns)
 lacks c opens.Nothing k = c.connected && is_none_left c.source.items.items && nat_lt c.ready (k + 261)
 
 -- It needs more of the text before the batches of turn k: the first piece, and else as long as it is not known how the text is read
@@ -79,8 +79,11 @@ read_on seen bytes end going =
 
 -- a section that goes on, of which more moves were read, and maybe its end
 pub record IsLonger (old new : Going) : Type 0 where
+  pub kind : new.kind ≡ old.kind
   pub dwell : new.dwell ≡ old.dwell
   pub start : new.start ≡ old.start
+  pub last : new.last ≡ old.last
+  pub moving : new.moving ≡ old.moving
   pub released : new.released ≡ old.released
   pub moves : (all : List Move) → IsFuture new.goes new.moves all → IsFuture old.goes old.moves all
 
@@ -103,16 +106,46 @@ with_lines m seen w = record {
   going = seen.going;
 }
 
-abbrev pub with_answer : Seen → WordMsg → Seen
-with_answer seen w = record {
+-- A section that goes on as it is where it ends in a turn: it has the moves that were read and the units that were released.
+abbrev pub answered : Machine → ℕ → Going → Started
+answered m next g = record {
+  section = section_with g.kind g.moves g.dwell;
+  start = g.start;
+  end = next;
+  last = g.last;
+  moving = g.moving;
+  boards = map g.released (range_with_len 0 (length m.boards));
+}
+
+-- The section that an answer ends, where the batches of turn `next` are made next: the one that goes on, where it homes and has
+-- started. Else the answer is passed over.
+abbrev pub hears_answer : Machine → ℕ → Option Going → Option Started
+hears_answer m next None = None
+hears_answer m next (Some g) = if homes_by g.kind && nat_le g.start next then Some (answered m next g) else None
+
+-- the sections that are known whole, and the one that goes on, behind that
+abbrev pub begun_with : List Started → Option Started → List Started
+begun_with begun None = begun
+begun_with begun (Some s) = begun ++ s ∷ []
+
+abbrev pub going_with : Option Going → Option Started → Option Going
+going_with going None = going
+going_with going (Some s) = None
+
+-- the section that a word ends
+abbrev pub ended_in : Machine → Seen → WordMsg → Option Started
+ended_in m seen w = if tells_homed w.news then hears_answer m seen.next seen.going else None
+
+abbrev pub with_answer : Machine → Seen → WordMsg → Seen
+with_answer m seen w = record {
   text = seen.text;
   ended = seen.ended;
   read = seen.read;
   told = seen.told;
   lines = seen.lines;
   next = seen.next;
-  begun = if tells_homed w.news then all_answered seen.next seen.begun else seen.begun;
-  going = seen.going;
+  begun = begun_with seen.begun (ended_in m seen w);
+  going = going_with seen.going (ended_in m seen w);
 }
 
 abbrev pub with_further : Seen → WordMsg → Seen
@@ -129,7 +162,7 @@ with_further seen w = record {
 
 -- what was seen behind a word whose further lines are passed over, and behind one of which all is taken
 abbrev pub with_heed : Machine → Seen → WordMsg → Seen
-with_heed m seen w = with_answer (with_lines m seen w) w
+with_heed m seen w = with_answer m (with_lines m seen w) w
 
 abbrev pub with_word : Machine → Seen → WordMsg → Seen
 with_word m seen w = with_further (with_heed m seen w) w

@@ -1,16 +1,14 @@
 -- What a motion machine has put, told by whole sections of any text that its own may become.
-use Rattle.std.specs.Prelude.{◌≡◌, ◌⊎◌, ℕ, ◌+◌, ◌<◌, ◌≤◌, All, List, [], ◌∷◌, ◌++◌, length, slice_index_or}
+use Rattle.std.specs.Prelude.{◌≡◌, ◌⊎◌, ℕ, ◌+◌, ◌<◌, ◌≤◌, All, List, [], ◌∷◌, ◌++◌, length, slice_index_or, Option, Some}
 use Rattle.msg_code.specs.declared.talk.Note.{Note}
 use Rattle.msg_code.specs.declared.talk.NoteNews.{NoteNews}
 use Rattle.msg_code.specs.declared.unit.Batch.{Batch}
 use Rattle.plan_types.specs.declared.machine.Machine.{Machine}
-use Rattle.plan_types.specs.declared.plan.SectionKind.TheVariants.{Home}
 use Rattle.step_feed.specs.Pacing.{batch_at}
 use Rattle.motion_work.specs.Further.{WereHeard, told_on}
-use Rattle.motion_work.specs.Homes.{no_end}
 use Rattle.motion_work.specs.Puts.{ArePut, IsPut, Put}
-use Rattle.motion_work.specs.Seen.{Started}
-use Rattle.motion_stream.specs.Seen.{AreWhole, MayBe, Seen}
+use Rattle.motion_work.specs.Seen.{AreMoves, Started}
+use Rattle.motion_stream.specs.Seen.{AreWhole, Going, MayBe, Seen}
 
 -- All that was put before a machine's next turn is told by whole sections, whatever text follows, and each of them was begun in one
 -- of these turns.
@@ -19,12 +17,19 @@ pub record ArePutBy (m : Machine) (seen : Seen) (ps : List Put) : Type 0 where
   pub put : (whole : List ℕ) (all : List Started) → MayBe m seen whole all → ArePut m whole all 0 ps
   pub started : (whole : List ℕ) (all : List Started) → MayBe m seen whole all → All (λ s. s.start < seen.next + 260) all
 
--- a section that is begun in turn k: it starts 260 turns later, and has no units by then; where it homes it has no answer yet
+-- a section that is begun in turn k: it starts 260 turns later, and has no units by then
 pub record IsNew (m : Machine) (k : ℕ) (s : Started) : Type 0 where
   pub start : s.start ≡ k + 260
   pub late : s.start ≤ s.end
-  pub waits : (axis : ℕ) → s.section.kind ≡ Home axis → s.end ≡ no_end
   pub none : (b j : ℕ) → b < length m.boards → j ≤ k → batch_at j (slice_index_or s.boards b []) ≡ []
+
+-- What comes to the sections that were begun, and to the one that goes on behind them, in turn k: some of moves come to be known whole; and
+-- one that goes on then did so before, or is begun in the turn.
+pub record GoesOn (k : ℕ) (begun : List Started) (going : Option Going) (after : List Started) (on : Option Going) : Type 0 where
+  pub more : List Started
+  pub are : after ≡ begun ++ more
+  pub moves : AreMoves more
+  pub goes : (g : Going) → on ≡ Some g → (g.start ≡ k + 260) ⊎ ((h : Going) × (going ≡ Some h) × (g.kind ≡ h.kind) × (g.start ≡ h.start))
 
 -- whole sections as before turn k, and maybe one more that is begun in it
 pub record AreGrown (m : Machine) (seen : Seen) (k : ℕ) (all : List Started) : Type 0 where
@@ -41,6 +46,7 @@ pub record IsBehind (m : Machine) (old new : Seen) (k : ℕ) (news : List NoteNe
   pub lines : new.lines ≡ old.lines
   pub heard : WereHeard old.lines news
   pub next : new.next ≡ old.next + 1
+  pub sections : GoesOn k old.begun old.going new.begun new.going
   pub grown : (all : List Started) → AreWhole m new.told new.next new.begun new.going all → AreGrown m old k all
 
 -- the sections that were begun before turn k start before turn k + 260

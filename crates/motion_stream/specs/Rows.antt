@@ -2,7 +2,6 @@
 use Rattle.std.specs.Prelude.{◌≡◌, ℕ, ◌<◌, false, ◌++◌, List, [], map, slice_index_or}
 use Rattle.std.specs.List.{range_with_len}
 use Rattle.msg_code.specs.declared.unit.Batch.{Batch}
-use Rattle.step_feed.specs.Pacing.{Release, batch_at}
 use Rattle.step_feed.specs.Units.{StepUnit}
 use Rattle.motion_stream.specs.Courses.{row_at}
 
@@ -17,7 +16,3 @@ batches_of boards turn ahead own = map (λ b. record { turn = turn; units = unit
 -- turn by turn and board by board the units of two, of the second behind those of the first
 pub record AreJoined (boards : ℕ) (one two joined : List (List (List StepUnit))) : Type 0 where
   pub units : (i b : ℕ) → b < boards → row_at joined i b ≡ row_at one i b ++ row_at two i b
-
--- the units that are released in a turn, board by board
-abbrev pub home_units : ℕ → List (List Release) → List (List StepUnit)
-home_units turn boards = map (batch_at turn) boards

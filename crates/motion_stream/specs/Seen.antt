@@ -1,5 +1,5 @@
 -- What a motion machine has seen of a text that is read in pieces, and begun.
-use Rattle.std.specs.Prelude.{◌≡◌, ℕ, ◌+◌, ◌*◌, ◌/◌, ◌<◌, ◌≤◌, Bool, false, not, List, [], ◌∷◌, ◌++◌, length, map, slice_index_or, Option, Some, None}
+use Rattle.std.specs.Prelude.{◌≡◌, ℕ, ◌+◌, ◌*◌, ◌/◌, ◌<◌, ◌≤◌, Bool, true, false, not, List, [], ◌∷◌, ◌++◌, length, map, max, slice_index_or, Option, Some, None}
 use Rattle.gcode_program.specs.declared.items.Item.{Item}
 use Rattle.gcode_program.specs.declared.items.Item.TheVariants as items
 use Rattle.gcode_program.specs.Items.{ending, items_of, moves_in}
@@ -7,7 +7,8 @@ use Rattle.gcode_program.specs.Readers.{section_with}
 use Rattle.plan_types.specs.declared.machine.Machine.{Machine}
 use Rattle.plan_types.specs.declared.plan.Move.{Move}
 use Rattle.plan_types.specs.declared.plan.Section.{Section}
-use Rattle.plan_types.specs.declared.plan.SectionKind.TheVariants.{Moves}
+use Rattle.plan_types.specs.declared.plan.SectionKind.{SectionKind}
+use Rattle.plan_types.specs.declared.plan.SectionKind.TheVariants.{Home, Moves}
 use Rattle.plan_types.specs.Clock.{turn_ns}
 use Rattle.plan_types.specs.Sections.{end_time}
 use Rattle.plan_types.specs.Speeds.{greatest_speeds}
@@ -19,13 +20,22 @@ use Rattle.motion_work.specs.Seen.{Started}
 use Rattle.motion_work.specs.Told.{Told}
 use Rattle.motion_stream.specs.Texts.{MayBecome}
 
--- A section of moves that was begun and whose end is not known: the dwells before it, the turn in which it starts, its moves that
--- were read, whether more may follow, and its units that were released on each board.
+-- a section of a kind homes
+abbrev pub homes_by : SectionKind → Bool
+homes_by Moves = false
+homes_by (Home axis) = true
+
+-- A section that was begun and whose end is not known: its kind, the dwells before it, the turn in which it starts, its moves that
+-- were read, whether more may follow, of one that homes the turn of its last planned step and which steppers move in it, and its units
+-- that were released on each board.
 pub record Going : Type 0 where
+  pub kind : SectionKind
   pub dwell : ℕ
   pub start : ℕ
   pub moves : List Move
   pub goes : Bool
+  pub last : ℕ
+  pub moving : ℕ
   pub released : ℕ → List Release
 
 -- the text so far and whether it ended; whether it was told how it was read; what is known of connecting, and the further clock lines
@@ -52,7 +62,7 @@ sections_in begun = map (λ s. s.section) begun
 -- what the text told of these sections
 abbrev pub items_read : List Started → Option Going → List Item
 items_read begun None = items_of (sections_in begun)
-items_read begun (Some g) = items_of (sections_in begun) ++ (items.Begin Moves g.dwell ∷ (moves_in g.moves ++ ending (not g.goes)))
+items_read begun (Some g) = items_of (sections_in begun) ++ (items.Begin g.kind g.dwell ∷ (moves_in g.moves ++ ending (not g.goes)))
 
 -- how many were begun
 abbrev pub count_of : List Started → Option Going → ℕ
@@ -63,18 +73,22 @@ count_of begun (Some g) = length begun + 1
 abbrev pub moves_end : Machine → List Move → ℕ → ℕ
 moves_end m moves start = end_time m.cruise moves (greatest_speeds moves m.scv) (start * turn_ns) / turn_ns
 
+-- A section of moves ends when they do or later, behind the next turn. One that homes ends in the next turn or later, and not before it
+-- starts.
+abbrev pub EndsBy : SectionKind → Machine → ℕ → Started → Type 0
+EndsBy Moves m next s = (moves_end m s.section.moves s.start ≤ s.end) × (next < s.end) × (s.end < no_end)
+EndsBy (Home axis) m next s = max next s.start ≤ s.end
+
 -- A whole section that a section may become whose end is not known: it has the moves that were read and those that may follow, it
--- ends when they do or later, behind the next turn, and what was released before that turn is what it has there. The boards' clock lines
--- have no part in it, since more of them may come.
+-- ends as one of its kind may, and what was released before the next turn is what it has there. The boards' clock lines have no part in
+-- it, since more of them may come.
 pub record IsContinued (m : Machine) (next : ℕ) (g : Going) (s : Started) : Type 0 where
-  pub section : s.section ≡ section_with Moves s.section.moves g.dwell
+  pub section : s.section ≡ section_with g.kind s.section.moves g.dwell
   pub moves : IsFuture g.goes g.moves s.section.moves
   pub start : s.start ≡ g.start
-  pub end : moves_end m s.section.moves s.start ≤ s.end
-  pub late : next < s.end
-  pub known : s.end < no_end
-  pub last : s.last ≡ 0
-  pub moving : s.moving ≡ 0
+  pub ends : EndsBy g.kind m next s
+  pub last : s.last ≡ g.last
+  pub moving : s.moving ≡ g.moving
   pub same : (b k : ℕ) → b < length m.boards → k < next → batch_at k (slice_index_or s.boards b []) ≡ batch_at k (g.released b)
 
 -- whole sections that those may become that were begun before a turn

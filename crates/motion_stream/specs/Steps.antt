@@ -15,7 +15,7 @@ use Rattle.motion_work.specs.Turns.{done_notes}
 use Rattle.motion_stream.specs.declared.course.Course.{Course}
 use Rattle.motion_stream.specs.declared.course.Open.TheVariants as opens
 use Rattle.motion_stream.specs.Courses.{IsCourseBy, IsCourseOf}
-use Rattle.motion_stream.specs.Puts.{IsNew}
+use Rattle.motion_stream.specs.Puts.{GoesOn, IsNew}
 use Rattle.motion_stream.specs.Rows.{batches_of}
 use Rattle.motion_stream.specs.Seen.{AreWhole, Seen}
 
@@ -38,6 +38,7 @@ pub record IsPassed (m : Machine) (old new : Seen) (k : ℕ) (batches : List Bat
   pub told : new.told ≡ old.told
   pub lines : new.lines ≡ old.lines
   pub next : new.next ≡ old.next + 1
+  pub sections : GoesOn k old.begun old.going new.begun new.going
   pub whole : (all : List Started) → AreWhole m new.told new.next new.begun new.going all → AreWhole m old.told old.next old.begun old.going all
   pub batches_are : (all : List Started) → AreWhole m new.told new.next new.begun new.going all → batches ≡ batches_at (length m.boards) k (map (λ s. s.boards) all)
   pub done_is : (all : List Started) → AreWhole m new.told new.next new.begun new.going all → listed done ≡ done_notes k 0 all
@@ -78,6 +79,7 @@ pub record IsBegun (m : Machine) (old new : Seen) (k : ℕ) (start : Option Note
   pub told : new.told ≡ old.told
   pub lines : new.lines ≡ old.lines
   pub next : new.next ≡ old.next
+  pub sections : GoesOn k old.begun old.going new.begun new.going
   pub grown : (all : List Started) → AreWhole m new.told new.next new.begun new.going all → AreBegun m old k start all
 
 -- a machine begins the next section, where that is due in turn k

@@ -1,9 +1,10 @@
 -- How a motion machine takes up further clock lines of boards.
-use Rattle.std.specs.Prelude.{◌≡◌, ◌⊎◌, ℕ, ◌+◌, ◌<◌, ◌≤◌, All, true, List, [], ◌∷◌, ◌++◌, length, slice_index_or}
+use Rattle.std.specs.Prelude.{◌≡◌, ◌⊎◌, ℕ, ◌+◌, ◌<◌, ◌≤◌, All, true, false, List, [], ◌∷◌, ◌++◌, length, slice_index_or, Some}
 use Rattle.msg_code.specs.declared.talk.NoteNews.{NoteNews}
 use Rattle.msg_code.specs.declared.talk.NoteNews.TheVariants as news
 use Rattle.plan_types.specs.declared.machine.Machine.{Machine}
 use Rattle.plan_types.specs.declared.plan.Line.{Line}
+use Rattle.plan_types.specs.declared.plan.SectionKind.TheVariants.{Moves}
 use Rattle.section_feed.specs.Boards.{MayTake}
 use Rattle.section_feed.specs.Going.{most_ahead}
 use Rattle.section_feed.specs.Lined.{HasLine}
@@ -19,13 +20,12 @@ use Rattle.motion_stream.specs.declared.course.Course.{Course}
 use Rattle.motion_stream.specs.declared.course.Open.{Open}
 use Rattle.motion_stream.specs.declared.course.Open.TheVariants as opens
 use Rattle.motion_stream.specs.Courses.{IsCourseOf}
-use Rattle.motion_stream.specs.Seen.{Seen}
+use Rattle.motion_stream.specs.Seen.{Going, Seen}
 
 -- a machine may take up further lines: none homes, and those that did have their last planned steps soon
 abbrev pub IsOpenTo : Course → Open → Type 0
 IsOpenTo c opens.Nothing = (c.connected ≡ true) × (c.lines.homed ≤ c.next + 269)
-IsOpenTo c (opens.Moves s) = (c.connected ≡ true) × (c.lines.homed ≤ c.next + 269)
-IsOpenTo c (opens.Home boards) = ⊥
+IsOpenTo c (opens.Goes s homes) = (homes ≡ false) × (c.connected ≡ true) × (c.lines.homed ≤ c.next + 269)
 
 -- a section that goes on may take up a line on a board, which holds from a turn on
 pub record MayAdd (s : SectionStream) (board turn : ℕ) (line : Line) : Type 0 where
@@ -34,14 +34,13 @@ pub record MayAdd (s : SectionStream) (board turn : ℕ) (line : Line) : Type 0 
   pub behind : next_of s + most_ahead < turn
 
 abbrev pub MayAddTo : Open → ℕ → ℕ → Line → Type 0
-MayAddTo (opens.Moves s) board turn line = MayAdd s board turn line
+MayAddTo (opens.Goes s homes) board turn line = MayAdd s board turn line
 MayAddTo other board turn line = Unit {0}
 
 -- it took it up, if one goes on
 abbrev pub AddsTo : ℕ → ℕ → Line → Open → Open → Type 0
-AddsTo board turn line (opens.Moves s) new = (t : SectionStream) × (new ≡ opens.Moves t) × HasLine board turn line s t
+AddsTo board turn line (opens.Goes s homes) new = (t : SectionStream) × (new ≡ opens.Goes t homes) × HasLine board turn line s t
 AddsTo board turn line opens.Nothing new = new ≡ opens.Nothing
-AddsTo board turn line (opens.Home boards) new = new ≡ opens.Home boards
 
 -- what a machine has seen where these news of further lines are told
 abbrev pub lined : Seen → List NoteNews → Seen
@@ -82,8 +81,13 @@ pub record TakesMore (old new : List Clocks) (before told : List NoteNews) : Typ
 abbrev pub LeavesNone : Machine → Course → ℕ → List NoteNews → Type 0
 LeavesNone m c k told = IsOpenTo c c.current → All (IsNotLost m c.lines.each.items k told) c.lines.waiting.items
 
+-- A line that is told in turn k changes no step of a section that homes: none goes on that does, and those that ended are over.
+pub record IsClosed (k : ℕ) (seen : Seen) : Type 0 where
+  pub begun : AreOver k seen.begun
+  pub going : (g : Going) → seen.going ≡ Some g → g.kind ≡ Moves
+
 -- A machine took up further clock lines before turn k, and this is the news of them: each was heard of, and holds from turn k + 277
 -- on. It takes up none that may change a step of a section that homes.
 abbrev pub TakesUp : Machine → Course → ℕ → List NoteNews → Course → Type 0
 TakesUp m old k further new =
-    (seen : Seen) → IsCourseOf m old seen → AreFurther k further × WereHeard seen.lines further × ((further ≡ []) ⊎ AreOver k seen.begun) × IsCourseOf m new (lined seen further)
+    (seen : Seen) → IsCourseOf m old seen → AreFurther k further × WereHeard seen.lines further × ((further ≡ []) ⊎ IsClosed k seen) × IsCourseOf m new (lined seen further)

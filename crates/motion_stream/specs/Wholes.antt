@@ -3,22 +3,28 @@ use Rattle.std.specs.Prelude.{◌≡◌, ℕ, ◌+◌, ◌^◌, ◌<◌, ◌≤�
 use Rattle.gcode_program.specs.Programs.{program_sections}
 use Rattle.plan_types.specs.declared.machine.Machine.{Machine}
 use Rattle.plan_types.specs.declared.plan.Section.{Section}
-use Rattle.plan_types.specs.Sections.{section_end}
-use Rattle.section_units.specs.Plans.{AreOnBoards, AreSentToOn}
+use Rattle.plan_types.specs.declared.plan.SectionKind.TheVariants.{Home}
+use Rattle.section_units.specs.Plans.{AreSentToOn}
+use Rattle.motion_work.specs.Homes.{no_end}
 use Rattle.motion_work.specs.Puts.{ArePut, Put}
-use Rattle.motion_work.specs.Seen.{AreBoardClocks, AreSentBy, AreStarted, Started, ready_after}
+use Rattle.motion_work.specs.Seen.{AreBoardClocks, AreSentBy, AreStarted, IsPlanned, Started, ready_after}
 use Rattle.motion_work.specs.Told.{Told}
 use Rattle.motion_stream.specs.Seen.{Going, MayBe, Seen, sections_in}
 
--- the last of some sections, which ends as its plan does, with the units of it on each board, such as that is sent before the next turn
+-- a section has no answer, where it homes
+abbrev pub HasNoAnswer : Started → Type 0
+HasNoAnswer s = (axis : ℕ) → s.section.kind ≡ Home axis → s.end ≡ no_end
+
+-- The last of some sections, which has all units of its plan on each board, such as that is sent before the next turn. Where it homes it
+-- has no end.
 pub record IsWholeLast (m : Machine) (seen : Seen) (all : List Started) : Type 0 where
   pub past : List Started
   pub s : Started
   pub are : all ≡ past ++ s ∷ []
   pub t : Told
   pub told_is : seen.told ≡ Some t
-  pub end : s.end ≡ section_end m t.clocks s.section.moves s.start
-  pub boards : AreOnBoards m t.clocks s.section.moves s.start s.boards
+  pub planned : IsPlanned s.section.kind m t.clocks s
+  pub unanswered : HasNoAnswer s
   pub sent : (b : ℕ) → b < length m.boards → AreSentToOn m t.clocks s.section.moves s.start b seen.next (slice_index_or s.boards b [])
 
 -- whole sections that what was seen may become, which are the first ones of a whole text; where one goes on, it has all its units
@@ -56,3 +62,4 @@ pub record ArePlanned (m : Machine) (seen : Seen) (whole : List ℕ) (ps : List 
   pub due : (t : Told) (s : Section) (rest : List Section) → seen.told ≡ Some t → others ≡ s ∷ rest → seen.next + 260 ≤ ready_after t.first all + s.dwell
   pub more : List Started
   pub begun : all ≡ seen.begun ++ more
+  pub unanswered : All HasNoAnswer more

@@ -1,22 +1,24 @@
 //! The section that is begun in a turn.
 
-ghost use Rattle.std.specs.Prelude.{◌≡◌, ℕ, ◌+◌, ◌-◌, ◌*◌, ◌<◌, ◌≤◌, ◌^◌, List, [], ◌∷◌, IfNone, IfOk, IfSome, Some, true, false, length};
-ghost use Rattle.gcode_program.specs.declared.items.Item.{Item};
+ghost use Rattle.std.specs.Prelude.{◌≡◌, ◌+◌, ◌<◌, ◌^◌, ◌∷◌, IfNone, IfOk, IfSome, Some};
 ghost use Rattle.gcode_program.specs.declared.items.Item.TheVariants as told;
 ghost use Rattle.plan_types.specs.declared.plan.SectionKind.TheVariants.{Home, Moves};
 ghost use Rattle.motion_stream.specs.Courses.{IsCourseBy};
 ghost use Rattle.motion_stream.specs.News.{IsPlain};
 ghost use Rattle.motion_stream.specs.Motions.{AreEarly};
-ghost use Rattle.motion_stream.specs.Seen.{Seen};
+ghost use Rattle.motion_stream.specs.Gone.{HasOpened, MayOpen};
+ghost use Rattle.motion_stream.specs.Seen.{Seen, homes_by};
 ghost use Rattle.motion_stream.specs.Steps.{Begins, IsDue, IsNotDue};
 
 use crate::OutOfMemory;
 use crate::course::{BETWEEN, Course, Open};
 use crate::section::{new_section, take_moves};
+use clock_line::Lines;
 use gcode_program::Item;
-use motion_work::{NO_END, moving_in, plan_boards};
+use motion_work::{home_end, moving_in};
 use msg_code::NoteNews;
 use plan_types::{Machine, Move, SectionKind};
+use section_feed::SectionStream;
 use std::alloc::Global;
 use std::collections::VecDeque;
 
@@ -46,43 +48,38 @@ fn next_due(course: &Course, turn: u64) -> Option<Due>
     Some(Due { kind, start })
 }
 
-/// Begins a section of moves.
-fn begin_moves(
+/// A section that is begun: its stream, and, of one that homes, the turn of its last planned step, and the steppers that move in it.
+#[derive(Drop)]
+struct Opened {
+    pub section: SectionStream,
+    pub last: u64,
+    pub moving: u16,
+}
+
+/// A section of moves that starts in a turn: it takes those that wait.
+fn open_moves(
     alloc: Global,
     machine: &Machine,
-    course: &mut Course,
-    k: u64,
+    lines: &[Lines],
+    items: &mut VecDeque<Item>,
     start: u64,
-) -> Result<NoteNews, OutOfMemory>
-    requires next { course.old.next ≡ k + 1 }
-    requires small { k < 2 ^ 42 }
-    requires early { AreEarly machine.now course.old }
-    requires sound { (seen : Seen) × IsCourseBy machine.now course.old seen (k + 260) (k + 261) }
-    requires due { IsDue course.old (k + 260) Moves start }
-    ensures begun { IfOk result (λ news. Begins machine.now course.old k (Some news) course.new) }
-    ensures plain { IfOk result (λ news. IsPlain (Some news)) }
+) -> Result<Opened, OutOfMemory>
+    requires { MayOpen machine.now lines.now start items.old.items }
+    ensures { IfOk result (λ o. HasOpened machine.now lines.now Moves start items.old.items items.new.items o.section o.last o.moving) }
 {
-    course.source.items.pop_front();
-    let mut section = new_section(alloc, machine, &course.lines.each, start)?;
-    take_moves(&mut course.source.items, &mut section)?;
-    let news = NoteNews::Start {
-        section: course.place,
-        kind: SectionKind::Moves,
-        turn: start,
+    let mut section = new_section(alloc, machine, lines, start, false)?;
+    take_moves(items, &mut section)?;
+    Ok(Opened {
+        section,
         last: 0,
         moving: 0,
-    };
-    course.current = Open::Moves(section);
-    course.start = start;
-    course.place += 1;
-    Ok(news)
+    })
 }
 
 /// The move of a homing section that waits whole.
 fn take_home(items: &mut VecDeque<Item>) -> Option<Move>
-    ensures { IfSome result (λ one. (begins : Item) × (items.old.items ≡ begins ∷ told.Move one ∷ told.End ∷ items.new.items)) }
+    ensures { IfSome result (λ one. items.old.items ≡ told.Move one ∷ told.End ∷ items.new.items) }
 {
-    items.pop_front();
     let Some(Item::Move(one)) = items.pop_front() else {
         return None;
     };
@@ -92,41 +89,99 @@ fn take_home(items: &mut VecDeque<Item>) -> Option<Move>
     Some(one)
 }
 
-/// Begins a section that homes an axis.
-fn begin_home(
+/// A section that homes and starts in a turn, whose move waits.
+fn open_home(
+    alloc: Global,
+    machine: &Machine,
+    lines: &[Lines],
+    items: &mut VecDeque<Item>,
+    axis: u8,
+    start: u64,
+) -> Result<Opened, OutOfMemory>
+    requires { MayOpen machine.now lines.now start items.old.items }
+    ensures { IfOk result (λ o. HasOpened machine.now lines.now (Home axis) start items.old.items items.new.items o.section o.last o.moving) }
+{
+    let _ = axis;
+    let Some(one) = take_home(items) else {
+        return Err(OutOfMemory);
+    };
+    let moves = [one];
+    let last = home_end(alloc, machine, lines, &moves, start)?;
+    let moving = moving_in(machine, &moves);
+    let mut section = new_section(alloc, machine, lines, start, true)?;
+    section.push(one)?;
+    section.finish()?;
+    Ok(Opened {
+        section,
+        last,
+        moving,
+    })
+}
+
+/// A section that is due: it takes what waits of it.
+fn open_section(
+    alloc: Global,
+    machine: &Machine,
+    lines: &[Lines],
+    items: &mut VecDeque<Item>,
+    due: Due,
+) -> Result<Opened, OutOfMemory>
+    requires { MayOpen machine.now lines.now due.start items.old.items }
+    ensures { IfOk result (λ o. HasOpened machine.now lines.now due.kind due.start items.old.items items.new.items o.section o.last o.moving) }
+{
+    match due.kind {
+        SectionKind::Moves => open_moves(alloc, machine, lines, items, due.start),
+        SectionKind::Home(axis) => open_home(alloc, machine, lines, items, axis, due.start),
+    }
+}
+
+/// Whether a section of a kind homes.
+fn homes_by(kind: SectionKind) -> bool
+    ensures { result ≡ homes_by kind }
+{
+    match kind {
+        SectionKind::Moves => false,
+        SectionKind::Home(_) => true,
+    }
+}
+
+/// Begins a section that is due.
+fn begin_section(
     alloc: Global,
     machine: &Machine,
     course: &mut Course,
     k: u64,
-    axis: u8,
-    start: u64,
+    due: Due,
 ) -> Result<NoteNews, OutOfMemory>
     requires next { course.old.next ≡ k + 1 }
     requires small { k < 2 ^ 42 }
     requires early { AreEarly machine.now course.old }
     requires sound { (seen : Seen) × IsCourseBy machine.now course.old seen (k + 260) (k + 261) }
-    requires due { IsDue course.old (k + 260) (Home axis) start }
+    requires due { IsDue course.old (k + 260) due.kind due.start }
     ensures begun { IfOk result (λ news. Begins machine.now course.old k (Some news) course.new) }
     ensures plain { IfOk result (λ news. IsPlain (Some news)) }
 {
-    let Some(one) = take_home(&mut course.source.items) else {
-        return Err(OutOfMemory);
-    };
-    let moves = [one];
-    let planned = plan_boards(alloc, machine, &course.lines.each, &moves, start, true)?;
-    let last = start.max(planned.last);
+    course.source.items.pop_front();
+    let items = &mut course.source.items;
+    let Opened {
+        section,
+        last,
+        moving,
+    } = open_section(alloc, machine, &course.lines.each, items, due)?;
     let news = NoteNews::Start {
         section: course.place,
-        kind: SectionKind::Home(axis),
-        turn: start,
+        kind: due.kind,
+        turn: due.start,
         last,
-        moving: moving_in(machine, &moves),
+        moving,
     };
-    course.current = Open::Home(planned.fed.boards);
-    // It is planned whole; no line may change its plan any more.
+    course.current = Open::Goes {
+        section,
+        homes: homes_by(due.kind),
+    };
+    // No line may change the plan of a section that homes any more.
     course.lines.homed = course.lines.homed.max(last);
-    course.ready = NO_END + BETWEEN;
-    course.start = start;
+    course.start = due.start;
     course.place += 1;
     Ok(news)
 }
@@ -148,9 +203,6 @@ pub fn begin_next(
     let Some(due) = next_due(course, k + BETWEEN) else {
         return Ok(None);
     };
-    let news = match due.kind {
-        SectionKind::Moves => begin_moves(alloc, machine, course, k, due.start)?,
-        SectionKind::Home(axis) => begin_home(alloc, machine, course, k, axis, due.start)?,
-    };
+    let news = begin_section(alloc, machine, course, k, due)?;
     Ok(Some(news))
 }

@@ -18,7 +18,6 @@ use plan_types::{Listed, Machine};
 use section_feed::SectionStream;
 use std::alloc::Global;
 use std::collections::VecDeque;
-use step_feed::Batches;
 
 /// The turns between the end of a section and the start of the next.
 pub const BETWEEN: u64 = 260;
@@ -38,17 +37,15 @@ pub const REACH: u128 = 261;
 /// The nanoseconds of a turn.
 pub const TURN_NS: u128 = 1_000_000;
 
-/// What goes on: no section, or one whose end is known; a section of moves whose end is not; or one that homes and waits for
-/// its answer, with the units of each board.
+/// What goes on: no section, or one whose end is known; or one whose end is not, and whether it homes, and so ends by its answer.
 #[derive(Drop)]
 pub enum Open {
     Nothing,
-    Moves(SectionStream),
-    Home(Vec<Batches>),
+    Goes { section: SectionStream, homes: bool },
 }
 
 /// The clock lines of each board; the further ones that words told and that are not taken up yet, the last that was told first; and
-/// the turn of the last planned step of all sections that home.
+/// the turn of the last planned step of all sections that homed.
 #[derive(Drop)]
 pub struct BoardLines {
     pub each: Vec<Lines>,
@@ -104,8 +101,8 @@ pub fn waits_by(current: &Open, start: u64, k: u64) -> bool
     ensures { result ≡ motions.waits_by current.now start k }
 {
     match current {
-        Open::Home(_) => start <= k,
-        _ => false,
+        Open::Goes { homes, .. } => *homes && start <= k,
+        Open::Nothing => false,
     }
 }
 
@@ -114,8 +111,7 @@ fn lacks(course: &Course, k: u64) -> bool
     ensures { result ≡ motions.lacks course.now course.now.current k }
 {
     match &course.current {
-        Open::Home(_) => false,
-        Open::Moves(section) => {
+        Open::Goes { section, .. } => {
             section.is_open() && section.reach() < (u128::from(k) + REACH) * TURN_NS
         }
         Open::Nothing => {
@@ -142,15 +138,17 @@ pub fn sated(course: &Course, k: u64) -> u64 {
         return u64::MAX;
     }
     let until = match &course.current {
-        Open::Home(_) => 0,
-        Open::Moves(section) => section_sated(section),
+        Open::Goes { section, homes } => section_sated(section, *homes),
         Open::Nothing => idle_sated(course),
     };
     until.max(k.saturating_add(1))
 }
 
-/// The first turn for which a section that goes on may lack moves.
-fn section_sated(section: &SectionStream) -> u64 {
+/// The first turn for which a section that goes on, or the one behind it, may lack moves. One that homes may end in any turn.
+fn section_sated(section: &SectionStream, homes: bool) -> u64 {
+    if homes {
+        return 0;
+    }
     let turns = section_clear(section);
     if section.is_open() {
         return turns.saturating_sub(BETWEEN);
@@ -180,8 +178,7 @@ pub fn goes_on(course: &Course) -> bool
 {
     match &course.current {
         Open::Nothing => course.goes,
-        Open::Moves(_) => true,
-        Open::Home(_) => true,
+        Open::Goes { .. } => true,
     }
 }
 
@@ -190,13 +187,17 @@ pub fn clear_turn(course: &Course) -> u64
     ensures { result ≡ clear.clear_of course.now }
 {
     match &course.current {
-        Open::Home(_) => course.next.max(course.start),
-        Open::Moves(section) => section_clear(section).max(course.next),
+        Open::Goes { section, homes } => {
+            if *homes {
+                return course.next.max(course.start);
+            }
+            section_clear(section).max(course.next)
+        }
         Open::Nothing => idle_clear(course),
     }
 }
 
-/// The first turn in which a section may end that goes on.
+/// The first turn in which a section of moves may end that goes on.
 fn section_clear(section: &SectionStream) -> u64
     ensures { result ≡ clear.settled_turn section.now }
 {

@@ -1,7 +1,9 @@
 //! The units of a turn.
 
 ghost use Rattle.std.specs.Prelude.{◌≡◌, ℕ, ◌+◌, ◌-◌, ◌*◌, ◌<◌, ◌≤◌, ◌^◌, List, [], IfOk, ◌&&◌, ◌==◌, not, true, false, length, slice_index_or};
-ghost use Rattle.section_feed.specs.Sections.{next_of};
+ghost use Rattle.section_feed.specs.AllBoards.{ArePast};
+ghost use Rattle.section_feed.specs.Queues.{IsDrawn};
+ghost use Rattle.section_feed.specs.Sections.{IsLeft, boards_in, next_of, queue_of};
 ghost use Rattle.motion_stream.specs.declared.course.Open.TheVariants as opens;
 ghost use Rattle.motion_stream.specs.Courses.{IsSound};
 ghost use Rattle.motion_stream.specs.News.{IsPlain};
@@ -11,7 +13,7 @@ ghost use Rattle.motion_work.specs.Feeds.{AreOfTurn};
 use crate::OutOfMemory;
 use crate::course::{BETWEEN, Course, Open};
 use crate::news::done_news;
-use crate::rows::{batches_of, home_row, merged, next_row};
+use crate::rows::{batches_of, merged, next_row};
 use crate::section::{Ended, end_section};
 use msg_code::{Batch, NoteNews, Unit};
 use plan_types::{Listed, Machine};
@@ -19,7 +21,7 @@ use section_feed::SectionStream;
 use std::alloc::Global;
 use std::collections::VecDeque;
 use std::mem;
-use step_feed::{Batches, LEAD};
+use step_feed::LEAD;
 
 /// What is put in a turn, before it is told which section is begun: the batches of all boards, and that the last section ends.
 #[derive(Drop)]
@@ -70,60 +72,50 @@ fn pass_idle(alloc: Global, machine: &Machine, course: &mut Course) -> Result<Pa
     Ok(Passed { batches, done })
 }
 
-/// A turn in which a section homes.
-fn pass_home(
-    alloc: Global,
-    machine: &Machine,
-    course: &mut Course,
-    boards: Vec<Batches>,
-) -> Result<Passed, OutOfMemory>
-    requires { course.old.next < 2 ^ 42 }
-    ensures passed { IfOk result (λ p. Advances machine.now (record course.old { current = opens.Home boards }) course.old.next p.batches.items p.done course.new) }
-    ensures turn { IfOk result (λ p. AreOfTurn course.old.next (length machine.now.boards) p.batches.items) }
-    ensures plain { IfOk result (λ p. IsPlain p.done) }
-{
-    let own = home_row(alloc, &boards, course.next)?;
-    let batches = pass(alloc, machine, course, own.as_slice())?;
-    course.current = Open::Home(boards);
-    Ok(Passed {
-        batches,
-        done: None,
-    })
-}
-
 /// A turn before the first one of a section that goes on.
 fn pass_before(
     alloc: Global,
     machine: &Machine,
     course: &mut Course,
     section: SectionStream,
+    homes: bool,
 ) -> Result<Passed, OutOfMemory>
     requires small { course.old.next < 2 ^ 42 }
     requires before { course.old.next + 250 < course.old.start }
-    ensures passed { IfOk result (λ p. Advances machine.now (record course.old { current = opens.Moves section }) course.old.next p.batches.items p.done course.new) }
+    ensures passed { IfOk result (λ p. Advances machine.now (record course.old { current = opens.Goes section homes }) course.old.next p.batches.items p.done course.new) }
     ensures turn { IfOk result (λ p. AreOfTurn course.old.next (length machine.now.boards) p.batches.items) }
     ensures plain { IfOk result (λ p. IsPlain p.done) }
 {
     let batches = pass(alloc, machine, course, &[])?;
-    course.current = Open::Moves(section);
+    course.current = Open::Goes { section, homes };
     Ok(Passed {
         batches,
         done: None,
     })
 }
 
-/// A turn of a section of moves that goes on. Once all its steps are packed its end is known, and so are all its units, which is
-/// some 250 turns ahead; its last steps may come long behind its moves.
-fn pass_moves(
+/// Whether the end of a section is known by its plan. That of one that homes is told by its answer alone.
+fn is_over(section: &SectionStream, homes: bool) -> bool
+    ensures goes { result ≡ false → homes ≡ false → IsLeft section.now }
+    ensures moves { result ≡ true → homes ≡ false }
+    ensures over { result ≡ true → (e : ℕ) × IsDrawn (queue_of section.now) × ArePast e (boards_in section.now) }
+{
+    !homes && section.end().is_some()
+}
+
+/// A turn of a section that goes on. Once all steps of a section of moves are packed its end is known, and so are all its units, which
+/// is some 250 turns ahead; its last steps may come long behind its moves. One that homes goes on until its answer.
+fn pass_section(
     alloc: Global,
     machine: &Machine,
     course: &mut Course,
     section: SectionStream,
+    homes: bool,
 ) -> Result<Passed, OutOfMemory>
     requires small { course.old.next < 2 ^ 42 }
     requires from { course.old.start ≤ course.old.next + 250 }
     requires next { next_of section ≡ course.old.next }
-    ensures passed { IfOk result (λ p. Advances machine.now (record course.old { current = opens.Moves section }) course.old.next p.batches.items p.done course.new) }
+    ensures passed { IfOk result (λ p. Advances machine.now (record course.old { current = opens.Goes section homes }) course.old.next p.batches.items p.done course.new) }
     ensures turn { IfOk result (λ p. AreOfTurn course.old.next (length machine.now.boards) p.batches.items) }
     ensures plain { IfOk result (λ p. IsPlain p.done) }
 {
@@ -131,8 +123,8 @@ fn pass_moves(
     let mut section = section;
     let own = section.batches()?;
     let batches = pass(alloc, machine, course, &own)?;
-    if section.end().is_none() {
-        course.current = Open::Moves(section);
+    if !is_over(&section, homes) {
+        course.current = Open::Goes { section, homes };
         return Ok(Passed {
             batches,
             done: None,
@@ -166,12 +158,11 @@ fn advance_open(
     let open = mem::replace(&mut course.current, Open::Nothing);
     match open {
         Open::Nothing => pass_idle(alloc, machine, course),
-        Open::Home(boards) => pass_home(alloc, machine, course, boards),
-        Open::Moves(section) => {
+        Open::Goes { section, homes } => {
             if course.next + LEAD < course.start {
-                return pass_before(alloc, machine, course, section);
+                return pass_before(alloc, machine, course, section, homes);
             }
-            pass_moves(alloc, machine, course, section)
+            pass_section(alloc, machine, course, section, homes)
         }
     }
 }

@@ -2,15 +2,14 @@
 
 ghost use Rattle.std.specs.Prelude.{◌≡◌, ℕ, ◌+◌, ◌<◌, ◌++◌, [], IfOk, OnOk, drop, map, slice_index_or};
 ghost use Rattle.std.specs.List.{range_with_len};
-ghost use Rattle.motion_work.specs.Feeds.{AreOfTurn, releases_of};
-ghost use Rattle.motion_stream.specs.Rows.{AreJoined, batches_of, home_units, units_in};
+ghost use Rattle.motion_work.specs.Feeds.{AreOfTurn};
+ghost use Rattle.motion_stream.specs.Rows.{AreJoined, batches_of, units_in};
 
 use crate::OutOfMemory;
 use msg_code::{Batch, Unit};
 use plan_types::Listed;
 use std::alloc::Global;
 use std::collections::VecDeque;
-use step_feed::Batches;
 
 /// The units of each board in a turn.
 pub type Row = Listed<Listed<Unit>>;
@@ -79,19 +78,6 @@ pub fn batches_of(
         })?;
     }
     Ok(made)
-}
-
-/// The units of a homing section in a turn.
-pub fn home_row(alloc: Global, boards: &[Batches], turn: u64) -> Result<Row, OutOfMemory>
-    ensures { IfOk result (λ row. row ≡ home_units turn (map releases_of boards.now)) }
-{
-    let mut row = Listed::new(alloc);
-    for batches in boards {
-        let mut units = Vec::new(alloc);
-        units.extend_from_slice(batches.at(turn))?;
-        row.push(Listed::of(units))?;
-    }
-    Ok(row)
 }
 
 /// The units of the next turn, none where none are there.

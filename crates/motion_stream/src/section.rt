@@ -1,4 +1,4 @@
-//! The section of moves that goes on.
+//! The section that goes on.
 
 ghost use Rattle.std.specs.Prelude.{◌≡◌, ℕ, ◌+◌, ◌*◌, ◌<◌, ◌≤◌, ◌^◌, List, [], ◌∷◌, All, IfOk, MatchOption, true, false, length};
 ghost use Rattle.gcode_program.specs.declared.items.Item.{Item};
@@ -78,25 +78,26 @@ pub fn take_moves(
     Ok(())
 }
 
-/// A section of moves that starts in a turn, of which no move was read.
+/// A section that starts in a turn, of which no move was read; in one that homes no clock is set.
 pub fn new_section(
     alloc: Global,
     machine: &Machine,
     lines: &[Lines],
     start: u64,
+    homes: bool,
 ) -> Result<SectionStream, OutOfMemory>
     requires machine { IsValidMachine machine.now }
     requires clocks { AreBoardClocks machine.now lines.now start }
     requires early { (b : ℕ) → b < length machine.now.boards → (clocks_at lines.now b).first.clock < 2 ^ 62 }
     requires late { 250 ≤ start }
     requires small { start < 2 ^ 43 }
-    ensures on { IfOk result (λ s. IsSectionOn machine.now lines.now start false s [] (λ b. [])) }
+    ensures on { IfOk result (λ s. IsSectionOn machine.now lines.now start homes s [] (λ b. [])) }
     ensures open { IfOk result (λ s. is_taking (queue_of s) ≡ true) }
     ensures next { IfOk result (λ s. next_of s + 250 ≡ start) }
 {
     let begin = u128::from(start) * TURN_NS;
     let queue = MoveQueue::new(alloc, machine.scv, machine.cruise, begin);
-    let section = SectionStream::new(alloc, machine, lines, start, false, queue)?;
+    let section = SectionStream::new(alloc, machine, lines, start, homes, queue)?;
     Ok(section)
 }
 

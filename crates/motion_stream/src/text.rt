@@ -49,14 +49,10 @@ pub fn take_text(
     take_piece(alloc, machine, &mut course.source, bytes, end)?;
     match mem::replace(&mut course.current, Open::Nothing) {
         Open::Nothing => Ok(()),
-        Open::Home(boards) => {
-            course.current = Open::Home(boards);
-            Ok(())
-        }
-        Open::Moves(section) => {
+        Open::Goes { section, homes } => {
             let mut section = section;
             take_waiting(&mut course.source.items, &mut section)?;
-            course.current = Open::Moves(section);
+            course.current = Open::Goes { section, homes };
             Ok(())
         }
     }
@@ -91,10 +87,11 @@ fn is_answered(course: &Course, word: &WordMsg) -> bool
     says_homed(word) && waits_by(&course.current, course.start, course.next)
 }
 
-/// Takes the answer of a homing group that a word tells. It counts where a section waits for it and has started.
+/// Takes the answer of a homing group that a word tells. It counts where a section waits for it and has started; that ends in the next
+/// turn, and what it has not given by then is given no more.
 fn take_answer(machine: &Machine, course: &mut Course, word: &WordMsg)
     requires { course.old.next ≤ 2 ^ 42 }
-    ensures { (seen : Seen) → IsCourseOf machine.now course.old seen → IsCourseOf machine.now course.new (with_answer seen word.now) }
+    ensures { (seen : Seen) → IsCourseOf machine.now course.old seen → IsCourseOf machine.now course.new (with_answer machine.now seen word.now) }
 {
     let _ = machine;
     if !is_answered(course, word) {

@@ -32,8 +32,8 @@ fn is_open_to(course: &Course) -> bool
         return false;
     }
     match &course.current {
-        Open::Nothing | Open::Moves(_) => true,
-        Open::Home(_) => false,
+        Open::Nothing => true,
+        Open::Goes { homes, .. } => !*homes,
     }
 }
 
@@ -44,14 +44,10 @@ fn add_to(current: &mut Open, board: usize, turn: u64, line: Line) -> Result<(),
 {
     match mem::replace(current, Open::Nothing) {
         Open::Nothing => Ok(()),
-        Open::Home(boards) => {
-            *current = Open::Home(boards);
-            Ok(())
-        }
-        Open::Moves(section) => {
+        Open::Goes { section, homes } => {
             let mut section = section;
             section.add_line(board, turn, line)?;
-            *current = Open::Moves(section);
+            *current = Open::Goes { section, homes };
             Ok(())
         }
     }

@@ -2,7 +2,6 @@ pub mod Homes
 pub mod Feeds
 pub mod Told
 pub mod Seen
-pub mod Takes
 pub mod Begins
 pub mod Turns
 pub mod Puts

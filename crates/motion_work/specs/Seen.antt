@@ -12,9 +12,9 @@ use Rattle.plan_types.specs.Valid.{IsValidLine}
 use Rattle.section_feed.specs.Boards.{IsLasting}
 use Rattle.section_units.specs.Sections.{BoardSection}
 use Rattle.step_feed.specs.Pacing.{Release, batch_at}
-use Rattle.motion_work.specs.Homes.{AreHomesOnBoards, all_before, last_step, moving_in, no_end}
+use Rattle.motion_work.specs.Homes.{all_before, last_step, moving_in, no_end}
 use Rattle.section_units.specs.Merged.{section_of}
-use Rattle.section_units.specs.Plans.{AreOnBoards, AreSentOn, AreSentToOn, plans_on}
+use Rattle.section_units.specs.Plans.{AreOnBoards, AreOnBoardsBy, AreSentOn, AreSentToOn, plans_on}
 
 -- A section that was begun: what the text says of it, the turns in which it starts and ends, and its units on each board. Of
 -- a homing section also the turn of its last planned step, and which steppers move in it; its end is `no_end` until it has an
@@ -39,13 +39,13 @@ pub record IsMoved (m : Machine) (clocks : List Clocks) (s : Started) : Type 0 w
   pub moving : s.moving ≡ 0
   pub boards : AreOnBoards m clocks s.section.moves s.start s.boards
 
--- a homing section has the units of its plan; where its end is known, those that are released before it
+-- a homing section has the units of its plan, of which none sets a clock; where its end is known, those that are released before it
 pub record IsHomed (m : Machine) (clocks : List Clocks) (s : Started) : Type 0 where
   pub late : s.start ≤ s.end
   pub last : s.last ≡ last_step m clocks s.section.moves s.start
   pub moving : s.moving ≡ moving_in m s.section.moves
   pub planned : List (List Release)
-  pub are : AreHomesOnBoards m clocks s.section.moves s.start planned
+  pub are : AreOnBoardsBy true m clocks s.section.moves s.start planned
   pub boards : ((s.end ≡ no_end) × (s.boards ≡ planned)) ⊎ ((s.end < no_end) × (s.boards ≡ all_before s.end planned))
 
 -- a section of a kind is planned
@@ -128,10 +128,10 @@ AreMoves (s ∷ begun) = (s.section.kind ≡ Moves) × AreMoves begun
 abbrev pub IsSentOf : Machine → List Clocks → Started → Type 0
 IsSentOf m clocks s = (b : ℕ) → b < length m.boards → AreSentOn m clocks s.section.moves s.start b (slice_index_or s.boards b [])
 
--- so they are in all of some sections that are of moves
+-- so they are in all of some sections
 abbrev pub AreAllSent : Machine → List Clocks → List Started → Type 0
 AreAllSent m clocks [] = Unit {0}
-AreAllSent m clocks (s ∷ begun) = (s.section.kind ≡ Moves → IsSentOf m clocks s) × AreAllSent m clocks begun
+AreAllSent m clocks (s ∷ begun) = IsSentOf m clocks s × AreAllSent m clocks begun
 
 -- so they are in all of some sections, as far as they are released before a turn
 abbrev pub AreSentBy : Machine → List Clocks → ℕ → List Started → Type 0

@@ -1,70 +1,38 @@
 //! Sections that home.
 
-ghost use Rattle.std.specs.Prelude.{◌≡◌, ◌++◌, OnOk, ℕ, pos, ◌+◌, ◌*◌, ◌<◌, ◌≤◌, ◌^◌, All, IfOk, length, slice_index_or, true, unsigned_abs};
-ghost use Rattle.plan_types.specs.Clock.{tick_limit, turn_ns};
-ghost use Rattle.plan_types.specs.Lines.{last_from, lines_tick};
-ghost use Rattle.plan_types.specs.Machines.{IsValidMachine, IsValidStepper, stepper_at};
-ghost use Rattle.plan_types.specs.Valid.{IsValidMove};
-ghost use Rattle.section_units.specs.Merged.{ArePlansFrom, AreWithin, IsSmall, section_of};
-ghost use Rattle.step_feed.specs.Pacing.{releases, turn_limit};
+ghost use Rattle.std.specs.Prelude.{◌≡◌, ℕ, pos, ◌<◌, ◌≤◌, ◌^◌, All, IfOk, length, slice_index_or, unsigned_abs};
+ghost use Rattle.plan_types.specs.Machines.{IsValidMachine};
 ghost use Rattle.plan_types.specs.Moves.{coordinate};
+ghost use Rattle.plan_types.specs.Valid.{IsValidMove};
+ghost use Rattle.section_plan.specs.Runs.{IsPlannable};
 ghost use Rattle.motion_work.specs.Told as told;
-ghost use Rattle.motion_work.specs.Homes.{IsHomingSection, moving_among, moving_in, one_moving, without_resets};
+ghost use Rattle.motion_work.specs.Homes.{last_step, moving_among, moving_in, one_moving};
 
 use crate::OutOfMemory;
 use clock_line::Lines;
 use kin_map::{Cartesian, CoreXy, Kinematics};
-use msg_code::{Unit, WordMsg, WordNews};
-use plan_types::{Listed, Machine, Move, Planned, StepperDef};
-use section_units::board_units;
+use msg_code::{WordMsg, WordNews};
+use plan_types::{Machine, Move, StepperDef};
+use section_plan::plan_moves;
 use std::alloc::Global;
-use step_feed::{Batches, LEAD, feed};
 
 /// The turn in which a homing section ends that has no answer yet.
 pub const NO_END: u64 = 1 << 62;
 
-/// The nanoseconds of a turn.
-const TURN_NS: u128 = 1_000_000;
-
-/// Units that set no clock.
-fn without_resets(alloc: Global, units: &[Unit]) -> Result<Vec<Unit>, OutOfMemory>
-    ensures { IfOk result (λ us. us.items ≡ without_resets units.now) }
-{
-    let mut plain = Vec::new(alloc);
-    for unit in units {
-        plain.push(Unit {
-            reset: None,
-            ..*unit
-        })?;
-    }
-    Ok(plain)
-}
-
-/// The units of a board in a homing section that starts in a turn, each in its turn, from 250 turns before the start on. The
-/// plans are those of the board's steppers, in the directions that are sent and in the order of their object ids.
-pub fn home_batches(
+/// The turn of the last planned step of a homing section of some moves that starts in a turn, and its start where it has none. Its
+/// plan is made for this alone.
+pub fn home_end(
     alloc: Global,
-    lines: &Lines,
-    freq: u32,
-    slots: u32,
+    machine: &Machine,
+    clocks: &[Lines],
+    moves: &[Move],
     start: u64,
-    plans: &[Listed<Planned>],
-) -> Result<Batches, OutOfMemory>
-    requires few { length plans.now ≤ 256 }
-    requires slots { 1 ≤ slots }
-    requires start { 250 ≤ start }
-    requires start_small { start < turn_limit }
-    requires base_small { lines_tick lines.now (start * turn_ns) < tick_limit }
-    requires plans { ArePlansFrom (lines_tick lines.now (start * turn_ns)) plans.now }
-    requires from { lines.now.first.clock ≤ lines_tick lines.now (start * turn_ns) }
-    requires soon { last_from lines.now.first.at lines.now.held < 2 ^ 62 * turn_ns }
-    ensures { IfOk result (λ b. (end : ℕ) → AreWithin lines.now end plans.now → IsHomingSection lines.now freq slots (section_of start end plans.now (releases b.units.items b.turns.items))) }
+) -> Result<u64, OutOfMemory>
+    requires { IsPlannable machine.now clocks.now moves.now start }
+    ensures { IfOk result (λ last. last ≡ last_step machine.now clocks.now moves.now start) }
 {
-    let base = lines.tick(u128::from(start) * TURN_NS);
-    let units = board_units(alloc, lines, freq, base, plans)?;
-    let plain = without_resets(alloc, &units)?;
-    let batches = feed(alloc, &plain, lines, slots, start - LEAD)?;
-    Ok(batches)
+    let plan = plan_moves(alloc, machine, clocks, moves, start)?;
+    Ok(start.max(plan.last))
 }
 
 /// The coordinate of a drive at a position.

@@ -15,7 +15,7 @@ use Rattle.step_feed.specs.Units.{StepUnit}
 use Rattle.step_feed.specs.Pacing.{Release, units_of}
 use Rattle.run_laws.specs.Events.{AreTicks}
 use Rattle.run_laws.specs.Known.{Sent, sent_in, Known, known_from, AreBelow}
-use Rattle.section_units.specs.Sections.{AreBefore, AreBegun, AreChained, AreReleased, BoardSection, IsSection, IsUnit, all_steps, base_of, dir_after, of_stepper, section_steps, steps_said, ticks_meant}
+use Rattle.section_units.specs.Sections.{AreBefore, AreBegun, AreBegunBy, AreChained, AreReleased, BoardSection, IsSection, IsUnit, all_steps, base_of, dir_after, of_stepper, section_steps, steps_said, ticks_meant}
 use Rattle.run_laws.specs.Parts.{AreTracked, AreInARow}
 use Rattle.run_laws.proofs.Counts.{last_least}
 use Rattle.run_laws.proofs.Taking.{IsFront, all_grow}
@@ -79,10 +79,10 @@ chained_inside f oid behind up (u ∷ us) c low early =
     let i = one_inside f oid behind d u c.1 low (early_front x own (steps_said oid d us) early) in
     (i, chained_inside f oid u.last d us c.2 (omega (arith, i.low, i.up)) (early_behind x own (steps_said oid d us) early))
 
-pub begun_inside : (f : Frame) (oid : ℕ) (up : Bool) (us : List StepUnit) → AreBegun f.clocks (base f) us
+pub begun_inside : (f : Frame) (homing : Bool) (oid : ℕ) (up : Bool) (us : List StepUnit) → AreBegunBy homing f.clocks (base f) us
     → AreEarly (lines_tick f.clocks ((f.end + 1) * turn_ns)) (steps_said oid up us) → AllInside f us
-begun_inside f oid up [] c early = tt
-begun_inside f oid up (u ∷ us) c early =
+begun_inside f homing oid up [] c early = tt
+begun_inside f homing oid up (u ∷ us) c early =
     let x = lines_tick f.clocks ((f.end + 1) * turn_ns) in
     let d = dir_after up u.up in
     let own = map (pulse_of oid) (steps_of d (ticks_meant u)) in
@@ -104,9 +104,12 @@ pub dir_told : (a b : Bool) (o : Option Bool) → o ≢ None → dir_after a o �
 dir_told a b None n = absurd (n refl)
 dir_told a b (Some up) n = refl
 
-said_told : (clocks : Clocks) (base oid : ℕ) (a b : Bool) (us : List StepUnit) → AreBegun clocks base us → steps_said oid a us ≡ steps_said oid b us
-said_told clocks base oid a b [] c = refl
-said_told clocks base oid a b (u ∷ us) c = ap (λ d. map (pulse_of oid) (steps_of d (ticks_meant u)) ++ steps_said oid d us) (dir_told a b u.up c.1)
+pub told_by : (oid : ℕ) (a b : Bool) (u : StepUnit) (us : List StepUnit) → u.up ≢ None → steps_said oid a (u ∷ us) ≡ steps_said oid b (u ∷ us)
+told_by oid a b u us told = ap (λ d. map (pulse_of oid) (steps_of d (ticks_meant u)) ++ steps_said oid d us) (dir_told a b u.up told)
+
+pub said_told : (homing : Bool) (clocks : Clocks) (start oid : ℕ) (a b : Bool) (us : List StepUnit) → AreBegunBy homing clocks start us → steps_said oid a us ≡ steps_said oid b us
+said_told homing clocks start oid a b [] c = refl
+said_told homing clocks start oid a b (u ∷ us) c = told_by oid a b u us c.1
 
 -- a section begins
 begins : (f : Frame) (freq turn : ℕ) (ks : ℕ → Known) (s : BoardSection) (i : IsSection f.clocks freq f.slots s) → s.start ≡ f.start → s.end ≡ f.end → turn + 250 ≤ f.start
@@ -122,14 +125,14 @@ begins f freq turn ks s i start end before below made =
       early = inl (omega (arith, i.exact, start, f.order));
       paced = i.paced;
       behind = tt;
-      inside = all_inside f s.releases (λ oid. begun_inside f oid false (of_stepper oid (units_of s.releases)) (begun oid) (early oid));
+      inside = all_inside f s.releases (λ oid. begun_inside f false oid false (of_stepper oid (units_of s.releases)) (begun oid) (early oid));
       waits = λ oid. record {
         made = made oid;
         chain = inl (begun oid, refl);
         old = (ks oid).ends;
         ends = refl;
         below = below oid;
-        said = ap (λ x. (ks oid).steps ++ x) (said_told f.clocks (base f) oid (ks oid).up false (of_stepper oid (units_of s.releases)) (begun oid));
+        said = ap (λ x. (ks oid).steps ++ x) (said_told false f.clocks (base f) oid (ks oid).up false (of_stepper oid (units_of s.releases)) (begun oid));
       };
       later = section_from f.clocks freq f.slots turn s i (omega (arith, before, start));
       earlier = tt;

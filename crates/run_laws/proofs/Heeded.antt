@@ -79,13 +79,13 @@ is_ranked own clocks freq slots ready turns ticks tracked e s low row order limi
     let after : ready + 260 ≤ s.start = omega (arith, low, row) in
     let f : Frame = record { own = own; clocks = clocks; slots = slots; ready = ready; start = s.start; end = s.end; ticks = ticks; tracked = tracked; after = after; order = order; limit = limit } in
     let bound = lines_tick clocks ((s.end + 1) * turn_ns) in
-    let inside = all_inside f s.releases (λ oid. begun_inside f oid false (of_stepper oid (units_of s.releases)) (i.begun oid)
+    let inside = all_inside f s.releases (λ oid. begun_inside f false oid false (of_stepper oid (units_of s.releases)) (i.begun oid)
     (early_fits freq bound (base_of clocks s) (section_steps oid s) (s.plan oid) (i.fits oid) (i.within oid))) in
     let told : (oid : ℕ) → TellFirst (of_stepper oid (units_of h.sent)) = λ oid.
     (let Told : List Release → Type 0 = λ rs. TellFirst (of_stepper oid (units_of rs)) in
     let Of : List StepUnit → Type 0 = λ us. TellFirst us in
     tell_front (of_stepper oid (units_of h.sent)) (of_stepper oid (units_of h.later)) (subst Of (of_front oid h.sent h.later)
-    (subst Told h.are (begun_tell clocks (base_of clocks s) (of_stepper oid (units_of s.releases)) (i.begun oid))))) in
+    (subst Told h.are (begun_tell false clocks (base_of clocks s) (of_stepper oid (units_of s.releases)) (i.begun oid))))) in
     let Paced : List Release → Type 0 = λ rs. ArePaced clocks slots i.from [] rs in
     let Inside : List Release → Type 0 = λ rs. AreInside f rs in
     let From : List Release → Type 0 = λ rs. AreFrom (s.start - 250) rs in

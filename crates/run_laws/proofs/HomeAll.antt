@@ -3,27 +3,24 @@ use Rattle.std.proofs.Common.{◌≡◌, ℕ, zero, suc, Bool, true, false, ◌+
 use Rattle.std.proofs.lemmas.Bool.Decides.{eqb_tells}
 use Rattle.std.proofs.lemmas.List.Elements.{All-nil, All-cons, All-head, All-tail}
 use Rattle.plan_types.specs.declared.plan.Pulse.{Pulse}
-use Rattle.plan_types.specs.Board.{steps_of}
 use Rattle.plan_types.specs.Clock.{turn_ns}
 use Rattle.plan_types.specs.Lines.{Clocks, lines_tick}
 use Rattle.msg_code.specs.declared.cmd.Cmd.{Cmd}
 use Rattle.msg_code.specs.declared.cmd.Cmd.TheVariants as cmd
-use Rattle.board_sim.specs.Board.{pulse_of}
 use Rattle.board_world.specs.Orders.{plain}
-use Rattle.step_feed.specs.Units.{StepUnit}
 use Rattle.step_feed.specs.Pacing.{units_of}
-use Rattle.section_units.specs.Sections.{BoardSection, base_of, dir_after, of_stepper, section_steps, steps_said, ticks_meant}
+use Rattle.section_units.specs.Sections.{BoardSection, base_of, of_stepper, section_steps}
 use Rattle.link_work.specs.Turn.{Orders}
 use Rattle.run_laws.specs.Events.{AreTicks}
 use Rattle.run_laws.specs.Known.{Sent, sent_at, sent_in, AreBelow}
 use Rattle.run_laws.specs.Parts.{AreTracked, IsMaking, Makes, MakesIn}
-use Rattle.run_laws.specs.Courses.{Course, parts_of, no_course, course_of, course_from, courses, IsStopped, AreBeforeTurn, AreBeforeStop, AreMadeFor, IsGoodOn, AreGoodOn, AreAllGood}
+use Rattle.run_laws.specs.Courses.{Course, parts_of, no_course, course_of, course_from, courses, AreBeforeTurn, AreMadeFor, IsGoodOn, AreGoodOn, AreAllGood}
 use Rattle.run_laws.specs.Courses as course
-use Rattle.run_laws.specs.Homes.{RunSection, AreBegunApart, IsMovesIn, IsSectionBy, AreInTurn, SetsClock, IsControlIn, AreSet, SetsAny, HasUnits, IsHomeRun, AreFrontsIn}
+use Rattle.run_laws.specs.Homes.{RunSection, IsMovesIn, IsSectionBy, AreInTurn, SetsClock, IsControlIn, AreSet, SetsAny, HasUnits, IsHomeRun, AreFrontsIn}
 use Rattle.run_laws.proofs.Clocks.{ticks_rise}
-use Rattle.run_laws.proofs.Entering.{AreEarly, AllInside, all_inside, begun_inside, chained_inside, one_inside, early_fits, early_front, early_behind}
+use Rattle.run_laws.proofs.Entering.{AreEarly, all_inside, begun_inside, early_fits}
 use Rattle.run_laws.proofs.Spans.{section_early}
-use Rattle.run_laws.proofs.Waiting.{Frame, base}
+use Rattle.run_laws.proofs.Waiting.{Frame}
 use Rattle.run_laws.proofs.Releasing.{AreFrom, from_down, paced_from}
 use Rattle.run_laws.proofs.HomeTurns.{StageWith, empty_part}
 use Rattle.run_laws.proofs.HomeControls.{now_of, none_sets}
@@ -118,16 +115,6 @@ before_front : (x : ℕ) (ps qs : List Pulse) → course.AreBefore x (ps ++ qs) 
 before_front x [] qs a = tt
 before_front x (p ∷ ps) qs a = (a.0, before_front x ps qs a.1)
 
--- units of a homing section are inside of it
-pub apart_inside : (f : Frame) (oid : ℕ) (up : Bool) (us : List StepUnit) → AreBegunApart f.clocks (base f) us → AreEarly (lines_tick f.clocks ((f.end + 1) * turn_ns)) (steps_said oid up us) → AllInside f us
-apart_inside f oid up [] c early = tt
-apart_inside f oid up (u ∷ us) c early =
-    let x = lines_tick f.clocks ((f.end + 1) * turn_ns) in
-    let d = dir_after up u.up in
-    let own = map (pulse_of oid) (steps_of d (ticks_meant u)) in
-    let i = one_inside f oid (base f) d u c.2 (omega arith) (early_front x own (steps_said oid d us) early) in
-    (i, chained_inside f oid u.last d us c.3 (omega (arith, i.low, i.up)) (early_behind x own (steps_said oid d us) early))
-
 -- what a section is built on
 pub record Base : Type 0 where
   pub own : ℕ → ℕ
@@ -177,7 +164,7 @@ with_section x oid e true s ss low i rest after order row next = λ os turn c wi
     let f : Frame = record { own = x.own; clocks = x.clocks; slots = x.slots; ready = x.ready; start = s.start; end = i.last; ticks = x.ticks; tracked = x.tracked; after = omega (arith, low, after); order = i.order; limit = i.limit } in
     let us = of_stepper oid (units_of s.releases) in
     let early = λ (k : ℕ). early_fits x.freq (lines_tick x.clocks ((i.last + 1) * turn_ns)) (base_of x.clocks s) (section_steps k s) (s.plan k) (i.fits k) (i.within k) in
-    let inside = all_inside f s.releases (λ k. apart_inside f k false (of_stepper k (units_of s.releases)) (i.begun k) (early k)) in
+    let inside = all_inside f s.releases (λ k. begun_inside f true k false (of_stepper k (units_of s.releases)) (i.begun k) (early k)) in
     let g : Ground f x.stops oid true s ss = record {
       start_is = refl;
       end_is = λ e. absurd (clash e);
@@ -201,7 +188,7 @@ with_section x oid e false s ss low i rest after order row next = λ os turn c w
     let f : Frame = record { own = x.own; clocks = x.clocks; slots = x.slots; ready = x.ready; start = s.start; end = s.end; ticks = x.ticks; tracked = x.tracked; after = omega (arith, low, after); order = order; limit = i.limit } in
     let us = of_stepper oid (units_of s.releases) in
     let early = λ (k : ℕ). early_fits x.freq (lines_tick x.clocks ((s.end + 1) * turn_ns)) (base_of x.clocks s) (section_steps k s) (s.plan k) (i.is.fits k) (i.is.within k) in
-    let inside = all_inside f s.releases (λ k. begun_inside f k false (of_stepper k (units_of s.releases)) (i.is.begun k) (early k)) in
+    let inside = all_inside f s.releases (λ k. begun_inside f false k false (of_stepper k (units_of s.releases)) (i.is.begun k) (early k)) in
     let g : Ground f x.stops oid false s ss = record {
       start_is = refl;
       end_is = λ _. refl;

@@ -21,16 +21,15 @@ use Rattle.link_work.specs.Stands.{first_state}
 use Rattle.link_work.specs.Turn.{LinkState, Orders}
 use Rattle.section_units.specs.Sections.{BoardSection, base_of, of_stepper, section_steps}
 use Rattle.run_laws.specs.Events.{AreTicks}
-use Rattle.run_laws.specs.Homes.{AreBegunApart, AreInTurn, AreOrdersIn, IsControlIn, IsHomeRun, IsSectionBy, RunSection}
+use Rattle.run_laws.specs.Homes.{AreInTurn, AreOrdersIn, IsControlIn, IsHomeRun, IsSectionBy, RunSection}
 use Rattle.run_laws.specs.Links.{ends_of, steps_of}
 use Rattle.run_laws.specs.Parts.{AreTracked}
 use Rattle.run_laws.specs.Runs.{AreSpilled, IsSpilled}
 use Rattle.run_laws.specs.Timely.{AllTimely, AreTimely, IsTimely}
 use Rattle.run_laws.proofs.Entering.{early_fits, begun_inside, all_inside}
-use Rattle.run_laws.proofs.HomeAll.{apart_inside}
 use Rattle.run_laws.proofs.Lasting.{Lasting, lasting_append, batch_lasts, units_timely}
 use Rattle.run_laws.proofs.Linking.{valid_ticks}
-use Rattle.run_laws.proofs.Seeking.{TellFirst, begun_tell, chained_tell}
+use Rattle.run_laws.proofs.Seeking.{begun_tell}
 use Rattle.run_laws.proofs.Soon.{timely_append}
 use Rattle.run_laws.proofs.Spoiled.{few_spoiled, ten_seconds}
 use Rattle.run_laws.proofs.Timing.{AreLasting}
@@ -48,25 +47,21 @@ controls_last clocks ss turn t (c ∷ cs) a =
     (one_control clocks ss turn t c (All-head P c cs a), controls_last clocks ss turn t cs (All-tail P c cs a))
 
 -- the units of a section
-apart_tell : (clocks : Clocks) (base : ℕ) (us : List StepUnit) → AreBegunApart clocks base us → TellFirst us
-apart_tell clocks base [] c = tt
-apart_tell clocks base (u ∷ us) c = (c.2.first, chained_tell clocks u.last us c.3)
-
 section_lasts : (own : ℕ → ℕ) (clocks : Clocks) (freq slots ready n m turns turn top : ℕ) (stops : ℕ → Option ℕ) (homes : Bool) (s : BoardSection) → AreTicks own → (tracked : AreTracked own clocks ready)
     → IsSectionBy homes clocks freq slots tracked.until stops s → ready + 260 ≤ s.start → s.start ≤ s.end → IsSpilled turns m s.releases → turn < turns → top ≤ turn + n → ((k : ℕ) → own (k + (n + m + 2)) < own k + 2 ^ 31)
     → Lasting (own (top + 1)) (batch_at turn s.releases)
 section_lasts own clocks freq slots ready n m turns turn top stops true s ticks tracked i after order spilled before near far =
     let g : Frame = record { own = own; clocks = clocks; slots = slots; ready = ready; start = s.start; end = i.last; ticks = ticks; tracked = tracked; after = after; order = i.order; limit = i.limit } in
     let bound = lines_tick clocks ((i.last + 1) * turn_ns) in
-    let inside = all_inside g s.releases (λ oid. apart_inside g oid false (of_stepper oid (units_of s.releases)) (i.begun oid)
+    let inside = all_inside g s.releases (λ oid. begun_inside g true oid false (of_stepper oid (units_of s.releases)) (i.begun oid)
     (early_fits freq bound (base_of clocks s) (section_steps oid s) (s.plan oid) (i.fits oid) (i.within oid))) in
-    batch_lasts g n m turns turn top s.releases inside spilled before (λ oid. apart_tell clocks (base_of clocks s) (of_stepper oid (units_of s.releases)) (i.begun oid)) near far
+    batch_lasts g n m turns turn top s.releases inside spilled before (λ oid. begun_tell true clocks (base_of clocks s) (of_stepper oid (units_of s.releases)) (i.begun oid)) near far
 section_lasts own clocks freq slots ready n m turns turn top stops false s ticks tracked i after order spilled before near far =
     let g : Frame = record { own = own; clocks = clocks; slots = slots; ready = ready; start = s.start; end = s.end; ticks = ticks; tracked = tracked; after = after; order = order; limit = i.limit } in
     let bound = lines_tick clocks ((s.end + 1) * turn_ns) in
-    let inside = all_inside g s.releases (λ oid. begun_inside g oid false (of_stepper oid (units_of s.releases)) (i.is.begun oid)
+    let inside = all_inside g s.releases (λ oid. begun_inside g false oid false (of_stepper oid (units_of s.releases)) (i.is.begun oid)
     (early_fits freq bound (base_of clocks s) (section_steps oid s) (s.plan oid) (i.is.fits oid) (i.is.within oid))) in
-    batch_lasts g n m turns turn top s.releases inside spilled before (λ oid. begun_tell clocks (base_of clocks s) (of_stepper oid (units_of s.releases)) (i.is.begun oid)) near far
+    batch_lasts g n m turns turn top s.releases inside spilled before (λ oid. begun_tell false clocks (base_of clocks s) (of_stepper oid (units_of s.releases)) (i.is.begun oid)) near far
 
 sections_last : (own : ℕ → ℕ) (clocks : Clocks) (freq slots ready e n m turns turn top : ℕ) (stops : ℕ → Option ℕ) (ss : List RunSection) → AreTicks own → (tracked : AreTracked own clocks ready)
     → All (λ s. IsSectionBy s.homes clocks freq slots tracked.until stops s.section) ss → AreInTurn e ss → ready ≤ e → AreSpilled turns m (map (λ s. s.section) ss) → turn < turns → top ≤ turn + n
@@ -110,7 +105,7 @@ home_lasting own clocks freq slots ready n m turns stops ss all ticks r spilled 
 pub home_timely : (b : BoardDef) (pins : List (List Level)) (board : ℕ) (entries : List Entry) (clocks : Clocks) (ready n m turns : ℕ) (stops : ℕ → Option ℕ) (ss : List RunSection) (os : List Orders) (l : LinkState)
     (t : AreTurns (clock_of b) 0 os (first_state b pins board entries) l) → IsValidBoard b → IsHomeRun (board_tick (clock_of b)) clocks b.freq b.slots ready stops ss os → AreSpilled turns m (map (λ s. s.section) ss) → length os ≤ turns
     → ((done : List Orders) (o : Orders) (rest : List Orders) → os ≡ done ++ (o ∷ rest) → AllKeepLimits done)
-    → ((k : ℕ) → spoiled (take k (ends_of (clock_of b) 0 os (first_state b pins board entries) l t)) ≤ n) → n + m ≤ 10_000
+    → ((k : ℕ) → spoiled (take k (ends_of (clock_of b) 0 os (first_state b pins board entries) l t)) ≤ n) → n + m ≤ 10_700
     → AllTimely (start b pins) (steps_of (clock_of b) 0 os (first_state b pins board entries) l t)
 home_timely b pins board entries clocks ready n m turns stops ss os l t v r spilled within limits few small =
     few_spoiled b pins board entries n os l t v (home_lasting (board_tick (clock_of b)) clocks b.freq b.slots ready n m turns stops ss os (valid_ticks b v) r spilled within (ten_seconds b n m v small)) limits few

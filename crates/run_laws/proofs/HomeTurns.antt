@@ -1,30 +1,22 @@
 -- A stepper in a section, of moves or homing, turn by turn.
-use Rattle.std.proofs.Common.{◌≡◌, ◌≢◌, ℕ, Bool, true, false, ◌+◌, ◌%◌, ◌^◌, ◌<◌, ◌≤◌, ◌⊎◌, List, [], ◌∷◌, ◌++◌, map, Option, Some, None, refl, ap, sym, ◌∙◌, subst, arith, inl, inr, append-nil}
+use Rattle.std.proofs.Common.{◌≡◌, ◌≢◌, ℕ, Bool, true, false, ◌+◌, ◌%◌, ◌^◌, ◌<◌, ◌≤◌, ◌⊎◌, List, [], ◌∷◌, ◌++◌, Option, Some, None, refl, ap, sym, ◌∙◌, subst, arith, inl, inr, append-nil}
 use Rattle.std.proofs.lemmas.Bool.Decides.{eqb_tells}
 use Rattle.plan_types.specs.declared.plan.Pulse.{Pulse}
-use Rattle.plan_types.specs.Board.{steps_of}
 use Rattle.plan_types.specs.Lines.{Clocks}
-use Rattle.board_sim.specs.Board.{pulse_of}
 use Rattle.board_world.specs.Orders.{unit_orders, units_orders}
 use Rattle.step_feed.specs.Units.{StepUnit}
 use Rattle.step_feed.specs.Pacing.{Release, ArePaced, batch_at, pending, units_of}
 use Rattle.step_feed.specs.Rings.{count_from}
-use Rattle.section_units.specs.Sections.{AreBegun, AreChained, BoardSection, IsUnit, of_stepper, section_steps, steps_said, ticks_meant}
+use Rattle.section_units.specs.Sections.{AreBegunBy, AreChained, BoardSection, IsUnit, of_stepper, section_steps, steps_said}
 use Rattle.run_laws.specs.Known.{Sent, sent_at, AreBelow}
 use Rattle.run_laws.specs.Courses.{Part, Course, parts_of, next_part, course_behind, course_from, IsStopped, AreMadeFor, MaySetClock, AreGoodOn}
-use Rattle.run_laws.specs.Homes.{AreBegunApart}
-use Rattle.run_laws.proofs.Entering.{dir_told}
+use Rattle.run_laws.proofs.Entering.{said_told, told_by}
 use Rattle.run_laws.proofs.Lists.{sent_append}
 use Rattle.run_laws.proofs.Stepping.{course_append}
 use Rattle.run_laws.proofs.Units.{at_own, behind_unit}
 use Rattle.run_laws.proofs.Waiting.{Frame, base, IsInside, AreInside, lasts, few_pend}
 use Rattle.run_laws.proofs.Releasing.{AreFrom, after_turn, pushed, from_down, none_at, paced_from}
 use Rattle.run_laws.proofs.HomeUnits.{Goes, clock_ahead, good_on_append, other_unit, set_at, unclocked, unit_on}
-
--- the units of a stepper in a section by its kind
-abbrev pub AreUnitsBy : Bool → Clocks → ℕ → List StepUnit → Type 0
-AreUnitsBy true clocks base us = AreBegunApart clocks base us
-AreUnitsBy false clocks base us = AreBegun clocks base us
 
 -- the turn in which the parts stop that are begun in a section
 abbrev pub stop_of : Bool → BoardSection → Option ℕ
@@ -34,7 +26,7 @@ stop_of false s = None
 -- a stepper whose part in the section has not begun yet
 pub record NotYet (f : Frame) (stops : ℕ → Option ℕ) (oid : ℕ) (homes : Bool) (s : BoardSection) (c0 c : Course) (ls : List ℕ) (us : List StepUnit) : Type 0 where
   pub none : ls ≡ []
-  pub units : AreUnitsBy homes f.clocks (base f) us
+  pub units : AreBegunBy homes f.clocks (base f) us
   pub all : steps_said oid false us ≡ section_steps oid s
   pub idle : (n : ℕ) → f.start ≤ n + 254 → IsStopped stops n c.since ⊎ AreBelow (f.own n) c.known.ends
   pub same : parts_of c ≡ parts_of c0
@@ -47,7 +39,7 @@ pub record Begun (f : Frame) (stops : ℕ → Option ℕ) (oid : ℕ) (homes : B
   pub since : c.since ≡ Some turn
   pub stop : stops turn ≡ stop_of homes s
   pub past : (ps : List Pulse) → AreMadeFor f.own stops c.past ps → AreMadeFor f.own stops (parts_of c0) ps
-  pub again : ls ≡ [] → homes ≡ true → AreBegunApart f.clocks (base f) us × (steps_said oid false us ≡ section_steps oid s) × (c.known.steps ≡ [])
+  pub again : ls ≡ [] → homes ≡ true → AreBegunBy true f.clocks (base f) us × (steps_said oid false us ≡ section_steps oid s) × (c.known.steps ≡ [])
 
 abbrev pub Stage : Frame → (ℕ → Option ℕ) → ℕ → Bool → BoardSection → Course → Course → List ℕ → List StepUnit → Type 0
 Stage f stops oid homes s c0 c ls us = NotYet f stops oid homes s c0 c ls us ⊎ Begun f stops oid homes s c0 c ls us
@@ -73,17 +65,10 @@ wrapped_unit clocks b u i = record {
   due = i.due;
 }
 
-told_by : (oid : ℕ) (a b : Bool) (u : StepUnit) (us : List StepUnit) → u.up ≢ None → steps_said oid a (u ∷ us) ≡ steps_said oid b (u ∷ us)
-told_by oid a b u us told = ap (λ d. map (pulse_of oid) (steps_of d (ticks_meant u)) ++ steps_said oid d us) (dir_told a b u.up told)
-
 -- units behind a clock that a command has set
-chained_apart : (clocks : Clocks) (b : ℕ) (us : List StepUnit) → AreBegunApart clocks b us → AreChained clocks (b % 2 ^ 32) us
+chained_apart : (clocks : Clocks) (b : ℕ) (us : List StepUnit) → AreBegunBy true clocks b us → AreChained clocks (b % 2 ^ 32) us
 chained_apart clocks b [] a = tt
 chained_apart clocks b (u ∷ us) a = (a.0, wrapped_unit clocks b u a.2, a.3)
-
-said_apart : (clocks : Clocks) (base oid : ℕ) (a b : Bool) (us : List StepUnit) → AreBegunApart clocks base us → steps_said oid a us ≡ steps_said oid b us
-said_apart clocks base oid a b [] h = refl
-said_apart clocks base oid a b (u ∷ us) h = told_by oid a b u us h.1
 
 no_list : (x : ℕ) (xs : List ℕ) → x ∷ xs ≡ [] → ⊥
 no_list x xs e = cc
@@ -92,7 +77,7 @@ true_false : true ≡ false → ⊥
 true_false e = cc
 
 -- a command sets the clock for a homing section
-pub begins_apart : (f : Frame) (stops : ℕ → Option ℕ) (oid : ℕ) (s : BoardSection) (c0 c : Course) (us : List StepUnit) (turn : ℕ) → AreBegunApart f.clocks (base f) us → steps_said oid false us ≡ section_steps oid s
+pub begins_apart : (f : Frame) (stops : ℕ → Option ℕ) (oid : ℕ) (s : BoardSection) (c0 c : Course) (us : List StepUnit) (turn : ℕ) → AreBegunBy true f.clocks (base f) us → steps_said oid false us ≡ section_steps oid s
     → (us ≢ [] → c.known.made ≡ true) → stops turn ≡ Some s.end → ((ps : List Pulse) → AreMadeFor f.own stops (parts_of c) ps → AreMadeFor f.own stops (parts_of c0) ps)
     → Begun f stops oid true s c0 (next_part turn (base f % 2 ^ 32) c) [] us
 begins_apart f stops oid s c0 c us turn units all made stop past = record {
@@ -100,7 +85,7 @@ begins_apart f stops oid s c0 c us turn units all made stop past = record {
     made = made;
     chain = chained_apart f.clocks (base f) us units;
     ends = refl;
-    said = said_apart f.clocks (base f) oid c.known.up false us units ∙ all;
+    said = said_told true f.clocks (base f) oid c.known.up false us units ∙ all;
   };
   turn = turn;
   since = refl;

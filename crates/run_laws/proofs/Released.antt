@@ -8,6 +8,7 @@ use Rattle.step_feed.specs.Pacing.{Release, units_of}
 use Rattle.link_work.specs.Turn.{Orders}
 use Rattle.section_units.specs.Sections.{AreBefore, AreReleased, BoardSection, IsSection, base_of, of_stepper, section_steps}
 use Rattle.run_laws.specs.Events.{AreTicks}
+use Rattle.run_laws.specs.Homes.{AreOut, AreOutBy, RunSection}
 use Rattle.run_laws.specs.Parts.{AreInARow, AreTracked, IsRun}
 use Rattle.run_laws.specs.Runs.{AreSpilled, IsSpilled}
 use Rattle.run_laws.proofs.Entering.{all_inside, begun_inside, early_fits}
@@ -32,7 +33,7 @@ released_by own clocks freq slots ready e n turns turn (x ∷ ss) ticks tracked 
     let first = All-head P x ss i in
     let f : Frame = record { own = own; clocks = clocks; slots = slots; ready = ready; start = x.start; end = x.end; ticks = ticks; tracked = tracked; after = omega (arith, low, row.0); order = row.1; limit = row.2 } in
     let inside = all_inside f x.releases (λ oid.
-    begun_inside f oid false (of_stepper oid (units_of x.releases)) (first.begun oid) (early_fits freq (lines_tick clocks ((x.end + 1) * turn_ns)) (base_of clocks x) (section_steps oid x) (x.plan oid) (first.fits oid) (first.within oid))) in
+    begun_inside f false oid false (of_stepper oid (units_of x.releases)) (first.begun oid) (early_fits freq (lines_tick clocks ((x.end + 1) * turn_ns)) (base_of clocks x) (section_steps oid x) (x.plan oid) (first.fits oid) (first.within oid))) in
     (inside_before f n turns turn x.releases inside s.0 within (All-head By x ss h), released_by own clocks freq slots ready x.end n turns turn ss ticks tracked (omega (arith, low, row.0, row.1)) (All-tail P x ss i) row.3 s.1 within (All-tail By x ss h))
 
 -- fewer units are due before an earlier turn
@@ -43,6 +44,15 @@ spilled_sooner few turns m (r ∷ rs) low s = ((λ due. s.0 (omega (arith, due, 
 pub spilled_before : (few turns m : ℕ) (ss : List BoardSection) → few ≤ turns → AreSpilled turns m ss → AreSpilled few m ss
 spilled_before few turns m [] low s = tt
 spilled_before few turns m (x ∷ ss) low s = (spilled_sooner few turns m x.releases low s.0, spilled_before few turns m ss low s.1)
+
+-- those of sections of moves, where the late ones are sent by their end
+out_sooner : (few turns end : ℕ) (rs : List Release) → few ≤ turns → AreOutBy turns end rs → AreOutBy few end rs
+out_sooner few turns end [] low s = tt
+out_sooner few turns end (r ∷ rs) low s = (λ due. s.0 (omega (arith, due, low)), out_sooner few turns end rs low s.1)
+
+pub out_before : (few turns : ℕ) (ss : List RunSection) → few ≤ turns → AreOut turns ss → AreOut few ss
+out_before few turns [] low s = tt
+out_before few turns (x ∷ ss) low s = (λ moves. out_sooner few turns x.section.end x.section.releases low (s.0 moves), out_before few turns ss low s.1)
 
 -- of a run
 pub run_released : (own : ℕ → ℕ) (clocks : Clocks) (freq slots ready n turns turn : ℕ) (ss : List BoardSection) (os : List Orders) → AreTicks own → IsRun own clocks freq slots ready ss os → AreSpilled turns n ss → turn ≤ turns → All (λ s. s.end + n < turn) ss

@@ -1,5 +1,5 @@
 -- Which unit a triple that was queued belongs to.
-use Rattle.std.proofs.Common.{◌≡◌, ℕ, Bool, ◌+◌, ◌⊎◌, List, [], ◌∷◌, ◌++◌, length, map, drop, All, Option, Some, None, refl, ap, sym, ◌∙◌, subst, inl, inr}
+use Rattle.std.proofs.Common.{◌≡◌, ℕ, Bool, false, ◌+◌, ◌⊎◌, List, [], ◌∷◌, ◌++◌, length, map, drop, All, Option, Some, None, refl, ap, sym, ◌∙◌, subst, inl, inr}
 use Rattle.std.proofs.lemmas.Bool.Decides.{eqb_tells}
 use Rattle.std.proofs.lemmas.List.{take-append-drop}
 use Rattle.std.proofs.lemmas.List.Elements.{All-head, All-tail}
@@ -23,7 +23,7 @@ use Rattle.link_work.specs.Turn.{Orders}
 use Rattle.link_work.specs.Runs.{queued_in}
 use Rattle.run_laws.specs.Late.{IsIn, IsStep, IsLateUnit}
 use Rattle.run_laws.specs.Runs.{IsBoardRun}
-use Rattle.section_units.specs.Sections.{AreBegun, AreChained, BoardSection, IsSection, base_of, of_stepper, ticks_meant}
+use Rattle.section_units.specs.Sections.{AreBegunBy, AreChained, BoardSection, IsSection, base_of, of_stepper, ticks_meant}
 use Rattle.run_laws.specs.Parts.{AreOrdersOf, IsControl}
 use Rattle.run_laws.proofs.Sectioning.{units_at}
 use Rattle.run_laws.proofs.Wholes.{sent_orders}
@@ -143,9 +143,9 @@ pub chained_tell : (clocks : Clocks) (behind : ℕ) (us : List StepUnit) → Are
 chained_tell clocks behind [] c = tt
 chained_tell clocks behind (u ∷ us) c = (c.1.first, chained_tell clocks u.last us c.2)
 
-pub begun_tell : (clocks : Clocks) (base : ℕ) (us : List StepUnit) → AreBegun clocks base us → TellFirst us
-begun_tell clocks base [] c = tt
-begun_tell clocks base (u ∷ us) c = (c.2.first, chained_tell clocks u.last us c.3)
+pub begun_tell : (homing : Bool) (clocks : Clocks) (base : ℕ) (us : List StepUnit) → AreBegunBy homing clocks base us → TellFirst us
+begun_tell homing clocks base [] c = tt
+begun_tell homing clocks base (u ∷ us) c = (c.2.first, chained_tell clocks u.last us c.3)
 
 tell_own : (r : Release) (rs : List Release) → Among r rs → TellFirst (of_stepper r.unit.stepper (units_of rs)) → r.unit.first ≡ slice_index (ticks_meant r.unit) 0
 tell_own r [] a t = absurd a
@@ -176,7 +176,7 @@ late_unit b pins own clocks ready ss os steps tick first r shut =
       release = x.1;
       among = is_in x.0 ss x.2;
       within = is_in x.1 x.0.releases x.3;
-      first_is = tell_own x.1 x.0.releases x.3 (begun_tell clocks (base_of clocks x.0) (of_stepper x.1.unit.stepper (units_of x.0.releases)) (i.begun x.1.unit.stepper))
+      first_is = tell_own x.1 x.0.releases x.3 (begun_tell false clocks (base_of clocks x.0) (of_stepper x.1.unit.stepper (units_of x.0.releases)) (i.begun x.1.unit.stepper))
           ∙ ap (λ ts. slice_index ts 0) (sym x.4) ∙ n.2.1;
       late = n.2.2;
     }

@@ -174,22 +174,22 @@ few_spoiled b pins board entries n os l t v lasting limits few =
     lasting_timely b pins (board_tick clock) n os (steps_of clock 0 os first l t) (turns_are clock 0 os first l t).1 (valid_ticks b v) (first_tick b) lasting
     (soon_from b pins board entries clock n 0 os [] os first l t [] (start b pins) refl refl refl limits refl refl few)
 
--- ten seconds are less than half a round of the 32-bit clock
-pub ten_seconds : (b : BoardDef) (n m : ℕ) → IsValidBoard b → n + m ≤ 10_000 → (k : ℕ) → board_tick (clock_of b) (k + (n + m + 2)) < board_tick (clock_of b) k + 2 ^ 31
+-- so many turns are less than half a round of the 32-bit clock
+pub ten_seconds : (b : BoardDef) (n m : ℕ) → IsValidBoard b → n + m ≤ 10_700 → (k : ℕ) → board_tick (clock_of b) (k + (n + m + 2)) < board_tick (clock_of b) k + 2 ^ 31
 ten_seconds b n m v small k = omega (arith, ticks_few b v (n + m + 2) k, small)
 
 -- the last turn may pass the limits
 pub few_timely_before : (b : BoardDef) (pins : List (List Level)) (board : ℕ) (entries : List Entry) (clocks : Clocks) (ready n m turns : ℕ) (ss : List BoardSection) (os : List Orders) (l : LinkState)
     (t : AreTurns (clock_of b) 0 os (first_state b pins board entries) l) → IsValidBoard b → IsRun (board_tick (clock_of b)) clocks b.freq b.slots ready ss os → AreSpilled turns m ss → length os ≤ turns
     → ((done : List Orders) (o : Orders) (rest : List Orders) → os ≡ done ++ (o ∷ rest) → AllKeepLimits done)
-    → ((k : ℕ) → spoiled (take k (ends_of (clock_of b) 0 os (first_state b pins board entries) l t)) ≤ n) → n + m ≤ 10_000
+    → ((k : ℕ) → spoiled (take k (ends_of (clock_of b) 0 os (first_state b pins board entries) l t)) ≤ n) → n + m ≤ 10_700
     → AllTimely (start b pins) (steps_of (clock_of b) 0 os (first_state b pins board entries) l t)
 few_timely_before b pins board entries clocks ready n m turns ss os l t v r spilled within limits few small =
     few_spoiled b pins board entries n os l t v (run_lasting (board_tick (clock_of b)) clocks b.freq b.slots ready n m turns ss os (valid_ticks b v) r spilled within (ten_seconds b n m v small)) limits few
 
 pub few_timely : (b : BoardDef) (pins : List (List Level)) (board : ℕ) (entries : List Entry) (clocks : Clocks) (ready n m turns : ℕ) (ss : List BoardSection) (os : List Orders) (l : LinkState)
     (t : AreTurns (clock_of b) 0 os (first_state b pins board entries) l) → IsValidBoard b → IsRun (board_tick (clock_of b)) clocks b.freq b.slots ready ss os → AreSpilled turns m ss → length os ≤ turns → AllKeepLimits os
-    → ((k : ℕ) → spoiled (take k (ends_of (clock_of b) 0 os (first_state b pins board entries) l t)) ≤ n) → n + m ≤ 10_000
+    → ((k : ℕ) → spoiled (take k (ends_of (clock_of b) 0 os (first_state b pins board entries) l t)) ≤ n) → n + m ≤ 10_700
     → AllTimely (start b pins) (steps_of (clock_of b) 0 os (first_state b pins board entries) l t)
 few_timely b pins board entries clocks ready n m turns ss os l t v r spilled within limits few small =
     few_timely_before b pins board entries clocks ready n m turns ss os l t v r spilled within (λ done o rest cut. (limits_split done (o ∷ rest) (subst AllKeepLimits cut limits)).0) few small

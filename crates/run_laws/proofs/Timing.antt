@@ -42,10 +42,10 @@ sections_last own clocks freq slots ready e n m turns turn top (s ∷ ss) ticks 
     let first = All-head P s ss i in
     let g : Frame = record { own = own; clocks = clocks; slots = slots; ready = ready; start = s.start; end = s.end; ticks = ticks; tracked = tracked; after = omega (arith, low, row.0); order = row.1; limit = row.2 } in
     let bound = lines_tick clocks ((s.end + 1) * turn_ns) in
-    let inside = all_inside g s.releases (λ oid. begun_inside g oid false (of_stepper oid (units_of s.releases)) (first.begun oid)
+    let inside = all_inside g s.releases (λ oid. begun_inside g false oid false (of_stepper oid (units_of s.releases)) (first.begun oid)
     (early_fits freq bound (base_of clocks s) (section_steps oid s) (s.plan oid) (first.fits oid) (first.within oid))) in
     lasting_append (own (top + 1)) (batch_at turn s.releases) (units_at turn ss)
-    (batch_lasts g n m turns turn top s.releases inside spilled.0 before (λ oid. begun_tell clocks (base_of clocks s) (of_stepper oid (units_of s.releases)) (first.begun oid)) near far)
+    (batch_lasts g n m turns turn top s.releases inside spilled.0 before (λ oid. begun_tell false clocks (base_of clocks s) (of_stepper oid (units_of s.releases)) (first.begun oid)) near far)
     (sections_last own clocks freq slots ready s.end n m turns turn top ss ticks tracked (All-tail P s ss i) row.3 (omega (arith, low, row.0, row.1)) spilled.1 before near far)
 
 -- what is queued in some turns

@@ -11,9 +11,8 @@ use Rattle.plan_types.specs.Machines.{IsValidBoard}
 use Rattle.plan_types.specs.Plan.{AreSpaced, Fits}
 use Rattle.msg_code.specs.declared.cmd.Cmd.{Cmd}
 use Rattle.msg_code.specs.declared.cmd.Cmd.TheVariants as cmd
-use Rattle.step_feed.specs.Pacing.{ArePaced, batch_at, units_of}
-use Rattle.step_feed.specs.Units.{StepUnit}
-use Rattle.section_units.specs.Sections.{AreBefore, AreChained, BoardSection, IsSection, IsUnit, base_of, of_stepper, section_steps}
+use Rattle.step_feed.specs.Pacing.{ArePaced, Release, batch_at, units_of}
+use Rattle.section_units.specs.Sections.{AreBefore, AreBegunBy, BoardSection, IsSection, base_of, of_stepper, section_steps}
 use Rattle.board_world.specs.World.{Step, run, start}
 use Rattle.wire_scene.specs.declared.scene.Entry.{Entry}
 use Rattle.link_work.specs.Runs.{AreTurns, queued_in}
@@ -34,12 +33,6 @@ pub record RunSection : Type 0 where
   pub section : BoardSection
   pub homes : Bool
 
--- units of one stepper in a homing section: none sets the clock, which a command of its own sets to the section's first tick; the first
--- one tells the direction
-abbrev pub AreBegunApart : Clocks → ℕ → List StepUnit → Type 0
-AreBegunApart clocks base [] = Unit {0}
-AreBegunApart clocks base (u ∷ us) = (u.reset ≡ None) × (u.up ≢ None) × IsUnit clocks base u × AreChained clocks u.last us
-
 -- A section of moves on a board, whose clock lines are near until a turn: all its units are released by five turns behind its end, and
 -- no part of a stepper's steps that is begun in its turns stops before they are over.
 pub record IsMovesIn (clocks : Clocks) (freq slots until : ℕ) (stops : ℕ → Option ℕ) (s : BoardSection) : Type 0 where
@@ -48,15 +41,16 @@ pub record IsMovesIn (clocks : Clocks) (freq slots until : ℕ) (stops : ℕ →
   pub released : AreBefore (s.end + 6) s.releases
   pub goes_on : (turn : ℕ) → s.start ≤ turn + 254 → turn ≤ s.end + 5 → stops turn ≡ None
 
--- A homing section on a board: its units are those that were released before its end, of a plan whose last step is due in a turn; and
--- the parts of its steppers' steps, which are begun 254 to 252 turns before its start, stop with its end.
+-- A homing section on a board: its units are those that were released before its end, of a plan whose last step is due in a turn; none
+-- sets a clock, which a command of its own sets to the section's first tick; and the parts of its steppers' steps, which are begun 254
+-- to 252 turns before its start, stop with its end.
 pub record IsHomingIn (clocks : Clocks) (freq slots until : ℕ) (stops : ℕ → Option ℕ) (s : BoardSection) : Type 0 where
   pub spaced : (oid : ℕ) → AreSpaced (base_of clocks s) (s.plan oid)
   pub last : ℕ
   pub order : s.start ≤ last
   pub limit : last < until
   pub within : (oid : ℕ) → All (λ p. p.tick < lines_tick clocks ((last + 1) * turn_ns)) (s.plan oid)
-  pub begun : (oid : ℕ) → AreBegunApart clocks (base_of clocks s) (of_stepper oid (units_of s.releases))
+  pub begun : (oid : ℕ) → AreBegunBy true clocks (base_of clocks s) (of_stepper oid (units_of s.releases))
   pub fits : (oid : ℕ) → Fits freq (base_of clocks s) (section_steps oid s) (s.plan oid)
   pub from : ℕ
   pub exact : from + 250 ≡ s.start
@@ -87,6 +81,16 @@ IsControlIn clocks ss turn (cmd.SetNextStepDir oid dir) = ⊥
 IsControlIn clocks ss turn (cmd.ResetStepClock oid clock) = SetsClock clocks ss turn clock
 IsControlIn clocks ss turn (cmd.ConfigStepper oid step dir invert width) = oid < 256
 IsControlIn clocks ss turn _ = Unit {0}
+
+-- Each unit that is due before a turn and is released behind its due turn is so by four turns behind another turn.
+abbrev pub AreOutBy : ℕ → ℕ → List Release → Type 0
+AreOutBy turns end [] = Unit {0}
+AreOutBy turns end (r ∷ rs) = (r.unit.due < turns → r.unit.due < r.turn → r.turn ≤ end + 4) × AreOutBy turns end rs
+
+-- so the units of each section of moves are by four turns behind its end
+abbrev pub AreOut : ℕ → List RunSection → Type 0
+AreOut turns [] = Unit {0}
+AreOut turns (s ∷ ss) = (s.homes ≡ false → AreOutBy turns s.section.end s.section.releases) × AreOut turns ss
 
 -- what is queued in turns from a number on: control commands, and the units of the sections that are released in the turn
 abbrev pub AreOrdersIn : Clocks → List RunSection → ℕ → List Orders → Type 0

@@ -77,11 +77,11 @@ pub fn homing_boards_keep_their_sections()
 
 /// The law of few spoiled turns, in a run in which axes home: where what is queued before the last turn keeps the limits, at the end of each
 /// turn at most n turns of a link's busy stretch were spoiled, and no unit that is due in the run's turns is released more than m turns behind its due one, no
-/// unit is taken half a round of the 32-bit clock after its first tick, for n + m up to 10,000 turns, ten seconds.
+/// unit is taken half a round of the 32-bit clock after its first tick, for n + m up to 10,700 turns.
 pub fn homing_links_are_timely()
     ensures { (b : BoardDef) (pins : List (List Level)) (board : ℕ) (entries : List Entry) (clocks : Clocks) (ready n m turns : ℕ) (stops : ℕ → Option ℕ) (ss : List RunSection) (os : List Orders) (l : LinkState)
         (t : AreTurns (clock_of b) 0 os (first_state b pins board entries) l) → IsValidBoard b → IsHomeRun (board_tick (clock_of b)) clocks b.freq b.slots ready stops ss os → AreSpilled turns m (map (λ s. s.section) ss) → length os ≤ turns →
         ((done : List Orders) (o : Orders) (rest : List Orders) → os ≡ done ++ (o ∷ rest) → AllKeepLimits done) →
-        ((k : ℕ) → spoiled (take k (ends_of (clock_of b) 0 os (first_state b pins board entries) l t)) ≤ n) → n + m ≤ 10_000 →
+        ((k : ℕ) → spoiled (take k (ends_of (clock_of b) 0 os (first_state b pins board entries) l t)) ≤ n) → n + m ≤ 10_700 →
         AllTimely (start b pins) (steps_of (clock_of b) 0 os (first_state b pins board entries) l t) }
 {}

@@ -1,37 +1,38 @@
 -- A homing section ends in the turn in which a word tells of its answer.
-use Rattle.std.proofs.Common.{◌≡◌, ℕ, ◌+◌, ◌<◌, ◌≤◌, ◌^◌, Bool, true, false, ◌⊎◌, List, [], ◌∷◌, ◌++◌, length, Option, None, Some, refl, ap, sym, ◌∙◌, subst, arith, inl, inr, length-append}
+use Rattle.std.proofs.Common.{◌≡◌, ℕ, ◌+◌, ◌<◌, ◌≤◌, Bool, true, false, ◌⊎◌, List, [], ◌∷◌, ◌++◌, All, length, Option, None, Some, refl, ap, sym, ◌∙◌, subst, arith, inl, inr, append-nil, length-append}
 use Rattle.std.specs.Prelude.{◌&&◌, nat_le, if◌then◌else◌}
-use Rattle.std.proofs.lemmas.Bool.Decides.{eqb_tells, leb_tells}
+use Rattle.std.proofs.lemmas.Bool.Decides.{leb_tells}
+use Rattle.std.proofs.lemmas.List.{append_cancel_left}
+use Rattle.std.proofs.lemmas.List.Elements.{All-head}
 use Rattle.plan_types.specs.declared.machine.Machine.{Machine}
 use Rattle.plan_types.specs.declared.plan.Section.{Section}
+use Rattle.plan_types.specs.declared.plan.SectionKind.{SectionKind}
 use Rattle.plan_types.specs.declared.plan.SectionKind.TheVariants.{Home, Moves}
 use Rattle.msg_code.specs.declared.talk.NoteNews.{NoteNews}
 use Rattle.msg_code.specs.declared.talk.WordMsg.{WordMsg}
 use Rattle.motion_work.specs.Homes.{no_end}
-use Rattle.motion_work.specs.Seen.{AreDone, IsOpen, Started}
-use Rattle.motion_work.specs.Takes.{all_answered, answered}
+use Rattle.motion_work.specs.Seen.{AreMoves, Started}
 use Rattle.motion_work.specs.Told.{Told, tells_homed}
 use Rattle.motion_stream.specs.declared.course.Course.{Course}
 use Rattle.motion_stream.specs.declared.course.Open.{Open}
 use Rattle.motion_stream.specs.declared.course.Open.TheVariants as opens
-use Rattle.motion_stream.specs.Courses.{IsCourseOf, IsGoing}
-use Rattle.motion_stream.specs.Motions.{IsMore, waits_by, with_answer, with_word}
-use Rattle.motion_stream.specs.Puts.{IsBehind, IsNew}
-use Rattle.motion_stream.specs.Seen.{AreWhole, Going, Seen}
-use Rattle.motion_stream.proofs.Drawing.{whole_none}
-use Rattle.motion_stream.proofs.Laying.{lines_whole, none_going, sooner_whole, unanswered}
+use Rattle.motion_stream.specs.Courses.{IsGoing}
+use Rattle.motion_stream.specs.Motions.{IsMore, answered, begun_with, going_with, hears_answer, waits_by, with_word}
+use Rattle.motion_stream.specs.Puts.{IsBehind}
+use Rattle.motion_stream.specs.Seen.{AreWhole, Going, IsContinued, Seen, homes_by}
+use Rattle.motion_stream.specs.Wholes.{HasNoAnswer}
 use Rattle.session_work.specs.declared.table.MotionTurn.{MotionTurn}
-use Rattle.run_plans.specs.Answers.{AnyHomed, EndByWords, TakesAnswer, WaitsIn}
-use Rattle.run_plans.specs.Planned.{words_in}
+use Rattle.run_plans.specs.Answers.{AnyHomed, EndByWords, EndsByWord, TakesAnswer, WaitsIn}
+use Rattle.run_plans.specs.Planned.{AnyWaits, words_in}
 
 clash : true ≡ false → ⊥
 clash e = cc
 
-moves_home : (axis : ℕ) → Moves ≡ Home axis → ⊥
-moves_home axis e = cc
+none_some : {X : Type 0} {x : X} → None ≡ Some x → ⊥
+none_some e = cc
 
-none_some : {X : Type 0} (x : X) → None ≡ Some x → ⊥
-none_some x e = cc
+some_same : {X : Type 0} (x y : X) → Some x ≡ Some y → x ≡ y
+some_same x y e = cc
 
 -- words of some turns, and of one more
 pub words_snoc : (ts : List MotionTurn) (t : MotionTurn) → length (words_in (ts ++ t ∷ [])) ≡ length (words_in ts) + length t.words
@@ -94,280 +95,186 @@ takes_low e k [] a = absurd a
 takes_low e k (t ∷ ts) (inl a) = let at = a.0 in omega (arith, at)
 takes_low e k (t ∷ ts) (inr a) = let low = takes_low e (k + 1) ts a in omega (arith, low)
 
--- A section that homes, in a turn k in which these words were taken so far: it waits, or has its answer in this turn, or had it before.
-pub record HasHeard (k : ℕ) (done : List MotionTurn) (ws : List WordMsg) (s : Started) : Type 0 where
+-- A section that homed and has its answer, in a turn k in which these words were taken so far: in this turn, or before it.
+pub record HasAnswer (k : ℕ) (done : List MotionTurn) (ws : List WordMsg) (s : Started) : Type 0 where
   waits : WaitsIn s.start s.end 0 0 done
-  ends : ((s.end ≡ no_end) × (s.start ≤ k → AnyHomed ws → ⊥)) ⊎ (((s.end ≡ k) × AnyHomed ws) ⊎ TakesAnswer s.end 0 done)
+  took : ((s.end ≡ k) × AnyHomed ws) ⊎ TakesAnswer s.end 0 done
 
-abbrev pub HaveHeard : ℕ → List MotionTurn → List WordMsg → List Started → Type 0
-HaveHeard k done ws [] = Unit {0}
-HaveHeard k done ws (s ∷ begun) = ((axis : ℕ) → s.section.kind ≡ Home axis → HasHeard k done ws s) × HaveHeard k done ws begun
+abbrev pub HaveAnswers : ℕ → List MotionTurn → List WordMsg → List Started → Type 0
+HaveAnswers k done ws [] = Unit {0}
+HaveAnswers k done ws (s ∷ begun) = ((axis : ℕ) → s.section.kind ≡ Home axis → HasAnswer k done ws s) × HaveAnswers k done ws begun
 
--- as a turn begins
-pub heard_first : (k : ℕ) (done : List MotionTurn) (begun : List Started) → EndByWords 0 0 done begun → HaveHeard k done [] begun
-heard_first k done [] h = tt
-heard_first k done (s ∷ begun) h = (
-  λ axis home.
-      let a = h.0 axis home in
-      record {
-        waits = a.waits;
-        ends = elim a.ends [
-          | inl early ↦ absurd (omega (arith, early))
-          | inr e ↦ elim e [ inl none ↦ inl (none, λ late any. any) | inr took ↦ inr (inr took) ]
-        ];
-      },
-  heard_first k done begun h.1,
-)
+-- the section that goes on homes
+abbrev pub Homes : Option Going → Type 0
+Homes None = ⊥
+Homes (Some g) = homes_by g.kind ≡ true
 
--- a word that tells of no answer
-heard_still : (k : ℕ) (done : List MotionTurn) (ws : List WordMsg) (w : WordMsg) (begun : List Started) → (tells_homed w.news ≡ true → ⊥) → HaveHeard k done ws begun → HaveHeard k done (ws ++ w ∷ []) begun
-heard_still k done ws w [] none h = tt
-heard_still k done ws w (s ∷ begun) none h = (
-  λ axis home.
-      let a = h.0 axis home in
-      record {
-        waits = a.waits;
-        ends = elim a.ends [
-          | inl e ↦ inl (e.0, λ late any. elim (any_snoc ws w any) [ inl b ↦ e.1 late b | inr tells ↦ none tells ])
-          | inr e ↦ elim e [ inl now ↦ inr (inl (now.0, any_left ws (w ∷ []) now.1)) | inr took ↦ inr (inr took) ]
-        ];
-      },
-  heard_still k done ws w begun none h.1,
-)
+-- it has waited from its start on
+abbrev pub WaitsSince : ℕ → List MotionTurn → List WordMsg → ℕ → Type 0
+WaitsSince k done ws start = WaitsIn start no_end 0 0 done × (start ≤ k → AnyHomed ws → ⊥)
 
--- sections of which each that homes has its answer
-abbrev AllKnown : List Started → Type 0
-AllKnown [] = Unit {0}
-AllKnown (s ∷ begun) = ((axis : ℕ) → s.section.kind ≡ Home axis → s.end ≡ no_end → ⊥) × AllKnown begun
+abbrev pub Waits : ℕ → List MotionTurn → List WordMsg → Option Going → Type 0
+Waits k done ws None = Unit {0}
+Waits k done ws (Some g) = homes_by g.kind ≡ true → WaitsSince k done ws g.start
 
-heard_known : (k : ℕ) (done : List MotionTurn) (ws : List WordMsg) (w : WordMsg) (begun : List Started) → AllKnown begun → HaveHeard k done ws begun → HaveHeard k done (ws ++ w ∷ []) begun
-heard_known k done ws w [] known h = tt
-heard_known k done ws w (s ∷ begun) known h = (
-  λ axis home.
-      let a = h.0 axis home in
-      record {
-        waits = a.waits;
-        ends = elim a.ends [
-          | inl e ↦ absurd (known.0 axis home e.0)
-          | inr e ↦ elim e [ inl now ↦ inr (inl (now.0, any_left ws (w ∷ []) now.1)) | inr took ↦ inr (inr took) ]
-        ];
-      },
-  heard_known k done ws w begun known.1 h.1,
-)
+-- Each section that was begun and homes has its answer, but the one that goes on, which waits.
+pub record HaveHeard (k : ℕ) (done : List MotionTurn) (ws : List WordMsg) (begun : List Started) (going : Option Going) : Type 0 where
+  known : HaveAnswers k done ws begun
+  waits : Waits k done ws going
 
--- all have an answer, but for the last one maybe
-abbrev KnownBefore : List Started → Type 0
-KnownBefore [] = Unit {0}
-KnownBefore (s ∷ []) = Unit {0}
-KnownBefore (s ∷ t ∷ begun) = (s.end ≡ no_end → ⊥) × KnownBefore (t ∷ begun)
-
-heard_one : (k : ℕ) (done : List MotionTurn) (ws : List WordMsg) (w : WordMsg) (s : Started) → (s.end ≡ no_end → ⊥) → HasHeard k done ws s → HasHeard k done (ws ++ w ∷ []) s
-heard_one k done ws w s known a = record {
-  waits = a.waits;
-  ends = elim a.ends [
-    | inl e ↦ absurd (known e.0)
-    | inr e ↦ elim e [ inl now ↦ inr (inl (now.0, any_left ws (w ∷ []) now.1)) | inr took ↦ inr (inr took) ]
-  ];
-}
-
-heard_soon : (k : ℕ) (done : List MotionTurn) (ws : List WordMsg) (w : WordMsg) (s : Started) → k < s.start → HasHeard k done ws s → HasHeard k done (ws ++ w ∷ []) s
-heard_soon k done ws w s far a = record {
-  waits = a.waits;
-  ends = elim a.ends [
-    | inl e ↦ inl (e.0, λ late. absurd (omega (arith, late, far)))
-    | inr e ↦ elim e [ inl now ↦ inr (inl (now.0, any_left ws (w ∷ []) now.1)) | inr took ↦ inr (inr took) ]
-  ];
-}
-
--- a word that tells of an answer
-heard_told : (k : ℕ) (done : List MotionTurn) (ws : List WordMsg) (w : WordMsg) (begun : List Started) → k ≤ no_end → tells_homed w.news ≡ true → KnownBefore begun → HaveHeard k done ws begun
-    → HaveHeard k done (ws ++ w ∷ []) (all_answered k begun)
-heard_told k done ws w [] small tells known h = tt
-heard_told k done ws w (s ∷ []) small tells known h =
-    let At : List Started → Type 0 = λ x. HaveHeard k done (ws ++ w ∷ []) x in
-    let Or : Bool → Type 0 = λ b. At (if b then answered k s ∷ [] else s ∷ []) in
-    elim (eqb_tells s.end no_end) [
-      | inl p ↦ elim (leb_tells s.start k) [
-        | inl q ↦
-            let Both : Bool → Type 0 = λ b. Or (b && nat_le s.start k) in
-            let Now : Bool → Type 0 = λ b. Or (true && b) in
-            subst Both (sym p.0) (subst Now (sym q.0) (
-              (λ axis home.
-                  let a = h.0 axis home in
-                  record {
-                    waits = waits_less s.start s.end k 0 0 done (let e = p.1 in omega (arith, e, small)) a.waits;
-                    ends = inr (inl (refl, any_last ws w tells));
-                  }),
-              tt,
-            ))
-        | inr q ↦
-            let Both : Bool → Type 0 = λ b. Or (b && nat_le s.start k) in
-            let Now : Bool → Type 0 = λ b. Or (true && b) in
-            subst Both (sym p.0) (subst Now (sym q.0) ((λ axis home. heard_soon k done ws w s (let far = q.1 in omega (arith, far)) (h.0 axis home)), tt))
-      ]
-      | inr p ↦
-          let Both : Bool → Type 0 = λ b. Or (b && nat_le s.start k) in
-          subst Both (sym p.0) ((λ axis home. heard_one k done ws w s p.1 (h.0 axis home)), tt)
-    ]
-heard_told k done ws w (s ∷ t ∷ begun) small tells known h = ((λ axis home. heard_one k done ws w s known.0 (h.0 axis home)), heard_told k done ws w (t ∷ begun) small tells known.1 h.1)
-
--- sections that are over
-done_before : (next : ℕ) (past : List Started) (s : Started) → next ≤ 2 ^ 42 → AreDone next past → KnownBefore (past ++ s ∷ [])
-done_before next [] s small d = tt
-done_before next (x ∷ []) s small d = (λ e. (let low = d.0 in omega (arith, low, e, small)), tt)
-done_before next (x ∷ y ∷ past) s small d = (λ e. (let low = d.0 in omega (arith, low, e, small)), done_before next (y ∷ past) s small d.1)
-
-done_all : (next : ℕ) (begun : List Started) → next ≤ 2 ^ 42 → AreDone next begun → KnownBefore begun
-done_all next [] small d = tt
-done_all next (x ∷ []) small d = tt
-done_all next (x ∷ y ∷ begun) small d = (λ e. (let low = d.0 in omega (arith, low, e, small)), done_all next (y ∷ begun) small d.1)
-
-open_before : (goes : Bool) (next : ℕ) (begun : List Started) → next ≤ 2 ^ 42 → IsOpen goes next begun → KnownBefore begun
-open_before false next begun small o = done_all next begun small o
-open_before true next begun small o = subst KnownBefore (sym o.2) (done_before next o.0 o.1 small o.3)
-
-known_before : (m : Machine) (o : Open) (c : Course) (told : Option Told) (begun : List Started) (going : Option Going) → c.next ≤ 2 ^ 42 → IsGoing m o c told begun going → KnownBefore begun
-known_before m opens.Nothing c told begun going small i = open_before c.goes c.next begun small i.goes
-known_before m (opens.Home boards) c told begun going small i = subst KnownBefore (sym i.are) (done_before c.next i.past i.last small i.done)
-known_before m (opens.Moves s) c told begun going small i = done_all c.next begun small i.done
-
-done_known : (next : ℕ) (begun : List Started) → next ≤ 2 ^ 42 → AreDone next begun → AllKnown begun
-done_known next [] small d = tt
-done_known next (x ∷ begun) small d = (λ axis home e. (let low = d.0 in omega (arith, low, e, small)), done_known next begun small d.1)
-
-known_more : (past : List Started) (s : Started) → AllKnown past → ((axis : ℕ) → s.section.kind ≡ Home axis → s.end ≡ no_end → ⊥) → AllKnown (past ++ s ∷ [])
-known_more [] s all one = (one, tt)
-known_more (x ∷ past) s all one = (all.0, known_more past s all.1 one)
-
--- whole sections of which one goes on
-going_known : (m : Machine) (told : Option Told) (next n : ℕ) (begun : List Started) (g : Going) (all : List Started) → next ≤ 2 ^ 42 → AreDone next begun → AreWhole m told n begun (Some g) all → AllKnown all
-going_known m None next n begun g all small d w = absurd w
-going_known m (Some t) next n begun g all small d w =
-    subst AllKnown (sym w.1) (known_more begun w.0 (done_known next begun small d) (λ axis home e. moves_home axis (sym (ap (λ (x : Section). x.kind) w.2.section) ∙ home)))
-
-going_done : (m : Machine) (o : Open) (c : Course) (told : Option Told) (begun : List Started) (g : Going) → IsGoing m o c told begun (Some g) → AreDone c.next begun
-going_done m opens.Nothing c told begun g i = absurd (none_some g (sym i.none))
-going_done m (opens.Home boards) c told begun g i = absurd (none_some g (sym i.none))
-going_done m (opens.Moves s) c told begun g i = i.done
+pub none_heard : HaveHeard 0 [] [] [] None
+none_heard = record { known = tt; waits = tt }
 
 -- a word
-abbrev pub Hold : Machine → Seen → (List Started → Type 0) → Type 0
-Hold m seen P = (all : List Started) → AreWhole m seen.told seen.next seen.begun seen.going all → P all
+answers_more : (k : ℕ) (done : List MotionTurn) (ws : List WordMsg) (w : WordMsg) (begun : List Started) → HaveAnswers k done ws begun → HaveAnswers k done (ws ++ w ∷ []) begun
+answers_more k done ws w [] h = tt
+answers_more k done ws w (s ∷ begun) h = (
+  λ axis home. let a = h.0 axis home in record { waits = a.waits; took = elim a.took [ inl now ↦ inl (now.0, any_left ws (w ∷ []) now.1) | inr took ↦ inr took ] },
+  answers_more k done ws w begun h.1,
+)
 
-word_answers : (m : Machine) (c : Course) (seen : Seen) (k : ℕ) (done : List MotionTurn) (ws : List WordMsg) (w : WordMsg) (tells : Bool) (going : Option Going) → tells_homed w.news ≡ tells → seen.going ≡ going → IsCourseOf m c seen → seen.next ≡ k
-    → Hold m seen (HaveHeard k done ws) → (all : List Started) → AreWhole m seen.told seen.next (if tells then all_answered seen.next seen.begun else seen.begun) going all → HaveHeard k done (ws ++ w ∷ []) all
-word_answers m c seen k done ws w false going t e h at hold all a =
-    let Of : Option Going → Type 0 = λ g. AreWhole m seen.told seen.next seen.begun g all in
-    heard_still k done ws w all (λ yes. clash (sym yes ∙ t)) (hold all (subst Of (sym e) a))
-word_answers m c seen k done ws w true None t e h at hold all a =
-    let small = h.small in
-    let next = h.next in
-    let Of : Option Going → Type 0 = λ g. AreWhole m seen.told seen.next seen.begun g seen.begun in
-    let old = hold seen.begun (subst Of (sym e) refl) in
-    let known = known_before m c.current c seen.told seen.begun seen.going small h.going in
-    let new = heard_told k done ws w seen.begun (omega (arith, small, next, at)) t known old in
-    let At : ℕ → Type 0 = λ n. HaveHeard k done (ws ++ w ∷ []) (all_answered n seen.begun) in
-    subst (HaveHeard k done (ws ++ w ∷ [])) (sym a) (subst At (sym at) new)
-word_answers m c seen k done ws w true (Some g) t e h at hold all a =
-    let small = h.small in
-    let next = h.next in
-    let In : Option Going → Type 0 = λ x. IsGoing m c.current c seen.told seen.begun x in
-    let here = subst In e h.going in
-    let same = unanswered m c.current c seen.told seen.begun seen.next g next (omega (arith, small, next)) here in
-    let Begun : List Started → Type 0 = λ b. AreWhole m seen.told seen.next b (Some g) all in
-    let own = subst Begun same a in
-    let Of : Option Going → Type 0 = λ x. AreWhole m seen.told seen.next seen.begun x all in
-    heard_known k done ws w all (going_known m seen.told c.next seen.next seen.begun g all small (going_done m c.current c seen.told seen.begun g here) own) (hold all (subst Of (sym e) own))
+answers_snoc : (k : ℕ) (done : List MotionTurn) (ws : List WordMsg) (begun : List Started) (s : Started) → HaveAnswers k done ws begun → HasAnswer k done ws s → HaveAnswers k done ws (begun ++ s ∷ [])
+answers_snoc k done ws [] s h one = (λ axis home. one, tt)
+answers_snoc k done ws (x ∷ begun) s h one = (h.0, answers_snoc k done ws begun s h.1 one)
 
-pub word_holds : (m : Machine) (c : Course) (seen : Seen) (k : ℕ) (done : List MotionTurn) (ws : List WordMsg) (w : WordMsg) → IsCourseOf m c seen → seen.next ≡ k → Hold m seen (HaveHeard k done ws)
-    → Hold m (with_word m seen w) (HaveHeard k done (ws ++ w ∷ []))
-word_holds m c seen k done ws w h at hold all a =
-    let begun = (with_answer seen w).begun in
-    let back = lines_whole m seen.next w seen.told begun all seen.going (none_going m c seen.told seen.begun seen.going h.told) a in
-    word_answers m c seen k done ws w (tells_homed w.news) seen.going refl refl h at hold all back
+not_late : (a k : ℕ) → nat_le a k ≡ false → a ≤ k → ⊥
+not_late a k e late = elim (leb_tells a k) [ inl p ↦ clash (sym p.0 ∙ e) | inr p ↦ let far = p.1 in omega (arith, far, late) ]
 
--- a section that waits in a turn, in which these words were taken, waits for the word of the turn
-abbrev AllInTime : ℕ → ℕ → List Started → Type 0
-AllInTime k n [] = Unit {0}
-AllInTime k n (s ∷ begun) = ((axis : ℕ) → s.section.kind ≡ Home axis → s.end ≡ no_end → s.start ≤ k → k < n) × AllInTime k n begun
+-- that tells of an answer: it ends the section that goes on, where that homes and has started
+word_ends : (m : Machine) (k : ℕ) (done : List MotionTurn) (ws : List WordMsg) (w : WordMsg) (begun : List Started) (g : Going) (homes late : Bool) → homes_by g.kind ≡ homes → nat_le g.start k ≡ late → k ≤ no_end → tells_homed w.news ≡ true → HaveHeard k done ws begun (Some g)
+    → HaveHeard k done (ws ++ w ∷ []) (begun_with begun (if homes && late then Some (answered m k g) else None)) (going_with (Some g) (if homes && late then Some (answered m k g) else None))
+word_ends m k done ws w begun g true true home start small tells a = record {
+  known = answers_snoc k done (ws ++ w ∷ []) begun (answered m k g) (answers_more k done ws w begun a.known) (record { waits = waits_less g.start no_end k 0 0 done small (a.waits home).0; took = inl (refl, any_last ws w tells) });
+  waits = tt;
+}
+word_ends m k done ws w begun g true false home start small tells a = record {
+  known = answers_more k done ws w begun a.known;
+  waits = λ h. ((a.waits h).0, λ late any. not_late g.start k start late);
+}
+word_ends m k done ws w begun g false late home start small tells a = record { known = answers_more k done ws w begun a.known; waits = λ h. absurd (clash (sym h ∙ home)) }
 
-known_time : (k n : ℕ) (begun : List Started) → AllKnown begun → AllInTime k n begun
-known_time k n [] h = tt
-known_time k n (s ∷ begun) h = (λ axis home e late. absurd (h.0 axis home e), known_time k n begun h.1)
+by_word : (m : Machine) (k : ℕ) (done : List MotionTurn) (ws : List WordMsg) (w : WordMsg) (begun : List Started) (going : Option Going) (tells : Bool) → tells_homed w.news ≡ tells → k ≤ no_end → HaveHeard k done ws begun going
+    → HaveHeard k done (ws ++ w ∷ []) (begun_with begun (if tells then hears_answer m k going else None)) (going_with going (if tells then hears_answer m k going else None))
+by_word m k done ws w begun None true t small a = record { known = answers_more k done ws w begun a.known; waits = tt }
+by_word m k done ws w begun None false t small a = record { known = answers_more k done ws w begun a.known; waits = tt }
+by_word m k done ws w begun (Some g) true t small a = word_ends m k done ws w begun g (homes_by g.kind) (nat_le g.start k) refl refl small t a
+by_word m k done ws w begun (Some g) false t small a = record {
+  known = answers_more k done ws w begun a.known;
+  waits = λ h. let v = a.waits h in (v.0, λ late any. elim (any_snoc ws w any) [ inl b ↦ v.1 late b | inr homed ↦ clash (sym homed ∙ t) ]);
+}
 
-time_more : (k n : ℕ) (past : List Started) (s : Started) → AllInTime k n past → (s.start ≤ k → k < n) → AllInTime k n (past ++ s ∷ [])
-time_more k n [] s h one = (λ axis home e late. one late, tt)
-time_more k n (x ∷ past) s h one = (h.0, time_more k n past s h.1 one)
+pub heard_word : (m : Machine) (seen : Seen) (k : ℕ) (done : List MotionTurn) (ws : List WordMsg) (w : WordMsg) → seen.next ≡ k → k ≤ no_end → HaveHeard k done ws seen.begun seen.going
+    → HaveHeard k done (ws ++ w ∷ []) (with_word m seen w).begun (with_word m seen w).going
+heard_word m seen k done ws w at small a =
+    let Ends : ℕ → Option Started = λ n. if tells_homed w.news then hears_answer m n seen.going else None in
+    let At : ℕ → Type 0 = λ n. HaveHeard k done (ws ++ w ∷ []) (begun_with seen.begun (Ends n)) (going_with seen.going (Ends n)) in
+    subst At (sym at) (by_word m k done ws w seen.begun seen.going (tells_homed w.news) refl small a)
 
-open_known : (goes : Bool) (next : ℕ) (begun : List Started) → next ≤ 2 ^ 42 → IsOpen goes next begun → ((past : List Started) (s : Started) → begun ≡ past ++ s ∷ [] → s.end < no_end) → AllKnown begun
-open_known false next begun small o last = done_known next begun small o
-open_known true next begun small o last =
-    subst AllKnown (sym o.2) (known_more o.0 o.1 (done_known next o.0 small o.3) (λ axis home e. (let low = last o.0 o.1 o.2 in omega (arith, low, e))))
+-- a piece of the text
+pub heard_piece : (k : ℕ) (done : List MotionTurn) (ws : List WordMsg) (begun : List Started) (old new : Option Going) → IsMore old new → HaveHeard k done ws begun old → HaveHeard k done ws begun new
+heard_piece k done ws begun None None more a = a
+heard_piece k done ws begun None (Some g) more a = absurd more
+heard_piece k done ws begun (Some g) None more a = absurd more
+heard_piece k done ws begun (Some g) (Some h) more a = record { known = a.known; waits = λ home. subst (WaitsSince k done ws) (sym more.start) (a.waits (ap homes_by (sym more.kind) ∙ home)) }
 
-starts_wait : (start k n : ℕ) → (nat_le start k ≡ true → k < n) → start ≤ k → k < n
-starts_wait start k n f late = elim (leb_tells start k) [ inl p ↦ f p.0 | inr p ↦ absurd (let far = p.1 in omega (arith, far, late)) ]
-
-whole_time : (m : Machine) (o : Open) (c : Course) (told : Option Told) (begun : List Started) (going : Option Going) (k n next : ℕ) (all : List Started) → c.next ≤ 2 ^ 42 → IsGoing m o c told begun going → (waits_by o c.start k ≡ true → k < n)
-    → AreWhole m told next begun going all → AllInTime k n all
-whole_time m opens.Nothing c told begun going k n next all small i wait a =
-    subst (AllInTime k n) (sym (whole_none m told next begun all going i.none a)) (known_time k n begun (open_known c.goes c.next begun small i.goes i.known))
-whole_time m (opens.Home boards) c told begun going k n next all small i wait a =
-    let At : ℕ → Type 0 = λ x. nat_le x k ≡ true → k < n in
-    subst (AllInTime k n) (sym (whole_none m told next begun all going i.none a ∙ i.are))
-    (time_more k n i.past i.last (known_time k n i.past (done_known c.next i.past small i.done)) (starts_wait i.last.start k n (subst At i.start wait)))
-whole_time m (opens.Moves s) c told begun going k n next all small i wait a =
-    let Of : Option Going → Type 0 = λ g. AreWhole m told next begun g all in
-    known_time k n all (going_known m told c.next next begun i.g all small i.done (subst Of i.is a))
-
--- the turn is over
-turn_ends : (k n : ℕ) (done : List MotionTurn) (t : MotionTurn) (begun : List Started) → length done ≡ k → n ≡ length (words_in (done ++ t ∷ [])) → HaveHeard k done t.words begun → AllInTime k n begun → EndByWords 0 0 (done ++ t ∷ []) begun
-turn_ends k n done t [] long many h time = tt
-turn_ends k n done t (s ∷ begun) long many h time = (
+-- the words of a turn are all taken
+answers_end : (k : ℕ) (done : List MotionTurn) (t : MotionTurn) (begun : List Started) → length done ≡ k → HaveAnswers k done t.words begun → HaveAnswers (k + 1) (done ++ t ∷ []) [] begun
+answers_end k done t [] long h = tt
+answers_end k done t (s ∷ begun) long h = (
   λ axis home.
       let a = h.0 axis home in
       record {
-        waits = waits_snoc s.start s.end 0 0 done t a.waits (λ late soon. elim a.ends [
-          | inl e ↦ (λ any. e.1 (omega (arith, late, long)) any, let now = time.0 axis home e.0 (omega (arith, late, long)) in omega (arith, now, many, long))
-          | inr e ↦ elim e [
-            | inl now ↦ absurd (let at = now.0 in omega (arith, at, soon, long))
-            | inr took ↦ absurd (let low = takes_low s.end 0 done took in omega (arith, low, soon))
-          ]
-        ]);
-        ends = elim a.ends [
-          | inl e ↦ inr (inl e.0)
-          | inr e ↦ elim e [
-            | inl now ↦ inr (inr (takes_last s.end 0 done t (let at = now.0 in omega (arith, at, long)) now.1))
-            | inr took ↦ inr (inr (takes_snoc s.end 0 done t took))
-          ]
-        ];
+        waits = waits_snoc s.start s.end 0 0 done t a.waits (λ late soon. absurd (elim a.took [
+          | inl now ↦ let at = now.0 in omega (arith, at, soon, long)
+          | inr took ↦ let low = takes_low s.end 0 done took in omega (arith, low, soon)
+        ]));
+        took = inr (elim a.took [ inl now ↦ takes_last s.end 0 done t (let at = now.0 in omega (arith, at, long)) now.1 | inr took ↦ takes_snoc s.end 0 done t took ]);
       },
-  turn_ends k n done t begun long many h.1 time.1,
+  answers_end k done t begun long h.1,
 )
 
-pub words_hold : (m : Machine) (c : Course) (seen : Seen) (k n : ℕ) (done : List MotionTurn) (t : MotionTurn) → IsCourseOf m c seen → length done ≡ k → n ≡ length (words_in (done ++ t ∷ [])) → (waits_by c.current c.start k ≡ true → k < n)
-    → Hold m seen (HaveHeard k done t.words) → Hold m seen (EndByWords 0 0 (done ++ t ∷ []))
-words_hold m c seen k n done t h long many wait hold all a =
-    let small = h.small in
-    turn_ends k n done t all long many (hold all a) (whole_time m c.current c seen.told seen.begun seen.going k n seen.next all small h.going wait a)
+waiting_now : (m : Machine) (o : Open) (c : Course) (told : Option Told) (begun : List Started) (g : Going) (k : ℕ) → IsGoing m o c told begun (Some g) → homes_by g.kind ≡ true → g.start ≤ k → waits_by o c.start k ≡ true
+waiting_now m opens.Nothing c told begun g k i home late = absurd (none_some (sym i.none))
+waiting_now m (opens.Goes s homes) c told begun g k i home late =
+    let same : i.g ≡ g = sym (some_same g i.g i.is) in
+    let start : c.start ≡ g.start = i.start_is ∙ ap (λ (x : Going). x.start) same in
+    ap (λ b. b && nat_le c.start k) (i.homes_is ∙ ap (λ (x : Going). homes_by x.kind) same ∙ home) ∙ elim (leb_tells c.start k) [ inl p ↦ p.0 | inr p ↦ absurd (let far = p.1 in omega (arith, far, start, late)) ]
 
--- a piece of the text changes nothing of it
-pub piece_holds : (m : Machine) (seen : Seen) (going : Option Going) (P : List Started → Type 0) → IsMore seen.going going → Hold m seen P → (all : List Started) → AreWhole m seen.told seen.next seen.begun going all → P all
-piece_holds m seen going P more hold all a = hold all (sooner_whole m seen.told seen.next seen.begun all seen.going going more a)
+waits_end : (m : Machine) (c : Course) (told : Option Told) (begun : List Started) (going : Option Going) (k n : ℕ) (done : List MotionTurn) (t : MotionTurn) → IsGoing m c.current c told begun going → length done ≡ k → n ≡ length (words_in (done ++ t ∷ []))
+    → (waits_by c.current c.start k ≡ true → k < n) → Waits k done t.words going → Waits (k + 1) (done ++ t ∷ []) [] going
+waits_end m c told begun None k n done t i long many wait v = tt
+waits_end m c told begun (Some g) k n done t i long many wait v = λ home. (
+  waits_snoc g.start no_end 0 0 done t (v home).0 (λ late soon. (
+    (v home).1 (omega (arith, late, long)),
+    let now = wait (waiting_now m c.current c told begun g k i home (omega (arith, late, long))) in omega (arith, now, many, long),
+  )),
+  λ late any. any,
+)
 
--- a section that is begun waits
-ends_more : (ts : List MotionTurn) (old : List Started) (m : Machine) (k : ℕ) (s : Started) → length ts ≤ k + 1 → IsNew m k s → EndByWords 0 0 ts old → EndByWords 0 0 ts (old ++ s ∷ [])
-ends_more ts [] m k s long new h =
-    let at = new.start in (
-      (λ axis home. record { waits = waits_later s.start s.end 0 0 ts (omega (arith, at, long)); ends = inr (inl (new.waits axis home)) }),
-      tt,
-    )
-ends_more ts (x ∷ old) m k s long new h = (h.0, ends_more ts old m k s long new h.1)
+pub words_end : (m : Machine) (c : Course) (seen : Seen) (k n : ℕ) (done : List MotionTurn) (t : MotionTurn) → IsGoing m c.current c seen.told seen.begun seen.going → length done ≡ k → n ≡ length (words_in (done ++ t ∷ [])) → (waits_by c.current c.start k ≡ true → k < n)
+    → HaveHeard k done t.words seen.begun seen.going → HaveHeard (k + 1) (done ++ t ∷ []) [] seen.begun seen.going
+words_end m c seen k n done t i long many wait a = record { known = answers_end k done t seen.begun long a.known; waits = waits_end m c seen.told seen.begun seen.going k n done t i long many wait a.waits }
 
-pub turn_holds : (m : Machine) (seen next : Seen) (k : ℕ) (news : List NoteNews) (ts : List MotionTurn) → length ts ≤ k + 1 → IsBehind m seen next k news → Hold m seen (EndByWords 0 0 ts) → Hold m next (EndByWords 0 0 ts)
-turn_holds m seen next k news ts long is hold all a =
-    let g = is.grown all a in
-    let At : List Started → Type 0 = λ x. EndByWords 0 0 ts x in
-    elim g.are [
-      | inl e ↦ subst At (sym e) (hold g.old g.whole)
-      | inr e ↦ subst At (sym e.1) (ends_more ts g.old m k e.0 long e.2 (hold g.old g.whole))
-    ]
+-- a turn
+answers_moves : (k : ℕ) (done : List MotionTurn) (begun more : List Started) → HaveAnswers k done [] begun → AreMoves more → HaveAnswers k done [] (begun ++ more)
+answers_moves k done [] [] h moves = tt
+answers_moves k done [] (s ∷ more) h moves = (λ axis home. absurd (moves_home axis (sym moves.0 ∙ home)), answers_moves k done [] more tt moves.1)
+  where
+    moves_home : (axis : ℕ) → Moves ≡ Home axis → ⊥
+    moves_home axis e = cc
+answers_moves k done (x ∷ begun) more h moves = (h.0, answers_moves k done begun more h.1 moves)
+
+going_waits : (m : Machine) (seen next : Seen) (k : ℕ) (news : List NoteNews) (done : List MotionTurn) (going : Option Going) → length done ≤ k + 1 → IsBehind m seen next k news → next.going ≡ going → Waits (k + 1) done [] seen.going → Waits (k + 1) done [] going
+going_waits m seen next k news done None long is e v = tt
+going_waits m seen next k news done (Some g) long is e v = λ home. elim (is.sections.goes g e) [
+  | inl start ↦ (waits_later g.start no_end 0 0 done (omega (arith, start, long)), λ late any. any)
+  | inr p ↦
+      let (h, old, kind, start) = p in
+      let own : Waits (k + 1) done [] (Some h) = subst (Waits (k + 1) done []) old v in
+      subst (WaitsSince (k + 1) done []) (sym start) (own (ap homes_by (sym kind) ∙ home))
+]
+
+pub heard_turn : (m : Machine) (seen next : Seen) (k : ℕ) (news : List NoteNews) (done : List MotionTurn) → length done ≤ k + 1 → IsBehind m seen next k news → HaveHeard (k + 1) done [] seen.begun seen.going → HaveHeard (k + 1) done [] next.begun next.going
+heard_turn m seen next k news done long is a = record {
+  known = subst (HaveAnswers (k + 1) done []) (sym is.sections.are) (answers_moves (k + 1) done seen.begun is.sections.more a.known is.sections.moves);
+  waits = going_waits m seen next k news done next.going long is refl a.waits;
+}
+
+-- all whole sections, of which one that still goes on and homes has no end
+last_open : (m : Machine) (next : ℕ) (begun more : List Started) (g : Going) (s : Started) → begun ++ more ≡ begun ++ s ∷ [] → All HasNoAnswer more → IsContinued m next g s → homes_by g.kind ≡ true → s.end ≡ no_end
+last_open m next begun more g s e unanswered c home =
+    let axis = home_axis g.kind home in
+    All-head HasNoAnswer s [] (subst (All HasNoAnswer) (append_cancel_left begun more (s ∷ []) e) unanswered) axis.0 (ap (λ (x : Section). x.kind) c.section ∙ axis.1)
+  where
+    home_axis : (kind : SectionKind) → homes_by kind ≡ true → (axis : ℕ) × (kind ≡ Home axis)
+    home_axis Moves e = absurd (clash (sym e))
+    home_axis (Home axis) e = (axis, refl)
+
+ends_snoc : (k : ℕ) (done : List MotionTurn) (begun more : List Started) → HaveAnswers k done [] begun → EndByWords 0 0 done more → EndByWords 0 0 done (begun ++ more)
+ends_snoc k done [] more h ends = ends
+ends_snoc k done (x ∷ begun) more h ends = (
+  λ axis home. let a = h.0 axis home in record { waits = a.waits; ends = elim a.took [ inl now ↦ absurd now.1 | inr took ↦ inr (inr took) ] },
+  ends_snoc k done begun more h.1 ends,
+)
+
+pub all_end : (m : Machine) (told : Option Told) (next k : ℕ) (done : List MotionTurn) (begun all more : List Started) (going : Option Going) → HaveHeard k done [] begun going → AreWhole m told next begun going all → all ≡ begun ++ more → All HasNoAnswer more → EndByWords 0 0 done all
+all_end m told next k done begun all more None a w e unanswered = subst (EndByWords 0 0 done) (append-nil begun ∙ sym w) (ends_snoc k done begun [] a.known tt)
+all_end m None next k done begun all more (Some g) a w e unanswered = absurd w
+all_end m (Some t) next k done begun all more (Some g) a (s, are, c) e unanswered =
+    let ends = λ (axis : ℕ) (home : s.section.kind ≡ Home axis).
+    (let homes : homes_by g.kind ≡ true = ap homes_by (ap (λ (x : Section). x.kind) (sym c.section) ∙ home) in
+    let none = last_open m next begun more g s (sym e ∙ are) unanswered c homes in
+    let At : ℕ → Type 0 = λ n. WaitsIn n s.end 0 0 done in
+    let To : ℕ → Type 0 = λ n. WaitsIn g.start n 0 0 done in
+    let one : EndsByWord 0 0 done s = record { waits = subst At (sym c.start) (subst To (sym none) (a.waits homes).0); ends = inr (inl none) } in
+    one) in
+    subst (EndByWords 0 0 done) (sym are) (ends_snoc k done begun (s ∷ []) a.known (ends, tt))
+
+pub all_wait : (m : Machine) (told : Option Told) (next : ℕ) (begun all more : List Started) (going : Option Going) → AreWhole m told next begun going all → all ≡ begun ++ more → All HasNoAnswer more → Homes going → AnyWaits all
+all_wait m told next begun all more None w e unanswered home = absurd home
+all_wait m None next begun all more (Some g) w e unanswered home = absurd w
+all_wait m (Some t) next begun all more (Some g) (s, are, c) e unanswered home = subst AnyWaits (sym are) (in_last begun s (last_open m next begun more g s (sym e ∙ are) unanswered c home))
+  where
+    in_last : (past : List Started) (s : Started) → s.end ≡ no_end → AnyWaits (past ++ s ∷ [])
+    in_last [] s e = inl e
+    in_last (x ∷ past) s e = inr (in_last past s e)

@@ -1,5 +1,5 @@
 -- A board's part of a run in which axes home, from what the planner put.
-use Rattle.std.proofs.Common.{◌≡◌, ◌⊎◌, ℕ, Bool, true, false, ◌+◌, ◌<◌, ◌≤◌, List, [], ◌∷◌, ◌++◌, All, length, map, take, Option, None, Some, refl, ap, sym, ◌∙◌, subst, arith, append_assoc, append-nil, inl, inr}
+use Rattle.std.proofs.Common.{◌≡◌, ◌⊎◌, ℕ, Bool, true, false, ◌+◌, ◌<◌, ◌≤◌, List, [], ◌∷◌, ◌++◌, All, length, map, take, Option, None, Some, refl, ap, sym, ◌∙◌, subst, arith, append_assoc, inl, inr}
 use Rattle.std.specs.Prelude.{◌&&◌, slice_index_or, if◌then◌else◌}
 use Rattle.std.specs.List.{flat_map}
 use Rattle.std.proofs.lemmas.Bool.Decides.{leb_tells}
@@ -11,7 +11,6 @@ use Rattle.plan_types.specs.declared.plan.SectionKind.TheVariants.{Moves, Home}
 use Rattle.plan_types.specs.Lines.{Clocks}
 use Rattle.plan_types.specs.Machines.{board_at}
 use Rattle.plan_types.specs.Sections.{clocks_at, section_end}
-use Rattle.section_units.specs.Merged.{section_of}
 use Rattle.section_units.specs.Plans.{plans_on}
 use Rattle.section_units.specs.Sections.{AreBefore}
 use Rattle.step_feed.specs.Pacing.{Release, batch_at}
@@ -20,18 +19,17 @@ use Rattle.run_laws.specs.Courses.{IsFrom}
 use Rattle.run_laws.specs.Homes.{AreInTurn, AreOrdersIn, AreSet, HasUnits, IsHomeRun, IsHomingIn, IsSectionBy, RunSection, SetsAny}
 use Rattle.run_laws.specs.Parts.{AreTracked, MakesIn}
 use Rattle.motion_work.specs.Feeds.{units_at}
-use Rattle.motion_work.specs.Homes.{before_turn, no_end}
+use Rattle.motion_work.specs.Homes.{no_end}
 use Rattle.motion_work.specs.Seen.{AreStarted, IsHomed, IsPlanned, Started, part_on}
 use Rattle.motion_work.specs.Told.{Told}
 use Rattle.motion_work.proofs.Boardwise.{moved_is}
-use Rattle.motion_work.proofs.Feeding.{at_before}
 use Rattle.motion_work.proofs.Turning.{end_after, planned_late}
 use Rattle.session_work.specs.declared.table.MotionTurn.{MotionTurn}
 use Rattle.session_work.specs.Rows.{gather, item}
 use Rattle.run_plans.specs.Given.{TookBatches}
 use Rattle.run_plans.specs.Homed.{AreOutInTime, ArePlannedBefore, TookControlsIn, is_home, is_set_in, run_on, runs_on, stops_of}
 use Rattle.run_plans.specs.Planned.{Plans}
-use Rattle.run_plans.proofs.Cutting.{homing_cut, homing_ended}
+use Rattle.run_plans.proofs.Cutting.{homed_front, homing_cut}
 use Rattle.run_plans.proofs.Running.{started_in}
 use Rattle.run_plans.proofs.Giving.{AreGiven, units_given}
 use Rattle.run_laws.proofs.HomeRuns.{before_least}
@@ -107,23 +105,12 @@ homed_is : (m : Machine) (clocks : List Clocks) (b until : ℕ) (stops : ℕ →
     → section_end m clocks s.section.moves s.start + 6 < no_end → AreBefore (section_end m clocks s.section.moves s.start + 6) (part_on m clocks s b).releases → StopsBy true stops s.start s.end
     → IsHomingIn (clocks_at clocks b) (board_at m b).freq (board_at m b).slots until stops (part_on m clocks s b)
 homed_is m clocks b until stops s h small limit long out stop =
-    let line = clocks_at clocks b in
-    let freq = (board_at m b).freq in
-    let slots = (board_at m b).slots in
     let planned = section_end m clocks s.section.moves s.start in
-    let order = end_after m clocks s.section.moves s.start in
-    let plans = plans_on m clocks s.section.moves s.start b in
     let rs = slice_index_or h.planned b [] in
     let cut = slice_index_or s.boards b [] in
-    elim h.boards [
-      | inl w ↦
-          let same : rs ≡ cut ++ [] = ap (λ x. slice_index_or x b []) (sym w.1) ∙ sym (append-nil cut) in
-          homing_cut line freq slots until s.start planned s.end plans rs cut stops (h.are.each b small) [] same (before_least (planned + 6) s.end cut (omega (arith, long, w.0)) out) order limit stop
-      | inr w ↦
-          let At : List Release → Type 0 = λ x. IsHomingIn line freq slots until stops (section_of s.start s.end plans x) in
-          let same : cut ≡ before_turn s.end rs = ap (λ x. slice_index_or x b []) w.1 ∙ at_before s.end h.planned b in
-          subst At (sym same) (homing_ended line freq slots until s.start planned s.end plans rs stops (h.are.each b small) order limit stop)
-    ]
+    let f = homed_front m clocks b s h small in
+    let before : AreBefore s.end cut = elim f.2 [ inl none ↦ before_least (planned + 6) s.end cut (omega (arith, long, none)) out | inr own ↦ own ] in
+    homing_cut (clocks_at clocks b) (board_at m b).freq (board_at m b).slots until s.start planned s.end (plans_on m clocks s.section.moves s.start b) rs cut stops (h.are.each b small) f.0 f.1 before (end_after m clocks s.section.moves s.start) limit stop
 
 one_is : (kind : SectionKind) (m : Machine) (clocks : List Clocks) (b until : ℕ) (stops : ℕ → Option ℕ) (s : Started) → IsPlanned kind m clocks s → b < length m.boards → section_end m clocks s.section.moves s.start < until
     → section_end m clocks s.section.moves s.start + 6 < no_end → AreBefore (section_end m clocks s.section.moves s.start + 6) (part_on m clocks s b).releases → StopsBy (is_home kind) stops s.start s.end

@@ -1,7 +1,7 @@
 -- The turns of a planner in a run.
 use Rattle.std.proofs.Common.{◌≡◌, ℕ, suc, ◌+◌, ◌^◌, ◌<◌, ◌≤◌, Bool, true, false, ◌⊎◌, List, [], ◌∷◌, ◌++◌, length, Option, None, Some, refl, ap, sym, ◌∙◌, subst, arith, inl, inr, append_assoc, append-nil, length-append}
-use Rattle.std.specs.Prelude.{◌-◌, ◌&&◌, cond, is_none, nat_le, nat_lt, if◌then◌else◌}
-use Rattle.std.proofs.lemmas.Bool.Decides.{eqb_tells, leb_tells}
+use Rattle.std.specs.Prelude.{◌-◌, ◌&&◌, cond, is_none, nat_lt}
+use Rattle.std.proofs.lemmas.Bool.Decides.{leb_tells}
 use Rattle.plan_types.specs.declared.machine.Machine.{Machine}
 use Rattle.plan_types.specs.declared.plan.ReadEnd.{ReadEnd}
 use Rattle.msg_code.specs.declared.talk.Note.{Note}
@@ -10,18 +10,17 @@ use Rattle.msg_code.specs.declared.talk.WordMsg.{WordMsg}
 use Rattle.motion_work.specs.Homes.{no_end}
 use Rattle.motion_work.specs.Puts.{Put}
 use Rattle.motion_work.specs.Seen.{Started}
-use Rattle.motion_work.specs.Takes.{all_answered, answered}
 use Rattle.motion_work.specs.declared.told.BoardLine.{BoardLine}
 use Rattle.motion_work.specs.Further.{WereHeard, told_on}
-use Rattle.motion_work.specs.Told.{Told, heard, lines_in, tells_homed}
+use Rattle.motion_work.specs.Told.{Told, heard, lines_in}
 use Rattle.motion_stream.specs.declared.course.Course.{Course}
 use Rattle.motion_stream.specs.declared.course.Open.{Open}
 use Rattle.motion_stream.specs.declared.course.Open.TheVariants as opens
 use Rattle.motion_stream.specs.Courses.{IsGoing, IsTold}
 use Rattle.plan_types.specs.Sections.{clocks_at}
-use Rattle.motion_stream.specs.Motions.{AreEarly, IsMore, IsPlannerOf, Planner, Reads, waits_by, wants, with_word}
+use Rattle.motion_stream.specs.Motions.{AreEarly, IsMore, IsPlannerOf, Planner, Reads, ended_in, going_with, waits_by, wants, with_lines, with_word}
 use Rattle.motion_stream.specs.Motions as motion
-use Rattle.motion_stream.specs.Puts.{ArePutBy, IsBehind}
+use Rattle.motion_stream.specs.Puts.{ArePutBy}
 use Rattle.motion_stream.specs.Seen.{Going, Seen, nothing_seen}
 use Rattle.motion_stream.specs.Texts.{ended_after, text_after}
 use Rattle.motion_stream.proofs.Laying.{none_put, text_kept, turn_kept, word_put}
@@ -31,9 +30,9 @@ use Rattle.session_work.specs.declared.table.MotionTurn.{MotionTurn}
 use Rattle.session_work.specs.Motions.{MotionStep, seated}
 use Rattle.session_work.specs.Seats.{MakeStep, PieceStep, Told as ToldTo, WordStep, hungers, is_wanted, needs}
 use Rattle.session_work.specs.Turns.{Goes}
-use Rattle.run_plans.specs.Planned.{AllInRange, AnyEnds, AnyStops, AnyWaits, AreBare, AreRead, BeginInRange, IsBare, IsPlanning, Plans, StopsAt, TellHeard, Text, TookInTime, heard_in, lines_heard, nothing_read, planning, put_of, puts_of, read_all, read_on, told_behind, words_in}
-use Rattle.run_plans.specs.Answers.{EndByWords, TookNoneAhead}
-use Rattle.run_plans.proofs.Answering.{HaveHeard, Hold, heard_first, piece_holds, turn_holds, word_holds, words_hold, words_snoc}
+use Rattle.run_plans.specs.Planned.{AnyEnds, AnyStops, AnyWaits, AreBare, AreRead, BeginInRange, IsBare, IsPlanning, Plans, StopsAt, TellHeard, Text, TookInTime, heard_in, lines_heard, nothing_read, planning, put_of, puts_of, read_all, read_on, told_behind, words_in}
+use Rattle.run_plans.specs.Answers.{TookNoneAhead}
+use Rattle.run_plans.proofs.Answering.{HaveHeard, Homes, heard_piece, heard_turn, heard_word, none_heard, words_end, words_snoc}
 use Rattle.run_plans.proofs.Lining.{lines_snoc, tells_snoc, words_last}
 use Rattle.run_plans.proofs.Wholes.{Ran, whole_plans}
 
@@ -44,20 +43,20 @@ clash e = cc
 abbrev Dead : {M : Type 0} → Seat M → Type 0
 Dead x = (x.halted ≡ true) ⊎ (x.quiet ≡ true)
 
--- a worker whose planner took these words, and has seen what tells these that were put, with this text and this told; and of its sections
--- this is so
-record Live {M : Type 0} (view : M → Planner) (m : Machine) (P : List Started → Type 0) (words : List WordMsg) (puts : List Put) (text : Text) (told : Option Told) (x : Seat M) : Type 0 where
+-- a worker in turn k whose planner took these words in it, behind these turns, and has seen what tells these that were put, with this text
+-- and this told
+record Live {M : Type 0} (view : M → Planner) (m : Machine) (k : ℕ) (done : List MotionTurn) (words : List WordMsg) (puts : List Put) (text : Text) (told : Option Told) (x : Seat M) : Type 0 where
   halted : x.halted ≡ false
   quiet : x.quiet ≡ false
   seen : Seen
   machine_is : (view x.machine).machine ≡ m
   is : IsPlannerOf (view x.machine) seen
   put : ArePutBy m seen puts
-  answers : Hold m seen P
+  answers : HaveHeard k done words seen.begun seen.going
   text_is : seen.text ≡ text.bytes
   ended_is : seen.ended ≡ text.ended
   told_is : seen.told ≡ told
-  lines_are : seen.lines ≡ lines_heard words
+  lines_are : seen.lines ≡ lines_heard (words_in done ++ words)
 
 -- what is dead stays so
 told_dead : {M : Type 0} (g : Motion M) (x y : Seat M) (w : WordMsg) → x.quiet ≡ true → ToldTo g.hears x w y → y.quiet ≡ true
@@ -111,25 +110,17 @@ note_out g n k b y t d e (_, halted, _, inr s) =
     ]
 
 -- a section that waits for its answer behind a word waited for it before
-waits_before : (n : ℕ) (begun : List Started) → AnyWaits (all_answered n begun) → AnyWaits begun
-waits_before n [] h = h
-waits_before n (s ∷ []) h =
-    let Old : Bool → Type 0 = λ b. AnyWaits (if b && nat_le s.start n then answered n s ∷ [] else s ∷ []) in
-    elim (eqb_tells s.end no_end) [ inl q ↦ inl q.1 | inr q ↦ subst Old q.0 h ]
-waits_before n (s ∷ t ∷ begun) (inl e) = inl e
-waits_before n (s ∷ t ∷ begun) (inr h) = inr (waits_before n (t ∷ begun) h)
-
-waits_told : (b : Bool) (n : ℕ) (begun : List Started) → AnyWaits (if b then all_answered n begun else begun) → AnyWaits begun
-waits_told true n begun h = waits_before n begun h
-waits_told false n begun h = h
+homes_before : (going : Option Going) (ended : Option Started) → Homes (going_with going ended) → Homes going
+homes_before going None h = h
+homes_before going (Some s) h = absurd h
 
 -- a live worker hears a word
-record Told_on {M : Type 0} (view : M → Planner) (m : Machine) (P : List Started → Type 0) (words : List WordMsg) (puts : List Put) (text : Text) (told : Option Told) (begun : List Started) (y : Seat M) : Type 0 where
-  live : Live view m P words puts text told y
-  waits : AnyWaits live.seen.begun → AnyWaits begun
+record Told_on {M : Type 0} (view : M → Planner) (m : Machine) (k : ℕ) (done : List MotionTurn) (words : List WordMsg) (puts : List Put) (text : Text) (told : Option Told) (going : Option Going) (y : Seat M) : Type 0 where
+  live : Live view m k done words puts text told y
+  waits : Homes live.seen.going → Homes going
 
 word_heard : {M : Type 0} (g : Motion M) (view : M → Planner) (m : Machine) (k : ℕ) (done : List MotionTurn) (us : List WordMsg) (puts : List Put) (text : Text) (told : Option Told) (x y : Seat M) (w : WordMsg) → IsPlanning g view → length puts ≡ k
-    → (l : Live view m (HaveHeard k done us) (words_in done ++ us) puts text told x) → WordStep g.hears x w y → Told_on view m (HaveHeard k done (us ++ w ∷ [])) (words_in done ++ (us ++ w ∷ [])) puts text (heard m k w told) l.seen.begun y ⊎ (Dead y × ((w.end ≡ true) ⊎ (y.out ≡ true)))
+    → (l : Live view m k done us puts text told x) → WordStep g.hears x w y → Told_on view m k done (us ++ w ∷ []) puts text (heard m k w told) l.seen.going y ⊎ (Dead y × ((w.end ≡ true) ⊎ (y.out ≡ true)))
 word_heard g view m k done us puts text told x y w is long l (_, inl s) = inr (inl s.1, inl s.0)
 word_heard g view m k done us puts text told x y w is long l (_, inr s) =
     let (_, halted, to) = s in
@@ -144,9 +135,7 @@ word_heard g view m k done us puts text told x y w is long l (_, inr s) =
             let next : l.seen.next ≡ k = sym l.put.count ∙ long in
             let same : (view y.machine).machine ≡ m = did.0 ∙ l.machine_is in
             let Then : Machine → Type 0 = λ n. ArePutBy n (with_word (view x.machine).machine l.seen w) puts in
-            let Holds : Machine → Type 0 = λ n. Hold n l.seen (HaveHeard k done us) in
-            let After : Machine → Type 0 = λ n. Hold n (with_word (view x.machine).machine l.seen w) (HaveHeard k done (us ++ w ∷ [])) in
-            let told_all = word_holds (view x.machine).machine (view x.machine).course l.seen k done us w l.is next (subst Holds (sym l.machine_is) l.answers) in
+            let small : k ≤ no_end = (let low = l.is.small in let at = l.is.next in omega (arith, low, at, next)) in
             inl (record {
               live = record {
                 halted = halted ∙ l.halted;
@@ -155,13 +144,13 @@ word_heard g view m k done us puts text told x y w is long l (_, inr s) =
                 machine_is = same;
                 is = after.0;
                 put = subst Then same after.1;
-                answers = subst After l.machine_is told_all;
+                answers = heard_word (view x.machine).machine l.seen k done us w next small l.answers;
                 text_is = l.text_is;
                 ended_is = l.ended_is;
                 told_is = ap (λ n. heard n l.seen.next w l.seen.told) l.machine_is ∙ ap (λ n. heard m n w l.seen.told) next ∙ ap (heard m k w) l.told_is;
                 lines_are = ap (λ ls. ls ++ lines_in w.news) l.lines_are ∙ sym (lines_snoc (words_in done ++ us) w) ∙ ap lines_heard (append_assoc (words_in done) us (w ∷ []));
               };
-              waits = λ h. waits_told (tells_homed w.news) l.seen.next l.seen.begun h;
+              waits = homes_before l.seen.going (ended_in (view x.machine).machine (with_lines (view x.machine).machine l.seen w) w);
             })
         | inr r ↦ inr (inr r.1, inr r.2)
       ]
@@ -187,18 +176,14 @@ untold : (m : Machine) (c : Course) (o : Option Told) (begun : List Started) (go
 untold m c None begun going h e = refl
 untold m c (Some t) begun going h e = absurd (clash (sym h.connected ∙ e))
 
-in_last : (past : List Started) (s : Started) → s.end ≡ no_end → AnyWaits (past ++ s ∷ [])
-in_last [] s e = inl e
-in_last (x ∷ past) s e = inr (in_last past s e)
-
-waiting : (m : Machine) (o : Open) (c : Course) (told : Option Told) (begun : List Started) (going : Option Going) (start k : ℕ) → IsGoing m o c told begun going → waits_by o start k ≡ true → AnyWaits begun
+waiting : (m : Machine) (o : Open) (c : Course) (told : Option Told) (begun : List Started) (going : Option Going) (start k : ℕ) → IsGoing m o c told begun going → waits_by o start k ≡ true → Homes going
 waiting m opens.Nothing c told begun going start k h e = absurd (clash (sym e))
-waiting m (opens.Moves s) c told begun going start k h e = absurd (clash (sym e))
-waiting m (opens.Home boards) c told begun going start k h e = subst AnyWaits (sym h.are) (in_last h.past h.last h.waits)
+waiting m (opens.Goes s true) c told begun going start k h e = subst Homes (sym h.is) (sym h.homes_is)
+waiting m (opens.Goes s false) c told begun going start k h e = absurd (clash (sym e))
 
-wanted : {M : Type 0} {words : List WordMsg} (g : Motion M) (view : M → Planner) (m : Machine) (P : List Started → Type 0) (k : ℕ) (puts : List Put) (text : Text) (told : Option Told) (x : Seat M) → IsPlanning g view → (l : Live view m P words puts text told x)
-    → needs g.wants k x ≡ true → (x.heard ≤ k) × (x.heard ≡ k → (told ≡ None) ⊎ AnyWaits l.seen.begun)
-wanted g view m P k puts text told x is l e =
+wanted : {M : Type 0} (g : Motion M) (view : M → Planner) (m : Machine) (k : ℕ) (done : List MotionTurn) (words : List WordMsg) (puts : List Put) (text : Text) (told : Option Told) (x : Seat M) → IsPlanning g view → (l : Live view m k done words puts text told x)
+    → needs g.wants k x ≡ true → (x.heard ≤ k) × (x.heard ≡ k → (told ≡ None) ⊎ Homes l.seen.going)
+wanted g view m k done words puts text told x is l e =
     let p = view x.machine in
     let Wants : Option ℕ → Type 0 = λ o. cond x.halted false (cond x.quiet (nat_lt (x.heard + 63) k) (is_wanted o x.heard)) ≡ true in
     let h = by_word x.halted x.quiet p.course.connected (waits_by p.course.current p.course.start k) k x.heard (subst Wants (is.wants x.machine k) e) l.quiet in (
@@ -214,24 +199,24 @@ heard_none m k w None e = refl
 heard_none m k w (Some t) e = e
 
 -- a live worker hears words
-record Spoken {M : Type 0} (view : M → Planner) (m : Machine) (P : List Started → Type 0) (words : List WordMsg) (k : ℕ) (puts : List Put) (text : Text) (told after : Option Told) (begun : List Started) (first : ℕ) (a : Seat M) : Type 0 where
-  live : Live view m P words puts text after a
+record Spoken {M : Type 0} (view : M → Planner) (m : Machine) (k : ℕ) (done : List MotionTurn) (words : List WordMsg) (puts : List Put) (text : Text) (told after : Option Told) (going : Option Going) (first : ℕ) (a : Seat M) : Type 0 where
+  live : Live view m k done words puts text after a
   low : a.heard ≤ k + 1
-  early : first ≤ k → a.heard ≡ k + 1 → (told ≡ None) ⊎ AnyWaits begun
+  early : first ≤ k → a.heard ≡ k + 1 → (told ≡ None) ⊎ Homes going
 
 words_heard : {M : Type 0} (g : Motion M) (view : M → Planner) (m : Machine) (k i : ℕ) (done : List MotionTurn) (us : List WordMsg) (puts : List Put) (text : Text) (told : Option Told) (ws : List WordMsg) (x a : Seat M) → IsPlanning g view → length puts ≡ k
-    → x.heard ≤ k + 1 → (l : Live view m (HaveHeard k done us) (words_in done ++ us) puts text told x) → Goes (λ _ y w z. (needs g.wants k y ≡ true) × WordStep g.hears y w z) i x ws a
-    → Spoken view m (HaveHeard k done (us ++ ws)) (words_in done ++ (us ++ ws)) k puts text told (heard_in m k ws told) l.seen.begun x.heard a ⊎ (Dead a × (AnyEnds ws ⊎ (a.out ≡ true)))
+    → x.heard ≤ k + 1 → (l : Live view m k done us puts text told x) → Goes (λ _ y w z. (needs g.wants k y ≡ true) × WordStep g.hears y w z) i x ws a
+    → Spoken view m k done (us ++ ws) puts text told (heard_in m k ws told) l.seen.going x.heard a ⊎ (Dead a × (AnyEnds ws ⊎ (a.out ≡ true)))
 words_heard g view m k i done us puts text told [] x a is long few l h =
     let same = ap (λ (s : Seat _). s.heard) h in
-    let Of : List WordMsg → Type 0 = λ z. Live view m (HaveHeard k done z) (words_in done ++ z) puts text told a in
-    inl (record { live = subst Of (sym (append-nil us)) (subst (Live view m (HaveHeard k done us) (words_in done ++ us) puts text told) h l); low = omega (arith, few, same); early = λ low late. absurd (omega (arith, low, late, same)) })
+    let Of : List WordMsg → Type 0 = λ z. Live view m k done z puts text told a in
+    inl (record { live = subst Of (sym (append-nil us)) (subst (Live view m k done us puts text told) h l); low = omega (arith, few, same); early = λ low late. absurd (omega (arith, low, late, same)) })
 words_heard g view m k i done us puts text told (w ∷ ws) x a is long few l (y, step, more) =
     let (needed, took) = step in
-    let want = wanted g view m (HaveHeard k done us) k puts text told x is l needed in
+    let want = wanted g view m k done us puts text told x is l needed in
     let one = took.0 in
     let here = want.0 in
-    let Live_by : List WordMsg → Type 0 = λ z. Live view m (HaveHeard k done z) (words_in done ++ z) puts text (heard_in m k ws (heard m k w told)) a in
+    let Live_by : List WordMsg → Type 0 = λ z. Live view m k done z puts text (heard_in m k ws (heard m k w told)) a in
     elim (word_heard g view m k done us puts text told x y w is long l took) [
       | inl on ↦ elim (words_heard g view m k (i + 1) done (us ++ w ∷ []) puts text (heard m k w told) ws y a is long (omega (arith, one, here)) on.live more) [
         | inl z ↦ inl (record {
@@ -278,11 +263,11 @@ reads_put p q seen ps bytes end of put reads =
     let Of : Machine → Type 0 = λ n. ArePutBy n (motion.read_on seen bytes end r.0) ps in
     (r.0, r.1, r.2, subst Of (sym reads.0) (text_kept p.machine seen ps bytes end r.0 r.1 put))
 
-piece_read : {M : Type 0} {words : List WordMsg} (g : Motion M) (view : M → Planner) (m : Machine) (P : List Started → Type 0) (k : ℕ) (puts : List Put) (text : Text) (told : Option Told) (x y : Seat M) (p : Piece) → IsPlanning g view
-    → Live view m P words puts text told x → hungers g.hungry k x ≡ true → PieceStep g.reads x p y → Live view m P words puts (read_on text p) told y ⊎ (Dead y × (Stops x.heard p ⊎ (y.out ≡ true)))
-piece_read g view m P k puts text told x y p is l hungry (_, halted, inl s) = let (stop, turn, _, quiet, _) = s in inr (inr quiet, inl (stop, turn))
-piece_read g view m P k puts text told x y p is l hungry (_, halted, inr (inr s)) = inr (inr s.1, inr s.2)
-piece_read g view m P k puts text told x y p is l hungry (_, halted, inr (inl s)) =
+piece_read : {M : Type 0} (g : Motion M) (view : M → Planner) (m : Machine) (k now : ℕ) (done : List MotionTurn) (words : List WordMsg) (puts : List Put) (text : Text) (told : Option Told) (x y : Seat M) (p : Piece) → IsPlanning g view
+    → Live view m now done words puts text told x → hungers g.hungry k x ≡ true → PieceStep g.reads x p y → Live view m now done words puts (read_on text p) told y ⊎ (Dead y × (Stops x.heard p ⊎ (y.out ≡ true)))
+piece_read g view m k now done words puts text told x y p is l hungry (_, halted, inl s) = let (stop, turn, _, quiet, _) = s in inr (inr quiet, inl (stop, turn))
+piece_read g view m k now done words puts text told x y p is l hungry (_, halted, inr (inr s)) = inr (inr s.1, inr s.2)
+piece_read g view m k now done words puts text told x y p is l hungry (_, halted, inr (inl s)) =
     let (_, quiet, _, reads) = s in
     let did = is.reads x.machine y.machine p reads in
     let OfPut : Machine → Type 0 = λ n. ArePutBy n l.seen puts in
@@ -300,20 +285,20 @@ piece_read g view m P k puts text told x y p is l hungry (_, halted, inr (inl s)
       machine_is = same;
       is = after.2;
       put = subst Then same after.3;
-      answers = piece_holds m l.seen after.0 P after.1 l.answers;
+      answers = heard_piece now done words l.seen.begun l.seen.going after.0 after.1 l.answers;
       text_is = text_more l.seen.ended l.seen.text p.bytes seen_open ∙ ap (λ b. b ++ p.bytes) l.text_is;
       ended_is = ended_then l.seen.ended p.end seen_open;
       told_is = l.told_is;
       lines_are = l.lines_are;
     })
 
-pieces_read : {M : Type 0} {words : List WordMsg} (g : Motion M) (view : M → Planner) (m : Machine) (P : List Started → Type 0) (k i : ℕ) (puts : List Put) (text : Text) (told : Option Told) (ps : List Piece) (x b : Seat M) → IsPlanning g view
-    → Live view m P words puts text told x → Goes (λ _ y p z. (hungers g.hungry k y ≡ true) × PieceStep g.reads y p z) i x ps b → Live view m P words puts (read_all text ps) told b ⊎ (Dead b × (AnyStops x.heard ps ⊎ (b.out ≡ true)))
-pieces_read g view m P k i puts text told [] x b is l h = inl (subst (Live view m P _ puts text told) h l)
-pieces_read g view m P k i puts text told (p ∷ ps) x b is l (y, step, more) =
+pieces_read : {M : Type 0} (g : Motion M) (view : M → Planner) (m : Machine) (k now i : ℕ) (done : List MotionTurn) (words : List WordMsg) (puts : List Put) (text : Text) (told : Option Told) (ps : List Piece) (x b : Seat M) → IsPlanning g view
+    → Live view m now done words puts text told x → Goes (λ _ y p z. (hungers g.hungry k y ≡ true) × PieceStep g.reads y p z) i x ps b → Live view m now done words puts (read_all text ps) told b ⊎ (Dead b × (AnyStops x.heard ps ⊎ (b.out ≡ true)))
+pieces_read g view m k now i done words puts text told [] x b is l h = inl (subst (Live view m now done words puts text told) h l)
+pieces_read g view m k now i done words puts text told (p ∷ ps) x b is l (y, step, more) =
     let (hungry, read) = step in
-    elim (piece_read g view m P k puts text told x y p is l hungry read) [
-      | inl on ↦ elim (pieces_read g view m P k (i + 1) puts (read_on text p) told ps y b is on more) [
+    elim (piece_read g view m k now done words puts text told x y p is l hungry read) [
+      | inl on ↦ elim (pieces_read g view m k now (i + 1) done words puts (read_on text p) told ps y b is on more) [
         | inl z ↦ inl z
         | inr z ↦ inr (z.0, elim z.1 [ inl stops ↦ inl (inr (subst (λ n. AnyStops n ps) read.0 stops)) | inr out ↦ inr out ])
       ]
@@ -352,7 +337,7 @@ early_in m c (Some t) begun going told early = λ b inside. subst (λ cs. (clock
 
 -- what a live one puts is its planner's, or it is the last
 live_makes : {M : Type 0} (g : Motion M) (view : M → Planner) (m : Machine) (n k : ℕ) (all : List MotionTurn) (puts : List Put) (text : Text) (told : Option Told) (b y : Seat M) (t : MotionTurn) → IsPlanning g view → length all ≤ k + 1
-    → Live view m (EndByWords 0 0 all) (words_in all) puts text told b → MakeStep n g.turns k b t.batches t.note y → (Live view m (EndByWords 0 0 all) (words_in all) (puts ++ put_of t ∷ []) text (told_on t.note.news told) y × WereHeard (lines_heard (words_in all)) t.note.news × BeginInRange m told) ⊎ (IsBare n k t × Dead y × (t.note.out ≡ true))
+    → Live view m (k + 1) all [] puts text told b → MakeStep n g.turns k b t.batches t.note y → (Live view m (k + 1) all [] (puts ++ put_of t ∷ []) text (told_on t.note.news told) y × WereHeard (lines_heard (words_in all)) t.note.news × BeginInRange m told) ⊎ (IsBare n k t × Dead y × (t.note.out ≡ true))
 live_makes g view m n k all puts text told b y t is size l (_, halted, _, inl s) =
     let (_, _, quiet, _, _, turns) = s in
     let did = is.turns b.machine y.machine k t.batches t.note turns in
@@ -365,8 +350,7 @@ live_makes g view m n k all puts text told b y t is size l (_, halted, _, inl s)
     let same : (view y.machine).machine ≡ m = did.1.0 ∙ l.machine_is in
     let Of : Machine → Type 0 = λ x. IsPlannerOf (record { machine = x; course = (view y.machine).course }) made.0 in
     let Then : Machine → Type 0 = λ x. ArePutBy x made.0 (puts ++ put_of t ∷ []) in
-    let Behind : Machine → Type 0 = λ x. IsBehind x l.seen made.0 k t.note.news in
-    let heard = subst (λ (ls : List BoardLine). WereHeard ls t.note.news) l.lines_are behind.heard in
+    let heard = subst (λ (ls : List BoardLine). WereHeard ls t.note.news) (l.lines_are ∙ ap lines_heard (append-nil (words_in all))) behind.heard in
     inl (
       record {
         halted = halted ∙ l.halted;
@@ -375,7 +359,7 @@ live_makes g view m n k all puts text told b y t is size l (_, halted, _, inl s)
         machine_is = same;
         is = subst Of (sym did.1.0) made.3;
         put = subst Then l.machine_is put;
-        answers = turn_holds m l.seen made.0 k t.note.news all size (subst Behind l.machine_is behind) l.answers;
+        answers = heard_turn own l.seen made.0 k t.note.news all size behind l.answers;
         text_is = behind.text ∙ l.text_is;
         ended_is = behind.ended ∙ l.ended_is;
         told_is = behind.told ∙ ap (told_on t.note.news) l.told_is;
@@ -407,9 +391,9 @@ live_wants false true c w k n a b d e = absurd (clash b)
 live_wants false false true w k n a b d e = absurd (clash d)
 live_wants false false false w k n a b d e = elim (leb_tells (suc n) (k + 1)) [ inl p ↦ absurd (clash (sym p.0 ∙ e)) | inr p ↦ omega (arith, p.1) ]
 
-wants_more : {M : Type 0} {words : List WordMsg} (g : Motion M) (view : M → Planner) (m : Machine) (P : List Started → Type 0) (k : ℕ) (puts : List Put) (text : Text) (told : Option Told) (a : Seat M) → IsPlanning g view → Live view m P words puts text told a → told ≡ None
+wants_more : {M : Type 0} (g : Motion M) (view : M → Planner) (m : Machine) (k : ℕ) (done : List MotionTurn) (words : List WordMsg) (puts : List Put) (text : Text) (told : Option Told) (a : Seat M) → IsPlanning g view → Live view m k done words puts text told a → told ≡ None
     → needs g.wants k a ≡ false → k < a.heard
-wants_more g view m P k puts text told a is l none enough =
+wants_more g view m k done words puts text told a is l none enough =
     let p = view a.machine in
     let Of : Option Told → Type 0 = λ o. IsTold p.machine p.course o l.seen.begun l.seen.going in
     let apart = subst Of (l.told_is ∙ none) l.is.told in
@@ -425,11 +409,9 @@ waits_now false false true true k n a b d e = elim (leb_tells (suc n) (k + 1)) [
 waits_now false false false true k n a b d e = elim (leb_tells (suc n) (k + 1)) [ inl p ↦ absurd (clash (sym p.0 ∙ e)) | inr p ↦ omega (arith, p.1) ]
 
 words_over : {M : Type 0} (g : Motion M) (view : M → Planner) (m : Machine) (k : ℕ) (done : List MotionTurn) (puts : List Put) (text : Text) (told : Option Told) (t : MotionTurn) (a : Seat M) → IsPlanning g view → length done ≡ k
-    → a.heard ≡ length (words_in (done ++ t ∷ [])) → Live view m (HaveHeard k done t.words) (words_in done ++ t.words) puts text told a → needs g.wants k a ≡ false → Live view m (EndByWords 0 0 (done ++ t ∷ [])) (words_in (done ++ t ∷ [])) puts text told a
+    → a.heard ≡ length (words_in (done ++ t ∷ [])) → Live view m k done t.words puts text told a → needs g.wants k a ≡ false → Live view m (k + 1) (done ++ t ∷ []) [] puts text told a
 words_over g view m k done puts text told t a is size many l enough =
     let p = view a.machine in
-    let Holds : Machine → Type 0 = λ n. Hold n l.seen (HaveHeard k done t.words) in
-    let After : Machine → Type 0 = λ n. Hold n l.seen (EndByWords 0 0 (done ++ t ∷ [])) in
     let Enough : Option ℕ → Type 0 = λ o. cond a.halted false (cond a.quiet (nat_lt (a.heard + 63) k) (is_wanted o a.heard)) ≡ false in
     let needed = subst Enough (is.wants a.machine k) enough in
     let wait = λ (w : waits_by p.course.current p.course.start k ≡ true). waits_now a.halted a.quiet p.course.connected (waits_by p.course.current p.course.start k) k a.heard l.halted l.quiet w needed in
@@ -440,24 +422,23 @@ words_over g view m k done puts text told t a is size many l enough =
       machine_is = l.machine_is;
       is = l.is;
       put = l.put;
-      answers = subst After l.machine_is (words_hold p.machine p.course l.seen k a.heard done t l.is size many wait (subst Holds (sym l.machine_is) l.answers));
+      answers = words_end p.machine p.course l.seen k a.heard done t l.is.going size many wait l.answers;
       text_is = l.text_is;
       ended_is = l.ended_is;
       told_is = l.told_is;
-      lines_are = l.lines_are ∙ ap lines_heard (sym (words_last done t));
+      lines_are = l.lines_are ∙ ap lines_heard (sym (words_last done t) ∙ sym (append-nil (words_in (done ++ t ∷ []))));
     }
 
 -- all turns from here on are bare
 ends_here : {M : Type 0} (view : M → Planner) (m : Machine) (n k : ℕ) (done : List MotionTurn) (puts : List Put) (text : Text) (told : Option Told) (x : Seat M) (ts : List MotionTurn)
-    → (l : Live view m (EndByWords 0 0 done) (words_in done) puts text told x) → TellHeard [] done → AreBare n k ts → StopsAt k x.heard l.seen.told l.seen.begun ts → Ran m n k done puts text told x.heard ts
+    → (l : Live view m k done [] puts text told x) → TellHeard [] done → AreBare n k ts → ((begun : List Started) → (Homes l.seen.going → AnyWaits begun) → StopsAt k x.heard l.seen.told begun ts) → Ran m n k done puts text told x.heard ts
 ends_here view m n k done puts text told x ts l tells bare why =
     let e : k + 0 ≡ k = omega arith in
     let f : x.heard + 0 ≡ x.heard = omega arith in
     let Bare : ℕ → Type 0 = λ i. AreBare n i ts in
-    let Stops_at : ℕ → Type 0 = λ i. StopsAt i x.heard l.seen.told l.seen.begun ts in
-    let Stops_by : ℕ → Type 0 = λ i. StopsAt (k + 0) i l.seen.told l.seen.begun ts in
+    let Stops_at : ℕ → ℕ → Type 0 = λ i j. (begun : List Started) → (Homes l.seen.going → AnyWaits begun) → StopsAt i j l.seen.told begun ts in
     let OfPut : List Put → Type 0 = λ y. ArePutBy m l.seen y in
-    let Ends : List MotionTurn → Type 0 = λ y. Hold m l.seen (EndByWords 0 0 y) in
+    let Heard : ℕ → List MotionTurn → Type 0 = λ i y. HaveHeard i y [] l.seen.begun l.seen.going in
     record {
       planner = view x.machine;
       seen = l.seen;
@@ -474,9 +455,9 @@ ends_here view m n k done puts text told x ts l tells bare why =
       in_time = tt;
       in_range = tt;
       ahead = tt;
-      answers = subst Ends (sym (append-nil done)) l.answers;
+      answers = subst (Heard (k + 0)) (sym (append-nil done)) (subst (λ i. Heard i done) (sym e) l.answers);
       are_bare = subst Bare (sym e) bare;
-      stops = subst Stops_by (sym f) (subst Stops_at (sym e) why);
+      stops = subst (Stops_at (k + 0)) (sym f) (subst (λ i. Stops_at i x.heard) (sym e) why);
     }
 
 -- one turn ahead
@@ -486,10 +467,9 @@ one_ahead m n k done puts text told taken after t ts number low here range p =
     let e : k + 1 + length p.made ≡ k + length (t ∷ p.made) = omega arith in
     let f : after + length (words_in p.made) ≡ taken + length (t.words ++ words_in p.made) = omega (arith, number, length-append t.words (words_in p.made)) in
     let Bare : ℕ → Type 0 = λ i. AreBare n i p.bare in
-    let Stops_at : ℕ → Type 0 = λ i. StopsAt i (after + length (words_in p.made)) p.seen.told p.seen.begun p.bare in
-    let Stops_by : ℕ → Type 0 = λ i. StopsAt (k + length (t ∷ p.made)) i p.seen.told p.seen.begun p.bare in
+    let Stops_at : ℕ → ℕ → Type 0 = λ i j. (begun : List Started) → (Homes p.seen.going → AnyWaits begun) → StopsAt i j p.seen.told begun p.bare in
     let OfPut : List Put → Type 0 = λ y. ArePutBy m p.seen y in
-    let Ends : List MotionTurn → Type 0 = λ y. Hold m p.seen (EndByWords 0 0 y) in
+    let Heard : ℕ → List MotionTurn → Type 0 = λ i y. HaveHeard i y [] p.seen.begun p.seen.going in
     record {
       planner = p.planner;
       seen = p.seen;
@@ -510,60 +490,47 @@ one_ahead m n k done puts text told taken after t ts number low here range p =
       ahead =
           let Ahead : ℕ → Type 0 = λ i. (i ≤ k + 1) × TookNoneAhead (k + 1) i p.made in
           subst Ahead number (low, p.ahead);
-      answers = subst Ends (append_assoc done (t ∷ []) p.made) p.answers;
+      answers = subst (Heard (k + length (t ∷ p.made))) (append_assoc done (t ∷ []) p.made) (subst (λ i. Heard i ((done ++ t ∷ []) ++ p.made)) e p.answers);
       are_bare = subst Bare e p.are_bare;
-      stops = subst Stops_by f (subst Stops_at e p.stops);
+      stops = subst (Stops_at (k + length (t ∷ p.made))) f (subst (λ i. Stops_at i (after + length (words_in p.made))) e p.stops);
     }
 
 live_goes : {M : Type 0} (g : Motion M) (view : M → Planner) (m : Machine) (n k : ℕ) (done : List MotionTurn) (puts : List Put) (text : Text) (told : Option Told) (ts : List MotionTurn) (x e : Seat M) → IsPlanning g view → length puts ≡ k → length done ≡ k
-    → x.heard ≡ length (words_in done) → x.heard ≤ k → TellHeard [] done → Live view m (EndByWords 0 0 done) (words_in done) puts text told x → Goes (MotionStep g n) k x ts e → Ran m n k done puts text told x.heard ts
-live_goes g view m n k done puts text told [] x e is long size words low tells l h = ends_here view m n k done puts text told x [] l tells tt tt
+    → x.heard ≡ length (words_in done) → x.heard ≤ k → TellHeard [] done → Live view m k done [] puts text told x → Goes (MotionStep g n) k x ts e → Ran m n k done puts text told x.heard ts
+live_goes g view m n k done puts text told [] x e is long size words low tells l h = ends_here view m n k done puts text told x [] l tells tt (λ begun home. tt)
 live_goes g view m n k done puts text told (t ∷ ts) x e is long size words low tells l (y, step, more) =
     let (a, b, heard, enough, fed, full, make) = step in
-    let dies = λ (bare : IsBare n k t × Dead y) (why : StopsAt k x.heard l.seen.told l.seen.begun (t ∷ ts)). ends_here view m n k done puts text told x (t ∷ ts) l tells (bare.0, dead_goes g n (k + 1) ts y e bare.1 more) why in
+    let dies = λ (bare : IsBare n k t × Dead y) (why : (begun : List Started) → (Homes l.seen.going → AnyWaits begun) → StopsAt k x.heard l.seen.told begun (t ∷ ts)). ends_here view m n k done puts text told x (t ∷ ts) l tells (bare.0, dead_goes g n (k + 1) ts y e bare.1 more) why in
     let count = words_taken g k 0 t.words x a heard in
     let all = done ++ t ∷ [] in
     let longer : length all ≡ k + 1 = omega (arith, size, length-append done (t ∷ [])) in
-    let first : Live view m (HaveHeard k done []) (words_in done ++ []) puts text told x = record {
-      halted = l.halted;
-      quiet = l.quiet;
-      seen = l.seen;
-      machine_is = l.machine_is;
-      is = l.is;
-      put = l.put;
-      answers = λ sections w. heard_first k done sections (l.answers sections w);
-      text_is = l.text_is;
-      ended_is = l.ended_is;
-      told_is = l.told_is;
-      lines_are = l.lines_are ∙ ap lines_heard (sym (append-nil (words_in done)));
-    } in
     let many : a.heard ≡ length (words_in all) = omega (arith, count, words, words_snoc done t) in
-    elim (words_heard g view m k 0 done [] puts text told t.words x a is long (omega (arith, low)) first heard) [
+    elim (words_heard g view m k 0 done [] puts text told t.words x a is long (omega (arith, low)) l heard) [
       | inr d ↦
           let db = pieces_dead g k 0 t.pieces a b d.0 fed in
           dies (dead_makes g n k b y t db make)
-          (elim d.1 [ inl z ↦ inl z | inr z ↦ inr (inl (note_out g n k b y t db (pieces_out g k 0 t.pieces a b z fed) make)) ])
-      | inl la ↦ elim (pieces_read g view m (EndByWords 0 0 all) k 0 puts text (heard_in m k t.words told) t.pieces a b is (words_over g view m k done puts text (heard_in m k t.words told) t a is size many la.live enough) fed) [
+          (λ begun home. elim d.1 [ inl z ↦ inl z | inr z ↦ inr (inl (note_out g n k b y t db (pieces_out g k 0 t.pieces a b z fed) make)) ])
+      | inl la ↦ elim (pieces_read g view m k (k + 1) 0 all [] puts text (heard_in m k t.words told) t.pieces a b is (words_over g view m k done puts text (heard_in m k t.words told) t a is size many la.live enough) fed) [
         | inr db ↦
             let below = la.low in
             dies (dead_makes g n k b y t db.0 make)
-            (elim db.1 [
+            (λ begun home. elim db.1 [
               | inl stops ↦ inr (inr (record {
                 stops = subst (λ i. AnyStops i t.pieces) count stops;
                 low = omega (arith, below, count);
-                early = λ late. elim (la.early low (count ∙ late)) [ inl none ↦ inl (l.told_is ∙ none) | inr w ↦ inr w ];
+                early = λ late. elim (la.early low (count ∙ late)) [ inl none ↦ inl (l.told_is ∙ none) | inr w ↦ inr (home w) ];
               }))
               | inr out ↦ inr (inl (note_out g n k b y t db.0 out make))
             ])
         | inl lb ↦ elim (live_makes g view m n k all puts (read_all text t.pieces) (heard_in m k t.words told) b y t is (omega (arith, longer)) lb make) [
-          | inr bare ↦ dies (bare.0, bare.1) (inr (inl bare.2))
+          | inr bare ↦ dies (bare.0, bare.1) (λ begun home. inr (inl bare.2))
           | inl ly ↦
               let pieces = pieces_taken g k 0 t.pieces a b fed in
               let number : y.heard ≡ x.heard + length t.words = make.0 ∙ pieces ∙ count in
               let same : a.heard ≡ y.heard = sym (make.0 ∙ pieces) in
               let below = la.low in
               one_ahead m n k done puts text told x.heard y.heard t ts number (omega (arith, below, same))
-              (λ none. let f = wants_more g view m (HaveHeard k done t.words) k puts text (heard_in m k t.words told) a is la.live none enough in omega (arith, f, same))
+              (λ none. let f = wants_more g view m k done t.words puts text (heard_in m k t.words told) a is la.live none enough in omega (arith, f, same))
               ly.2
               (live_goes g view m n (k + 1) all (puts ++ put_of t ∷ []) (read_all text t.pieces) (told_behind m k t told) ts y e is (omega (arith, long, length-append puts (put_of t ∷ []))) longer (sym same ∙ many) (omega (arith, below, same)) (tells_snoc [] done t tells ly.1) ly.0 more)
         ]
@@ -573,14 +540,14 @@ live_goes g view m n k done puts text told (t ∷ ts) x e is long size words low
 ran : (M : Type 0) (g : Motion M) (view : M → Planner) (n : ℕ) (p : M) (ts : List MotionTurn) (e : Seat M) → IsPlanning g view → IsPlannerOf (view p) nothing_seen
     → Goes (MotionStep g n) 0 (seated g p) ts e → Ran (view p).machine n 0 [] [] nothing_read None 0 ts
 ran M g view n p ts e is fresh h =
-    let l : Live view (view p).machine (EndByWords 0 0 []) (words_in []) [] nothing_read None (seated g p) = record {
+    let l : Live view (view p).machine 0 [] [] [] nothing_read None (seated g p) = record {
       halted = refl;
       quiet = refl;
       seen = nothing_seen;
       machine_is = refl;
       is = fresh;
       put = none_put (view p).machine;
-      answers = λ all w. subst (EndByWords 0 0 []) (sym w) tt;
+      answers = none_heard;
       text_is = refl;
       ended_is = refl;
       told_is = refl;

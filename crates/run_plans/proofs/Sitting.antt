@@ -9,7 +9,7 @@ use Rattle.plan_types.specs.Board.{steps_of}
 use Rattle.plan_types.specs.Lines.{Clocks}
 use Rattle.plan_types.specs.Machines.{no_stepper}
 use Rattle.section_units.specs.Plans.{board_plans}
-use Rattle.section_units.specs.Sections.{AreBegun, dir_after, pulse_of, steps_said, ticks_meant}
+use Rattle.section_units.specs.Sections.{AreBegunBy, dir_after, pulse_of, steps_said, ticks_meant}
 use Rattle.section_units.specs.Units.{as_sent}
 use Rattle.step_feed.specs.Units.{StepUnit}
 use Rattle.run_plans.proofs.Placing.{count_on}
@@ -19,9 +19,9 @@ some_steps : (oid : ℕ) (up : Bool) (ticks : List ℕ) (more : List Pulse) → 
 some_steps oid up [] more h = absurd (omega (arith, h))
 some_steps oid up (t ∷ ticks) more h = omega arith
 
-pub have_steps : (oid : ℕ) (clocks : Clocks) (base : ℕ) (us : List StepUnit) → AreBegun clocks base us → us ≢ [] → 0 < length (steps_said oid false us)
-have_steps oid clocks base [] h n = absurd (n refl)
-have_steps oid clocks base (u ∷ us) h n =
+pub have_steps : (homing : Bool) (oid : ℕ) (clocks : Clocks) (base : ℕ) (us : List StepUnit) → AreBegunBy homing clocks base us → us ≢ [] → 0 < length (steps_said oid false us)
+have_steps homing oid clocks base [] h n = absurd (n refl)
+have_steps homing oid clocks base (u ∷ us) h n =
     let of = h.2.expands.ticks_of in
     let count = of.number in
     let some = of.some in

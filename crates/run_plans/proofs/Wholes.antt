@@ -1,5 +1,5 @@
 -- What a planner put in the turns of a run is told by the first sections of a whole text.
-use Rattle.std.proofs.Common.{◌≡◌, ℕ, zero, suc, ◌+◌, ◌<◌, ◌≤◌, ◌^◌, ◌⊎◌, List, [], ◌∷◌, ◌++◌, length, Option, None, Some, All, refl, sym, subst, arith, inl, inr}
+use Rattle.std.proofs.Common.{◌≡◌, ℕ, zero, suc, ◌+◌, ◌<◌, ◌^◌, ◌⊎◌, List, [], ◌++◌, length, Option, None, Some, All, refl, sym, subst, arith, inl, inr}
 use Rattle.std.proofs.lemmas.Grind.{merely}
 use Rattle.std.proofs.Math.Logic.{∥∥₁_elim, ∥∥₁_map, ∥∥₁_prop}
 use Rattle.plan_types.specs.declared.machine.Machine.{Machine}
@@ -16,8 +16,8 @@ use Rattle.motion_stream.specs.Texts.{MayBecome}
 use Rattle.motion_stream.specs.Wholes.{ArePlanned, IsToldOf, AreSentIn}
 use Rattle.motion_stream.proofs.Planning.{are_planned}
 use Rattle.session_work.specs.declared.table.MotionTurn.{MotionTurn}
-use Rattle.run_plans.specs.Answers.{EndByWords, TookNoneAhead}
-use Rattle.run_plans.proofs.Answering.{Hold}
+use Rattle.run_plans.specs.Answers.{TookNoneAhead}
+use Rattle.run_plans.proofs.Answering.{HaveHeard, Homes, all_end, all_wait}
 use Rattle.run_plans.specs.Planned.{AllInRange, AnyWaits, AreBare, AreKnown, AreRead, AreToldBy, Plans, StopsAt, TellHeard, Text, TookInTime, nothing_read, puts_of, read_by, told_of, words_in}
 
 -- Turns of a planner from turn k on, behind these turns, these that were put, this text, this that was told and so many words.
@@ -37,21 +37,9 @@ pub record Ran (m : Machine) (n k : ℕ) (done : List MotionTurn) (before : List
   pub in_time : TookInTime m k taken made told
   pub in_range : AllInRange m k made told
   pub ahead : TookNoneAhead k taken made
-  pub answers : Hold m seen (EndByWords 0 0 (done ++ made))
+  pub answers : HaveHeard (k + length made) (done ++ made) [] seen.begun seen.going
   pub are_bare : AreBare n (k + length made) bare
-  pub stops : StopsAt (k + length made) (taken + length (words_in made)) seen.told seen.begun bare
-
-waits_more : (begun more : List Started) → AnyWaits begun → AnyWaits (begun ++ more)
-waits_more [] more w = absurd w
-waits_more (s ∷ begun) more (inl e) = inl e
-waits_more (s ∷ begun) more (inr h) = inr (waits_more begun more h)
-
-stops_more : (k taken : ℕ) (told : Option Told) (begun all more : List Started) (ts : List MotionTurn) → all ≡ begun ++ more → StopsAt k taken told begun ts → StopsAt k taken told all ts
-stops_more k taken told begun all more [] e h = tt
-stops_more k taken told begun all more (t ∷ ts) e (inl h) = inl h
-stops_more k taken told begun all more (t ∷ ts) e (inr (inl h)) = inr (inl h)
-stops_more k taken told begun all more (t ∷ ts) e (inr (inr h)) =
-    inr (inr (record { stops = h.stops; low = h.low; early = λ late. elim (h.early late) [ inl none ↦ inl none | inr w ↦ inr (subst AnyWaits (sym e) (waits_more begun more w)) ] }))
+  pub stops : (begun : List Started) → (Homes seen.going → AnyWaits begun) → StopsAt (k + length made) (taken + length (words_in made)) seen.told begun bare
 
 told_by : (m : Machine) (o : Option Told) (all : List Started) → IsToldOf m o all → AreToldBy m o all
 told_by m None all h = h
@@ -112,9 +100,9 @@ whole_plans m n ts text r read =
         in_time = r.in_time;
         in_range = r.in_range;
         ahead = r.ahead;
-        answers = r.answers w.0 a.may.sections;
+        answers = all_end m r.seen.told r.seen.next (0 + length r.made) r.made r.seen.begun w.0 a.more r.seen.going r.answers a.may.sections a.begun a.unanswered;
         are_bare = r.are_bare;
-        stops = stops_more (0 + length r.made) (0 + length (words_in r.made)) r.seen.told r.seen.begun w.0 a.more r.bare a.begun r.stops;
+        stops = r.stops w.0 (all_wait m r.seen.told r.seen.next r.seen.begun w.0 a.more r.seen.going a.may.sections a.begun a.unanswered);
       },
       refl,
     )))

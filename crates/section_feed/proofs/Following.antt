@@ -19,8 +19,8 @@ use Rattle.step_ticks.proofs.Lists.{spaced-AreSpaced}
 use Rattle.section_units.specs.Merged.{AreBehind, AreInOrder, Precedes, plan_at}
 use Rattle.plan_types.specs.declared.machine.StepperDef.{StepperDef}
 use Rattle.section_units.specs.Sent.{AreLongestOf}
-use Rattle.section_units.specs.Plans.{AreSentOn, IsFrontOn, IsOnBoard, plans_on, section_on}
-use Rattle.section_units.specs.Sections.{AreBegun, of_stepper, steps_said}
+use Rattle.section_units.specs.Plans.{AreSentOn, IsFrontOnBy, IsOnBoardBy, plans_on, section_on}
+use Rattle.section_units.specs.Sections.{AreBegunBy, of_stepper, steps_said}
 use Rattle.section_units.proofs.Boarding.{no_plan}
 use Rattle.section_units.proofs.Fronting.{section_ended}
 use Rattle.section_stream.specs.Looking.{IsFuture}
@@ -45,15 +45,16 @@ pub same-of : (oid : ℕ) (us : List StepUnit) → feed.of_stepper oid us ≡ of
 same-of oid [] = refl
 same-of oid (u ∷ us) = elim (eqb_tells u.stepper oid) [ inl p ↦ rw p.0 (ap (λ x. u ∷ x) (same-of oid us)) | inr p ↦ rw p.0 (same-of oid us) ]
 
--- what the stepper of an object id is in a section of moves
-abbrev pub kinds-on : Machine → List Clocks → ℕ → ℕ → ℕ → Rattle.section_stream.specs.Steppers.StepperKind
-kinds-on m clocks turn b = board_kinds m (clocks_at clocks b) b turn false
+-- what the stepper of an object id is in a section, which homes or not
+abbrev pub kinds-on : Bool → Machine → List Clocks → ℕ → ℕ → ℕ → Rattle.section_stream.specs.Steppers.StepperKind
+kinds-on homing m clocks turn b = board_kinds m (clocks_at clocks b) b turn homing
 
 abbrev pub base-on : List Clocks → ℕ → ℕ → ℕ
 base-on clocks turn b = lines_tick (clocks_at clocks b) (turn * turn_ns)
 
+-- the plan of its steps, in a section of either kind
 abbrev pub plan-on : Machine → List Clocks → List Move → ℕ → ℕ → ℕ → List Planned
-plan-on m clocks all turn b oid = sent_plan (kinds-on m clocks turn b oid) (clocks_at clocks b) (base-on clocks turn b) (section_parts m all turn)
+plan-on m clocks all turn b oid = sent_plan (kinds-on false m clocks turn b oid) (clocks_at clocks b) (base-on clocks turn b) (section_parts m all turn)
 
 -- the plan of a board's stepper
 pub one-plan : (m : Machine) (clocks : List Clocks) (all : List Move) (turn b oid : ℕ) → oid < length (steppers_on b m.steppers) → plan_at (plans_on m clocks all turn b) oid ≡ plan-on m clocks all turn b oid
@@ -69,11 +70,11 @@ other-plan m clocks all turn b oid h =
     no_plan (plans_on m clocks all turn b) oid (omega arith)
 
 pub plan-spaced : (m : Machine) (clocks : List Clocks) (all : List Move) (turn b oid : ℕ) → AreSpaced (base-on clocks turn b) (plan-on m clocks all turn b oid)
-plan-spaced m clocks all turn b oid = spaced-sent (kinds-on m clocks turn b oid).inverted (base-on clocks turn b) _ (spaced-AreSpaced (base-on clocks turn b) _)
+plan-spaced m clocks all turn b oid = spaced-sent (kinds-on false m clocks turn b oid).inverted (base-on clocks turn b) _ (spaced-AreSpaced (base-on clocks turn b) _)
 
 -- what a board has released, as a front of its section
-front-on : (m : Machine) (clocks : List Clocks) (all : List Move) (turn b : ℕ) (rs : List Release) → 250 ≤ turn → IsBoardFront (clocks_at clocks b) (board_at m b).freq (board_at m b).slots (turn - 250) (base-on clocks turn b) (kinds-on m clocks turn b) (length (steppers_on b m.steppers)) (section_parts m all turn) rs → IsFrontOn m clocks all turn b rs
-front-on m clocks all turn b rs late f =
+front-on : (homing : Bool) (m : Machine) (clocks : List Clocks) (all : List Move) (turn b : ℕ) (rs : List Release) → 250 ≤ turn → IsBoardFront homing (clocks_at clocks b) (board_at m b).freq (board_at m b).slots (turn - 250) (base-on clocks turn b) (kinds-on homing m clocks turn b) (length (steppers_on b m.steppers)) (section_parts m all turn) rs → IsFrontOnBy homing m clocks all turn b rs
+front-on homing m clocks all turn b rs late f =
     let own = clocks_at clocks b in
     let base = base-on clocks turn b in
     let freq = (board_at m b).freq in
@@ -85,9 +86,9 @@ front-on m clocks all turn b rs late f =
         | inl p ↦ subst (AreSpaced base) (sym (other-plan m clocks all turn b oid p.1)) tt
         | inr p ↦ let h = p.1 in subst (AreSpaced base) (sym (one-plan m clocks all turn b oid (omega (arith, h)))) (plan-spaced m clocks all turn b oid)
       ];
-      begun = λ oid. elim (leb_tells count oid) as (λ _. AreBegun own base (of_stepper oid (units_of rs))) [
-        | inl p ↦ subst (AreBegun own base) (sym (none oid p.1)) tt
-        | inr p ↦ let h = p.1 in subst (AreBegun own base) (same-of oid (units_of rs)) (f.units oid (omega (arith, h))).begun
+      begun = λ oid. elim (leb_tells count oid) as (λ _. AreBegunBy homing own base (of_stepper oid (units_of rs))) [
+        | inl p ↦ subst (AreBegunBy homing own base) (sym (none oid p.1)) tt
+        | inr p ↦ let h = p.1 in subst (AreBegunBy homing own base) (same-of oid (units_of rs)) (f.units oid (omega (arith, h))).begun
       ];
       fits = λ oid. elim (leb_tells count oid) as (λ _. Fits freq base (steps_said oid false (of_stepper oid (units_of rs))) (plan_at plans oid)) [
         | inl p ↦ subst (λ us. Fits freq base (steps_said oid false us) (plan_at plans oid)) (sym (none oid p.1)) tt
@@ -135,8 +136,8 @@ few-on b [] = omega arith
 few-on b (s ∷ ss) = let l = few-on b ss in elim (eqb_tells s.board b) [ inl p ↦ rw p.0 (omega (arith, l)) | inr p ↦ rw p.0 (omega (arith, l)) ]
 
 -- what a board has released, as what it is sent
-sent-on : (m : Machine) (clocks : List Clocks) (all : List Move) (turn b : ℕ) (rs : List Release) → length m.steppers ≤ 16 → IsBoardFront (clocks_at clocks b) (board_at m b).freq (board_at m b).slots (turn - 250) (base-on clocks turn b) (kinds-on m clocks turn b) (length (steppers_on b m.steppers)) (section_parts m all turn) rs → AreSentOn m clocks all turn b rs
-sent-on m clocks all turn b rs small f =
+sent-on : (homing : Bool) (m : Machine) (clocks : List Clocks) (all : List Move) (turn b : ℕ) (rs : List Release) → length m.steppers ≤ 16 → IsBoardFront homing (clocks_at clocks b) (board_at m b).freq (board_at m b).slots (turn - 250) (base-on clocks turn b) (kinds-on homing m clocks turn b) (length (steppers_on b m.steppers)) (section_parts m all turn) rs → AreSentOn m clocks all turn b rs
+sent-on homing m clocks all turn b rs small f =
     let own = clocks_at clocks b in
     let base = base-on clocks turn b in
     let freq = (board_at m b).freq in
@@ -159,38 +160,38 @@ no-set = set_with (Rattle.plan_types.specs.Lines.one_line (record { at = 0; cloc
 set-here : (m : Machine) (clocks : List Clocks) (turn : ℕ) (homing : Bool) (s : SectionStream) (moves : List Move) (released : ℕ → List Release) (b : ℕ) → IsSectionOn m clocks turn homing s moves released → b < length m.boards → get_or (sets_of s) b no-set ≡ start_set m clocks turn b
 set-here m clocks turn homing s moves released b on h = on.sets b no-set h
 
--- the clocks of the steppers are set to the section's first tick
-pub set-to : (m : Machine) (clocks : List Clocks) (turn : ℕ) (s : SectionStream) (moves : List Move) (released : ℕ → List Release) (b k : ℕ) → IsSectionOn m clocks turn false s moves released → b < length m.boards → IsSetTo (board_at m b).freq (base-on clocks turn b) (kinds-on m clocks turn b k)
-set-to m clocks turn s moves released b k on h = record { reset = refl; early = ap max_error (on.freq b h) }
+-- the clocks of the steppers are set to the section's first tick, or in a section that homes are not set
+pub set-to : (m : Machine) (clocks : List Clocks) (turn : ℕ) (homing : Bool) (s : SectionStream) (moves : List Move) (released : ℕ → List Release) (b k : ℕ) → IsSectionOn m clocks turn homing s moves released → b < length m.boards → IsSetTo homing (board_at m b).freq (base-on clocks turn b) (kinds-on homing m clocks turn b k)
+set-to m clocks turn homing s moves released b k on h = record { reset = refl; early = ap max_error (on.freq b h) }
 
-board-follows : (m : Machine) (clocks : List Clocks) (turn : ℕ) (s : SectionStream) (moves all : List Move) (released : ℕ → List Release) (b : ℕ) → IsSectionOn m clocks turn false s moves released → IsFuture (is_taking (queue_of s)) moves all → b < length m.boards
-    → ∥ IsBoardFront (clocks_at clocks b) (board_at m b).freq (board_at m b).slots (turn - 250) (base-on clocks turn b) (kinds-on m clocks turn b) (length (steppers_on b m.steppers)) (section_parts m all turn) (released b) ∥₁
-board-follows m clocks turn s moves all released b on future h =
+board-follows : (m : Machine) (clocks : List Clocks) (turn : ℕ) (homing : Bool) (s : SectionStream) (moves all : List Move) (released : ℕ → List Release) (b : ℕ) → IsSectionOn m clocks turn homing s moves released → IsFuture (is_taking (queue_of s)) moves all → b < length m.boards
+    → ∥ IsBoardFront homing (clocks_at clocks b) (board_at m b).freq (board_at m b).slots (turn - 250) (base-on clocks turn b) (kinds-on homing m clocks turn b) (length (steppers_on b m.steppers)) (section_parts m all turn) (released b) ∥₁
+board-follows m clocks turn homing s moves all released b on future h =
     let l = on.boards in
-    let kinds = λ (n : ℕ). kinds-on m clocks turn n in
+    let kinds = λ (n : ℕ). kinds-on homing m clocks turn n in
     let base = λ (n : ℕ). base-on clocks turn n in
-    let r = section-front s m.scv moves all kinds base released b (board_at m b).freq no-set on.section future (omega arith) (λ k lt. set-to m clocks turn s moves released b k on h) in
-    let at = subst (λ (st : BoardSet). ∥ IsBoardFront st.clocks (board_at m b).freq st.slots st.first (base b) (kinds b) st.count (parts_of s m.scv all) (released b) ∥₁) (set-here m clocks turn false s moves released b on h) r in
-    subst (λ ps. ∥ IsBoardFront (clocks_at clocks b) (board_at m b).freq (board_at m b).slots (turn - 250) (base b) (kinds b) (length (steppers_on b m.steppers)) ps (released b) ∥₁) (section-parts m clocks turn false s moves all released on) at
+    let r = section-front homing s m.scv moves all kinds base released b (board_at m b).freq no-set on.section future (omega arith) (λ k lt. set-to m clocks turn homing s moves released b k on h) in
+    let at = subst (λ (st : BoardSet). ∥ IsBoardFront homing st.clocks (board_at m b).freq st.slots st.first (base b) (kinds b) st.count (parts_of s m.scv all) (released b) ∥₁) (set-here m clocks turn homing s moves released b on h) r in
+    subst (λ ps. ∥ IsBoardFront homing (clocks_at clocks b) (board_at m b).freq (board_at m b).slots (turn - 250) (base b) (kinds b) (length (steppers_on b m.steppers)) ps (released b) ∥₁) (section-parts m clocks turn homing s moves all released on) at
 
-pub section-sent : (m : Machine) (clocks : List Clocks) (turn : ℕ) (s : SectionStream) (moves all : List Move) (released : ℕ → List Release) (b : ℕ) → IsSectionOn m clocks turn false s moves released → IsFuture (is_taking (queue_of s)) moves all → b < length m.boards → ∥ AreSentOn m clocks all turn b (released b) ∥₁
-section-sent m clocks turn s moves all released b on future h = ∥∥₁_map (board-follows m clocks turn s moves all released b on future h) (sent-on m clocks all turn b (released b) on.machine.steppers_few)
+pub section-sent : (m : Machine) (clocks : List Clocks) (turn : ℕ) (homing : Bool) (s : SectionStream) (moves all : List Move) (released : ℕ → List Release) (b : ℕ) → IsSectionOn m clocks turn homing s moves released → IsFuture (is_taking (queue_of s)) moves all → b < length m.boards → ∥ AreSentOn m clocks all turn b (released b) ∥₁
+section-sent m clocks turn homing s moves all released b on future h = ∥∥₁_map (board-follows m clocks turn homing s moves all released b on future h) (sent-on homing m clocks all turn b (released b) on.machine.steppers_few)
 
-pub section-follows : (m : Machine) (clocks : List Clocks) (turn : ℕ) (s : SectionStream) (moves all : List Move) (released : ℕ → List Release) (b : ℕ) → IsSectionOn m clocks turn false s moves released → IsFuture (is_taking (queue_of s)) moves all → b < length m.boards → ∥ IsFrontOn m clocks all turn b (released b) ∥₁
-section-follows m clocks turn s moves all released b on future h = ∥∥₁_map (board-follows m clocks turn s moves all released b on future h) (front-on m clocks all turn b (released b) on.lead)
+pub section-follows : (m : Machine) (clocks : List Clocks) (turn : ℕ) (homing : Bool) (s : SectionStream) (moves all : List Move) (released : ℕ → List Release) (b : ℕ) → IsSectionOn m clocks turn homing s moves released → IsFuture (is_taking (queue_of s)) moves all → b < length m.boards → ∥ IsFrontOnBy homing m clocks all turn b (released b) ∥₁
+section-follows m clocks turn homing s moves all released b on future h = ∥∥₁_map (board-follows m clocks turn homing s moves all released b on future h) (front-on homing m clocks all turn b (released b) on.lead)
 
-pub section-on : (m : Machine) (clocks : List Clocks) (turn : ℕ) (s : SectionStream) (moves : List Move) (released : ℕ → List Release) (e b : ℕ) → IsSectionOn m clocks turn false s moves released → IsDrawn (queue_of s) → AreReleased (boards_in s) → ArePast e (boards_in s) → e ≡ max (drawn_to (queue_of s) / turn_ns) (last_of (boards_in s)) → b < length m.boards → ∥ IsOnBoard m clocks moves turn b (released b) ∥₁
-section-on m clocks turn s moves released e b on drawn all past is h =
+pub section-on : (m : Machine) (clocks : List Clocks) (turn : ℕ) (homing : Bool) (s : SectionStream) (moves : List Move) (released : ℕ → List Release) (e b : ℕ) → IsSectionOn m clocks turn homing s moves released → IsDrawn (queue_of s) → AreReleased (boards_in s) → ArePast e (boards_in s) → e ≡ max (drawn_to (queue_of s) / turn_ns) (last_of (boards_in s)) → b < length m.boards → ∥ IsOnBoardBy homing m clocks moves turn b (released b) ∥₁
+section-on m clocks turn homing s moves released e b on drawn all past is h =
     let own = clocks_at clocks b in
     let l = on.boards in
-    let end = section-ends m clocks turn false s moves released e on drawn past is in
+    let end = section-ends m clocks turn homing s moves released e on drawn past is in
     let plans = plans_on m clocks moves turn b in
     let count = length (steppers_on b m.steppers) in
     let units = units_of (released b) in
-    let kinds = λ (n : ℕ). kinds-on m clocks turn n in
+    let kinds = λ (n : ℕ). kinds-on homing m clocks turn n in
     let base = λ (n : ℕ). base-on clocks turn n in
-    let set = set-here m clocks turn false s moves released b on h in
-    let parts = section-parts m clocks turn false s moves moves released on in
+    let set = set-here m clocks turn homing s moves released b on h in
+    let parts = section-parts m clocks turn homing s moves moves released on in
     let Within : ℕ → List Planned → Type 0 = λ oid steps. All (λ (p : Planned). p.tick < lines_tick own ((section_end m clocks moves turn + 1) * turn_ns)) steps in
     let within : (oid : ℕ) → Within oid (plan_at plans oid) = λ oid. elim (leb_tells count oid) as (λ _. Within oid (plan_at plans oid)) [
       | inl p ↦ subst (Within oid) (sym (other-plan m clocks moves turn b oid p.1)) (All-nil (λ (p : Planned). p.tick < lines_tick own ((section_end m clocks moves turn + 1) * turn_ns)))
@@ -202,11 +203,11 @@ section-on m clocks turn s moves released e b on drawn all past is h =
           let here = subst (λ ps. Within oid (sent_plan (kinds b oid) own (base b) ps)) parts at in
           subst (Within oid) (sym (one-plan m clocks moves turn b oid inside)) here)
     ] in
-    let front = section-follows m clocks turn s moves moves released b on (future-here (is_taking (queue_of s)) moves) h in
-    let r = section-released s m.scv moves kinds base released b (board_at m b).freq no-set on.section drawn all (omega arith) (λ k lt. set-to m clocks turn s moves released b k on h) in
-    let at = subst (λ (st : BoardSet). ∥ IsReleased st.clocks (board_at m b).freq st.slots st.first (base b) (kinds b) st.count (parts_of s m.scv moves) (released b) ∥₁) set r in
-    let here = subst (λ ps. ∥ IsReleased own (board_at m b).freq (board_at m b).slots (turn - 250) (base b) (kinds b) count ps (released b) ∥₁) parts at in
-    ∥∥₁_elim front ∥∥₁_prop (λ f. ∥∥₁_map here (λ w. section_ended own (board_at m b).freq (board_at m b).slots (section_on m clocks moves turn b (released b)) f within (λ oid. elim (leb_tells count oid) as (λ _. length (steps_said oid false (of_stepper oid units)) ≡ length (plan_at plans oid)) [
+    let front = section-follows m clocks turn homing s moves moves released b on (future-here (is_taking (queue_of s)) moves) h in
+    let r = section-released homing s m.scv moves kinds base released b (board_at m b).freq no-set on.section drawn all (omega arith) (λ k lt. set-to m clocks turn homing s moves released b k on h) in
+    let at = subst (λ (st : BoardSet). ∥ IsReleased homing st.clocks (board_at m b).freq st.slots st.first (base b) (kinds b) st.count (parts_of s m.scv moves) (released b) ∥₁) set r in
+    let here = subst (λ ps. ∥ IsReleased homing own (board_at m b).freq (board_at m b).slots (turn - 250) (base b) (kinds b) count ps (released b) ∥₁) parts at in
+    ∥∥₁_elim front ∥∥₁_prop (λ f. ∥∥₁_map here (λ w. section_ended homing own (board_at m b).freq (board_at m b).slots (section_on m clocks moves turn b (released b)) f within (λ oid. elim (leb_tells count oid) as (λ _. length (steps_said oid false (of_stepper oid units)) ≡ length (plan_at plans oid)) [
       | inl p ↦ (
           let none : of_stepper oid units ≡ [] = sym (same-of oid units) ∙ w.others oid p.1 in
           ap (λ us. length (steps_said oid false us)) none ∙ sym (ap (λ (ps : List Planned). length ps) (other-plan m clocks moves turn b oid p.1)))

@@ -17,7 +17,7 @@ use Rattle.step_feed.specs.declared.stream.FeedStream.{FeedStream}
 use Rattle.step_feed.specs.Units.{StepUnit}
 use Rattle.step_feed.specs.Pacing.{Release, units_of}
 use Rattle.step_feed.specs.Streams.{first_turn, slots_of}
-use Rattle.section_units.specs.Fronts.{AreFirstOf}
+use Rattle.section_units.specs.Fronts.{AreFirstOfBy}
 use Rattle.section_units.specs.Sections.{steps_said}
 use Rattle.plan_types.specs.Packing.{open_windows}
 use Rattle.plan_types.specs.Plan.{max_error}
@@ -72,9 +72,9 @@ after-known clocks true time turn place s more up none after = λ k d l. (
 after-known clocks false time turn place s more up none after = rw (none refl) (All-nil (λ (t : TimedPart). known_of s ≤ tick (clocks_of s).first t.begin))
 
 -- all units that a stepper has given are the first ones of its plan
-pub one-pushed : (clocks : Clocks) (goes : Bool) (time turn : ℕ) (steppers : List StepperStream) (feed : FeedStream) (order freq : ℕ) (kinds : ℕ → StepperKind) (base : ℕ) (parts more : List TimedPart) (released : List Release) (d : StepperStream) (oid : ℕ) → oid < length steppers → AreUpTo clocks goes time turn steppers → (goes ≡ false → more ≡ []) → All (λ t. time ≤ t.begin) more
-    → ((k : ℕ) → k < length steppers → IsSetTo freq base (kinds k)) → (f : AreFeeding steppers feed clocks order kinds base parts released) → AreFirstOf clocks freq oid base (sent_plan (kinds oid) clocks base (parts ++ more)) (of_stepper oid f.units)
-one-pushed clocks goes time turn steppers feed order freq kinds base parts more released d oid h up none after set f =
+pub one-pushed : (homing : Bool) (clocks : Clocks) (goes : Bool) (time turn : ℕ) (steppers : List StepperStream) (feed : FeedStream) (order freq : ℕ) (kinds : ℕ → StepperKind) (base : ℕ) (parts more : List TimedPart) (released : List Release) (d : StepperStream) (oid : ℕ) → oid < length steppers → AreUpTo clocks goes time turn steppers → (goes ≡ false → more ≡ []) → All (λ t. time ≤ t.begin) more
+    → ((k : ℕ) → k < length steppers → IsSetTo homing freq base (kinds k)) → (f : AreFeeding steppers feed clocks order kinds base parts released) → AreFirstOfBy homing clocks freq oid base (sent_plan (kinds oid) clocks base (parts ++ more)) (of_stepper oid f.units)
+one-pushed homing clocks goes time turn steppers feed order freq kinds base parts more released d oid h up none after set f =
     let one = get_or steppers oid d in
     let here = up.each oid d h in
     let kind = f.kinds_are.each oid d h in
@@ -82,15 +82,15 @@ one-pushed clocks goes time turn steppers feed order freq kinds base parts more 
     let is = set oid h in
     let all = parts ++ more in
     let units = of_stepper oid f.units in
-    let r = units-kept one freq base parts more given.out given.pieces units (ap (λ (k : StepperKind). k.reset) kind ∙ is.reset) (ap (λ (k : StepperKind). k.early) kind ∙ is.early) given.stepper (after-known clocks goes time turn oid one more here none after) in
-    let a = subst (λ (k : Clocks). AreFirstOf k freq (kind_of one).oid base (sent_plan (kind_of one) k base all) units) here.clocks_are r in
-    let b = subst (λ o. AreFirstOf clocks freq o base (sent_plan (kind_of one) clocks base all) units) here.number a in
-    subst (λ (k : StepperKind). AreFirstOf clocks freq oid base (sent_plan k clocks base all) units) kind b
+    let r = units-kept homing one freq base parts more given.out given.pieces units (ap (λ (k : StepperKind). k.reset) kind ∙ is.reset) (ap (λ (k : StepperKind). k.early) kind ∙ is.early) given.stepper (after-known clocks goes time turn oid one more here none after) in
+    let a = subst (λ (k : Clocks). AreFirstOfBy homing k freq (kind_of one).oid base (sent_plan (kind_of one) k base all) units) here.clocks_are r in
+    let b = subst (λ o. AreFirstOfBy homing clocks freq o base (sent_plan (kind_of one) clocks base all) units) here.number a in
+    subst (λ (k : StepperKind). AreFirstOfBy homing clocks freq oid base (sent_plan k clocks base all) units) kind b
 
 -- and their triples cover as many steps as one can
-one-longest : (clocks : Clocks) (goes : Bool) (time turn : ℕ) (steppers : List StepperStream) (feed : FeedStream) (order freq : ℕ) (kinds : ℕ → StepperKind) (base : ℕ) (parts more : List TimedPart) (released : List Release) (d : StepperStream) (oid : ℕ) → oid < length steppers → AreUpTo clocks goes time turn steppers → (goes ≡ false → more ≡ []) → All (λ t. time ≤ t.begin) more
-    → ((k : ℕ) → k < length steppers → IsSetTo freq base (kinds k)) → AreKept clocks → (f : AreFeeding steppers feed clocks order kinds base parts released) → AreLongestOf clocks freq base (sent_plan (kinds oid) clocks base (parts ++ more)) (of_stepper oid (units_of released))
-one-longest clocks goes time turn steppers feed order freq kinds base parts more released d oid h up none after set kept f =
+one-longest : (homing : Bool) (clocks : Clocks) (goes : Bool) (time turn : ℕ) (steppers : List StepperStream) (feed : FeedStream) (order freq : ℕ) (kinds : ℕ → StepperKind) (base : ℕ) (parts more : List TimedPart) (released : List Release) (d : StepperStream) (oid : ℕ) → oid < length steppers → AreUpTo clocks goes time turn steppers → (goes ≡ false → more ≡ []) → All (λ t. time ≤ t.begin) more
+    → ((k : ℕ) → k < length steppers → IsSetTo homing freq base (kinds k)) → AreKept clocks → (f : AreFeeding steppers feed clocks order kinds base parts released) → AreLongestOf clocks freq base (sent_plan (kinds oid) clocks base (parts ++ more)) (of_stepper oid (units_of released))
+one-longest homing clocks goes time turn steppers feed order freq kinds base parts more released d oid h up none after set kept f =
     let one = get_or steppers oid d in
     let here = up.each oid d h in
     let kind = f.kinds_are.each oid d h in
@@ -100,7 +100,7 @@ one-longest clocks goes time turn steppers feed order freq kinds base parts more
     let units = of_stepper oid f.units in
     let packed = here.packed in
     let past = given.past in
-    let r = given-longest one freq base 0 turn parts more given.out given.pieces units (ap (λ (k : StepperKind). k.reset) kind ∙ is.reset) (ap (λ (k : StepperKind). k.early) kind ∙ is.early) given.stepper (after-known clocks goes time turn oid one more here none after)
+    let r = given-longest one freq base 0 turn parts more given.out given.pieces units (ap (λ (k : StepperKind). k.early) kind ∙ is.early) given.stepper (after-known clocks goes time turn oid one more here none after)
     (subst AreKept (sym here.clocks_are) kept) here.caught_up given.in_turns (omega (arith, packed, past)) in
     let a = subst (λ (k : Clocks). AreLongestOf k freq base (sent_plan (kind_of one) k base all) units) here.clocks_are r in
     let b = subst (λ (k : StepperKind). AreLongestOf clocks freq base (sent_plan k clocks base all) units) kind a in
@@ -109,10 +109,10 @@ one-longest clocks goes time turn steppers feed order freq kinds base parts more
     longest_front clocks base (open_windows (max_error freq) base plan) plan (of_stepper oid (units_of released)) (of_stepper oid feed.waiting.items) (subst (λ us. AreLongestOf clocks freq base plan us) split b)
 
 -- the other steps of its plan are due in a turn or later
-pub one-rested : (clocks : Clocks) (goes : Bool) (time turn : ℕ) (steppers : List StepperStream) (feed : FeedStream) (order freq low : ℕ) (kinds : ℕ → StepperKind) (base : ℕ) (parts more : List TimedPart) (released : List Release) (d : StepperStream) (oid : ℕ) → oid < length steppers → AreUpTo clocks goes time turn steppers → (goes ≡ false → more ≡ []) → All (λ t. time ≤ t.begin) more
-    → ((k : ℕ) → k < length steppers → IsSetTo freq base (kinds k)) → AreKept clocks → AreRested low steppers → (f : AreFeeding steppers feed clocks order kinds base parts released)
+pub one-rested : (homing : Bool) (clocks : Clocks) (goes : Bool) (time turn : ℕ) (steppers : List StepperStream) (feed : FeedStream) (order freq low : ℕ) (kinds : ℕ → StepperKind) (base : ℕ) (parts more : List TimedPart) (released : List Release) (d : StepperStream) (oid : ℕ) → oid < length steppers → AreUpTo clocks goes time turn steppers → (goes ≡ false → more ≡ []) → All (λ t. time ≤ t.begin) more
+    → ((k : ℕ) → k < length steppers → IsSetTo homing freq base (kinds k)) → AreKept clocks → AreRested low steppers → (f : AreFeeding steppers feed clocks order kinds base parts released)
     → All (λ q. low ≤ lines_turn clocks q.tick) (drop (length (steps_said oid false (of_stepper oid f.units))) (sent_plan (kinds oid) clocks base (parts ++ more)))
-one-rested clocks goes time turn steppers feed order freq low kinds base parts more released d oid h up none after set kept rested f =
+one-rested homing clocks goes time turn steppers feed order freq low kinds base parts more released d oid h up none after set kept rested f =
     let one = get_or steppers oid d in
     let here = up.each oid d h in
     let kind = f.kinds_are.each oid d h in
@@ -122,25 +122,25 @@ one-rested clocks goes time turn steppers feed order freq low kinds base parts m
     let units = of_stepper oid f.units in
     let rest = rested.each oid d h in
     let same = sym here.clocks_are in
-    let r = rest-later one freq base rest.turn low parts more given.out given.pieces units (ap (λ (k : StepperKind). k.reset) kind ∙ is.reset) (ap (λ (k : StepperKind). k.early) kind ∙ is.early) given.stepper (after-known clocks goes time turn oid one more here none after)
+    let r = rest-later homing one freq base rest.turn low parts more given.out given.pieces units (ap (λ (k : StepperKind). k.reset) kind ∙ is.reset) (ap (λ (k : StepperKind). k.early) kind ∙ is.early) given.stepper (after-known clocks goes time turn oid one more here none after)
     (subst AreKept same kept) rest.caught rest.late rest.start in
     let P : Clocks → ℕ → StepperKind → Type 0 = λ k o kd. All (λ (q : Planned). low ≤ lines_turn k q.tick) (drop (length (steps_said o false units)) (sent_plan kd k base all)) in
     let a : P clocks (kind_of one).oid (kind_of one) = subst (λ (k : Clocks). P k (kind_of one).oid (kind_of one)) here.clocks_are r in
     let b : P clocks oid (kind_of one) = subst (λ o. P clocks o (kind_of one)) here.number a in
     subst (λ (k : StepperKind). P clocks oid k) kind b
 
-one-front : (clocks : Clocks) (goes : Bool) (time turn : ℕ) (steppers : List StepperStream) (feed : FeedStream) (order freq : ℕ) (kinds : ℕ → StepperKind) (base : ℕ) (parts more : List TimedPart) (released : List Release) (d : StepperStream) (oid : ℕ) → oid < length steppers → AreUpTo clocks goes time turn steppers → (goes ≡ false → more ≡ []) → All (λ t. time ≤ t.begin) more
-    → ((k : ℕ) → k < length steppers → IsSetTo freq base (kinds k)) → AreFeeding steppers feed clocks order kinds base parts released → AreFirstOf clocks freq oid base (sent_plan (kinds oid) clocks base (parts ++ more)) (of_stepper oid (units_of released))
-one-front clocks goes time turn steppers feed order freq kinds base parts more released d oid h up none after set f =
+one-front : (homing : Bool) (clocks : Clocks) (goes : Bool) (time turn : ℕ) (steppers : List StepperStream) (feed : FeedStream) (order freq : ℕ) (kinds : ℕ → StepperKind) (base : ℕ) (parts more : List TimedPart) (released : List Release) (d : StepperStream) (oid : ℕ) → oid < length steppers → AreUpTo clocks goes time turn steppers → (goes ≡ false → more ≡ []) → All (λ t. time ≤ t.begin) more
+    → ((k : ℕ) → k < length steppers → IsSetTo homing freq base (kinds k)) → AreFeeding steppers feed clocks order kinds base parts released → AreFirstOfBy homing clocks freq oid base (sent_plan (kinds oid) clocks base (parts ++ more)) (of_stepper oid (units_of released))
+one-front homing clocks goes time turn steppers feed order freq kinds base parts more released d oid h up none after set f =
     let all = parts ++ more in
     let units = of_stepper oid f.units in
-    let c = one-pushed clocks goes time turn steppers feed order freq kinds base parts more released d oid h up none after set f in
+    let c = one-pushed homing clocks goes time turn steppers feed order freq kinds base parts more released d oid h up none after set f in
     let split : units ≡ of_stepper oid (units_of released) ++ of_stepper oid feed.waiting.items = ap (of_stepper oid) f.fed.pushed_is ∙ of-append oid (units_of released) feed.waiting.items in
-    first_front clocks freq oid base (sent_plan (kinds oid) clocks base all) (of_stepper oid (units_of released)) (of_stepper oid feed.waiting.items) (subst (λ us. AreFirstOf clocks freq oid base (sent_plan (kinds oid) clocks base all) us) split c)
+    first_front homing clocks freq oid base (sent_plan (kinds oid) clocks base all) (of_stepper oid (units_of released)) (of_stepper oid feed.waiting.items) (subst (λ us. AreFirstOfBy homing clocks freq oid base (sent_plan (kinds oid) clocks base all) us) split c)
 
-fed-front : (clocks : Clocks) (goes : Bool) (time turn : ℕ) (steppers : List StepperStream) (feed : FeedStream) (order freq : ℕ) (kinds : ℕ → StepperKind) (base : ℕ) (parts more : List TimedPart) (released : List Release) → AreUpTo clocks goes time turn steppers → (goes ≡ false → more ≡ []) → All (λ t. time ≤ t.begin) more
-    → ((k : ℕ) → k < length steppers → IsSetTo freq base (kinds k)) → AreKept clocks → AreFeeding steppers feed clocks order kinds base parts released → IsBoardFront clocks freq (slots_of feed) (first_turn feed) base kinds (length steppers) (parts ++ more) released
-fed-front clocks goes time turn steppers feed order freq kinds base parts more released up none after set kept f = record {
+fed-front : (homing : Bool) (clocks : Clocks) (goes : Bool) (time turn : ℕ) (steppers : List StepperStream) (feed : FeedStream) (order freq : ℕ) (kinds : ℕ → StepperKind) (base : ℕ) (parts more : List TimedPart) (released : List Release) → AreUpTo clocks goes time turn steppers → (goes ≡ false → more ≡ []) → All (λ t. time ≤ t.begin) more
+    → ((k : ℕ) → k < length steppers → IsSetTo homing freq base (kinds k)) → AreKept clocks → AreFeeding steppers feed clocks order kinds base parts released → IsBoardFront homing clocks freq (slots_of feed) (first_turn feed) base kinds (length steppers) (parts ++ more) released
+fed-front homing clocks goes time turn steppers feed order freq kinds base parts more released up none after set kept f = record {
   units = λ oid h. each steppers oid h refl;
   others = λ oid h. none-front (of_stepper oid (units_of released)) (of_stepper oid feed.waiting.items) (sym (ap (of_stepper oid) f.fed.pushed_is ∙ of-append oid (units_of released) feed.waiting.items) ∙ f.given.others oid h);
   in_order = order-front 0 (units_of released) feed.waiting.items (subst (AreInOrder 0) f.fed.pushed_is f.in_order);
@@ -148,18 +148,18 @@ fed-front clocks goes time turn steppers feed order freq kinds base parts more r
   paced = f.fed.paced;
 }
   where
-    each : (ss : List StepperStream) (oid : ℕ) → oid < length ss → ss ≡ steppers → AreFirstOf clocks freq oid base (sent_plan (kinds oid) clocks base (parts ++ more)) (of_stepper oid (units_of released))
+    each : (ss : List StepperStream) (oid : ℕ) → oid < length ss → ss ≡ steppers → AreFirstOfBy homing clocks freq oid base (sent_plan (kinds oid) clocks base (parts ++ more)) (of_stepper oid (units_of released))
     each [] oid h is = absurd (omega arith)
-    each (s ∷ ss) oid h is = one-front clocks goes time turn steppers feed order freq kinds base parts more released s oid (subst (λ (xs : List StepperStream). oid < length xs) is h) up none after set f
+    each (s ∷ ss) oid h is = one-front homing clocks goes time turn steppers feed order freq kinds base parts more released s oid (subst (λ (xs : List StepperStream). oid < length xs) is h) up none after set f
 
     long : (ss : List StepperStream) (oid : ℕ) → oid < length ss → ss ≡ steppers → AreLongestOf clocks freq base (sent_plan (kinds oid) clocks base (parts ++ more)) (of_stepper oid (units_of released))
     long [] oid h is = absurd (omega arith)
-    long (s ∷ ss) oid h is = one-longest clocks goes time turn steppers feed order freq kinds base parts more released s oid (subst (λ (xs : List StepperStream). oid < length xs) is h) up none after set kept f
+    long (s ∷ ss) oid h is = one-longest homing clocks goes time turn steppers feed order freq kinds base parts more released s oid (subst (λ (xs : List StepperStream). oid < length xs) is h) up none after set kept f
 
-pub board-front : (b : BoardStream) (freq : ℕ) (kinds : ℕ → StepperKind) (base : ℕ) (parts more : List TimedPart) (released : List Release) → (goes_of b ≡ false → more ≡ []) → All (λ t. time_of b ≤ t.begin) more
-    → ((k : ℕ) → k < count_of b → IsSetTo freq base (kinds k)) → IsBoardOf b kinds base parts released → ∥ IsBoardFront (lines_of b) freq (slots_in b) (first_of b) base kinds (count_of b) (parts ++ more) released ∥₁
-board-front b freq kinds base parts more released none after set was =
-    ∥∥₁_elim b.up_to ∥∥₁_prop (λ up. ∥∥₁_map was (fed-front b.lines b.goes b.time b.turn b.steppers.items b.feed b.order freq kinds base parts more released up none after set (kept-lasting b.lines b.lasting)))
+pub board-front : (homing : Bool) (b : BoardStream) (freq : ℕ) (kinds : ℕ → StepperKind) (base : ℕ) (parts more : List TimedPart) (released : List Release) → (goes_of b ≡ false → more ≡ []) → All (λ t. time_of b ≤ t.begin) more
+    → ((k : ℕ) → k < count_of b → IsSetTo homing freq base (kinds k)) → IsBoardOf b kinds base parts released → ∥ IsBoardFront homing (lines_of b) freq (slots_in b) (first_of b) base kinds (count_of b) (parts ++ more) released ∥₁
+board-front homing b freq kinds base parts more released none after set was =
+    ∥∥₁_elim b.up_to ∥∥₁_prop (λ up. ∥∥₁_map was (fed-front homing b.lines b.goes b.time b.turn b.steppers.items b.feed b.order freq kinds base parts more released up none after set (kept-lasting b.lines b.lasting)))
 
 -- the moves that wait begin when those end that were drawn
 pub waiting-later : (t low : ℕ) (rs : List Ready) → low ≤ t → low ≤ waiting_end t rs
@@ -203,12 +203,12 @@ queue-left q scv moves all parts h future =
       },
     )
 
-pub section-front : (s : SectionStream) (scv : ℕ) (moves all : List Move) (kinds : ℕ → ℕ → StepperKind) (base : ℕ → ℕ) (released : ℕ → List Release) (b freq : ℕ) (d : BoardSet) → IsSectionOf s scv moves kinds base released → IsFuture (is_taking (queue_of s)) moves all → b < boards_of s
-    → ((k : ℕ) → k < (get_or (sets_of s) b d).count → IsSetTo freq (base b) (kinds b k))
-    → ∥ IsBoardFront (get_or (sets_of s) b d).clocks freq (get_or (sets_of s) b d).slots (get_or (sets_of s) b d).first (base b) (kinds b) (get_or (sets_of s) b d).count (parts_of s scv all) (released b) ∥₁
-section-front s scv moves all kinds base released b freq d h future inside set = go s.boards.items refl
+pub section-front : (homing : Bool) (s : SectionStream) (scv : ℕ) (moves all : List Move) (kinds : ℕ → ℕ → StepperKind) (base : ℕ → ℕ) (released : ℕ → List Release) (b freq : ℕ) (d : BoardSet) → IsSectionOf s scv moves kinds base released → IsFuture (is_taking (queue_of s)) moves all → b < boards_of s
+    → ((k : ℕ) → k < (get_or (sets_of s) b d).count → IsSetTo homing freq (base b) (kinds b k))
+    → ∥ IsBoardFront homing (get_or (sets_of s) b d).clocks freq (get_or (sets_of s) b d).slots (get_or (sets_of s) b d).first (base b) (kinds b) (get_or (sets_of s) b d).count (parts_of s scv all) (released b) ∥₁
+section-front homing s scv moves all kinds base released b freq d h future inside set = go s.boards.items refl
   where
-    go : (boards : List BoardStream) → boards ≡ s.boards.items → ∥ IsBoardFront (get_or (sets_of s) b d).clocks freq (get_or (sets_of s) b d).slots (get_or (sets_of s) b d).first (base b) (kinds b) (get_or (sets_of s) b d).count (parts_of s scv all) (released b) ∥₁
+    go : (boards : List BoardStream) → boards ≡ s.boards.items → ∥ IsBoardFront homing (get_or (sets_of s) b d).clocks freq (get_or (sets_of s) b d).slots (get_or (sets_of s) b d).first (base b) (kinds b) (get_or (sets_of s) b d).count (parts_of s scv all) (released b) ∥₁
     go [] is = absurd (let l = ap (λ (bs : List BoardStream). length bs) is in omega arith)
     go (x ∷ xs) is =
         let one = get_or s.boards.items b x in
@@ -216,10 +216,10 @@ section-front s scv moves all kinds base released b freq d h future inside set =
         let own = left.1 in
         let at : get_or (sets_of s) b d ≡ set_of one = at-mapped s.boards.items b d x inside in
         let time = h.boards.times b x inside in
-        let r = board-front one freq (kinds b) (base b) h.parts left.0 (released b) (λ over. own.none (s.ended.each b x inside over)) (subst (λ (t : ℕ). All (λ p. t ≤ p.begin) left.0) (sym time) own.after)
+        let r = board-front homing one freq (kinds b) (base b) h.parts left.0 (released b) (λ over. own.none (s.ended.each b x inside over)) (subst (λ (t : ℕ). All (λ p. t ≤ p.begin) left.0) (sym time) own.after)
         (λ k l. set k (subst (λ (st : BoardSet). k < st.count) (sym at) l)) (h.boards.each b x inside) in
-        let here = subst (λ ps. ∥ IsBoardFront (lines_of one) freq (slots_in one) (first_of one) (base b) (kinds b) (count_of one) ps (released b) ∥₁) (sym own.whole) r in
-        subst (λ (st : BoardSet). ∥ IsBoardFront st.clocks freq st.slots st.first (base b) (kinds b) st.count (parts_of s scv all) (released b) ∥₁) (sym at) here
+        let here = subst (λ ps. ∥ IsBoardFront homing (lines_of one) freq (slots_in one) (first_of one) (base b) (kinds b) (count_of one) ps (released b) ∥₁) (sym own.whole) r in
+        subst (λ (st : BoardSet). ∥ IsBoardFront homing st.clocks freq st.slots st.first (base b) (kinds b) st.count (parts_of s scv all) (released b) ∥₁) (sym at) here
 
 -- all moves were drawn
 pub drawn-parts : (s : SectionStream) (scv : ℕ) (moves : List Move) (kinds : ℕ → ℕ → StepperKind) (base : ℕ → ℕ) (released : ℕ → List Release) (h : IsSectionOf s scv moves kinds base released) → IsDrawn (queue_of s) → h.parts ≡ parts_of s scv moves
@@ -241,19 +241,19 @@ drawn-time s scv moves kinds base released h drawn =
     let front = (h.queue.moves_are.front moves (future-here (is_taking q) moves)).end_is in
     sym (waiting-none q.ready.items q.drawn drawn.none) ∙ sym h.queue.ends ∙ sym (front ∙ ap (λ ms. end_time q.moves.cruise ms (drop count (greatest_speeds moves scv)) q.moves.time) none)
 
-pub section-released : (s : SectionStream) (scv : ℕ) (moves : List Move) (kinds : ℕ → ℕ → StepperKind) (base : ℕ → ℕ) (released : ℕ → List Release) (b freq : ℕ) (d : BoardSet) → IsSectionOf s scv moves kinds base released → IsDrawn (queue_of s) → AreReleased (boards_in s) → b < boards_of s
-    → ((k : ℕ) → k < (get_or (sets_of s) b d).count → IsSetTo freq (base b) (kinds b k))
-    → ∥ IsReleased (get_or (sets_of s) b d).clocks freq (get_or (sets_of s) b d).slots (get_or (sets_of s) b d).first (base b) (kinds b) (get_or (sets_of s) b d).count (parts_of s scv moves) (released b) ∥₁
-section-released s scv moves kinds base released b freq d h drawn all inside set = go s.boards.items refl
+pub section-released : (homing : Bool) (s : SectionStream) (scv : ℕ) (moves : List Move) (kinds : ℕ → ℕ → StepperKind) (base : ℕ → ℕ) (released : ℕ → List Release) (b freq : ℕ) (d : BoardSet) → IsSectionOf s scv moves kinds base released → IsDrawn (queue_of s) → AreReleased (boards_in s) → b < boards_of s
+    → ((k : ℕ) → k < (get_or (sets_of s) b d).count → IsSetTo homing freq (base b) (kinds b k))
+    → ∥ IsReleased homing (get_or (sets_of s) b d).clocks freq (get_or (sets_of s) b d).slots (get_or (sets_of s) b d).first (base b) (kinds b) (get_or (sets_of s) b d).count (parts_of s scv moves) (released b) ∥₁
+section-released homing s scv moves kinds base released b freq d h drawn all inside set = go s.boards.items refl
   where
-    go : (boards : List BoardStream) → boards ≡ s.boards.items → ∥ IsReleased (get_or (sets_of s) b d).clocks freq (get_or (sets_of s) b d).slots (get_or (sets_of s) b d).first (base b) (kinds b) (get_or (sets_of s) b d).count (parts_of s scv moves) (released b) ∥₁
+    go : (boards : List BoardStream) → boards ≡ s.boards.items → ∥ IsReleased homing (get_or (sets_of s) b d).clocks freq (get_or (sets_of s) b d).slots (get_or (sets_of s) b d).first (base b) (kinds b) (get_or (sets_of s) b d).count (parts_of s scv moves) (released b) ∥₁
     go [] is = absurd (let l = ap (λ (bs : List BoardStream). length bs) is in omega arith)
     go (x ∷ xs) is =
         let one = get_or s.boards.items b x in
         let at : get_or (sets_of s) b d ≡ set_of one = at-mapped s.boards.items b d x inside in
-        let r = all.each b x inside freq (kinds b) (base b) h.parts (released b) (λ k l. set k (subst (λ (st : BoardSet). k < st.count) (sym at) l)) (h.boards.each b x inside) in
-        let here = subst (λ ps. ∥ IsReleased (lines_of one) freq (slots_in one) (first_of one) (base b) (kinds b) (count_of one) ps (released b) ∥₁) (drawn-parts s scv moves kinds base released h drawn) r in
-        subst (λ (st : BoardSet). ∥ IsReleased st.clocks freq st.slots st.first (base b) (kinds b) st.count (parts_of s scv moves) (released b) ∥₁) (sym at) here
+        let r = all.each b x inside homing freq (kinds b) (base b) h.parts (released b) (λ k l. set k (subst (λ (st : BoardSet). k < st.count) (sym at) l)) (h.boards.each b x inside) in
+        let here = subst (λ ps. ∥ IsReleased homing (lines_of one) freq (slots_in one) (first_of one) (base b) (kinds b) (count_of one) ps (released b) ∥₁) (drawn-parts s scv moves kinds base released h drawn) r in
+        subst (λ (st : BoardSet). ∥ IsReleased homing st.clocks freq st.slots st.first (base b) (kinds b) st.count (parts_of s scv moves) (released b) ∥₁) (sym at) here
 
 pub section-past : (s : SectionStream) (scv : ℕ) (moves : List Move) (kinds : ℕ → ℕ → StepperKind) (base : ℕ → ℕ) (released : ℕ → List Release) (b turn oid later : ℕ) (d : BoardSet) → IsSectionOf s scv moves kinds base released → IsDrawn (queue_of s) → ArePast turn (boards_in s) → b < boards_of s
     → oid < (get_or (sets_of s) b d).count → turn < later → All (λ q. q.tick < lines_tick (get_or (sets_of s) b d).clocks (later * turn_ns)) (sent_plan (kinds b oid) (get_or (sets_of s) b d).clocks (base b) (parts_of s scv moves))

@@ -18,7 +18,6 @@ use Rattle.section_stream.specs.Pieces.{IsLastOf, last_step, steps_in}
 use Rattle.section_stream.specs.Plans.{lines_of}
 use Rattle.section_stream.specs.Steppers.{StepperKind, packed_step}
 use Rattle.section_stream.proofs.Packed.{last-told}
-use Rattle.section_feed.specs.declared.board.BoardStream.{BoardStream}
 use Rattle.section_feed.specs.declared.section.SectionStream.{SectionStream}
 use Rattle.section_feed.specs.AllBoards.{ArePast, last_of}
 use Rattle.section_feed.specs.Boards.{AreUpTo}

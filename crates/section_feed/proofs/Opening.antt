@@ -19,11 +19,11 @@ use Rattle.step_feed.specs.declared.stream.FeedStream.{FeedStream}
 use Rattle.step_feed.specs.Pacing.{Release, lead}
 use Rattle.step_feed.specs.Streams.{first_turn, next_turn, slots_of}
 use Rattle.step_feed.specs.Units.{StepUnit}
-use Rattle.section_units.specs.Completed.{IsOpenFront, pushed_of}
-use Rattle.section_units.specs.Fronts.{AreFirstOf}
+use Rattle.section_units.specs.Completed.{IsOpenFrontBy, pushed_of}
+use Rattle.section_units.specs.Fronts.{AreFirstOfBy}
 use Rattle.section_units.specs.Merged.{plan_at}
 use Rattle.section_units.specs.Plans.{AreSentOn, plans_on, section_on}
-use Rattle.section_units.specs.Sections.{AreBegun, IsSection, of_stepper, steps_said}
+use Rattle.section_units.specs.Sections.{AreBegunBy, IsWholeBy, of_stepper, steps_said}
 use Rattle.section_units.specs.Units.{as_sent}
 use Rattle.section_units.proofs.Completing.{completed}
 use Rattle.section_stream.specs.declared.stepper.StepperStream.{StepperStream}
@@ -88,23 +88,23 @@ by-place m clocks all turn b oid P none some =
     ]
 
 -- a board of a section as an open front
-open-front : (m : Machine) (clocks : List Clocks) (all : List Move) (turn b : ℕ) (goes : Bool) (time packed : ℕ) (steppers : List StepperStream) (feeds : FeedStream) (order : ℕ) (parts more : List TimedPart) (released : List Release) → 250 ≤ turn → 1 ≤ slots_of feeds → first_turn feeds ≡ turn - 250 → length steppers ≡ length (steppers_on b m.steppers) → parts ++ more ≡ section_parts m all turn
-    → IsLasting (clocks_at clocks b) → AreUpTo (clocks_at clocks b) goes time packed steppers → (goes ≡ false → more ≡ []) → All (λ t. time ≤ t.begin) more → ((k : ℕ) → k < length steppers → IsSetTo (board_at m b).freq (base-on clocks turn b) (kinds-on m clocks turn b k)) → AreRested (next_turn feeds + 250) steppers
-    → AreFeeding steppers feeds (clocks_at clocks b) order (kinds-on m clocks turn b) (base-on clocks turn b) parts released
-    → IsOpenFront (clocks_at clocks b) (board_at m b).freq (slots_of feeds) turn (section_end m clocks all turn) (next_turn feeds) (length (steppers_on b m.steppers)) (plan_at (plans_on m clocks all turn b)) released feeds.waiting.items
-open-front m clocks all turn b goes time packed steppers feeds order parts more released late slots first count whole lasting up none after set rested f =
+open-front : (homing : Bool) (m : Machine) (clocks : List Clocks) (all : List Move) (turn b : ℕ) (goes : Bool) (time packed : ℕ) (steppers : List StepperStream) (feeds : FeedStream) (order : ℕ) (parts more : List TimedPart) (released : List Release) → 250 ≤ turn → 1 ≤ slots_of feeds → first_turn feeds ≡ turn - 250 → length steppers ≡ length (steppers_on b m.steppers) → parts ++ more ≡ section_parts m all turn
+    → IsLasting (clocks_at clocks b) → AreUpTo (clocks_at clocks b) goes time packed steppers → (goes ≡ false → more ≡ []) → All (λ t. time ≤ t.begin) more → ((k : ℕ) → k < length steppers → IsSetTo homing (board_at m b).freq (base-on clocks turn b) (kinds-on homing m clocks turn b k)) → AreRested (next_turn feeds + 250) steppers
+    → AreFeeding steppers feeds (clocks_at clocks b) order (kinds-on homing m clocks turn b) (base-on clocks turn b) parts released
+    → IsOpenFrontBy homing (clocks_at clocks b) (board_at m b).freq (slots_of feeds) turn (section_end m clocks all turn) (next_turn feeds) (length (steppers_on b m.steppers)) (plan_at (plans_on m clocks all turn b)) released feeds.waiting.items
+open-front homing m clocks all turn b goes time packed steppers feeds order parts more released late slots first count whole lasting up none after set rested f =
     let own = clocks_at clocks b in
     let base = base-on clocks turn b in
     let freq = (board_at m b).freq in
     let n = length (steppers_on b m.steppers) in
-    let kinds = kinds-on m clocks turn b in
+    let kinds = kinds-on homing m clocks turn b in
     let kept = kept-lasting own lasting in
     let low = next_turn feeds + 250 in
     let pushed : (oid : ℕ) → pushed_of oid released feeds.waiting.items ≡ feed.of_stepper oid f.units = λ oid. ap (of_stepper oid) (sym f.fed.pushed_is) ∙ sym (same-of oid f.units) in
     let others : (oid : ℕ) → n ≤ oid → pushed_of oid released feeds.waiting.items ≡ [] = λ oid h. pushed oid ∙ f.given.others oid (omega arith) in
     let plan : (oid : ℕ) → sent_plan (kinds oid) own base (parts ++ more) ≡ plan-on m clocks all turn b oid = λ oid. ap (sent_plan (kinds oid) own base) whole in
-    let given : (oid : ℕ) → oid < n → AreFirstOf own freq oid base (plan-on m clocks all turn b oid) (pushed_of oid released feeds.waiting.items) = λ oid h.
-    subst (λ us. AreFirstOf own freq oid base (plan-on m clocks all turn b oid) us) (sym (pushed oid)) (subst (λ p. AreFirstOf own freq oid base p (feed.of_stepper oid f.units)) (plan oid) (first-of steppers oid (omega arith) refl)) in
+    let given : (oid : ℕ) → oid < n → AreFirstOfBy homing own freq oid base (plan-on m clocks all turn b oid) (pushed_of oid released feeds.waiting.items) = λ oid h.
+    subst (λ us. AreFirstOfBy homing own freq oid base (plan-on m clocks all turn b oid) us) (sym (pushed oid)) (subst (λ p. AreFirstOfBy homing own freq oid base p (feed.of_stepper oid f.units)) (plan oid) (first-of steppers oid (omega arith) refl)) in
     let rest : (oid : ℕ) → oid < n → All (λ q. low ≤ lines_turn own q.tick) (drop (length (steps_said oid false (pushed_of oid released feeds.waiting.items))) (plan-on m clocks all turn b oid)) = λ oid h.
     subst (λ us. All (λ (q : Planned). low ≤ lines_turn own q.tick) (drop (length (steps_said oid false us)) (plan-on m clocks all turn b oid))) (sym (pushed oid)) (subst (λ p. All (λ (q : Planned). low ≤ lines_turn own q.tick) (drop (length (steps_said oid false (feed.of_stepper oid f.units))) p)) (plan oid) (rest-of steppers oid (omega arith) refl)) in
     record {
@@ -112,8 +112,8 @@ open-front m clocks all turn b goes time packed steppers feeds order parts more 
       none = other-plan m clocks all turn b;
       spaced = λ oid. by-place m clocks all turn b oid (AreSpaced base) (λ h. tt) (λ h. plan-spaced m clocks all turn b oid);
       within = λ oid. by-place m clocks all turn b oid (All (λ (q : Planned). q.tick < lines_tick own ((section_end m clocks all turn + 1) * turn_ns))) (λ h. All-nil (λ (q : Planned). q.tick < lines_tick own ((section_end m clocks all turn + 1) * turn_ns))) (plan-within m clocks all turn b oid kept);
-      begun = λ oid. elim (leb_tells n oid) as (λ _. AreBegun own base (pushed_of oid released feeds.waiting.items)) [
-        | inl p ↦ subst (AreBegun own base) (sym (others oid p.1)) tt
+      begun = λ oid. elim (leb_tells n oid) as (λ _. AreBegunBy homing own base (pushed_of oid released feeds.waiting.items)) [
+        | inl p ↦ subst (AreBegunBy homing own base) (sym (others oid p.1)) tt
         | inr p ↦ let h = p.1 in (given oid (omega (arith, h))).begun
       ];
       fits = λ oid. by-place m clocks all turn b oid (Fits freq base (steps_said oid false (pushed_of oid released feeds.waiting.items))) (λ h. subst (λ us. Fits freq base (steps_said oid false us) []) (sym (others oid h)) tt) (λ h. (given oid h).fits);
@@ -127,42 +127,42 @@ open-front m clocks all turn b goes time packed steppers feeds order parts more 
     none-left : (k : ℕ) → All (λ (q : Planned). next_turn feeds + lead ≤ lines_turn (clocks_at clocks b) q.tick) (drop k [])
     none-left k = subst (All (λ (q : Planned). next_turn feeds + lead ≤ lines_turn (clocks_at clocks b) q.tick)) (sym (drop_all k [] (omega arith))) (All-nil (λ (q : Planned). next_turn feeds + lead ≤ lines_turn (clocks_at clocks b) q.tick))
 
-    first-of : (ss : List StepperStream) (oid : ℕ) → oid < length ss → ss ≡ steppers → AreFirstOf (clocks_at clocks b) (board_at m b).freq oid (base-on clocks turn b) (sent_plan (kinds-on m clocks turn b oid) (clocks_at clocks b) (base-on clocks turn b) (parts ++ more)) (feed.of_stepper oid f.units)
+    first-of : (ss : List StepperStream) (oid : ℕ) → oid < length ss → ss ≡ steppers → AreFirstOfBy homing (clocks_at clocks b) (board_at m b).freq oid (base-on clocks turn b) (sent_plan (kinds-on homing m clocks turn b oid) (clocks_at clocks b) (base-on clocks turn b) (parts ++ more)) (feed.of_stepper oid f.units)
     first-of [] oid h is = absurd (omega arith)
-    first-of (s ∷ ss) oid h is = one-pushed (clocks_at clocks b) goes time packed steppers feeds order (board_at m b).freq (kinds-on m clocks turn b) (base-on clocks turn b) parts more released s oid (subst (λ (xs : List StepperStream). oid < length xs) is h) up none after set f
+    first-of (s ∷ ss) oid h is = one-pushed homing (clocks_at clocks b) goes time packed steppers feeds order (board_at m b).freq (kinds-on homing m clocks turn b) (base-on clocks turn b) parts more released s oid (subst (λ (xs : List StepperStream). oid < length xs) is h) up none after set f
 
-    rest-of : (ss : List StepperStream) (oid : ℕ) → oid < length ss → ss ≡ steppers → All (λ q. next_turn feeds + 250 ≤ lines_turn (clocks_at clocks b) q.tick) (drop (length (steps_said oid false (feed.of_stepper oid f.units))) (sent_plan (kinds-on m clocks turn b oid) (clocks_at clocks b) (base-on clocks turn b) (parts ++ more)))
+    rest-of : (ss : List StepperStream) (oid : ℕ) → oid < length ss → ss ≡ steppers → All (λ q. next_turn feeds + 250 ≤ lines_turn (clocks_at clocks b) q.tick) (drop (length (steps_said oid false (feed.of_stepper oid f.units))) (sent_plan (kinds-on homing m clocks turn b oid) (clocks_at clocks b) (base-on clocks turn b) (parts ++ more)))
     rest-of [] oid h is = absurd (omega arith)
-    rest-of (s ∷ ss) oid h is = one-rested (clocks_at clocks b) goes time packed steppers feeds order (board_at m b).freq (next_turn feeds + 250) (kinds-on m clocks turn b) (base-on clocks turn b) parts more released s oid (subst (λ (xs : List StepperStream). oid < length xs) is h) up none after set (kept-lasting (clocks_at clocks b) lasting) rested f
+    rest-of (s ∷ ss) oid h is = one-rested homing (clocks_at clocks b) goes time packed steppers feeds order (board_at m b).freq (next_turn feeds + 250) (kinds-on homing m clocks turn b) (base-on clocks turn b) parts more released s oid (subst (λ (xs : List StepperStream). oid < length xs) is h) up none after set (kept-lasting (clocks_at clocks b) lasting) rested f
 
 -- the releases that a front is completed by, on a board of a machine
-can-complete : (m : Machine) (clocks : List Clocks) (all : List Move) (turn b slots next next' count : ℕ) (rs : List Release) (waiting : List StepUnit) → slots ≡ (board_at m b).slots → next ≡ next' → IsOpenFront (clocks_at clocks b) (board_at m b).freq slots turn (section_end m clocks all turn) next count (plan_at (plans_on m clocks all turn b)) rs waiting → AreSentOn m clocks all turn b rs → CanComplete m clocks all turn b next' rs
-can-complete m clocks all turn b slots next next' count rs waiting is same front sent =
-    let r = completed (clocks_at clocks b) (board_at m b).freq slots turn (section_end m clocks all turn) next count (plan_at (plans_on m clocks all turn b)) rs waiting front in
+can-complete : (homing : Bool) (m : Machine) (clocks : List Clocks) (all : List Move) (turn b slots next next' count : ℕ) (rs : List Release) (waiting : List StepUnit) → slots ≡ (board_at m b).slots → next ≡ next' → IsOpenFrontBy homing (clocks_at clocks b) (board_at m b).freq slots turn (section_end m clocks all turn) next count (plan_at (plans_on m clocks all turn b)) rs waiting → AreSentOn m clocks all turn b rs → CanComplete homing m clocks all turn b next' rs
+can-complete homing m clocks all turn b slots next next' count rs waiting is same front sent =
+    let r = completed homing (clocks_at clocks b) (board_at m b).freq slots turn (section_end m clocks all turn) next count (plan_at (plans_on m clocks all turn b)) rs waiting front in
     record {
       more = r.0;
-      whole = subst (λ n. IsSection (clocks_at clocks b) (board_at m b).freq n (section_on m clocks all turn b (rs ++ r.0))) is r.1.whole;
+      whole = subst (λ n. IsWholeBy homing (clocks_at clocks b) (board_at m b).freq n (section_on m clocks all turn b (rs ++ r.0))) is r.1.whole;
       later = subst (λ n. All (λ (x : Release). n ≤ x.turn) r.0) same r.1.later;
       sent = sent;
     }
 
-board-open : (m : Machine) (clocks : List Clocks) (all : List Move) (turn b next : ℕ) (board : BoardStream) (parts more : List TimedPart) (released : List Release) → 250 ≤ turn → 1 ≤ (board_at m b).slots → set_of board ≡ start_set m clocks turn b → parts ++ more ≡ section_parts m all turn → turn_of board ≡ next → IsLasting (clocks_at clocks b)
-    → (goes_of board ≡ false → more ≡ []) → All (λ t. time_of board ≤ t.begin) more → ((k : ℕ) → k < count_of board → IsSetTo (board_at m b).freq (base-on clocks turn b) (kinds-on m clocks turn b k)) → ∥ AreRested (next + 250) (steppers_in board) ∥₁ → IsBoardOf board (kinds-on m clocks turn b) (base-on clocks turn b) parts released → ∥ AreSentOn m clocks all turn b released ∥₁ → ∥ CanComplete m clocks all turn b next released ∥₁
-board-open m clocks all turn b next board parts more released late slots set whole same lasting none after sets rested was sent =
+board-open : (homing : Bool) (m : Machine) (clocks : List Clocks) (all : List Move) (turn b next : ℕ) (board : BoardStream) (parts more : List TimedPart) (released : List Release) → 250 ≤ turn → 1 ≤ (board_at m b).slots → set_of board ≡ start_set m clocks turn b → parts ++ more ≡ section_parts m all turn → turn_of board ≡ next → IsLasting (clocks_at clocks b)
+    → (goes_of board ≡ false → more ≡ []) → All (λ t. time_of board ≤ t.begin) more → ((k : ℕ) → k < count_of board → IsSetTo homing (board_at m b).freq (base-on clocks turn b) (kinds-on homing m clocks turn b k)) → ∥ AreRested (next + 250) (steppers_in board) ∥₁ → IsBoardOf board (kinds-on homing m clocks turn b) (base-on clocks turn b) parts released → ∥ AreSentOn m clocks all turn b released ∥₁ → ∥ CanComplete homing m clocks all turn b next released ∥₁
+board-open homing m clocks all turn b next board parts more released late slots set whole same lasting none after sets rested was sent =
     let own = clocks_at clocks b in
     let lines : lines_of board ≡ own = ap (λ (x : BoardSet). x.clocks) set in
     let count : count_of board ≡ length (steppers_on b m.steppers) = ap (λ (x : BoardSet). x.count) set in
     let first : first_of board ≡ turn - 250 = ap (λ (x : BoardSet). x.first) set in
     let slots_are : slots_in board ≡ (board_at m b).slots = ap (λ (x : BoardSet). x.slots) set in
-    ∥∥₁_elim sent ∥∥₁_prop (λ own_sent. ∥∥₁_elim rested ∥∥₁_prop (λ own_rest. ∥∥₁_elim board.up_to ∥∥₁_prop (λ up. ∥∥₁_map was (λ f. can-complete m clocks all turn b (slots_in board) (turn_of board) next (length (steppers_on b m.steppers)) released board.feed.waiting.items slots_are same
-    (open-front m clocks all turn b board.goes board.time board.turn board.steppers.items board.feed board.order parts more released late (omega arith) first count whole lasting
+    ∥∥₁_elim sent ∥∥₁_prop (λ own_sent. ∥∥₁_elim rested ∥∥₁_prop (λ own_rest. ∥∥₁_elim board.up_to ∥∥₁_prop (λ up. ∥∥₁_map was (λ f. can-complete homing m clocks all turn b (slots_in board) (turn_of board) next (length (steppers_on b m.steppers)) released board.feed.waiting.items slots_are same
+    (open-front homing m clocks all turn b board.goes board.time board.turn board.steppers.items board.feed board.order parts more released late (omega arith) first count whole lasting
     (subst (λ (k : Clocks). AreUpTo k board.goes board.time board.turn board.steppers.items) lines up) none after sets (subst (λ n. AreRested (n + 250) (steppers_in board)) (sym same) own_rest)
-    (subst (λ (k : Clocks). AreFeeding board.steppers.items board.feed k board.order (kinds-on m clocks turn b) (base-on clocks turn b) parts released) lines f)) own_sent))))
+    (subst (λ (k : Clocks). AreFeeding board.steppers.items board.feed k board.order (kinds-on homing m clocks turn b) (base-on clocks turn b) parts released) lines f)) own_sent))))
 
-pub section-open : (m : Machine) (clocks : List Clocks) (turn : ℕ) (s : SectionStream) (moves all : List Move) (released : ℕ → List Release) (b : ℕ) → IsSectionOn m clocks turn false s moves released → IsFuture (is_taking (queue_of s)) moves all → AreAllRested (next_of s + 250) (boards_in s) → b < length m.boards → ∥ CanComplete m clocks all turn b (next_of s) (released b) ∥₁
-section-open m clocks turn s moves all released b on future rested h = go s.boards.items refl
+pub section-open : (m : Machine) (clocks : List Clocks) (turn : ℕ) (homing : Bool) (s : SectionStream) (moves all : List Move) (released : ℕ → List Release) (b : ℕ) → IsSectionOn m clocks turn homing s moves released → IsFuture (is_taking (queue_of s)) moves all → AreAllRested (next_of s + 250) (boards_in s) → b < length m.boards → ∥ CanComplete homing m clocks all turn b (next_of s) (released b) ∥₁
+section-open m clocks turn homing s moves all released b on future rested h = go s.boards.items refl
   where
-    go : (boards : List BoardStream) → boards ≡ s.boards.items → ∥ CanComplete m clocks all turn b (next_of s) (released b) ∥₁
+    go : (boards : List BoardStream) → boards ≡ s.boards.items → ∥ CanComplete homing m clocks all turn b (next_of s) (released b) ∥₁
     go [] is = absurd (let l = ap (λ (bs : List BoardStream). length bs) is in let n = on.boards in omega arith)
     go (x ∷ xs) is =
         let l = on.boards in
@@ -170,15 +170,15 @@ section-open m clocks turn s moves all released b on future rested h = go s.boar
         let one = get_or s.boards.items b x in
         let left = queue-left s.queue m.scv moves all on.section.parts on.section.queue future in
         let own = left.1 in
-        let set = set-of m clocks turn false s moves released b x on inside in
+        let set = set-of m clocks turn homing s moves released b x on inside in
         let time = on.section.boards.times b x inside in
         let slots = (on.machine.boards b no_board h).slots_low in
-        board-open m clocks all turn b (next_of s) one on.section.parts left.0 (released b) on.lead (omega arith) set (sym own.whole ∙ section-parts m clocks turn false s moves all released on) (s.turns b x inside).next (on.may_start b h).lasting
-        (λ over. own.none (s.ended.each b x inside over)) (subst (λ (t : ℕ). All (λ p. t ≤ p.begin) left.0) (sym time) own.after) (λ k lt. set-to m clocks turn s moves released b k on h) (rested.each b x inside) (on.section.boards.each b x inside) (section-sent m clocks turn s moves all released b on future h)
+        board-open homing m clocks all turn b (next_of s) one on.section.parts left.0 (released b) on.lead (omega arith) set (sym own.whole ∙ section-parts m clocks turn homing s moves all released on) (s.turns b x inside).next (on.may_start b h).lasting
+        (λ over. own.none (s.ended.each b x inside over)) (subst (λ (t : ℕ). All (λ p. t ≤ p.begin) left.0) (sym time) own.after) (λ k lt. set-to m clocks turn homing s moves released b k on h) (rested.each b x inside) (on.section.boards.each b x inside) (section-sent m clocks turn homing s moves all released b on future h)
 
 -- a section of which nothing was released yet
-pub section-begun : (m : Machine) (clocks : List Clocks) (all : List Move) (turn b : ℕ) → IsValidMachine m → 250 ≤ turn → IsLasting (clocks_at clocks b) → b < length m.boards → CanComplete m clocks all turn b (turn - 250) []
-section-begun m clocks all turn b valid late lasting h =
+pub section-begun : (homing : Bool) (m : Machine) (clocks : List Clocks) (all : List Move) (turn b : ℕ) → IsValidMachine m → 250 ≤ turn → IsLasting (clocks_at clocks b) → b < length m.boards → CanComplete homing m clocks all turn b (turn - 250) []
+section-begun homing m clocks all turn b valid late lasting h =
     let own = clocks_at clocks b in
     let base = base-on clocks turn b in
     let kept = kept-lasting own lasting in
@@ -187,7 +187,7 @@ section-begun m clocks all turn b valid late lasting h =
     let above = spaced-above base base (plan-on m clocks all turn b oid) (omega arith) (plan-spaced m clocks all turn b oid) k d l in
     let from = turn-from own turn _ kept above in
     omega (arith, from)) in
-    can-complete m clocks all turn b (board_at m b).slots (turn - 250) (turn - 250) (length (steppers_on b m.steppers)) [] [] refl refl (record {
+    can-complete homing m clocks all turn b (board_at m b).slots (turn - 250) (turn - 250) (length (steppers_on b m.steppers)) [] [] refl refl (record {
       slots_some = omega arith;
       none = other-plan m clocks all turn b;
       spaced = λ oid. by-place m clocks all turn b oid (AreSpaced base) (λ n. tt) (λ n. plan-spaced m clocks all turn b oid);

@@ -31,8 +31,8 @@ use Rattle.section_units.specs.Merged.{plan_at, section_of}
 use Rattle.section_units.specs.Sent.{AreLongest, AreSent, step_at}
 use Rattle.plan_types.specs.declared.plan.Window.{Window}
 use Rattle.plan_types.specs.Packing.{open_windows}
-use Rattle.section_units.specs.Plans.{AreSentOn, AreSentToOn, AreOnBoards, board_plans, plans_on}
-use Rattle.section_units.specs.Sections.{AreBegun, AreChained, BoardSection, IsSection, IsUnit, dir_after, of_stepper, pulse_of, section_steps, steps_said, ticks_meant}
+use Rattle.section_units.specs.Plans.{AreSentOn, AreSentToOn, AreOnBoardsBy, board_plans, plans_on}
+use Rattle.section_units.specs.Sections.{AreBegunBy, AreChained, BoardSection, IsUnit, IsWholeBy, dir_after, of_stepper, pulse_of, section_steps, steps_said, ticks_meant}
 use Rattle.section_stream.proofs.Adding.{added-before, added-least, board-from, turn-added}
 use Rattle.section_stream.proofs.Later.{sent-all}
 use Rattle.section_feed.specs.Boards.{IsLasting, MayTake}
@@ -175,9 +175,9 @@ chain-early clocks b bound oid up (u ∷ us) chain h =
     let own = map (pulse_of oid) (steps_of d (ticks_meant u)) in
     All-cons (IsEarly bound) u us (unit-early clocks b bound u (ticks_meant u) refl chain.1 (ticks-of bound oid d (ticks_meant u) (all-front P own (steps_said oid d us) h))) (chain-early clocks u.last bound oid d us chain.2 (all-back P own (steps_said oid d us) h))
 
-pub begun-early : (clocks : Clocks) (b bound oid : ℕ) (us : List StepUnit) → AreBegun clocks b us → All (λ (p : Pulse). p.tick < bound) (steps_said oid false us) → All (IsEarly bound) us
-begun-early clocks b bound oid [] begun h = All-nil (IsEarly bound)
-begun-early clocks b bound oid (u ∷ us) begun h =
+pub begun-early : (homing : Bool) (clocks : Clocks) (b bound oid : ℕ) (us : List StepUnit) → AreBegunBy homing clocks b us → All (λ (p : Pulse). p.tick < bound) (steps_said oid false us) → All (IsEarly bound) us
+begun-early homing clocks b bound oid [] begun h = All-nil (IsEarly bound)
+begun-early homing clocks b bound oid (u ∷ us) begun h =
     let d = dir_after false u.up in
     let P : Pulse → Type 0 = λ p. p.tick < bound in
     let own = map (pulse_of oid) (steps_of d (ticks_meant u)) in
@@ -201,9 +201,9 @@ chain-alike : (clocks new : Clocks) (b bound : ℕ) (us : List StepUnit) → Are
 chain-alike clocks new b bound [] alike early chain = tt
 chain-alike clocks new b bound (u ∷ us) alike early chain = (chain.0, unit-alike clocks new b bound u alike (All-head (IsEarly bound) u us early) chain.1, chain-alike clocks new u.last bound us alike (All-tail (IsEarly bound) u us early) chain.2)
 
-pub begun-alike : (clocks new : Clocks) (b bound : ℕ) (us : List StepUnit) → AreAlike clocks new bound → All (IsEarly bound) us → AreBegun clocks b us → AreBegun new b us
-begun-alike clocks new b bound [] alike early begun = tt
-begun-alike clocks new b bound (u ∷ us) alike early begun = (begun.0, begun.1, unit-alike clocks new b bound u alike (All-head (IsEarly bound) u us early) begun.2, chain-alike clocks new u.last bound us alike (All-tail (IsEarly bound) u us early) begun.3)
+pub begun-alike : (homing : Bool) (clocks new : Clocks) (b bound : ℕ) (us : List StepUnit) → AreAlike clocks new bound → All (IsEarly bound) us → AreBegunBy homing clocks b us → AreBegunBy homing new b us
+begun-alike homing clocks new b bound [] alike early begun = tt
+begun-alike homing clocks new b bound (u ∷ us) alike early begun = (begun.0, begun.1, unit-alike clocks new b bound u alike (All-head (IsEarly bound) u us early) begun.2, chain-alike clocks new u.last bound us alike (All-tail (IsEarly bound) u us early) begun.3)
 
 -- and their releases
 abbrev pub IsReleaseEarly : ℕ → Release → Type 0
@@ -253,19 +253,19 @@ within-stays clocks turn end line plan ok may before within = λ k d l. (
     ])
 
 -- a section on the board
-section-stays : (clocks : Clocks) (turn : ℕ) (line : Line) (freq slots : ℕ) (s : BoardSection) → s.start < turn → AreKept clocks → MayTake clocks turn line → ((oid : ℕ) → All (λ (q : Planned). q.tick < lines_tick clocks (turn * turn_ns)) (s.plan oid)) → IsSection clocks freq slots s → IsSection (added clocks (turn * turn_ns) line) freq slots s
-section-stays clocks turn line freq slots s before ok may plan i =
+section-stays : (homing : Bool) (clocks : Clocks) (turn : ℕ) (line : Line) (freq slots : ℕ) (s : BoardSection) → s.start < turn → AreKept clocks → MayTake clocks turn line → ((oid : ℕ) → All (λ (q : Planned). q.tick < lines_tick clocks (turn * turn_ns)) (s.plan oid)) → IsWholeBy homing clocks freq slots s → IsWholeBy homing (added clocks (turn * turn_ns) line) freq slots s
+section-stays homing clocks turn line freq slots s before ok may plan i =
     let from = turn * turn_ns in
     let bound = lines_tick clocks from in
     let new = added clocks from line in
     let e : lines_tick new (s.start * turn_ns) ≡ lines_tick clocks (s.start * turn_ns) = added-before clocks from line (s.start * turn_ns) (omega arith) in
     let alike : AreAlike clocks new bound = turns-alike clocks turn line ok may in
-    let each : (oid : ℕ) → All (IsEarly bound) (of_stepper oid (units_of s.releases)) = λ oid. begun-early clocks (lines_tick clocks (s.start * turn_ns)) bound oid (of_stepper oid (units_of s.releases)) (i.begun oid) (fits-before freq (lines_tick clocks (s.start * turn_ns)) bound (section_steps oid s) (s.plan oid) (i.fits oid) (plan oid)) in
+    let each : (oid : ℕ) → All (IsEarly bound) (of_stepper oid (units_of s.releases)) = λ oid. begun-early homing clocks (lines_tick clocks (s.start * turn_ns)) bound oid (of_stepper oid (units_of s.releases)) (i.begun oid) (fits-before freq (lines_tick clocks (s.start * turn_ns)) bound (section_steps oid s) (s.plan oid) (i.fits oid) (plan oid)) in
     let all = releases-early bound s.releases (of-each (IsEarly bound) (units_of s.releases) each) in
     record {
       spaced = λ oid. subst (λ t. AreSpaced t (s.plan oid)) (sym e) (i.spaced oid);
       within = λ oid. within-stays clocks turn s.end line (s.plan oid) ok may (plan oid) (i.within oid);
-      begun = λ oid. subst (λ t. AreBegun new t (of_stepper oid (units_of s.releases))) (sym e) (begun-alike clocks new (lines_tick clocks (s.start * turn_ns)) bound (of_stepper oid (units_of s.releases)) alike (each oid) (i.begun oid));
+      begun = λ oid. subst (λ t. AreBegunBy homing new t (of_stepper oid (units_of s.releases))) (sym e) (begun-alike homing clocks new (lines_tick clocks (s.start * turn_ns)) bound (of_stepper oid (units_of s.releases)) alike (each oid) (i.begun oid));
       fits = λ oid. subst (λ t. Fits freq t (section_steps oid s) (s.plan oid)) (sym e) (i.fits oid);
       whole = i.whole;
       from = i.from;
@@ -302,15 +302,15 @@ board-by m clocks moves start b turn k line By inside before lasting may all sta
     ] in
     subst (λ n. By (clocks_at now k) n (plans_on m now moves start k)) (sym (end-stays m clocks moves start b turn line inside before lasting may all)) (subst (By (clocks_at now k) end) (sym (plans-same m clocks moves start b turn k line inside before (kept-lasting own lasting) all)) here)
 
-pub boards-stay : (m : Machine) (clocks : List Clocks) (moves : List Move) (start b turn : ℕ) (line : Line) (boards : List (List Release)) → b < length clocks → start < turn → IsLasting (clocks_at clocks b) → MayTake (clocks_at clocks b) turn line → ArePlannedBefore m clocks moves start b turn → AreOnBoards m clocks moves start boards → AreOnBoards m (line_at clocks b turn line) moves start boards
-boards-stay m clocks moves start b turn line boards inside before lasting may all are = record {
+pub boards-stay : (homing : Bool) (m : Machine) (clocks : List Clocks) (moves : List Move) (start b turn : ℕ) (line : Line) (boards : List (List Release)) → b < length clocks → start < turn → IsLasting (clocks_at clocks b) → MayTake (clocks_at clocks b) turn line → ArePlannedBefore m clocks moves start b turn → AreOnBoardsBy homing m clocks moves start boards → AreOnBoardsBy homing m (line_at clocks b turn line) moves start boards
+boards-stay homing m clocks moves start b turn line boards inside before lasting may all are = record {
   count = are.count;
   each = λ k l.
       let rs = get_or boards k [] in
       let freq = (board_at m k).freq in
       let slots = (board_at m k).slots in
-      board-by m clocks moves start b turn k line (λ c end plans. IsSection c freq slots (section_of start end plans rs)) inside before lasting may all
-      (λ end plans early is. section-stays (clocks_at clocks b) turn line freq slots (section_of start end plans rs) before (kept-lasting (clocks_at clocks b) lasting) may early is) (are.each k l);
+      board-by m clocks moves start b turn k line (λ c end plans. IsWholeBy homing c freq slots (section_of start end plans rs)) inside before lasting may all
+      (λ end plans early is. section-stays homing (clocks_at clocks b) turn line freq slots (section_of start end plans rs) before (kept-lasting (clocks_at clocks b) lasting) may early is) (are.each k l);
 }
 
 -- what is sent of it

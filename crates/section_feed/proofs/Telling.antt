@@ -10,7 +10,7 @@ use Rattle.plan_types.specs.declared.plan.Move.{Move}
 use Rattle.plan_types.specs.Lines.{Clocks}
 use Rattle.step_feed.specs.Pacing.{Release, at_turn, batch_at}
 use Rattle.step_feed.specs.Units.{StepUnit}
-use Rattle.section_units.specs.Plans.{AreSentToOn, IsOnBoard}
+use Rattle.section_units.specs.Plans.{AreSentToOn, IsOnBoardBy}
 use Rattle.section_units.specs.Sections.{AreBefore}
 use Rattle.section_feed.specs.On.{CanComplete, IsToldBy}
 
@@ -81,13 +81,13 @@ one-each P n x here rest = record { boards = x ∷ rest.boards; count = ap (λ k
     at zero h = here
     at (suc b) h = rest.each b (omega arith)
 
-has-each : (P : ℕ → List Release → Type 0) (n : ℕ) → ((b : ℕ) → b < n → ∥ ((x : List Release) × P b x) ∥₁) → ∥ HasEach P n ∥₁
+pub has-each : (P : ℕ → List Release → Type 0) (n : ℕ) → ((b : ℕ) → b < n → ∥ ((x : List Release) × P b x) ∥₁) → ∥ HasEach P n ∥₁
 has-each P zero all = merely (record { boards = []; count = refl; each = λ b h. absurd (omega arith) })
 has-each P (suc n) all = ∥∥₁_elim (all 0 (omega arith)) ∥∥₁_prop (λ x. ∥∥₁_map (has-each (λ b. P (suc b)) n (λ b h. all (suc b) (omega arith))) (one-each P n x.0 x.1))
 
-pub told-whole : (m : Machine) (clocks : List Clocks) (moves : List Move) (turn next : ℕ) (released : ℕ → List Release) → ((b : ℕ) → b < length m.boards → ∥ CanComplete m clocks moves turn b next (released b) ∥₁) → ∥ ((boards : List (List Release)) × IsToldBy m clocks moves turn next released boards) ∥₁
-told-whole m clocks moves turn next released can =
-    let P : ℕ → List Release → Type 0 = λ b x. IsOnBoard m clocks moves turn b x × ((k : ℕ) → k < next → batch_at k x ≡ batch_at k (released b)) × AreSentToOn m clocks moves turn b next x in
+pub told-whole : (homing : Bool) (m : Machine) (clocks : List Clocks) (moves : List Move) (turn next : ℕ) (released : ℕ → List Release) → ((b : ℕ) → b < length m.boards → ∥ CanComplete homing m clocks moves turn b next (released b) ∥₁) → ∥ ((boards : List (List Release)) × IsToldBy homing m clocks moves turn next released boards) ∥₁
+told-whole homing m clocks moves turn next released can =
+    let P : ℕ → List Release → Type 0 = λ b x. IsOnBoardBy homing m clocks moves turn b x × ((k : ℕ) → k < next → batch_at k x ≡ batch_at k (released b)) × AreSentToOn m clocks moves turn b next x in
     ∥∥₁_map (has-each P (length m.boards) (λ b h. ∥∥₁_map (can b h) (λ c. (
       released b ++ c.more,
       (c.whole, λ k early. batch-join k (released b) c.more ∙ ap (λ us. batch_at k (released b) ++ us) (batch-before k next c.more early c.later) ∙ append-nil (batch_at k (released b)), record { sent = released b; later = c.more; are = refl; behind = c.later; is = c.sent }),

@@ -1,5 +1,5 @@
 -- Boards that have released all units of a section, and until when its steps are.
-use Rattle.std.specs.Prelude.{ℕ, ◌*◌, ◌<◌, List, All, slice_index_or}
+use Rattle.std.specs.Prelude.{ℕ, ◌*◌, ◌<◌, Bool, List, All, slice_index_or}
 use Rattle.plan_types.specs.Clock.{turn_ns}
 use Rattle.plan_types.specs.Lines.{lines_tick}
 use Rattle.plan_types.specs.Sections.{TimedPart}
@@ -13,7 +13,7 @@ use Rattle.section_feed.specs.Wholes.{IsReleased, IsSetTo, last_among, sent_plan
 
 -- a board has released all units of the parts that it was given
 abbrev pub HasReleased : BoardStream → Type 0
-HasReleased b = (freq : ℕ) (kinds : ℕ → StepperKind) (base : ℕ) (parts : List TimedPart) (released : List Release) → ((k : ℕ) → k < count_of b → IsSetTo freq base (kinds k)) → IsBoardOf b kinds base parts released → ∥ IsReleased (lines_of b) freq (slots_in b) (first_of b) base kinds (count_of b) parts released ∥₁
+HasReleased b = (homing : Bool) (freq : ℕ) (kinds : ℕ → StepperKind) (base : ℕ) (parts : List TimedPart) (released : List Release) → ((k : ℕ) → k < count_of b → IsSetTo homing freq base (kinds k)) → IsBoardOf b kinds base parts released → ∥ IsReleased homing (lines_of b) freq (slots_in b) (first_of b) base kinds (count_of b) parts released ∥₁
 
 -- the steppers of a board, and the latest turn of the steps that they packed last, 0 for none
 abbrev pub steppers_in : BoardStream → List StepperStream

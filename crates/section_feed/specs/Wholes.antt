@@ -1,5 +1,5 @@
 -- A board that has released all units of a section.
-use Rattle.std.specs.Prelude.{◌≡◌, ℕ, ◌*◌, ◌<◌, ◌≤◌, List, [], Option, Some, None, slice_index_or, length, map}
+use Rattle.std.specs.Prelude.{◌≡◌, ℕ, ◌*◌, ◌<◌, ◌≤◌, Bool, List, [], Option, Some, None, slice_index_or, length, map}
 use Rattle.plan_types.specs.declared.plan.Planned.{Planned}
 use Rattle.plan_types.specs.Clock.{turn_ns}
 use Rattle.plan_types.specs.Lines.{Clocks, lines_tick, lines_turn}
@@ -7,7 +7,8 @@ use Rattle.plan_types.specs.Plan.{max_error, planned_steps}
 use Rattle.plan_types.specs.Sections.{TimedPart, latest}
 use Rattle.step_feed.specs.Units.{StepUnit}
 use Rattle.step_feed.specs.Pacing.{ArePaced, Release, units_of}
-use Rattle.section_units.specs.Packed.{ArePacked}
+use Rattle.section_units.specs.Packed.{ArePackedBy}
+use Rattle.section_units.specs.Sections.{set_to}
 use Rattle.section_units.specs.Units.{as_sent}
 use Rattle.section_stream.specs.declared.stepper.StepperStream.{StepperStream}
 use Rattle.section_stream.specs.Fronts.{plan_of}
@@ -20,23 +21,23 @@ use Rattle.section_feed.specs.Ordering.{AreInOrder, of_stepper}
 abbrev pub sent_plan : StepperKind → Clocks → ℕ → List TimedPart → List Planned
 sent_plan kind clocks base parts = as_sent kind.inverted (planned_steps kind.gear clocks (segments_for kind.drive parts) base)
 
--- a stepper whose clock is set to a tick, on a board of this frequency
-pub record IsSetTo (freq base : ℕ) (kind : StepperKind) : Type 0 where
-  pub reset : kind.reset ≡ Some base
+-- a stepper whose clock is set to a tick, or in a section that homes is not set, on a board of this frequency
+pub record IsSetTo (homing : Bool) (freq base : ℕ) (kind : StepperKind) : Type 0 where
+  pub reset : kind.reset ≡ set_to homing base
   pub early : kind.early ≡ max_error freq
 
 -- a stepper has given all units of the parts that it was given
 abbrev pub IsDone : StepperStream → Type 0
-IsDone s = (freq base : ℕ) (parts : List TimedPart) (out : List Planned) (pieces : List Piece) (given : List StepUnit) → (kind_of s).reset ≡ Some base → (kind_of s).early ≡ max_error freq → IsStepperOf s base parts out pieces given → ArePacked (clocks_of s) freq (kind_of s).oid base (as_sent (kind_of s).inverted (plan_of s base parts)) given
+IsDone s = (homing : Bool) (freq base : ℕ) (parts : List TimedPart) (out : List Planned) (pieces : List Piece) (given : List StepUnit) → (kind_of s).reset ≡ set_to homing base → (kind_of s).early ≡ max_error freq → IsStepperOf s base parts out pieces given → ArePackedBy homing (clocks_of s) freq (kind_of s).oid base (as_sent (kind_of s).inverted (plan_of s base parts)) given
 
 -- all of them have
 pub record AreDone (steppers : List StepperStream) : Type 0 where
   pub each : (k : ℕ) (d : StepperStream) → k < length steppers → IsDone (slice_index_or steppers k d)
 
--- The units of these parts of a section on a board are those of its steppers' plans, in their order, and each is released in its
--- turn.
-pub record IsReleased (clocks : Clocks) (freq slots first base : ℕ) (kinds : ℕ → StepperKind) (count : ℕ) (parts : List TimedPart) (released : List Release) : Type 0 where
-  pub packed : (oid : ℕ) → oid < count → ArePacked clocks freq oid base (sent_plan (kinds oid) clocks base parts) (of_stepper oid (units_of released))
+-- The units of these parts of a section, which homes or not, on a board are those of its steppers' plans, in their order, and each is
+-- released in its turn.
+pub record IsReleased (homing : Bool) (clocks : Clocks) (freq slots first base : ℕ) (kinds : ℕ → StepperKind) (count : ℕ) (parts : List TimedPart) (released : List Release) : Type 0 where
+  pub packed : (oid : ℕ) → oid < count → ArePackedBy homing clocks freq oid base (sent_plan (kinds oid) clocks base parts) (of_stepper oid (units_of released))
   pub others : (oid : ℕ) → count ≤ oid → of_stepper oid (units_of released) ≡ []
   pub in_order : AreInOrder 0 (units_of released)
   pub paced : ArePaced clocks slots first [] released

@@ -14,7 +14,7 @@ ghost use Rattle.plan_types.specs.Speeds.{greatest_speeds};
 ghost use Rattle.step_feed.specs.Pacing.{Release, at_turn, batch_at};
 ghost use Rattle.step_feed.specs.Units.{StepUnit};
 ghost use Rattle.section_units.specs.Sections.{AreBefore};
-ghost use Rattle.section_units.specs.Plans.{AreOnBoards, AreSentOn, AreSentToOn, IsFrontOn, IsOnBoard};
+ghost use Rattle.section_units.specs.Plans.{AreOnBoardsBy, AreSentOn, AreSentToOn, IsFrontOnBy, IsOnBoardBy};
 ghost use Rattle.section_stream.specs.Looking.{IsFuture};
 ghost use Rattle.section_stream.specs.Steppers.{StepperKind};
 ghost use Rattle.section_feed.specs.declared.section.SectionStream.{SectionStream};
@@ -32,9 +32,9 @@ ghost use Rattle.section_feed.specs.Wholes.{IsReleased, IsSetTo, sent_plan};
 
 /// The law of released units: those of a board are the first ones of the section's, whatever moves are pushed later.
 pub fn sections_stay()
-    ensures { (s : SectionStream) (scv : ℕ) (moves all : List Move) (kinds : ℕ → ℕ → StepperKind) (base : ℕ → ℕ) (released : ℕ → List Release) (b freq : ℕ) (d : BoardSet) → IsSectionOf s scv moves kinds base released → IsFuture (is_taking (queue_of s)) moves all → b < boards_of s →
-        ((k : ℕ) → k < (slice_index_or (sets_of s) b d).count → IsSetTo freq (base b) (kinds b k)) →
-        ∥ IsBoardFront (slice_index_or (sets_of s) b d).clocks freq (slice_index_or (sets_of s) b d).slots (slice_index_or (sets_of s) b d).first (base b) (kinds b) (slice_index_or (sets_of s) b d).count (parts_of s scv all) (released b) ∥₁ }
+    ensures { (homing : Bool) (s : SectionStream) (scv : ℕ) (moves all : List Move) (kinds : ℕ → ℕ → StepperKind) (base : ℕ → ℕ) (released : ℕ → List Release) (b freq : ℕ) (d : BoardSet) → IsSectionOf s scv moves kinds base released → IsFuture (is_taking (queue_of s)) moves all → b < boards_of s →
+        ((k : ℕ) → k < (slice_index_or (sets_of s) b d).count → IsSetTo homing freq (base b) (kinds b k)) →
+        ∥ IsBoardFront homing (slice_index_or (sets_of s) b d).clocks freq (slice_index_or (sets_of s) b d).slots (slice_index_or (sets_of s) b d).first (base b) (kinds b) (slice_index_or (sets_of s) b d).count (parts_of s scv all) (released b) ∥₁ }
 {}
 
 /// The law of a section of which all moves were drawn: it ends when they end; where its boards have released all, these are the units
@@ -43,9 +43,9 @@ pub fn sections_stay()
 pub fn sections_end()
     ensures time { (s : SectionStream) (scv : ℕ) (moves : List Move) (kinds : ℕ → ℕ → StepperKind) (base : ℕ → ℕ) (released : ℕ → List Release) → IsSectionOf s scv moves kinds base released → IsDrawn (queue_of s) →
         drawn_to (queue_of s) ≡ end_time (cruise_in (queue_of s)) moves (greatest_speeds moves scv) (begin_in (queue_of s)) }
-    ensures units { (s : SectionStream) (scv : ℕ) (moves : List Move) (kinds : ℕ → ℕ → StepperKind) (base : ℕ → ℕ) (released : ℕ → List Release) (b freq : ℕ) (d : BoardSet) → IsSectionOf s scv moves kinds base released → IsDrawn (queue_of s) → AreReleased (boards_in s) → b < boards_of s →
-        ((k : ℕ) → k < (slice_index_or (sets_of s) b d).count → IsSetTo freq (base b) (kinds b k)) →
-        ∥ IsReleased (slice_index_or (sets_of s) b d).clocks freq (slice_index_or (sets_of s) b d).slots (slice_index_or (sets_of s) b d).first (base b) (kinds b) (slice_index_or (sets_of s) b d).count (parts_of s scv moves) (released b) ∥₁ }
+    ensures units { (homing : Bool) (s : SectionStream) (scv : ℕ) (moves : List Move) (kinds : ℕ → ℕ → StepperKind) (base : ℕ → ℕ) (released : ℕ → List Release) (b freq : ℕ) (d : BoardSet) → IsSectionOf s scv moves kinds base released → IsDrawn (queue_of s) → AreReleased (boards_in s) → b < boards_of s →
+        ((k : ℕ) → k < (slice_index_or (sets_of s) b d).count → IsSetTo homing freq (base b) (kinds b k)) →
+        ∥ IsReleased homing (slice_index_or (sets_of s) b d).clocks freq (slice_index_or (sets_of s) b d).slots (slice_index_or (sets_of s) b d).first (base b) (kinds b) (slice_index_or (sets_of s) b d).count (parts_of s scv moves) (released b) ∥₁ }
     ensures within { (s : SectionStream) (scv : ℕ) (moves : List Move) (kinds : ℕ → ℕ → StepperKind) (base : ℕ → ℕ) (released : ℕ → List Release) (b turn oid later : ℕ) (d : BoardSet) → IsSectionOf s scv moves kinds base released → IsDrawn (queue_of s) → ArePast turn (boards_in s) → b < boards_of s →
         oid < (slice_index_or (sets_of s) b d).count → turn < later → All (λ q. q.tick < lines_tick (slice_index_or (sets_of s) b d).clocks (later * turn_ns)) (sent_plan (kinds b oid) (slice_index_or (sets_of s) b d).clocks (base b) (parts_of s scv moves)) }
     ensures end { (m : Machine) (clocks : List Clocks) (turn : ℕ) (homing : Bool) (s : SectionStream) (moves : List Move) (released : ℕ → List Release) (e : ℕ) → IsSectionOn m clocks turn homing s moves released → IsDrawn (queue_of s) → ArePast e (boards_in s) →
@@ -58,26 +58,26 @@ pub fn sections_are_laid()
         latest (for_each_stepper m (stepper_end m clocks moves turn)) < next_of s + most_ahead }
 {}
 
-/// The law of a machine's sections: what a section of moves has released on a board are the first units of its plan there, whatever
+/// The law of a machine's sections: what a section has released on a board are the first units of its plan there, whatever
 /// moves are pushed later, and such as a board is sent: in order, with triples that cover as many steps as one can; and once it ended
 /// and all is released, these are the units of the whole section.
 pub fn sections_follow_plans()
-    ensures front { (m : Machine) (clocks : List Clocks) (turn : ℕ) (s : SectionStream) (moves all : List Move) (released : ℕ → List Release) (b : ℕ) → IsSectionOn m clocks turn false s moves released → IsFuture (is_taking (queue_of s)) moves all →
-        b < length m.boards → ∥ IsFrontOn m clocks all turn b (released b) ∥₁ }
-    ensures sent { (m : Machine) (clocks : List Clocks) (turn : ℕ) (s : SectionStream) (moves all : List Move) (released : ℕ → List Release) (b : ℕ) → IsSectionOn m clocks turn false s moves released → IsFuture (is_taking (queue_of s)) moves all →
+    ensures front { (m : Machine) (clocks : List Clocks) (turn : ℕ) (homing : Bool) (s : SectionStream) (moves all : List Move) (released : ℕ → List Release) (b : ℕ) → IsSectionOn m clocks turn homing s moves released → IsFuture (is_taking (queue_of s)) moves all →
+        b < length m.boards → ∥ IsFrontOnBy homing m clocks all turn b (released b) ∥₁ }
+    ensures sent { (m : Machine) (clocks : List Clocks) (turn : ℕ) (homing : Bool) (s : SectionStream) (moves all : List Move) (released : ℕ → List Release) (b : ℕ) → IsSectionOn m clocks turn homing s moves released → IsFuture (is_taking (queue_of s)) moves all →
         b < length m.boards → ∥ AreSentOn m clocks all turn b (released b) ∥₁ }
-    ensures whole { (m : Machine) (clocks : List Clocks) (turn : ℕ) (s : SectionStream) (moves : List Move) (released : ℕ → List Release) (e b : ℕ) → IsSectionOn m clocks turn false s moves released → IsDrawn (queue_of s) → AreReleased (boards_in s) → ArePast e (boards_in s) →
-        e ≡ max (drawn_to (queue_of s) / turn_ns) (last_of (boards_in s)) → b < length m.boards → ∥ IsOnBoard m clocks moves turn b (released b) ∥₁ }
+    ensures whole { (m : Machine) (clocks : List Clocks) (turn : ℕ) (homing : Bool) (s : SectionStream) (moves : List Move) (released : ℕ → List Release) (e b : ℕ) → IsSectionOn m clocks turn homing s moves released → IsDrawn (queue_of s) → AreReleased (boards_in s) → ArePast e (boards_in s) →
+        e ≡ max (drawn_to (queue_of s) / turn_ns) (last_of (boards_in s)) → b < length m.boards → ∥ IsOnBoardBy homing m clocks moves turn b (released b) ∥₁ }
 {}
 
-/// The law of open sections: what a section of moves has released on a board becomes the whole section of any moves that it may
+/// The law of open sections: what a section has released on a board becomes the whole section of any moves that it may
 /// still have, with releases in the next turn or later, where what its steppers have not given is due 250 turns behind that turn or
 /// later; so does a section that has released nothing, 250 turns before its start. And it ends when its settled moves do, or later;
 /// where something of it is left, in the turn up to which its boards are packed, or later.
 pub fn sections_can_be_completed()
-    ensures going { (m : Machine) (clocks : List Clocks) (turn : ℕ) (s : SectionStream) (moves all : List Move) (released : ℕ → List Release) (b : ℕ) → IsSectionOn m clocks turn false s moves released → IsFuture (is_taking (queue_of s)) moves all → AreAllRested (next_of s + 250) (boards_in s) →
-        b < length m.boards → ∥ CanComplete m clocks all turn b (next_of s) (released b) ∥₁ }
-    ensures begun { (m : Machine) (clocks : List Clocks) (all : List Move) (turn b : ℕ) → IsValidMachine m → 250 ≤ turn → IsLasting (clocks_at clocks b) → b < length m.boards → CanComplete m clocks all turn b (turn - 250) [] }
+    ensures going { (m : Machine) (clocks : List Clocks) (turn : ℕ) (homing : Bool) (s : SectionStream) (moves all : List Move) (released : ℕ → List Release) (b : ℕ) → IsSectionOn m clocks turn homing s moves released → IsFuture (is_taking (queue_of s)) moves all → AreAllRested (next_of s + 250) (boards_in s) →
+        b < length m.boards → ∥ CanComplete homing m clocks all turn b (next_of s) (released b) ∥₁ }
+    ensures begun { (homing : Bool) (m : Machine) (clocks : List Clocks) (all : List Move) (turn b : ℕ) → IsValidMachine m → 250 ≤ turn → IsLasting (clocks_at clocks b) → b < length m.boards → CanComplete homing m clocks all turn b (turn - 250) [] }
     ensures later { (m : Machine) (clocks : List Clocks) (turn : ℕ) (homing : Bool) (s : SectionStream) (moves all : List Move) (released : ℕ → List Release) → IsSectionOn m clocks turn homing s moves released → IsFuture (is_taking (queue_of s)) moves all →
         settled_to (queue_of s) / turn_ns ≤ section_end m clocks all turn }
     ensures left { (m : Machine) (clocks : List Clocks) (turn : ℕ) (homing : Bool) (s : SectionStream) (moves all : List Move) (released : ℕ → List Release) (k : ℕ) → IsSectionOn m clocks turn homing s moves released → IsFuture (is_taking (queue_of s)) moves all →
@@ -88,8 +88,8 @@ pub fn sections_can_be_completed()
 /// whole sections on all boards, batch by batch. And the batch of a turn behind other releases is told as it was given, and the earlier
 /// ones as before.
 pub fn open_sections_are_told_whole()
-    ensures boards { (m : Machine) (clocks : List Clocks) (moves : List Move) (turn next : ℕ) (released : ℕ → List Release) → ((b : ℕ) → b < length m.boards → ∥ CanComplete m clocks moves turn b next (released b) ∥₁) →
-        ∥ ((boards : List (List Release)) × IsToldBy m clocks moves turn next released boards) ∥₁ }
+    ensures boards { (homing : Bool) (m : Machine) (clocks : List Clocks) (moves : List Move) (turn next : ℕ) (released : ℕ → List Release) → ((b : ℕ) → b < length m.boards → ∥ CanComplete homing m clocks moves turn b next (released b) ∥₁) →
+        ∥ ((boards : List (List Release)) × IsToldBy homing m clocks moves turn next released boards) ∥₁ }
     ensures here { (next : ℕ) (released : List Release) (units : List StepUnit) → AreBefore next released → batch_at next (released ++ at_turn next units) ≡ units }
     ensures earlier { (k next : ℕ) (released : List Release) (units : List StepUnit) → k < next → batch_at k (released ++ at_turn next units) ≡ batch_at k released }
     ensures before { (next : ℕ) (released : List Release) (units : List StepUnit) → AreBefore next released → AreBefore (next + 1) (released ++ at_turn next units) }
@@ -101,10 +101,10 @@ pub fn open_sections_are_told_whole()
 pub fn lines_may_be_added()
     ensures section { (m : Machine) (clocks : List Clocks) (start : ℕ) (homing : Bool) (old new : SectionStream) (moves : List Move) (released : ℕ → List Release) (b turn : ℕ) (line : Line) → IsSectionOn m clocks start homing old moves released →
         b < length m.boards → start < turn → MayTake (clocks_at clocks b) turn line → HasLine b turn line old new → IsSectionOn m (line_at clocks b turn line) start homing new moves released }
-    ensures front { (m : Machine) (clocks : List Clocks) (start : ℕ) (old new : SectionStream) (moves all : List Move) (released : ℕ → List Release) (b turn a : ℕ) (line : Line) → IsSectionOn m clocks start false old moves released → IsFuture (is_taking (queue_of old)) moves all →
-        b < length m.boards → start < turn → MayTake (clocks_at clocks b) turn line → HasLine b turn line old new → a < length m.boards → ∥ IsFrontOn m (line_at clocks b turn line) all start a (released a) ∥₁ }
-    ensures going { (m : Machine) (clocks : List Clocks) (start : ℕ) (old new : SectionStream) (moves all : List Move) (released : ℕ → List Release) (b turn a : ℕ) (line : Line) → IsSectionOn m clocks start false old moves released → IsFuture (is_taking (queue_of old)) moves all →
-        AreAllRested (next_of old + 250) (boards_in old) → b < length m.boards → start < turn → next_of old + 250 < turn → MayTake (clocks_at clocks b) turn line → HasLine b turn line old new → a < length m.boards → ∥ CanComplete m (line_at clocks b turn line) all start a (next_of old) (released a) ∥₁ }
+    ensures front { (m : Machine) (clocks : List Clocks) (start : ℕ) (homing : Bool) (old new : SectionStream) (moves all : List Move) (released : ℕ → List Release) (b turn a : ℕ) (line : Line) → IsSectionOn m clocks start homing old moves released → IsFuture (is_taking (queue_of old)) moves all →
+        b < length m.boards → start < turn → MayTake (clocks_at clocks b) turn line → HasLine b turn line old new → a < length m.boards → ∥ IsFrontOnBy homing m (line_at clocks b turn line) all start a (released a) ∥₁ }
+    ensures going { (m : Machine) (clocks : List Clocks) (start : ℕ) (homing : Bool) (old new : SectionStream) (moves all : List Move) (released : ℕ → List Release) (b turn a : ℕ) (line : Line) → IsSectionOn m clocks start homing old moves released → IsFuture (is_taking (queue_of old)) moves all →
+        AreAllRested (next_of old + 250) (boards_in old) → b < length m.boards → start < turn → next_of old + 250 < turn → MayTake (clocks_at clocks b) turn line → HasLine b turn line old new → a < length m.boards → ∥ CanComplete homing m (line_at clocks b turn line) all start a (next_of old) (released a) ∥₁ }
 {}
 
 /// The law of lasting lines: a section may go on by a single valid line, and by lines by which it may, with one more that holds from
@@ -123,8 +123,8 @@ pub fn plans_stay()
         latest (for_each_stepper m (stepper_end m (line_at clocks b turn line) moves start)) ≡ latest (for_each_stepper m (stepper_end m clocks moves start)) }
     ensures end { (m : Machine) (clocks : List Clocks) (moves : List Move) (start b turn : ℕ) (line : Line) → b < length clocks → start < turn → IsLasting (clocks_at clocks b) → MayTake (clocks_at clocks b) turn line → ArePlannedBefore m clocks moves start b turn →
         section_end m (line_at clocks b turn line) moves start ≡ section_end m clocks moves start }
-    ensures boards { (m : Machine) (clocks : List Clocks) (moves : List Move) (start b turn : ℕ) (line : Line) (boards : List (List Release)) → b < length clocks → start < turn → IsLasting (clocks_at clocks b) → MayTake (clocks_at clocks b) turn line → ArePlannedBefore m clocks moves start b turn →
-        AreOnBoards m clocks moves start boards → AreOnBoards m (line_at clocks b turn line) moves start boards }
+    ensures boards { (homing : Bool) (m : Machine) (clocks : List Clocks) (moves : List Move) (start b turn : ℕ) (line : Line) (boards : List (List Release)) → b < length clocks → start < turn → IsLasting (clocks_at clocks b) → MayTake (clocks_at clocks b) turn line → ArePlannedBefore m clocks moves start b turn →
+        AreOnBoardsBy homing m clocks moves start boards → AreOnBoardsBy homing m (line_at clocks b turn line) moves start boards }
     ensures sent { (m : Machine) (clocks : List Clocks) (moves : List Move) (start b turn k next : ℕ) (line : Line) (rs : List Release) → b < length clocks → start < turn → IsLasting (clocks_at clocks b) → MayTake (clocks_at clocks b) turn line → ArePlannedBefore m clocks moves start b turn →
         AreSentToOn m clocks moves start k next rs → AreSentToOn m (line_at clocks b turn line) moves start k next rs }
     ensures before { (m : Machine) (clocks : List Clocks) (moves : List Move) (start b turn : ℕ) → IsLasting (clocks_at clocks b) → latest (for_each_stepper m (stepper_end m clocks moves start)) < turn →

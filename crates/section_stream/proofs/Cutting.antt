@@ -1,5 +1,5 @@
 -- The triples of a stepper that is planned turn by turn cover as many steps as one can.
-use Rattle.std.proofs.Common.{◌≡◌, ℕ, ◌+◌, ◌-◌, ◌*◌, ◌<◌, ◌≤◌, zero, suc, Bool, Option, Some, None, List, [], ◌∷◌, ◌++◌, All, length, drop, get_or, arith, refl, ap, sym, ◌∙◌, append_assoc, length-append, subst}
+use Rattle.std.proofs.Common.{◌≡◌, ℕ, ◌+◌, ◌*◌, ◌<◌, ◌≤◌, zero, suc, Bool, Option, Some, None, List, [], ◌∷◌, ◌++◌, All, length, drop, get_or, arith, refl, ap, sym, ◌∙◌, append_assoc, length-append, subst}
 use Rattle.std.proofs.lemmas.List.{append-nil, length-drop}
 use Rattle.std.proofs.lemmas.List.Elements.{All-append, All-nil}
 use Rattle.plan_types.specs.Clock.{tick, turn_ns}
@@ -16,7 +16,7 @@ use Rattle.step_pack.specs.declared.Placed.{Placed}
 use Rattle.step_pack.specs.Placing.{PacksPlaced}
 use Rattle.step_pack.proofs.Piecewise.{length-windows, piece_of}
 use Rattle.msg_code.specs.declared.unit.Unit.{Unit as StepUnit}
-use Rattle.section_units.specs.Packed.{end_of_plan, end_of_units}
+use Rattle.section_units.specs.Packed.{end_of_units}
 use Rattle.section_units.specs.Sent.{AreLongest, AreLongestOf}
 use Rattle.section_units.specs.Units.{as_sent, first_up, units_on, up_after}
 use Rattle.section_units.proofs.Longest.{count_in, longest_front, longest_join, piece_longest}
@@ -25,7 +25,7 @@ use Rattle.section_stream.specs.declared.stepper.StepperStream.{StepperStream}
 use Rattle.section_stream.specs.Fronts.{plan_of}
 use Rattle.section_stream.specs.Packs.{held_of, is_inverted, waiting_of}
 use Rattle.section_stream.specs.Pieces.{AreInTurns, ArePieces, Piece, last_step, last_turn, placed_in, steps_in}
-use Rattle.section_stream.specs.Plans.{gear_of, lines_of, segments_for}
+use Rattle.section_stream.specs.Plans.{lines_of, segments_for}
 use Rattle.section_stream.specs.Steppers.{IsCaughtUp, IsStepperOf, StepperKind, clocks_of, kind_of, known_of}
 use Rattle.section_stream.proofs.Adding.{added-before, board-from}
 use Rattle.section_stream.proofs.Later.{sent-all, turn-from}
@@ -33,7 +33,6 @@ use Rattle.section_stream.proofs.Leaving.{behind-alike}
 use Rattle.section_stream.proofs.Making.{end-is, sent-append}
 use Rattle.section_stream.proofs.Packed.{pieces-on, steps-more, units-more}
 use Rattle.section_stream.proofs.Staying.{parts-front}
-use Rattle.step_ticks.specs.Streaming.{known_end}
 
 ticks-up : (clocks : Clocks) (j k : ℕ) → j ≤ k → lines_tick clocks (j * turn_ns) ≤ lines_tick clocks (k * turn_ns)
 ticks-up clocks j k h = tick_over-mono clocks.first 0 clocks.held (j * turn_ns) (k * turn_ns) (omega arith)
@@ -154,10 +153,10 @@ parted s base parts more out pieces given are later =
     }
 
 -- the units that a stepper has given, by its whole plan, whatever parts follow those that it was given
-pub given-longest : (s : StepperStream) (freq base from turn : ℕ) (parts more : List TimedPart) (out : List Planned) (pieces : List Piece) (given : List StepUnit) → (kind_of s).reset ≡ Some base → (kind_of s).early ≡ max_error freq → IsStepperOf s base parts out pieces given
+pub given-longest : (s : StepperStream) (freq base from turn : ℕ) (parts more : List TimedPart) (out : List Planned) (pieces : List Piece) (given : List StepUnit) → (kind_of s).early ≡ max_error freq → IsStepperOf s base parts out pieces given
     → All (λ t. known_of s ≤ tick (clocks_of s).first t.begin) more → AreKept (clocks_of s) → IsCaughtUp turn s → AreInTurns (clocks_of s) from pieces → last_turn from pieces ≤ turn
     → AreLongestOf (clocks_of s) freq base (as_sent (kind_of s).inverted (plan_of s base (parts ++ more))) given
-given-longest s freq base from turn parts more out pieces given reset early are later kept caught turns past =
+given-longest s freq base from turn parts more out pieces given early are later kept caught turns past =
     let clocks = lines_of s.steps in
     let oid = s.pack.oid in
     let waiting = waiting_of s.pack in
@@ -165,9 +164,8 @@ given-longest s freq base from turn parts more out pieces given reset early are 
     let p = parted s base parts more out pieces given are later in
     let plan = as_sent (is_inverted s.pack) (plan_of s base (parts ++ more)) in
     let one : ArePieces (max_error freq) base pieces = subst (λ x. ArePieces x base pieces) early packed.packed in
-    let all = pieces-longest clocks oid (Some base) None (max_error freq) base from turn pieces p.rest kept one turns past (p.late turn kept caught) in
-    let own : units_on clocks oid (Some base) None (steps_in pieces) (placed_in pieces) ≡ given ++ waiting = ap (λ x. units_on clocks oid x None (steps_in pieces) (placed_in pieces)) (sym reset) ∙ sym packed.units_are in
-    let here : AreLongestOf clocks freq base plan (given ++ waiting) = subst (λ us. AreLongestOf clocks freq base plan us) own (subst (λ xs. AreLongestOf clocks freq base xs (units_on clocks oid (Some base) None (steps_in pieces) (placed_in pieces))) (sym p.whole) all) in
+    let all = pieces-longest clocks oid s.pack.reset None (max_error freq) base from turn pieces p.rest kept one turns past (p.late turn kept caught) in
+    let here : AreLongestOf clocks freq base plan (given ++ waiting) = subst (λ us. AreLongestOf clocks freq base plan us) (sym packed.units_are) (subst (λ xs. AreLongestOf clocks freq base xs (units_on clocks oid s.pack.reset None (steps_in pieces) (placed_in pieces))) (sym p.whole) all) in
     longest_front clocks base (open_windows (max_error freq) base plan) plan given waiting here
 
 -- the steps of a piece that is packed behind a turn with which a stepper has caught up

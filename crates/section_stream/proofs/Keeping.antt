@@ -1,11 +1,12 @@
 -- What a stepper gave stays, whatever comes later.
-use Rattle.std.proofs.Common.{◌≡◌, ℕ, ◌≤◌, List, ◌++◌, All, Some, drop, ap, ◌∙◌}
+use Rattle.std.proofs.Common.{◌≡◌, ℕ, ◌≤◌, List, ◌++◌, All, Bool, drop, ap, ◌∙◌}
 use Rattle.plan_types.specs.declared.plan.Planned.{Planned}
 use Rattle.plan_types.specs.Clock.{tick}
 use Rattle.plan_types.specs.Plan.{max_error}
 use Rattle.plan_types.specs.Sections.{TimedPart}
 use Rattle.msg_code.specs.declared.unit.Unit.{Unit as StepUnit}
-use Rattle.section_units.specs.Fronts.{AreFirstOf}
+use Rattle.section_units.specs.Fronts.{AreFirstOfBy}
+use Rattle.section_units.specs.Sections.{set_to}
 use Rattle.section_units.specs.Units.{as_sent}
 use Rattle.section_stream.specs.declared.stepper.StepperStream.{StepperStream}
 use Rattle.section_stream.specs.Fronts.{plan_of}
@@ -16,10 +17,10 @@ use Rattle.section_stream.specs.Steppers.{IsStepperOf, clocks_of, kind_of, known
 use Rattle.section_stream.proofs.Making.{made-first, sent-append}
 use Rattle.section_stream.proofs.Staying.{parts-front}
 
-pub units-kept : (s : StepperStream) (freq base : ℕ) (parts more : List TimedPart) (out : List Planned) (pieces : List Piece) (given : List StepUnit) → (kind_of s).reset ≡ Some base → (kind_of s).early ≡ max_error freq → IsStepperOf s base parts out pieces given
-    → All (λ t. known_of s ≤ tick (clocks_of s).first t.begin) more → AreFirstOf (clocks_of s) freq (kind_of s).oid base (as_sent (kind_of s).inverted (plan_of s base (parts ++ more))) given
-units-kept s freq base parts more out pieces given reset early are later =
+pub units-kept : (homing : Bool) (s : StepperStream) (freq base : ℕ) (parts more : List TimedPart) (out : List Planned) (pieces : List Piece) (given : List StepUnit) → (kind_of s).reset ≡ set_to homing base → (kind_of s).early ≡ max_error freq → IsStepperOf s base parts out pieces given
+    → All (λ t. known_of s ≤ tick (clocks_of s).first t.begin) more → AreFirstOfBy homing (clocks_of s) freq (kind_of s).oid base (as_sent (kind_of s).inverted (plan_of s base (parts ++ more))) given
+units-kept homing s freq base parts more out pieces given reset early are later =
     let r = parts-front s.steps.gear s.steps.lines s.drive s.steps.reach s.steps.end s.steps.last_end s.steps.last (drop s.steps.next s.steps.raw.items) base parts more are.asked out s.line are.steps_are later in
     let inverted = is_inverted s.pack in
     let packed = are.packed in
-    made-first (lines_of s.steps) s.pack.oid freq base s.pack.reset s.pack.max_error (as_sent inverted out) (held_of s.pack) (as_sent inverted r.rest) (as_sent inverted (plan_of s base (parts ++ more))) pieces given (waiting_of s.pack) reset early packed.spaced packed.packed packed.split (ap (as_sent inverted) r.whole ∙ sent-append inverted out r.rest) packed.units_are
+    made-first homing (lines_of s.steps) s.pack.oid freq base s.pack.reset s.pack.max_error (as_sent inverted out) (held_of s.pack) (as_sent inverted r.rest) (as_sent inverted (plan_of s base (parts ++ more))) pieces given (waiting_of s.pack) reset early packed.spaced packed.packed packed.split (ap (as_sent inverted) r.whole ∙ sent-append inverted out r.rest) packed.units_are

@@ -1,5 +1,5 @@
 -- What a stepper has not given is later.
-use Rattle.std.proofs.Common.{◌≡◌, ℕ, zero, suc, ◌+◌, ◌*◌, ◌<◌, ◌≤◌, Bool, false, Some, None, inl, inr, List, [], ◌∷◌, ◌++◌, All, length, map, drop, length-append, arith, refl, ap, sym, ◌∙◌, append_assoc, subst}
+use Rattle.std.proofs.Common.{◌≡◌, ℕ, zero, suc, ◌+◌, ◌*◌, ◌<◌, ◌≤◌, Bool, false, None, inl, inr, List, [], ◌∷◌, ◌++◌, All, length, map, drop, length-append, arith, refl, ap, sym, ◌∙◌, append_assoc, subst}
 use Rattle.std.specs.Prelude.{slice_index}
 use Rattle.std.proofs.lemmas.List.{append-nil}
 use Rattle.std.proofs.lemmas.List.Elements.{All-append, All-cons, All-head, All-nil, All-tail}
@@ -16,8 +16,8 @@ use Rattle.clock_line.specs.Kept.{AreKept}
 use Rattle.std.proofs.lemmas.Bool.{cases_lt}
 use Rattle.clock_line.proofs.Turns.{tick_over-mono, turn-after, turn-mono}
 use Rattle.msg_code.specs.declared.unit.Unit.{Unit as StepUnit}
-use Rattle.section_units.specs.Packed.{ArePacked, dir_behind}
-use Rattle.section_units.specs.Sections.{AreBegun, AreChained, IsUnit, dir_after, pulse_of, steps_said, ticks_meant}
+use Rattle.section_units.specs.Packed.{ArePackedBy, dir_behind}
+use Rattle.section_units.specs.Sections.{AreBegunBy, AreChained, IsUnit, dir_after, pulse_of, set_to, steps_said, ticks_meant}
 use Rattle.section_units.specs.Units.{as_sent, sent, units_on}
 use Rattle.section_units.proofs.Packing.{said_join}
 use Rattle.section_stream.specs.declared.stepper.StepperStream.{StepperStream}
@@ -61,10 +61,10 @@ unfolding AreOf
 of-chain clocks b [] h = tt
 of-chain clocks b (u ∷ us) h = ((b, h.1), of-chain clocks u.last us h.2)
 
-of-begun : (clocks : Clocks) (b : ℕ) (us : List StepUnit) → AreBegun clocks b us → AreOf clocks us
+of-begun : (homing : Bool) (clocks : Clocks) (b : ℕ) (us : List StepUnit) → AreBegunBy homing clocks b us → AreOf clocks us
 unfolding AreOf
-of-begun clocks b [] h = tt
-of-begun clocks b (u ∷ us) h = ((b, h.2), of-chain clocks u.last us h.3)
+of-begun homing clocks b [] h = tt
+of-begun homing clocks b (u ∷ us) h = ((b, h.2), of-chain clocks u.last us h.3)
 
 of-behind : (clocks : Clocks) (us vs : List StepUnit) → AreOf clocks (us ++ vs) → AreOf clocks vs
 unfolding AreOf
@@ -129,10 +129,10 @@ chain-starts clocks b low [] [] kept chain start = All-nil (λ (u : StepUnit). l
 chain-starts clocks b low [] (v ∷ vs) kept chain start = first-dues clocks b low v vs kept chain.1 chain.2 start
 chain-starts clocks b low (u ∷ us) vs kept chain start = chain-starts clocks u.last low us vs kept chain.2 start
 
-begun-starts : (clocks : Clocks) (b low : ℕ) (us vs : List StepUnit) → AreKept clocks → AreBegun clocks b (us ++ vs) → StartFrom low vs → All (λ u. low ≤ u.due) vs
-begun-starts clocks b low [] [] kept begun start = All-nil (λ (u : StepUnit). low ≤ u.due)
-begun-starts clocks b low [] (v ∷ vs) kept begun start = first-dues clocks b low v vs kept begun.2 begun.3 start
-begun-starts clocks b low (u ∷ us) vs kept begun start = chain-starts clocks u.last low us vs kept begun.3 start
+begun-starts : (homing : Bool) (clocks : Clocks) (b low : ℕ) (us vs : List StepUnit) → AreKept clocks → AreBegunBy homing clocks b (us ++ vs) → StartFrom low vs → All (λ u. low ≤ u.due) vs
+begun-starts homing clocks b low [] [] kept begun start = All-nil (λ (u : StepUnit). low ≤ u.due)
+begun-starts homing clocks b low [] (v ∷ vs) kept begun start = first-dues clocks b low v vs kept begun.2 begun.3 start
+begun-starts homing clocks b low (u ∷ us) vs kept begun start = chain-starts clocks u.last low us vs kept begun.3 start
 
 -- the planned steps behind those that are said
 fits-later : (freq b : ℕ) (P : ℕ → Type 0) (ps qs : List Pulse) (plan : List Planned) → ((s t : ℕ) → s ≤ t → P s → P t) → Fits freq b (ps ++ qs) plan → length (ps ++ qs) ≡ length plan → All (λ (q : Pulse). P q.tick) qs → All (λ (s : Planned). P s.tick) (drop (length ps) plan)
@@ -168,10 +168,10 @@ turn-from clocks turn t kept h = elim (cases_lt (lines_turn clocks t) turn) as (
 
 -- The steps of a stepper's plan that its units do not say yet are due in a turn or later, where those are that it still has,
 -- and it has caught up with a later turn.
-pub rest-later : (s : StepperStream) (freq base turn low : ℕ) (parts more : List TimedPart) (out : List Planned) (pieces : List Piece) (given : List StepUnit) → (kind_of s).reset ≡ Some base → (kind_of s).early ≡ max_error freq → IsStepperOf s base parts out pieces given
+pub rest-later : (homing : Bool) (s : StepperStream) (freq base turn low : ℕ) (parts more : List TimedPart) (out : List Planned) (pieces : List Piece) (given : List StepUnit) → (kind_of s).reset ≡ set_to homing base → (kind_of s).early ≡ max_error freq → IsStepperOf s base parts out pieces given
     → All (λ t. known_of s ≤ tick (clocks_of s).first t.begin) more → AreKept (clocks_of s) → IsCaughtUp turn s → low ≤ turn → StartFrom low (units_of s)
     → All (λ q. low ≤ lines_turn (clocks_of s) q.tick) (drop (length (steps_said (kind_of s).oid false given)) (as_sent (kind_of s).inverted (plan_of s base (parts ++ more))))
-rest-later s freq base turn low parts more out pieces given reset early are later kept caught order late =
+rest-later homing s freq base turn low parts more out pieces given reset early are later kept caught order late =
     let clocks = lines_of s.steps in
     let oid = s.pack.oid in
     let inverted = is_inverted s.pack in
@@ -185,14 +185,14 @@ rest-later s freq base turn low parts more out pieces given reset early are late
     let steps = steps_in pieces in
     let one : ArePieces (max_error freq) base pieces = subst (λ x. ArePieces x base pieces) early packed.packed in
     let two : AreSpaced base steps = (spaced-split base steps (held_of s.pack) (subst (AreSpaced base) packed.split packed.spaced)).0 in
-    let own : units_on clocks oid (Some base) None steps (placed_in pieces) ≡ given ++ waiting = ap (λ x. units_on clocks oid x None steps (placed_in pieces)) (sym reset) ∙ sym packed.units_are in
-    let made : ArePacked clocks freq oid base steps (given ++ waiting) = subst (λ u. ArePacked clocks freq oid base steps u) own (pieces-make clocks freq oid base pieces one two) in
+    let own : units_on clocks oid (set_to homing base) None steps (placed_in pieces) ≡ given ++ waiting = ap (λ x. units_on clocks oid x None steps (placed_in pieces)) (sym reset) ∙ sym packed.units_are in
+    let made : ArePackedBy homing clocks freq oid base steps (given ++ waiting) = subst (λ u. ArePackedBy homing clocks freq oid base steps u) own (pieces-make homing clocks freq oid base pieces one two) in
     let said = steps_said oid false given in
     let left = steps_said oid (dir_behind false given) waiting in
     let joined = said_join oid false given waiting in
     let whole : length (said ++ left) ≡ length steps = sym (ap length joined) ∙ made.whole in
     let fits : Fits freq base (said ++ left) steps = subst (λ ps. Fits freq base ps steps) joined made.fits in
-    let behind = said-later clocks low oid (dir_behind false given) waiting kept (of-behind clocks given waiting (of-begun clocks base (given ++ waiting) made.begun)) (begun-starts clocks base low given waiting kept made.begun late) in
+    let behind = said-later clocks low oid (dir_behind false given) waiting kept (of-behind clocks given waiting (of-begun homing clocks base (given ++ waiting) made.begun)) (begun-starts homing clocks base low given waiting kept made.begun late) in
     let first = fits-later freq base P said left steps up fits whole behind in
     let held : All (λ (q : Planned). P q.tick) (held_of s.pack) = λ k d l. cut-late _ (caught.held_are k d l) in
     let rest : All (λ (q : Planned). cut ≤ q.tick) r.rest = r.later (tick clocks.first (turn * turn_ns)) cut caught.steps_are.left (λ n le. board-from clocks (turn * turn_ns) n kept le) in

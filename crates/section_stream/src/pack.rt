@@ -1,6 +1,6 @@
 //! A stepper's planned steps, packed piece by piece.
 
-ghost use Rattle.std.specs.Prelude.{◌≡◌, ◌<◌, All};
+ghost use Rattle.std.specs.Prelude.{◌≡◌, ◌<◌, ◌^◌, All};
 ghost use Rattle.section_stream.specs.Packing.{ArePackable};
 
 use crate::OutOfMemory;
@@ -9,10 +9,26 @@ use crate::units::add_units;
 use clock_line::Lines;
 use msg_code::Unit;
 use plan_types::Planned;
-use section_units::intervals_fit;
 use std::alloc::Global;
 use std::collections::VecDeque;
-use step_pack::pack_placed;
+use step_pack::{Placed, pack_placed};
+
+/// The interval of a triple has 32 bits.
+fn interval_fits(placed: &Placed) -> u32
+    ensures value { result ≡ placed.now.triple.interval }
+    ensures small { placed.now.triple.interval < 2 ^ 32 }
+{
+    placed.triple.interval
+}
+
+/// The intervals of triples have 32 bits.
+fn intervals_fit(placed: &[Placed])
+    ensures { All (λ p. p.triple.interval < 2 ^ 32) placed.now }
+{
+    for one in placed {
+        interval_fits(one);
+    }
+}
 
 /// The steps of a stepper in a section that are not packed yet, and the units of the others that were not given yet.
 #[derive(Drop)]

@@ -60,7 +60,8 @@ impl StepperStream {
     ghost use Rattle.section_units.specs.Units.{as_sent};
     ghost use Rattle.section_stream.specs.Pieces.{steps_in};
     ghost use Rattle.section_stream.specs.Fronts.{HasStepsLeft, plan_of};
-    ghost use Rattle.section_units.specs.Packed.{ArePacked};
+    ghost use Rattle.section_units.specs.Packed.{ArePackedBy};
+    ghost use Rattle.section_units.specs.Sections.{set_to};
     ghost use Rattle.plan_types.specs.Plan.{max_error};
     ghost use Rattle.section_stream.specs.Steppers.{IsCaughtUp, IsDueFrom, IsStepperOf, IsPlannedTo, KnowsTo, clocks_of, kind_from, kind_of, known_of, packed_step, packed_to, parts_end, planned_turn, units_of};
 
@@ -85,7 +86,7 @@ impl StepperStream {
         ensures turn { IfOk result (λ s. planned_turn s ≡ turn) }
         ensures end { IfOk result (λ s. known_of s ≡ tick lines.now.first (turn * turn_ns)) }
         ensures caught_up { IfOk result (IsCaughtUp turn) }
-        ensures kind { IfOk result (λ s. kind_of s ≡ kind_from corexy stepper.now lines.now.first (if homing then None else Some (lines_tick lines.now (turn * turn_ns)))) }
+        ensures kind { IfOk result (λ s. kind_of s ≡ kind_from corexy stepper.now lines.now.first (set_to homing (lines_tick lines.now (turn * turn_ns)))) }
         ensures none { IfOk result (λ s. units_of s ≡ []) }
         ensures packed { IfOk result (λ s. packed_to s ≡ lines_tick lines.now (turn * turn_ns)) }
     {
@@ -238,7 +239,7 @@ impl StepperStream {
 
     /// Whether all steps of the parts that it was given are planned and packed, and all their units given.
     pub fn is_done(&self) -> bool
-        ensures { IsTrue result → (freq base : ℕ) (parts : List TimedPart) (out : List Planned) (pieces : List Piece) (given : List StepUnit) → (kind_of self.now).reset ≡ Some base → (kind_of self.now).early ≡ max_error freq → IsStepperOf self.now base parts out pieces given → ArePacked (clocks_of self.now) freq (kind_of self.now).oid base (as_sent (kind_of self.now).inverted (plan_of self.now base parts)) given }
+        ensures { IsTrue result → (homing : Bool) (freq base : ℕ) (parts : List TimedPart) (out : List Planned) (pieces : List Piece) (given : List StepUnit) → (kind_of self.now).reset ≡ set_to homing base → (kind_of self.now).early ≡ max_error freq → IsStepperOf self.now base parts out pieces given → ArePackedBy homing (clocks_of self.now) freq (kind_of self.now).oid base (as_sent (kind_of self.now).inverted (plan_of self.now base parts)) given }
     {
         self.is_whole() && self.pack.is_given()
     }

@@ -16,9 +16,9 @@ use Rattle.plan_types.specs.Plan.{AreSpaced, Fits}
 use Rattle.step_feed.specs.Fed.{behind, last_turn}
 use Rattle.step_feed.specs.Pacing.{Release, lead, units_of}
 use Rattle.step_feed.specs.Units.{StepUnit}
-use Rattle.section_units.specs.Completed.{IsCompletion, IsOpenFront}
+use Rattle.section_units.specs.Completed.{IsCompletionBy, IsOpenFrontBy}
 use Rattle.section_units.specs.Packed.{dir_behind, end_of_plan, end_of_units}
-use Rattle.section_units.specs.Sections.{AreBegun, AreChained, IsUnit, dir_after, of_stepper, pulse_of, steps_said, ticks_meant}
+use Rattle.section_units.specs.Sections.{AreBegunBy, AreChained, IsUnit, dir_after, of_stepper, pulse_of, set_to, steps_said, ticks_meant}
 use Rattle.section_units.proofs.Fronting.{units_append}
 use Rattle.section_units.proofs.Merging.{of_append, of_one, of_other}
 use Rattle.section_units.proofs.Packing.{chains_join, fits_join, plan_ends, said_join}
@@ -56,10 +56,10 @@ unfolding AreTold
 told-chain clocks b [] h = tt
 told-chain clocks b (u ∷ us) h = (h.1.last, told-chain clocks u.last us h.2)
 
-told-begun : (clocks : Clocks) (b : ℕ) (us : List StepUnit) → AreBegun clocks b us → AreTold us
+told-begun : (homing : Bool) (clocks : Clocks) (b : ℕ) (us : List StepUnit) → AreBegunBy homing clocks b us → AreTold us
 unfolding AreTold
-told-begun clocks b [] h = tt
-told-begun clocks b (u ∷ us) h = (h.2.last, told-chain clocks u.last us h.3)
+told-begun homing clocks b [] h = tt
+told-begun homing clocks b (u ∷ us) h = (h.2.last, told-chain clocks u.last us h.3)
 
 steps-count : (oid : ℕ) (d : Bool) (ts : List ℕ) → length (map (pulse_of oid) (steps_of d ts)) ≡ length ts
 steps-count oid d [] = refl
@@ -173,12 +173,12 @@ steps-chain clocks oid b before (s ∷ steps) h spaced =
 some-up : (up : Bool) → Some up ≢ None
 some-up up = λ e. cc
 
-steps-begin : (clocks : Clocks) (oid base : ℕ) (steps : List Planned) → AreSpaced base steps → AreBegun clocks base (step-units clocks oid base (Some base) steps)
+steps-begin : (homing : Bool) (clocks : Clocks) (oid base : ℕ) (steps : List Planned) → AreSpaced base steps → AreBegunBy homing clocks base (step-units clocks oid base (set_to homing base) steps)
 unfolding step-units step-unit
-steps-begin clocks oid base [] spaced = tt
-steps-begin clocks oid base (s ∷ steps) spaced =
+steps-begin homing clocks oid base [] spaced = tt
+steps-begin homing clocks oid base (s ∷ steps) spaced =
     let gap = spaced.0 in
-    (refl, some-up s.up, step-is clocks oid base (Some base) s (omega arith), steps-chain clocks oid s.tick s.tick steps (omega arith) spaced.1)
+    (refl, some-up s.up, step-is clocks oid base (set_to homing base) s (omega arith), steps-chain clocks oid s.tick s.tick steps (omega arith) spaced.1)
 
 steps-own : (clocks : Clocks) (oid b : ℕ) (reset : Option ℕ) (steps : List Planned) → All (λ u. u.stepper ≡ oid) (step-units clocks oid b reset steps)
 unfolding step-units step-unit
@@ -193,11 +193,11 @@ steps-due clocks oid b from reset (s ∷ steps) all =
     All-cons (λ (u : StepUnit). from ≤ u.due) (step-unit clocks oid b reset s) (step-units clocks oid s.tick None steps) (All-head P s steps all) (steps-due clocks oid s.tick from None steps (All-tail P s steps all))
 
 -- the units by which those of a stepper become whole
-record IsStepperWhole (clocks : Clocks) (freq oid base from : ℕ) (plan : List Planned) (us : List StepUnit) : Type 0 where
+record IsStepperWhole (homing : Bool) (clocks : Clocks) (freq oid base from : ℕ) (plan : List Planned) (us : List StepUnit) : Type 0 where
   pub more : List StepUnit
   pub own : All (λ u. u.stepper ≡ oid) more
   pub due : All (λ u. from ≤ u.due) more
-  pub begun : AreBegun clocks base (us ++ more)
+  pub begun : AreBegunBy homing clocks base (us ++ more)
   pub fits : Fits freq base (steps_said oid false (us ++ more)) plan
   pub whole : length (steps_said oid false (us ++ more)) ≡ length plan
 
@@ -214,19 +214,19 @@ fits-done freq b [] xs ys h e = tt
 fits-done freq b (p ∷ ps) [] ys h e = absurd (omega arith)
 fits-done freq b (p ∷ ps) (x ∷ xs) ys h e = (h.0, fits-done freq x.tick ps xs ys h.1 (omega arith))
 
-stepper-whole : (clocks : Clocks) (freq oid base from : ℕ) (plan : List Planned) (us : List StepUnit) → AreSpaced base plan → AreBegun clocks base us → Fits freq base (steps_said oid false us) plan → All (λ s. from ≤ lines_turn clocks s.tick) (drop (length (steps_said oid false us)) plan) → IsStepperWhole clocks freq oid base from plan us
-stepper-whole clocks freq oid base from plan [] spaced begun fits later = record {
-  more = step-units clocks oid base (Some base) plan;
-  own = steps-own clocks oid base (Some base) plan;
-  due = steps-due clocks oid base from (Some base) plan later;
-  begun = steps-begin clocks oid base plan spaced;
-  fits = steps-fit clocks freq oid base base (Some base) false plan;
-  whole = steps-many clocks oid base (Some base) false plan;
+stepper-whole : (homing : Bool) (clocks : Clocks) (freq oid base from : ℕ) (plan : List Planned) (us : List StepUnit) → AreSpaced base plan → AreBegunBy homing clocks base us → Fits freq base (steps_said oid false us) plan → All (λ s. from ≤ lines_turn clocks s.tick) (drop (length (steps_said oid false us)) plan) → IsStepperWhole homing clocks freq oid base from plan us
+stepper-whole homing clocks freq oid base from plan [] spaced begun fits later = record {
+  more = step-units clocks oid base (set_to homing base) plan;
+  own = steps-own clocks oid base (set_to homing base) plan;
+  due = steps-due clocks oid base from (set_to homing base) plan later;
+  begun = steps-begin homing clocks oid base plan spaced;
+  fits = steps-fit clocks freq oid base base (set_to homing base) false plan;
+  whole = steps-many clocks oid base (set_to homing base) false plan;
 }
-stepper-whole clocks freq oid base from plan (u ∷ us) spaced begun fits later =
+stepper-whole homing clocks freq oid base from plan (u ∷ us) spaced begun fits later =
     let all = u ∷ us in
     let said = steps_said oid false all in
-    let s = units-done freq oid base base false all plan (told-begun clocks base all begun) fits (omega arith) in
+    let s = units-done freq oid base base false all plan (told-begun homing clocks base all begun) fits (omega arith) in
     let b = end_of_units base all in
     let left = s.left in
     let more = step-units clocks oid b None left in
@@ -249,10 +249,10 @@ stepper-whole clocks freq oid base from plan (u ∷ us) spaced begun fits later 
     }
 
 -- those of the first so many steppers
-record AreWholeTo (clocks : Clocks) (freq base from n : ℕ) (plan : ℕ → List Planned) (us : List StepUnit) : Type 0 where
+record AreWholeTo (homing : Bool) (clocks : Clocks) (freq base from n : ℕ) (plan : ℕ → List Planned) (us : List StepUnit) : Type 0 where
   pub more : List StepUnit
   pub due : All (λ u. from ≤ u.due) more
-  pub begun : (oid : ℕ) → oid < n → AreBegun clocks base (of_stepper oid us ++ of_stepper oid more)
+  pub begun : (oid : ℕ) → oid < n → AreBegunBy homing clocks base (of_stepper oid us ++ of_stepper oid more)
   pub fits : (oid : ℕ) → oid < n → Fits freq base (steps_said oid false (of_stepper oid us ++ of_stepper oid more)) (plan oid)
   pub whole : (oid : ℕ) → oid < n → length (steps_said oid false (of_stepper oid us ++ of_stepper oid more)) ≡ length (plan oid)
   pub others : (oid : ℕ) → n ≤ oid → of_stepper oid more ≡ []
@@ -270,15 +270,15 @@ of-none n oid (u ∷ us) own ne =
     let is : u.stepper ≡ n = All-head P u us own in
     of_other oid u us (λ e. ne (sym is ∙ e)) ∙ of-none n oid us (All-tail P u us own) ne
 
-one-whole : (clocks : Clocks) (freq base from n : ℕ) (plan : ℕ → List Planned) (us : List StepUnit) → AreWholeTo clocks freq base from n plan us → IsStepperWhole clocks freq n base from (plan n) (of_stepper n us) → AreWholeTo clocks freq base from (n + 1) plan us
-one-whole clocks freq base from n plan us h one =
+one-whole : (homing : Bool) (clocks : Clocks) (freq base from n : ℕ) (plan : ℕ → List Planned) (us : List StepUnit) → AreWholeTo homing clocks freq base from n plan us → IsStepperWhole homing clocks freq n base from (plan n) (of_stepper n us) → AreWholeTo homing clocks freq base from (n + 1) plan us
+one-whole homing clocks freq base from n plan us h one =
     let more = h.more ++ one.more in
     let here : of_stepper n more ≡ one.more = of_append n h.more one.more ∙ ap (λ vs. vs ++ of_stepper n one.more) (h.others n (omega arith)) ∙ of-all n one.more one.own in
     let there : (oid : ℕ) → (n ≡ oid → ⊥) → of_stepper oid more ≡ of_stepper oid h.more = λ oid ne. of_append oid h.more one.more ∙ ap (λ vs. of_stepper oid h.more ++ vs) (of-none n oid one.more one.own ne) ∙ append-nil (of_stepper oid h.more) in
     record {
       more = more;
       due = All-append (λ (u : StepUnit). from ≤ u.due) h.more one.more h.due one.due;
-      begun = λ oid lt. by-number more one.more h.more (λ k vs. AreBegun clocks base (of_stepper k us ++ vs)) oid lt here there one.begun h.begun;
+      begun = λ oid lt. by-number more one.more h.more (λ k vs. AreBegunBy homing clocks base (of_stepper k us ++ vs)) oid lt here there one.begun h.begun;
       fits = λ oid lt. by-number more one.more h.more (λ k vs. Fits freq base (steps_said k false (of_stepper k us ++ vs)) (plan k)) oid lt here there one.fits h.fits;
       whole = λ oid lt. by-number more one.more h.more (λ k vs. length (steps_said k false (of_stepper k us ++ vs)) ≡ length (plan k)) oid lt here there one.whole h.whole;
       others = λ oid le. there oid (λ e. omega (arith, e, le)) ∙ h.others oid (omega (arith, le));
@@ -290,8 +290,8 @@ one-whole clocks freq base from n plan us h one =
       | inr p ↦ let ne = p.1 in subst (P oid) (sym (there oid ne)) (past oid (omega (arith, lt, ne)))
     ]
 
-all-whole : (clocks : Clocks) (freq base from n : ℕ) (plan : ℕ → List Planned) (us : List StepUnit) → ((oid : ℕ) → IsStepperWhole clocks freq oid base from (plan oid) (of_stepper oid us)) → AreWholeTo clocks freq base from n plan us
-all-whole clocks freq base from zero plan us each = record {
+all-whole : (homing : Bool) (clocks : Clocks) (freq base from n : ℕ) (plan : ℕ → List Planned) (us : List StepUnit) → ((oid : ℕ) → IsStepperWhole homing clocks freq oid base from (plan oid) (of_stepper oid us)) → AreWholeTo homing clocks freq base from n plan us
+all-whole homing clocks freq base from zero plan us each = record {
   more = [];
   due = All-nil (λ (u : StepUnit). from ≤ u.due);
   begun = λ oid lt. absurd (omega (arith, lt));
@@ -299,20 +299,20 @@ all-whole clocks freq base from zero plan us each = record {
   whole = λ oid lt. absurd (omega (arith, lt));
   others = λ oid le. refl;
 }
-all-whole clocks freq base from (suc n) plan us each =
+all-whole homing clocks freq base from (suc n) plan us each =
     let e : n + 1 ≡ suc n = omega arith in
-    subst (λ k. AreWholeTo clocks freq base from k plan us) e (one-whole clocks freq base from n plan us (all-whole clocks freq base from n plan us each) (each n))
+    subst (λ k. AreWholeTo homing clocks freq base from k plan us) e (one-whole homing clocks freq base from n plan us (all-whole homing clocks freq base from n plan us each) (each n))
 
 none-said : (freq b : ℕ) (ps : List Pulse) → Fits freq b ps [] → length ps ≡ 0
 none-said freq b [] h = refl
 none-said freq b (p ∷ ps) h = absurd h
 
 -- the section that a front and these releases are
-pub completed : (clocks : Clocks) (freq slots start end next count : ℕ) (plan : ℕ → List Planned) (rs : List Release) (waiting : List StepUnit) → IsOpenFront clocks freq slots start end next count plan rs waiting → (more : List Release) × IsCompletion clocks freq slots start end next plan rs more
-completed clocks freq slots start end next count plan rs waiting f =
+pub completed : (homing : Bool) (clocks : Clocks) (freq slots start end next count : ℕ) (plan : ℕ → List Planned) (rs : List Release) (waiting : List StepUnit) → IsOpenFrontBy homing clocks freq slots start end next count plan rs waiting → (more : List Release) × IsCompletionBy homing clocks freq slots start end next plan rs more
+completed homing clocks freq slots start end next count plan rs waiting f =
     let base = lines_tick clocks (start * turn_ns) in
     let pushed = units_of rs ++ waiting in
-    let w = all-whole clocks freq base (next + lead) count plan pushed (λ oid. stepper-whole clocks freq oid base (next + lead) (plan oid) (of_stepper oid pushed) (f.spaced oid) (f.begun oid) (f.fits oid) (f.later oid)) in
+    let w = all-whole homing clocks freq base (next + lead) count plan pushed (λ oid. stepper-whole homing clocks freq oid base (next + lead) (plan oid) (of_stepper oid pushed) (f.spaced oid) (f.begun oid) (f.fits oid) (f.later oid)) in
     let paced = can-pace clocks slots (last_turn f.from rs) (behind [] rs) (waiting ++ w.more) f.slots_some in
     let more = paced.releases in
     let units : units_of (rs ++ more) ≡ pushed ++ w.more = units_append rs more ∙ ap (λ us. units_of rs ++ us) paced.units ∙ sym (append_assoc (units_of rs) waiting w.more) in
@@ -323,9 +323,9 @@ completed clocks freq slots start end next count plan rs waiting f =
         whole = record {
           spaced = f.spaced;
           within = f.within;
-          begun = λ oid. elim (leb_tells count oid) as (λ _. AreBegun clocks base (of_stepper oid (units_of (rs ++ more)))) [
-            | inl p ↦ subst (AreBegun clocks base) (sym (none oid p.1)) (f.begun oid)
-            | inr p ↦ let lt = p.1 in subst (AreBegun clocks base) (sym (of oid)) (w.begun oid (omega (arith, lt)))
+          begun = λ oid. elim (leb_tells count oid) as (λ _. AreBegunBy homing clocks base (of_stepper oid (units_of (rs ++ more)))) [
+            | inl p ↦ subst (AreBegunBy homing clocks base) (sym (none oid p.1)) (f.begun oid)
+            | inr p ↦ let lt = p.1 in subst (AreBegunBy homing clocks base) (sym (of oid)) (w.begun oid (omega (arith, lt)))
           ];
           fits = λ oid. elim (leb_tells count oid) as (λ _. Fits freq base (steps_said oid false (of_stepper oid (units_of (rs ++ more)))) (plan oid)) [
             | inl p ↦ subst (λ us. Fits freq base (steps_said oid false us) (plan oid)) (sym (none oid p.1)) (f.fits oid)

@@ -1,12 +1,12 @@
 -- Units that are late come one by one: before one that is far behind its due turn, one is just so far behind.
-use Rattle.std.proofs.Common.{◌≡◌, ℕ, ◌+◌, ◌-◌, ◌*◌, ◌<◌, ◌≤◌, eqb, cond, List, [], ◌∷◌, ◌++◌, All, get_or, max, refl, ap, sym, ◌∙◌, subst, arith, inl, inr}
+use Rattle.std.proofs.Common.{◌≡◌, ℕ, ◌+◌, ◌*◌, ◌<◌, ◌≤◌, eqb, cond, List, [], ◌∷◌, ◌++◌, All, get_or, max, refl, sym, ◌∙◌, subst, arith, inl, inr}
 use Rattle.std.proofs.lemmas.Bool.{cases_lt, le-ltb, ne_eqb}
 use Rattle.std.proofs.lemmas.Bool.Decides.{eqb_tells}
 use Rattle.std.proofs.lemmas.List.Elements.{All-cons, All-head, All-nil, All-tail}
 use Rattle.clock_line.specs.Kept.{AreKept}
 use Rattle.clock_line.proofs.Turns.{turn-mono}
 use Rattle.plan_types.specs.Lines.{Clocks, lines_turn}
-use Rattle.step_feed.specs.Pacing.{ArePaced, HasRoom, IsReleased, Release, bytes_in, pending, units_of}
+use Rattle.step_feed.specs.Pacing.{ArePaced, IsReleased, Release, bytes_in, pending, units_of}
 use Rattle.step_feed.specs.Units.{StepUnit}
 use Rattle.plan_types.specs.Clock.{turn_ns}
 use Rattle.plan_types.specs.Lines.{lines_tick}

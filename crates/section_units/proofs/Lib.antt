@@ -1,5 +1,4 @@
 pub mod Packing
-pub mod Laying
 pub mod Ordering
 pub mod Merging
 pub mod Longest

@@ -1,22 +1,20 @@
 -- The triples of packed steps cover as many steps as one can.
-use Rattle.std.proofs.Common.{◌≡◌, ℕ, zero, suc, ℤ, ◌+◌, ◌-◌, ◌<◌, ◌≤◌, Bool, Option, Some, None, false, List, [], ◌∷◌, ◌++◌, All, length, drop, get_or, arith, refl, ap, sym, ◌∙◌, subst, inl, inr}
+use Rattle.std.proofs.Common.{◌≡◌, ℕ, zero, suc, ◌+◌, ◌-◌, ◌<◌, ◌≤◌, Bool, Option, Some, false, List, [], ◌∷◌, ◌++◌, All, length, drop, get_or, arith, refl, ap, sym, subst, inl, inr}
 use Rattle.std.proofs.lemmas.Bool.{cases_lt}
-use Rattle.std.proofs.lemmas.List.{append-nil, drop-drop, length-drop}
+use Rattle.std.proofs.lemmas.List.{drop-drop, length-drop}
 use Rattle.std.proofs.lemmas.List.Elements.{All-drop}
 use Rattle.std.proofs.Math.ListN.{get_or-append}
 use Rattle.std.proofs.Math.Seq.{get_or-append_right}
 use Rattle.plan_types.specs.declared.plan.Planned.{Planned}
 use Rattle.plan_types.specs.declared.plan.Window.{Window}
 use Rattle.plan_types.specs.Lines.{Clocks, lines_turn}
-use Rattle.plan_types.specs.Packing.{IsCompared, open_windows, windows_of}
-use Rattle.plan_types.specs.Plan.{max_error}
 use Rattle.step_pack.specs.declared.Placed.{Placed}
 use Rattle.step_pack.specs.Placing.{PacksPlaced}
-use Rattle.step_pack.proofs.Piecewise.{IsPiece, length-windows, longest_before, piece_drop, piece_of}
+use Rattle.step_pack.proofs.Piecewise.{IsPiece, longest_before, piece_drop}
 use Rattle.step_feed.specs.Units.{StepUnit}
-use Rattle.section_units.specs.Packed.{end_of_units, units_from}
-use Rattle.section_units.specs.Sent.{AreLongest, AreLongestOf, EndInTurn, step_at}
-use Rattle.section_units.specs.Units.{first_up, set_in, told, unit_of, units_on}
+use Rattle.section_units.specs.Packed.{end_of_units}
+use Rattle.section_units.specs.Sent.{AreLongest, EndInTurn, step_at}
+use Rattle.section_units.specs.Units.{first_up, units_on}
 
 -- each of some steps is in an earlier turn than each of others
 abbrev pub AreCut : Clocks → List Planned → List Planned → Type 0
@@ -84,11 +82,3 @@ longest_join clocks behind windows plan (u ∷ us) vs a b =
 pub longest_front : (clocks : Clocks) (behind : ℕ) (windows : List Window) (plan : List Planned) (us vs : List StepUnit) → AreLongest clocks behind windows plan (us ++ vs) → AreLongest clocks behind windows plan us
 longest_front clocks behind windows plan [] vs a = tt
 longest_front clocks behind windows plan (u ∷ us) vs a = (a.0, longest_front clocks u.last (drop u.triple.count windows) (drop u.triple.count plan) us vs a.1)
-
--- the units of a plan that is packed whole
-pub whole_longest : (clocks : Clocks) (freq oid base : ℕ) (plan : List Planned) (placed : List Placed) → PacksPlaced base (windows_of (max_error freq) base plan) placed
-    → AreLongestOf clocks freq base plan (units_from clocks oid base plan placed)
-whole_longest clocks freq oid base plan placed packs =
-    let e = max_error freq in
-    let one = piece_longest clocks oid (Some base) None base (windows_of e base plan) (open_windows e base (plan ++ [])) plan [] placed (piece_of e base plan []) (length-windows e base plan) packs (λ k d l i c m. absurd (omega arith)) in
-    subst (λ p. AreLongest clocks base (open_windows e base p) p (units_from clocks oid base plan placed)) (append-nil plan) one

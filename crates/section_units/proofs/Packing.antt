@@ -20,9 +20,9 @@ use Rattle.step_pack.proofs.Fitting.{as_many, ending, fitting}
 use Rattle.step_pack.proofs.Rows.{run_drop, spaced_run}
 use Rattle.step_pack.proofs.Signed.{covered_rise}
 use Rattle.step_feed.specs.Units.{StepUnit}
-use Rattle.section_units.specs.Sections.{dir_after, pulse_of, steps_said, ticks_meant, IsUnit, AreChained, AreBegun}
+use Rattle.section_units.specs.Sections.{dir_after, pulse_of, steps_said, ticks_meant, IsUnit, AreChained, AreBegunBy, set_to}
 use Rattle.section_units.specs.Units.{unit_of, told, first_up, units_on}
-use Rattle.section_units.specs.Packed.{ArePacked, dir_behind, end_of_plan, end_of_units, units_from, units_next}
+use Rattle.section_units.specs.Packed.{ArePackedBy, dir_behind, end_of_plan, end_of_units, units_from, units_next}
 
 first_tick : (first interval : ℕ) (add : ℤ) → tick_at first interval add 0 ≡ first
 first_tick first interval (pos a) = omega arith
@@ -75,18 +75,18 @@ chained clocks oid behind reset up ws steps (p ∷ placed) run packs small =
 some_up : (up : Bool) → Some up ≡ None → ⊥
 some_up up e = cc
 
-begun : (clocks : Clocks) (oid base : ℕ) (ws : List Window) (steps : List Planned) (placed : List Placed) → RunOn base ws → PacksPlaced base ws placed
-    → All (λ p. p.triple.interval < 2 ^ 32) placed → AreBegun clocks base (units_from clocks oid base steps placed)
-begun clocks oid base ws steps [] run packs small = tt
-begun clocks oid base ws steps (p ∷ placed) run packs small =
+begun : (homing : Bool) (clocks : Clocks) (oid base : ℕ) (ws : List Window) (steps : List Planned) (placed : List Placed) → RunOn base ws → PacksPlaced base ws placed
+    → All (λ p. p.triple.interval < 2 ^ 32) placed → AreBegunBy homing clocks base (units_from homing clocks oid base steps placed)
+begun homing clocks oid base ws steps [] run packs small = tt
+begun homing clocks oid base ws steps (p ∷ placed) run packs small =
     let P : Placed → Type 0 = λ q. q.triple.interval < 2 ^ 32 in
     let covers = packs.0 in
     let some = covers.some in
     let late : p.last ≤ (window_at ws (p.triple.count - 1)).high = rw packs.1 (covers.not_late (p.triple.count - 1) (omega (arith, some))) in (
       refl,
       some_up (first_up steps),
-      one_unit clocks oid base p ws (Some (first_up steps)) (Some base) run covers packs.1 (All-head P p placed small),
-      chained clocks oid p.last (Some base) (first_up steps) (drop p.triple.count ws) (drop p.triple.count steps) placed
+      one_unit clocks oid base p ws (Some (first_up steps)) (set_to homing base) run covers packs.1 (All-head P p placed small),
+      chained clocks oid p.last (set_to homing base) (first_up steps) (drop p.triple.count ws) (drop p.triple.count steps) placed
           (run_drop base p.last p.triple.count ws run some covers.within late) packs.3 (All-tail P p placed small),
     )
 
@@ -116,9 +116,9 @@ ups_said oid up (t ∷ ts) (suc n) (s ∷ steps) e h a =
     ap (λ x. x ∷ map (λ (p : Pulse). p.up) (map (pulse_of oid) (steps_of up ts))) (sym a.0)
     ∙ ap (λ x. s.up ∷ x) (ups_said oid up ts n steps (omega (arith, e)) (omega (arith, h)) a.1)
 
-pub units_begun : (clocks : Clocks) (freq oid base : ℕ) (plan : List Planned) (placed : List Placed) → AreSpaced base plan → PacksPlaced base (windows_of (max_error freq) base plan) placed
-    → All (λ p. p.triple.interval < 2 ^ 32) placed → AreBegun clocks base (units_from clocks oid base plan placed)
-units_begun clocks freq oid base plan placed spaced packs small = begun clocks oid base (windows_of (max_error freq) base plan) plan placed (spaced_run (max_error freq) base plan spaced) packs small
+pub units_begun : (homing : Bool) (clocks : Clocks) (freq oid base : ℕ) (plan : List Planned) (placed : List Placed) → AreSpaced base plan → PacksPlaced base (windows_of (max_error freq) base plan) placed
+    → All (λ p. p.triple.interval < 2 ^ 32) placed → AreBegunBy homing clocks base (units_from homing clocks oid base plan placed)
+units_begun homing clocks freq oid base plan placed spaced packs small = begun homing clocks oid base (windows_of (max_error freq) base plan) plan placed (spaced_run (max_error freq) base plan spaced) packs small
 
 -- windows with the directions of steps
 abbrev SameUps : List Window → List Planned → Type 0
@@ -182,12 +182,12 @@ ticks_behind clocks oid reset up steps (p ∷ placed) =
     subst At (sym (told_is up now))
     (one_ticks clocks oid p (told (Some up) now) None now (steps_said oid now later) (placed_ticks placed) (ticks_behind clocks oid reset now (drop p.triple.count steps) placed))
 
-ticks_from : (clocks : Clocks) (oid base : ℕ) (steps : List Planned) (placed : List Placed) → map (λ (q : Pulse). q.tick) (steps_said oid false (units_from clocks oid base steps placed)) ≡ placed_ticks placed
-ticks_from clocks oid base steps [] = refl
-ticks_from clocks oid base steps (p ∷ placed) =
+ticks_from : (homing : Bool) (clocks : Clocks) (oid base : ℕ) (steps : List Planned) (placed : List Placed) → map (λ (q : Pulse). q.tick) (steps_said oid false (units_from homing clocks oid base steps placed)) ≡ placed_ticks placed
+ticks_from homing clocks oid base steps [] = refl
+ticks_from homing clocks oid base steps (p ∷ placed) =
     let now = first_up steps in
-    let later = units_on clocks oid (Some base) (Some now) (drop p.triple.count steps) placed in
-    one_ticks clocks oid p (Some now) (Some base) now (steps_said oid now later) (placed_ticks placed) (ticks_behind clocks oid (Some base) now (drop p.triple.count steps) placed)
+    let later = units_on clocks oid (set_to homing base) (Some now) (drop p.triple.count steps) placed in
+    one_ticks clocks oid p (Some now) (set_to homing base) now (steps_said oid now later) (placed_ticks placed) (ticks_behind clocks oid (set_to homing base) now (drop p.triple.count steps) placed)
 
 one_ups : (clocks : Clocks) (oid : ℕ) (p : Placed) (up : Option Bool) (reset : Option ℕ) (ws : List Window) (steps : List Planned) (behind : ℕ) (rest : List Pulse)
     → Covers behind p.first p.triple.interval p.triple.count p.triple.add ws → SameUps ws steps → map (λ (q : Pulse). q.up) rest ≡ map (λ (s : Planned). s.up) (drop p.triple.count steps)
@@ -216,28 +216,28 @@ ups_behind clocks oid behind reset up ws steps (p ∷ placed) packs same =
     (one_ups clocks oid p (told (Some up) now) None ws steps behind (steps_said oid now later) packs.0 same
     (ups_behind clocks oid p.last reset now (drop p.triple.count ws) (drop p.triple.count steps) placed packs.3 (same_drop p.triple.count ws steps same)))
 
-ups_from : (clocks : Clocks) (oid base : ℕ) (ws : List Window) (steps : List Planned) (placed : List Placed) → PacksPlaced base ws placed → SameUps ws steps
-    → map (λ (q : Pulse). q.up) (steps_said oid false (units_from clocks oid base steps placed)) ≡ map (λ (s : Planned). s.up) steps
-ups_from clocks oid base ws steps [] packs same = ap (map (λ (s : Planned). s.up)) (sym (none_left ws steps same packs))
-ups_from clocks oid base ws steps (p ∷ placed) packs same =
+ups_from : (homing : Bool) (clocks : Clocks) (oid base : ℕ) (ws : List Window) (steps : List Planned) (placed : List Placed) → PacksPlaced base ws placed → SameUps ws steps
+    → map (λ (q : Pulse). q.up) (steps_said oid false (units_from homing clocks oid base steps placed)) ≡ map (λ (s : Planned). s.up) steps
+ups_from homing clocks oid base ws steps [] packs same = ap (map (λ (s : Planned). s.up)) (sym (none_left ws steps same packs))
+ups_from homing clocks oid base ws steps (p ∷ placed) packs same =
     let now = first_up steps in
-    let later = units_on clocks oid (Some base) (Some now) (drop p.triple.count steps) placed in
-    one_ups clocks oid p (Some now) (Some base) ws steps base (steps_said oid now later) packs.0 same
-    (ups_behind clocks oid p.last (Some base) now (drop p.triple.count ws) (drop p.triple.count steps) placed packs.3 (same_drop p.triple.count ws steps same))
+    let later = units_on clocks oid (set_to homing base) (Some now) (drop p.triple.count steps) placed in
+    one_ups clocks oid p (Some now) (set_to homing base) ws steps base (steps_said oid now later) packs.0 same
+    (ups_behind clocks oid p.last (set_to homing base) now (drop p.triple.count ws) (drop p.triple.count steps) placed packs.3 (same_drop p.triple.count ws steps same))
 
-pub units_fit : (clocks : Clocks) (freq oid base : ℕ) (plan : List Planned) (placed : List Placed) → AreSpaced base plan → PacksPlaced base (windows_of (max_error freq) base plan) placed
-    → Fits freq base (steps_said oid false (units_from clocks oid base plan placed)) plan
-units_fit clocks freq oid base plan placed spaced packs =
+pub units_fit : (homing : Bool) (clocks : Clocks) (freq oid base : ℕ) (plan : List Planned) (placed : List Placed) → AreSpaced base plan → PacksPlaced base (windows_of (max_error freq) base plan) placed
+    → Fits freq base (steps_said oid false (units_from homing clocks oid base plan placed)) plan
+units_fit homing clocks freq oid base plan placed spaced packs =
     let ws = windows_of (max_error freq) base plan in
-    fitting freq base plan (steps_said oid false (units_from clocks oid base plan placed)) (rw (ticks_from clocks oid base plan placed) (placed_within base ws placed packs))
-    (ups_from clocks oid base ws plan placed packs (windows_same (max_error freq) base plan))
+    fitting freq base plan (steps_said oid false (units_from homing clocks oid base plan placed)) (rw (ticks_from homing clocks oid base plan placed) (placed_within base ws placed packs))
+    (ups_from homing clocks oid base ws plan placed packs (windows_same (max_error freq) base plan))
 
-pub units_whole : (clocks : Clocks) (freq oid base : ℕ) (plan : List Planned) (placed : List Placed) → AreSpaced base plan → PacksPlaced base (windows_of (max_error freq) base plan) placed
-    → length (steps_said oid false (units_from clocks oid base plan placed)) ≡ length plan
-units_whole clocks freq oid base plan placed spaced packs =
+pub units_whole : (homing : Bool) (clocks : Clocks) (freq oid base : ℕ) (plan : List Planned) (placed : List Placed) → AreSpaced base plan → PacksPlaced base (windows_of (max_error freq) base plan) placed
+    → length (steps_said oid false (units_from homing clocks oid base plan placed)) ≡ length plan
+units_whole homing clocks freq oid base plan placed spaced packs =
     let ws = windows_of (max_error freq) base plan in
-    let said = steps_said oid false (units_from clocks oid base plan placed) in
-    sym (length-map said (λ (q : Pulse). q.tick)) ∙ ap length (ticks_from clocks oid base plan placed) ∙ as_many (max_error freq) base plan (placed_ticks placed) (placed_within base ws placed packs)
+    let said = steps_said oid false (units_from homing clocks oid base plan placed) in
+    sym (length-map said (λ (q : Pulse). q.tick)) ∙ ap length (ticks_from homing clocks oid base plan placed) ∙ as_many (max_error freq) base plan (placed_ticks placed) (placed_within base ws placed packs)
 
 -- Pieces.
 last_append : (x : ℕ) (ts us : List ℕ) → last_of x (ts ++ us) ≡ last_of (last_of x ts) us
@@ -254,14 +254,14 @@ units_end clocks oid behind reset up ws steps (p ∷ placed) packs =
     units_end clocks oid p.last reset (first_up steps) (drop t.count ws) (drop t.count steps) placed packs.3 ∙ ap (λ x. last_of x (placed_ticks placed)) (sym here)
     ∙ sym (last_append behind (ticks_of p.first t) (placed_ticks placed))
 
-from_end : (clocks : Clocks) (oid base : ℕ) (ws : List Window) (steps : List Planned) (placed : List Placed) → PacksPlaced base ws placed
-    → end_of_units base (units_from clocks oid base steps placed) ≡ last_of base (placed_ticks placed)
-from_end clocks oid base ws steps [] packs = refl
-from_end clocks oid base ws steps (p ∷ placed) packs =
+from_end : (homing : Bool) (clocks : Clocks) (oid base : ℕ) (ws : List Window) (steps : List Planned) (placed : List Placed) → PacksPlaced base ws placed
+    → end_of_units base (units_from homing clocks oid base steps placed) ≡ last_of base (placed_ticks placed)
+from_end homing clocks oid base ws steps [] packs = refl
+from_end homing clocks oid base ws steps (p ∷ placed) packs =
     let t = p.triple in
     let some = packs.0.some in
     let here : last_of base (ticks_of p.first t) ≡ p.last = last_counted (tick_at p.first t.interval t.add) base t.count (t.count - 1) (omega (arith, some)) ∙ sym packs.1 in
-    units_end clocks oid p.last (Some base) (first_up steps) (drop t.count ws) (drop t.count steps) placed packs.3 ∙ ap (λ x. last_of x (placed_ticks placed)) (sym here)
+    units_end clocks oid p.last (set_to homing base) (first_up steps) (drop t.count ws) (drop t.count steps) placed packs.3 ∙ ap (λ x. last_of x (placed_ticks placed)) (sym here)
     ∙ sym (last_append base (ticks_of p.first t) (placed_ticks placed))
 
 -- so end the units of a piece
@@ -309,46 +309,46 @@ no_plan (s ∷ plan) e = absurd (omega (arith, e))
 pub plan_ends : (base : ℕ) (plan more : List Planned) → end_of_plan base (plan ++ more) ≡ end_of_plan (end_of_plan base plan) more
 plan_ends base plan more = ap (last_of base) (map-append (λ (s : Planned). s.tick) plan more) ∙ last_append base (map (λ (s : Planned). s.tick) plan) (map (λ (s : Planned). s.tick) more)
 
-pub none_packed : (clocks : Clocks) (freq oid base : ℕ) → ArePacked clocks freq oid base [] []
-none_packed clocks freq oid base = record { begun = tt; fits = tt; whole = refl; ends = refl }
+pub none_packed : (homing : Bool) (clocks : Clocks) (freq oid base : ℕ) → ArePackedBy homing clocks freq oid base [] []
+none_packed homing clocks freq oid base = record { begun = tt; fits = tt; whole = refl; ends = refl }
 
-pub first_packed : (clocks : Clocks) (freq oid base : ℕ) (plan : List Planned) (placed : List Placed) → AreSpaced base plan → PacksPlaced base (windows_of (max_error freq) base plan) placed
-    → All (λ p. p.triple.interval < 2 ^ 32) placed → ArePacked clocks freq oid base plan (units_from clocks oid base plan placed)
-first_packed clocks freq oid base plan placed spaced packs small =
+pub first_packed : (homing : Bool) (clocks : Clocks) (freq oid base : ℕ) (plan : List Planned) (placed : List Placed) → AreSpaced base plan → PacksPlaced base (windows_of (max_error freq) base plan) placed
+    → All (λ p. p.triple.interval < 2 ^ 32) placed → ArePackedBy homing clocks freq oid base plan (units_from homing clocks oid base plan placed)
+first_packed homing clocks freq oid base plan placed spaced packs small =
     let ws = windows_of (max_error freq) base plan in
     record {
-      begun = units_begun clocks freq oid base plan placed spaced packs small;
-      fits = units_fit clocks freq oid base plan placed spaced packs;
-      whole = units_whole clocks freq oid base plan placed spaced packs;
-      ends = from_end clocks oid base ws plan placed packs ∙ ending (max_error freq) base plan (placed_ticks placed) (placed_within base ws placed packs);
+      begun = units_begun homing clocks freq oid base plan placed spaced packs small;
+      fits = units_fit homing clocks freq oid base plan placed spaced packs;
+      whole = units_whole homing clocks freq oid base plan placed spaced packs;
+      ends = from_end homing clocks oid base ws plan placed packs ∙ ending (max_error freq) base plan (placed_ticks placed) (placed_within base ws placed packs);
     }
 
-pub next_packed : (clocks : Clocks) (freq oid base : ℕ) (plan more : List Planned) (us : List StepUnit) (placed : List Placed) → ArePacked clocks freq oid base plan us
+pub next_packed : (homing : Bool) (clocks : Clocks) (freq oid base : ℕ) (plan more : List Planned) (us : List StepUnit) (placed : List Placed) → ArePackedBy homing clocks freq oid base plan us
     → AreSpaced (end_of_plan base plan) more → PacksPlaced (end_of_plan base plan) (windows_of (max_error freq) (end_of_plan base plan) more) placed
-    → All (λ p. p.triple.interval < 2 ^ 32) placed → ArePacked clocks freq oid base (plan ++ more) (us ++ units_next clocks oid base us more placed)
-next_packed clocks freq oid base plan more [] placed k spaced packs small =
+    → All (λ p. p.triple.interval < 2 ^ 32) placed → ArePackedBy homing clocks freq oid base (plan ++ more) (us ++ units_next homing clocks oid base us more placed)
+next_packed homing clocks freq oid base plan more [] placed k spaced packs small =
     let none = no_plan plan k.whole in
     let At : List Planned → Type 0 = λ x. AreSpaced (end_of_plan base x) more in
     let On : List Planned → Type 0 = λ x. PacksPlaced (end_of_plan base x) (windows_of (max_error freq) (end_of_plan base x) more) placed in
-    let To : List Planned → Type 0 = λ x. ArePacked clocks freq oid base (x ++ more) (units_from clocks oid base more placed) in
-    subst To (sym none) (first_packed clocks freq oid base more placed (subst At none spaced) (subst On none packs) small)
-next_packed clocks freq oid base plan more (u ∷ us) placed k spaced packs small =
+    let To : List Planned → Type 0 = λ x. ArePackedBy homing clocks freq oid base (x ++ more) (units_from homing clocks oid base more placed) in
+    subst To (sym none) (first_packed homing clocks freq oid base more placed (subst At none spaced) (subst On none packs) small)
+next_packed homing clocks freq oid base plan more (u ∷ us) placed k spaced packs small =
     let t = end_of_plan base plan in
     let up = dir_behind false (u ∷ us) in
-    let vs = units_on clocks oid (Some base) (Some up) more placed in
+    let vs = units_on clocks oid (set_to homing base) (Some up) more placed in
     let ws = windows_of (max_error freq) t more in
     let said = steps_said oid up vs in
-    let chain = chained clocks oid t (Some base) up ws more placed (spaced_run (max_error freq) t more spaced) packs small in
+    let chain = chained clocks oid t (set_to homing base) up ws more placed (spaced_run (max_error freq) t more spaced) packs small in
     let Behind : ℕ → Type 0 = λ x. AreChained clocks x vs in
     let own = placed_within t ws placed packs in
-    let later : Fits freq t said more = fitting freq t more said (rw (ticks_behind clocks oid (Some base) up more placed) own)
-    (ups_behind clocks oid t (Some base) up ws more placed packs (windows_same (max_error freq) t more)) in
-    let count : length said ≡ length more = sym (length-map said (λ (q : Pulse). q.tick)) ∙ ap length (ticks_behind clocks oid (Some base) up more placed) ∙ as_many (max_error freq) t more (placed_ticks placed) own in
+    let later : Fits freq t said more = fitting freq t more said (rw (ticks_behind clocks oid (set_to homing base) up more placed) own)
+    (ups_behind clocks oid t (set_to homing base) up ws more placed packs (windows_same (max_error freq) t more)) in
+    let count : length said ≡ length more = sym (length-map said (λ (q : Pulse). q.tick)) ∙ ap length (ticks_behind clocks oid (set_to homing base) up more placed) ∙ as_many (max_error freq) t more (placed_ticks placed) own in
     let joined = said_join oid false (u ∷ us) vs in
     let first = steps_said oid false (u ∷ us) in
     record {
       begun = (k.begun.0, k.begun.1, k.begun.2, chains_join clocks u.last us vs k.begun.3 (subst Behind (sym k.ends) chain));
       fits = rw joined (fits_join freq base first said plan more k.fits k.whole later);
       whole = ap length joined ∙ omega (arith, length-append first said, length-append plan more, k.whole, count);
-      ends = ends_join base (u ∷ us) vs ∙ ap (λ x. end_of_units x vs) k.ends ∙ units_end clocks oid t (Some base) up ws more placed packs ∙ ending (max_error freq) t more (placed_ticks placed) own ∙ sym (plan_ends base plan more);
+      ends = ends_join base (u ∷ us) vs ∙ ap (λ x. end_of_units x vs) k.ends ∙ units_end clocks oid t (set_to homing base) up ws more placed packs ∙ ending (max_error freq) t more (placed_ticks placed) own ∙ sym (plan_ends base plan more);
     }

@@ -1,5 +1,5 @@
 -- Units that are late come one by one.
-use Rattle.std.specs.Prelude.{ℕ, ◌+◌, ◌<◌, ◌≤◌, List, [], ◌∷◌}
+use Rattle.std.specs.Prelude.{◌+◌, ◌<◌, ◌≤◌, List, [], ◌∷◌}
 use Rattle.step_feed.specs.Pacing.{Release}
 
 -- Of some releases the first one that is five turns or more behind its due turn is just five turns behind it.

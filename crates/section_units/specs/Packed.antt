@@ -7,11 +7,11 @@ use Rattle.plan_types.specs.Plan.{Fits}
 use Rattle.step_pack.specs.declared.Placed.{Placed}
 use Rattle.step_feed.specs.Units.{StepUnit}
 use Rattle.section_units.specs.Units.{units_on}
-use Rattle.section_units.specs.Sections.{AreBegun, dir_after, steps_said}
+use Rattle.section_units.specs.Sections.{AreBegunBy, dir_after, set_to, steps_said}
 
--- the units of a section that begins at a tick
-abbrev pub units_from : Clocks → ℕ → ℕ → List Planned → List Placed → List StepUnit
-units_from clocks oid base steps placed = units_on clocks oid (Some base) None steps placed
+-- the units of a section that begins at a tick, and homes or not
+abbrev pub units_from : Bool → Clocks → ℕ → ℕ → List Planned → List Placed → List StepUnit
+units_from homing clocks oid base steps placed = units_on clocks oid (set_to homing base) None steps placed
 
 -- the last tick of some units behind a tick
 abbrev pub end_of_units : ℕ → List StepUnit → ℕ
@@ -33,12 +33,12 @@ abbrev pub end_of_plan : ℕ → List Planned → ℕ
 end_of_plan base plan = last_of base (map (λ s. s.tick) plan)
 
 -- the units of the next piece of a section's plan, behind those of the pieces before it
-abbrev pub units_next : Clocks → ℕ → ℕ → List StepUnit → List Planned → List Placed → List StepUnit
-units_next clocks oid base us steps placed = units_on clocks oid (Some base) (dir_told us) steps placed
+abbrev pub units_next : Bool → Clocks → ℕ → ℕ → List StepUnit → List Planned → List Placed → List StepUnit
+units_next homing clocks oid base us steps placed = units_on clocks oid (set_to homing base) (dir_told us) steps placed
 
--- the units of a stepper are those of a plan so far
-pub record ArePacked (clocks : Clocks) (freq oid base : ℕ) (plan : List Planned) (us : List StepUnit) : Type 0 where
-  pub begun : AreBegun clocks base us
+-- the units of a stepper in a section, which homes or not, are those of a plan so far
+pub record ArePackedBy (homing : Bool) (clocks : Clocks) (freq oid base : ℕ) (plan : List Planned) (us : List StepUnit) : Type 0 where
+  pub begun : AreBegunBy homing clocks base us
   pub fits : Fits freq base (steps_said oid false us) plan
   pub whole : length (steps_said oid false us) ≡ length plan
   pub ends : end_of_units base us ≡ end_of_plan base plan

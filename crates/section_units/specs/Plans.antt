@@ -1,5 +1,5 @@
 -- The plan of a section, board by board.
-use Rattle.std.specs.Prelude.{◌≡◌, ℕ, ◌+◌, ◌<◌, ◌==◌, List, [], ◌∷◌, All, length, slice_index_or, if◌then◌else◌}
+use Rattle.std.specs.Prelude.{◌≡◌, ℕ, ◌+◌, ◌<◌, ◌==◌, Bool, false, List, [], ◌∷◌, All, length, slice_index_or, if◌then◌else◌}
 use Rattle.plan_types.specs.declared.machine.Machine.{Machine}
 use Rattle.plan_types.specs.declared.machine.StepperDef.{StepperDef}
 use Rattle.plan_types.specs.declared.plan.Move.{Move}
@@ -10,9 +10,9 @@ use Rattle.plan_types.specs.Machines.{board_at}
 use Rattle.plan_types.specs.Plan.{AreSpaced}
 use Rattle.plan_types.specs.Sections.{base_tick, clocks_at, section_end, section_plans, stepper_plan}
 use Rattle.step_feed.specs.Pacing.{Release}
-use Rattle.section_units.specs.Fronts.{IsSectionFront}
+use Rattle.section_units.specs.Fronts.{IsFrontBy}
 use Rattle.section_units.specs.Merged.{section_of}
-use Rattle.section_units.specs.Sections.{BoardSection, IsSection}
+use Rattle.section_units.specs.Sections.{BoardSection, IsWholeBy}
 use Rattle.section_units.specs.Sent.{AreSent, AreSentTo}
 use Rattle.section_units.specs.Units.{as_sent}
 
@@ -37,10 +37,14 @@ abbrev pub section_on : Machine → List Clocks → List Move → ℕ → ℕ �
 section_on m clocks moves start b releases =
     section_of start (section_end m clocks moves start) (plans_on m clocks moves start b) releases
 
--- these releases are those of the section on a board
+-- these releases are those of the section on a board, which homes or not
+abbrev pub IsOnBoardBy : Bool → Machine → List Clocks → List Move → ℕ → ℕ → List Release → Type 0
+IsOnBoardBy homing m clocks moves start b rs =
+    IsWholeBy homing (clocks_at clocks b) (board_at m b).freq (board_at m b).slots (section_on m clocks moves start b rs)
+
+-- and of one that does not home
 abbrev pub IsOnBoard : Machine → List Clocks → List Move → ℕ → ℕ → List Release → Type 0
-IsOnBoard m clocks moves start b rs =
-    IsSection (clocks_at clocks b) (board_at m b).freq (board_at m b).slots (section_on m clocks moves start b rs)
+IsOnBoard m clocks moves start b rs = IsOnBoardBy false m clocks moves start b rs
 
 -- these releases on a board are such as it is sent of the section, and those before a turn are
 abbrev pub AreSentOn : Machine → List Clocks → List Move → ℕ → ℕ → List Release → Type 0
@@ -49,15 +53,23 @@ AreSentOn m clocks moves start b rs = AreSent (clocks_at clocks b) (board_at m b
 abbrev pub AreSentToOn : Machine → List Clocks → List Move → ℕ → ℕ → ℕ → List Release → Type 0
 AreSentToOn m clocks moves start b turn rs = AreSentTo (clocks_at clocks b) (board_at m b).freq turn (section_on m clocks moves start b rs)
 
--- these are the releases of the section on all boards
-pub record AreOnBoards (m : Machine) (clocks : List Clocks) (moves : List Move) (start : ℕ) (boards : List (List Release)) : Type 0 where
+-- these are the releases of the section on all boards, which homes or not
+pub record AreOnBoardsBy (homing : Bool) (m : Machine) (clocks : List Clocks) (moves : List Move) (start : ℕ) (boards : List (List Release)) : Type 0 where
   pub count : length boards ≡ length m.boards
-  pub each : (b : ℕ) → b < length m.boards → IsOnBoard m clocks moves start b (slice_index_or boards b [])
+  pub each : (b : ℕ) → b < length m.boards → IsOnBoardBy homing m clocks moves start b (slice_index_or boards b [])
 
--- these releases are the first ones of the section on a board, of which more may follow
+-- and of one that does not home
+abbrev pub AreOnBoards : Machine → List Clocks → List Move → ℕ → List (List Release) → Type 0
+AreOnBoards m clocks moves start boards = AreOnBoardsBy false m clocks moves start boards
+
+-- these releases are the first ones of the section on a board, which homes or not, of which more may follow
+abbrev pub IsFrontOnBy : Bool → Machine → List Clocks → List Move → ℕ → ℕ → List Release → Type 0
+IsFrontOnBy homing m clocks moves start b rs =
+    IsFrontBy homing (clocks_at clocks b) (board_at m b).freq (board_at m b).slots (section_on m clocks moves start b rs)
+
+-- and of one that does not home
 abbrev pub IsFrontOn : Machine → List Clocks → List Move → ℕ → ℕ → List Release → Type 0
-IsFrontOn m clocks moves start b rs =
-    IsSectionFront (clocks_at clocks b) (board_at m b).freq (board_at m b).slots (section_on m clocks moves start b rs)
+IsFrontOn m clocks moves start b rs = IsFrontOnBy false m clocks moves start b rs
 
 -- the steppers' plans are spaced and stay within the limits
 pub record ArePlansOf (m : Machine) (clocks : List Clocks) (moves : List Move) (start : ℕ) : Type 0 where

@@ -1,5 +1,5 @@
--- A section of moves on one board: its plan, its units, and how these are spread over the turns.
-use Rattle.std.specs.Prelude.{◌≡◌, ◌≢◌, ℕ, ◌+◌, ◌*◌, ◌^◌, ◌<◌, ◌≤◌, ◌==◌, Bool, false, List, [], ◌∷◌, ◌++◌, All, length, map, Option, Some, None, slice_index, if◌then◌else◌}
+-- A section on one board: its plan, its units, and how these are spread over the turns.
+use Rattle.std.specs.Prelude.{◌≡◌, ◌≢◌, ℕ, ◌+◌, ◌*◌, ◌^◌, ◌<◌, ◌==◌, Bool, false, List, [], ◌∷◌, ◌++◌, All, length, map, Option, Some, None, slice_index, if◌then◌else◌}
 use Rattle.std.specs.List.{flat_map}
 use Rattle.plan_types.specs.Clock.{turn_ns}
 use Rattle.plan_types.specs.Lines.{Clocks, lines_tick, lines_turn}
@@ -11,7 +11,7 @@ use Rattle.plan_types.specs.Board.{last_of, steps_of, IsExpansion, TicksRise}
 use Rattle.step_feed.specs.Units.{StepUnit}
 use Rattle.step_feed.specs.Pacing.{Release, ArePaced, units_of}
 
--- a section of moves, on one board
+-- a section, on one board
 pub record BoardSection : Type 0 where
   -- the turns in which it starts and ends
   pub start : ℕ
@@ -63,10 +63,19 @@ abbrev pub AreChained : Clocks → ℕ → List StepUnit → Type 0
 AreChained clocks behind [] = Unit {0}
 AreChained clocks behind (u ∷ us) = (u.reset ≡ None) × IsUnit clocks behind u × AreChained clocks u.last us
 
--- units of one stepper in a section: the first one sets the clock to the section's first tick, and tells the direction
+-- the tick to which the first unit of a stepper sets its clock, if it does: in a section that homes it does not
+abbrev pub set_to : Bool → ℕ → Option ℕ
+set_to homing base = if homing then None else Some base
+
+-- Units of one stepper in a section, which homes or not: the first one tells the direction, and sets the clock to the section's first
+-- tick, or does not set it.
+abbrev pub AreBegunBy : Bool → Clocks → ℕ → List StepUnit → Type 0
+AreBegunBy homing clocks base [] = Unit {0}
+AreBegunBy homing clocks base (u ∷ us) = (u.reset ≡ set_to homing base) × (u.up ≢ None) × IsUnit clocks base u × AreChained clocks u.last us
+
+-- and those in a section that does not home
 abbrev pub AreBegun : Clocks → ℕ → List StepUnit → Type 0
-AreBegun clocks base [] = Unit {0}
-AreBegun clocks base (u ∷ us) = (u.reset ≡ Some base) × (u.up ≢ None) × IsUnit clocks base u × AreChained clocks u.last us
+AreBegun clocks base us = AreBegunBy false clocks base us
 
 -- the steps of a stepper in a section, as its units mean them
 abbrev pub section_steps : ℕ → BoardSection → List Pulse
@@ -86,13 +95,17 @@ abbrev pub AreReleased : ℕ → List BoardSection → Type 0
 AreReleased turn [] = Unit {0}
 AreReleased turn (s ∷ ss) = AreBefore turn s.releases × AreReleased turn ss
 
--- a section of which the units fit the plan, and are paced from 250 turns before its start on
-pub record IsSection (clocks : Clocks) (freq slots : ℕ) (s : BoardSection) : Type 0 where
+-- a section, which homes or not, of which the units fit the plan, and are paced from 250 turns before its start on
+pub record IsWholeBy (homing : Bool) (clocks : Clocks) (freq slots : ℕ) (s : BoardSection) : Type 0 where
   pub spaced : (oid : ℕ) → AreSpaced (base_of clocks s) (s.plan oid)
   pub within : (oid : ℕ) → All (λ p. p.tick < lines_tick clocks ((s.end + 1) * turn_ns)) (s.plan oid)
-  pub begun : (oid : ℕ) → AreBegun clocks (base_of clocks s) (of_stepper oid (units_of s.releases))
+  pub begun : (oid : ℕ) → AreBegunBy homing clocks (base_of clocks s) (of_stepper oid (units_of s.releases))
   pub fits : (oid : ℕ) → Fits freq (base_of clocks s) (section_steps oid s) (s.plan oid)
   pub whole : (oid : ℕ) → length (section_steps oid s) ≡ length (s.plan oid)
   pub from : ℕ
   pub exact : from + 250 ≡ s.start
   pub paced : ArePaced clocks slots from [] s.releases
+
+-- a section of moves, which does not home
+abbrev pub IsSection : Clocks → ℕ → ℕ → BoardSection → Type 0
+IsSection clocks freq slots s = IsWholeBy false clocks freq slots s

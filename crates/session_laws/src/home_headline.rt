@@ -31,7 +31,7 @@ ghost use Rattle.homing_laws.specs.home_plans.Notes.{CameNotes, WasBegun};
 ghost use Rattle.homing_laws.specs.home_parts.Answers.{IsPlannedBy};
 ghost use Rattle.session_laws.specs.home_headline.Cuts.{TellAnswers, TellEnds, TellsCut, cuts_of};
 ghost use Rattle.session_laws.specs.home_headline.Follow.{AllShowBegun, AllShowHomes, FollowHomes, HaveBegunLines, ShowBegun, ShowHomes};
-ghost use Rattle.session_laws.specs.home_headline.Little.{AllHomeLittle, HomesLittle, SendsAllInTime};
+ghost use Rattle.session_laws.specs.home_headline.Little.{AllHomeLittle, HomesLittle, SendsAllInTime, SendsAllOut};
 ghost use Rattle.session_laws.specs.home_headline.Reading.{ReadsOn};
 ghost use Rattle.session_laws.specs.home_headline.Reports.{TellOfReadings};
 
@@ -110,10 +110,12 @@ pub fn homing_runs_show_their_sections<F: Files, S: Sink>()
         AllShowHomes m made.plans.seen (clocks_heard made.plans.seen.told) (ready_heard made.plans.seen.told) t.cause (r.runs.1 ++ r.runs.2 ∷ []))) ∥₁ }
 {}
 
-/// The law of scenes without entries: where the planner sends all units in time, no board holds anything long, and each takes the set-ups of
-/// homing sections in time.
+/// The law of scenes without entries: where the planner sends those units of each section of moves that are late by four turns behind its end,
+/// and none too late, no board holds anything long, and each takes the set-ups of homing sections in time. So it does where it sends all units
+/// in time.
 pub fn clear_scenes_hold_little()
-    ensures { (m : Machine) (s : Scene) (text : List ℕ) (planned : List MotionTurn) (turns : List ReactorTurn) → s.entries ≡ [] → SendsAllInTime m text planned → AllHomeLittle m s text planned turns }
+    ensures little { (m : Machine) (s : Scene) (text : List ℕ) (planned : List MotionTurn) (turns : List ReactorTurn) → s.entries ≡ [] → SendsAllOut m text planned → AllHomeLittle m s text planned turns }
+    ensures out { (m : Machine) (text : List ℕ) (planned : List MotionTurn) → SendsAllInTime m text planned → SendsAllOut m text planned }
 {}
 
 /// The law of switches in whole runs: in whatever threads a run went that does not end for want of memory, and whose text was read on while

@@ -8,6 +8,7 @@ use Rattle.plan_types.specs.declared.plan.BoardState.TheVariants.{Running}
 use Rattle.plan_types.specs.Clock.{board_tick, clock_of, turn_ns}
 use Rattle.plan_types.specs.Lines.{Clocks, lines_tick}
 use Rattle.plan_types.specs.Machines.{axis_at, board_at}
+use Rattle.plan_types.specs.Sections.{clocks_at}
 use Rattle.clock_line.specs.Early.{turn_tick}
 use Rattle.wire_scene.specs.declared.scene.Entry.{Entry}
 use Rattle.wire_scene.specs.declared.scene.Switch.{Switch}
@@ -33,7 +34,6 @@ use Rattle.trigger_group.specs.Group.{GroupState, after_in, first_timeout, order
 use Rattle.axis_homing.specs.declared.homing.Homing.{Homing}
 use Rattle.axis_homing.specs.Homing.{answer_in, commands_to, hears_all, hears_news, hears_state, hears_states, low}
 use Rattle.axis_homing.specs.Rising.{members_of}
-use Rattle.host_reactor.specs.declared.ordered.Phase.TheVariants.{Connecting}
 use Rattle.host_reactor.specs.Notes.{noted}
 use Rattle.host_reactor.specs.Runs.{Came, known_by}
 use Rattle.host_reactor.proofs.Resting.{picked}
@@ -54,6 +54,7 @@ use Rattle.homing_laws.specs.clear_groups.Early.{HeardUntil}
 use Rattle.homing_laws.specs.clear_groups.Safe.{IsRenewed, IsSafe, IsSafeIn, IsWatched}
 use Rattle.homing_laws.specs.clear_groups.Sections.{AreOfTurn, IsClearSection, IsFollowed, report_ticks, rig_at, turns_of}
 use Rattle.homing_laws.specs.clear_groups.SetUp.{HoldsOf, IsArmed, IsNew, IsPrepared}
+use Rattle.homing_laws.proofs.clear_groups.Alike.{AreBy, homes_by, ordered_alike, starts_by}
 use Rattle.homing_laws.proofs.clear_groups.Arming.{armed_alive, armed_limited, armed_passes, armed_small}
 use Rattle.homing_laws.proofs.clear_groups.Known.{behind_turn, homing_next, of_known}
 use Rattle.homing_laws.proofs.clear_groups.Sections.{cut}
@@ -262,24 +263,6 @@ module _ (m : Machine) (switches : List Switch) (pins : ℕ → List (List Level
     pub long_first : K ≡ length (turns_of b js)
     long_first = as_long m switches b past (turns_of b js) (cut_twice.plain b on).run.both
 
-    pub ordered_first : IsOrdered m (lines b) b h K Now.group (commands_of (queued_in (taken_orders (j b).control (j b).batch)))
-    ordered_first =
-        let p = cut_once.plain b on in
-        let open_phase : (noted m e.note (known_by m switches past)).phase ≡ Connecting → ⊥ = λ z. (s.homes.1.1.0 early).0 (sym (noted_phase m e.note (known_by m switches past)) ∙ z) in
-        let o = turn_ordered m switches (pins b) entries b e past (j b) (turns_of b js) h p.run is open_phase known_first.1 in
-        subst (λ (cl : Clocks). IsOrdered m cl b h K Now.group (commands_of (queued_in (taken_orders (j b).control (j b).batch)))) (s.knows.1.1.0 h is begins_at b p.run.board).1 o
-
-    pub ordered_second : IsOrdered m (lines b) b First (length (e ∷ past)) Heard.group (commands_of (queued_in (taken_orders (i b).control (i b).batch)))
-    ordered_second =
-        let p = s.plain b on in
-        let known = s.homes.1.0 (omega (arith, early)) in
-        let open_phase : (noted m d.note (known_by m switches (e ∷ past))).phase ≡ Connecting → ⊥ = λ z. known.0 (sym (noted_phase m d.note (known_by m switches (e ∷ past))) ∙ z) in
-        let o = turn_ordered m switches (pins b) entries b d (e ∷ past) (i b) (turns_of b (j ∷ js)) First p.run known_first.0 open_phase known_second.1 in
-        subst (λ (cl : Clocks). IsOrdered m cl b First (length (e ∷ past)) Heard.group (commands_of (queued_in (taken_orders (i b).control (i b).batch)))) (s.knows.1.0 First known_first.0 (of_known start members (noted m d.note (known_by m switches (e ∷ past))).homing First known.1 known_first.0).0 b p.run.board).1 o
-
-    pub members_are : members_of Now.group ≡ members
-    members_are = ap (λ (xs : List Seen). map (λ (x : Seen). x.member) xs) new.unheard ∙ same_unseen members
-
     pub sends_first : orders Now.group K ≡ round_of (Starts Earliest) Now.group.members
     sends_first =
         let at = new.begins in
@@ -290,6 +273,28 @@ module _ (m : Machine) (switches : List Switch) (pins : ℕ → List (List Level
     sends_second =
         let at = begins_first in
         ap (λ (p : GroupPhase). ordered_in p Heard.group (length (e ∷ past))) (phase_homes Heard.group.start Heard.group.last (length (e ∷ past)) (omega (arith, set_up, at)))
+
+    pub ordered_first : IsOrdered m (lines b) b h K Now.group (commands_of (queued_in (taken_orders (j b).control (j b).batch)))
+    ordered_first =
+        let p = cut_once.plain b on in
+        let past_it = (s.homes.1.1.0 early).0 in
+        let o = turn_ordered m switches (pins b) entries b e past (j b) (turns_of b js) h p.run is (λ z. past_it (sym (noted_phase m e.note (known_by m switches past)) ∙ z)) known_first.1 in
+        let at = begins_at in
+        let by = subst (λ (cs : List Ctl). AreBy (K + 276) cs) (sym sends_first) (starts_by (K + 276) Earliest Now.group.members (omega (arith, set_up))) in
+        ordered_alike m (clocks_at (Clocks_of e past) b) (lines b) b (K + 276) h K Now.group _ (s.knows.1.1.0 past_it h is begins_at b p.run.board).1 (omega (arith, at, set_up)) by o
+
+    pub ordered_second : IsOrdered m (lines b) b First (length (e ∷ past)) Heard.group (commands_of (queued_in (taken_orders (i b).control (i b).batch)))
+    ordered_second =
+        let p = s.plain b on in
+        let known = s.homes.1.0 (omega (arith, early)) in
+        let k = length (e ∷ past) in
+        let o = turn_ordered m switches (pins b) entries b d (e ∷ past) (i b) (turns_of b (j ∷ js)) First p.run known_first.0 (λ z. known.0 (sym (noted_phase m d.note (known_by m switches (e ∷ past))) ∙ z)) known_second.1 in
+        let begins = (of_known start members (noted m d.note (known_by m switches (e ∷ past))).homing First known.1 known_first.0).0 in
+        let by = subst (λ (cs : List Ctl). AreBy (k + 276) cs) (sym sends_second) (homes_by (k + 276) Heard.group.members) in
+        ordered_alike m (clocks_at (Clocks_of d (e ∷ past)) b) (lines b) b (k + 276) First k Heard.group _ (s.knows.1.0 known.0 First known_first.0 begins b p.run.board).1 (omega (arith, begins, set_up)) by o
+
+    pub members_are : members_of Now.group ≡ members
+    members_are = ap (λ (xs : List Seen). map (λ (x : Seen). x.member) xs) new.unheard ∙ same_unseen members
 
     pub armed_first : Set_up (rig_at m pins entries (j ∷ js) b)
     armed_first =
@@ -321,7 +326,7 @@ module _ (m : Machine) (switches : List Switch) (pins : ℕ → List (List Level
         let low_now : board_tick (clock_of (board_at m b)) k ≤ First_tick = subst (λ (n : ℕ). board_tick (clock_of (board_at m b)) n ≤ First_tick) same low_base in
         let alive = armed_alive (trigger_of m b) First_tick (report_ticks m b) (lines_tick (lines b) (Earliest * turn_ns)) r (board_tick (clock_of (board_at m b)) k) armed_second low_now in
         let next = alive.1 in
-        inl (inl (alive.0, inl (omega (arith, next), heard_new start b members), near_new start b k members (omega (arith, set_up)), none_new b members), until_new start b (k + 300) members (omega (arith, set_up)), omega (arith, set_up))
+        inl (inl (alive.0, inl (omega (arith, next), heard_new start b members), near_new start b k members (omega (arith, set_up)), none_new b members), until_new start b (k + 249) members (omega (arith, set_up)), omega (arith, set_up))
 
   pub begins_second : Last.group.start ≡ start
   begins_second = ap (λ (g : GroupState). g.start) group_second ∙ new.begins

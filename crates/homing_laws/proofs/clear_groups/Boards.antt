@@ -1,5 +1,5 @@
 -- A member's board over a turn of a homing section.
-use Rattle.std.proofs.Common.{◌≡◌, ℕ, ◌+◌, ◌-◌, ◌*◌, ◌%◌, ◌^◌, ◌<◌, ◌≤◌, ◌⊎◌, inl, inr, List, [], ◌∷◌, ◌++◌, length, Option, None, Some, ap, sym, ◌∙◌, refl, subst, arith}
+use Rattle.std.proofs.Common.{◌≡◌, ℕ, ◌+◌, ◌-◌, ◌*◌, ◌%◌, ◌^◌, ◌<◌, ◌≤◌, ◌⊎◌, min, inl, inr, List, [], ◌∷◌, ◌++◌, length, Option, None, Some, ap, sym, ◌∙◌, refl, subst, arith}
 use Rattle.std.proofs.lemmas.Bool.Decides.{leb_tells}
 use Rattle.plan_types.specs.declared.levels.Level.{Level}
 use Rattle.plan_types.specs.declared.machine.Machine.{Machine}
@@ -55,7 +55,8 @@ use Rattle.homing_laws.proofs.clear_boards.Stepping.{goes_on}
 use Rattle.homing_laws.proofs.clear_boards.Turned.{next_all, relay_fires, stays_fired, turn_ahead, turn_far, turn_fired}
 use Rattle.homing_laws.specs.clear_groups.Early.{AllDue, HeardUntil, IsDue}
 use Rattle.homing_laws.specs.clear_groups.Safe.{IsLast, IsRenewed, IsWatched}
-use Rattle.homing_laws.specs.clear_groups.Sections.{IsFollowed, report_ticks}
+use Rattle.homing_laws.specs.clear_groups.Sections.{IsAlike, IsFollowed, report_ticks}
+use Rattle.homing_laws.proofs.clear_groups.Alike.{followed_alike, tracked_alike, turn_alike}
 use Rattle.homing_laws.proofs.clear_groups.Early.{TellsAll, turn_early}
 use Rattle.homing_laws.proofs.clear_groups.Noticing.{AllAbleBy, able_by, hears_until, until_more}
 
@@ -137,13 +138,17 @@ module _ (m : Machine) (b : ℕ) (pins : List (List Level)) (entries : List Entr
       let places = next.places in
       turn_numbered Oid clock (own (length before + 1)) Start Commands few (omega (arith, places, few)) sole (next.sole sole) behind
 
-  never : (lines : Clocks) (clock limit : ℕ) → AreBehind Oid clock Commands → AllSmall Start → IsSole Oid Start → ((tick : ℕ) → IsTurnedTo Oid tick limit (own (length before + 1)) Start Commands) → (when : ℕ) → TellExpiry lines (length before) when t.state.news → ⊥
-  never lines clock limit behind small sole turned = λ when tells.
-      no_expiry (board_at m b) pins b entries t before none are limits lines when (turned 0).tells (turned 1).tells (turn_small Oid clock (own (length before + 1)) Start Commands behind small).1 (numbered clock behind sole) tells
+  -- no expiry is told of, by whatever lines
+  abbrev pub TellsNone : Type 0
+  TellsNone = (known : Clocks) (when : ℕ) → TellExpiry known (length before) when t.state.news → ⊥
+
+  never : (clock limit : ℕ) → AreBehind Oid clock Commands → AllSmall Start → IsSole Oid Start → ((tick : ℕ) → IsTurnedTo Oid tick limit (own (length before + 1)) Start Commands) → TellsNone
+  never clock limit behind small sole turned = λ known when tells.
+      no_expiry (board_at m b) pins b entries t before none are limits known when (turned 0).tells (turned 1).tells (turn_small Oid clock (own (length before + 1)) Start Commands behind small).1 (numbered clock behind sole) tells
 
   -- a board that can't trigger
   pub fired_step : (lines : Clocks) (clock sent next : ℕ) → AreBehind Oid clock Commands → AllSmall Start → IsRenewed Oid lines sent Start → HasFired Oid Start
-      → AllSmall After × IsRenewed Oid lines next After × HasFired Oid After × ((when : ℕ) → TellExpiry lines (length before) when t.state.news → ⊥)
+      → AllSmall After × IsRenewed Oid lines next After × HasFired Oid After × TellsNone
   fired_step lines clock sent next behind small renewed fired =
       let limit = lines_tick lines (next * turn_ns) in
       let turned : (tick : ℕ) → IsTurnedTo Oid tick limit (own (length before + 1)) Start Commands =
@@ -151,7 +156,7 @@ module _ (m : Machine) (b : ℕ) (pins : List (List Level)) (entries : List Entr
         (turn_small Oid clock (own (length before + 1)) Start Commands behind small).0,
         (λ tick. (turned tick).limited),
         stays_fired Oid clock (own (length before + 1)) Start Commands behind fired,
-        never lines clock limit behind small (renewed 0).sole turned,
+        never clock limit behind small (renewed 0).sole turned,
       )
 
   ahead_of : (lines : Clocks) (ready start last next : ℕ) (f : IsFollowed m b lines ready start last) → ready ≤ length before → length before + 2 ≤ next → next ≤ last + 1 → next ≤ length before + 1_000 → IsAhead own lines (length before) next
@@ -162,7 +167,7 @@ module _ (m : Machine) (b : ℕ) (pins : List (List Level)) (entries : List Entr
   -- one that is sent a timeout in time, whatever else
   pub ahead_step : (lines : Clocks) (ready start last sent next : ℕ) (f : IsFollowed m b lines ready start last) → ready ≤ length before → length before + 2 ≤ next → next ≤ last + 1 → next ≤ length before + 1_000
       → AreBehind Oid (low (turn_tick lines next)) Commands → (sent ≡ next) ⊎ SetsOne Commands → AllSmall Start → IsRenewed Oid lines sent Start
-      → AllSmall After × IsRenewed Oid lines next After × ((when : ℕ) → TellExpiry lines (length before) when t.state.news → ⊥)
+      → AllSmall After × IsRenewed Oid lines next After × TellsNone
   ahead_step lines ready start last sent next f low_so far most near behind sets small renewed =
       let clock = low (turn_tick lines next) in
       let limit = lines_tick lines (next * turn_ns) in
@@ -174,7 +179,7 @@ module _ (m : Machine) (b : ℕ) (pins : List (List Level)) (entries : List Entr
       (λ tick. turn_ahead Oid tick (lines_tick lines (sent * turn_ns)) limit clock (own (length before)) (own (length before + 1)) Start Commands at_tick ahead.is ahead.later runs behind renew (inl until_low) (renewed tick)) in (
         (turn_small Oid clock (own (length before + 1)) Start Commands behind small).0,
         (λ tick. (turned tick).limited),
-        never lines clock limit behind small (renewed 0).sole turned,
+        never clock limit behind small (renewed 0).sole turned,
       )
 
   -- a relay
@@ -201,14 +206,14 @@ module _ (m : Machine) (b : ℕ) (pins : List (List Level)) (entries : List Entr
 
   -- what it told of its trigger counts by the next turn
   able_now : (lines : Clocks) (clock base every sent ready start last : ℕ) (f : IsFollowed m b lines ready start last) → ready + 4 ≤ length before → length before + 1 ≤ last + 1 → own (length before) < nearest (own (length before)) clock → AreBehind Oid clock Commands → RelayNone Commands
-      → AllSmall Start → IsRenewed Oid lines sent Start → IsAlive Oid base every (own (length before)) Start → AllAbleBy lines (length before) (length before + 1 + 300) t.state.news
+      → AllSmall Start → IsRenewed Oid lines sent Start → IsAlive Oid base every (own (length before)) Start → AllAbleBy lines (length before) (length before + 1 + 249) t.state.news
   able_now lines clock base every sent ready start last f low_so soon later behind relays small renewed a =
       let ends = f.ends in
       let until = own (length before + 1) in
       let early = turn_early (own (length before)) until Start Commands (sound_tells Start Commands sound) (due_all lines clock base every sent later behind relays renewed a) in
       let k = f.tracked in
       let next_low = k.behind (length before + 1) (omega (arith, low_so)) (omega (arith, soon, ends)) in
-      able_by (board_at m b) pins b entries t before none are limits lines (length before + 1 + 300) (own (length before)) until (turn_small Oid clock until Start Commands behind small).1 (numbered clock behind (renewed 0).sole) early
+      able_by (board_at m b) pins b entries t before none are limits lines (length before + 1 + 249) (own (length before)) until (turn_small Oid clock until Start Commands behind small).1 (numbered clock behind (renewed 0).sole) early
       (λ at w from_so before_so is. (
       let c = report_counts own lines ready (length before) (length before) at f.ticks k low_so (omega arith) (omega arith) (omega (arith, soon, ends)) f.in_run in_range from_so before_so in
       let same = same_when (turn_in_run lines (nearest (turn_tick lines (length before)) (at % 2 ^ 32))) c.when w c.in_run is in
@@ -218,52 +223,63 @@ module _ (m : Machine) (b : ℕ) (pins : List (List Level)) (entries : List Entr
   -- one that its group watches, in a turn in which it relays nothing
   abbrev Watched : Clocks → ℕ → ℕ → ℕ → List Seen → Type 0
   Watched lines start last next members =
-      AllSmall After × IsRenewed Oid lines next After × IsWatched m lines b (length before + 1) start last next members After × ((when : ℕ) → TellExpiry lines (length before) when t.state.news → ⊥)
+      AllSmall After × IsRenewed Oid lines next After × IsWatched m lines b (length before + 1) start last next members After × TellsNone
 
-  known_step : (all : List Clocks) (states : List State) (h : Homing) (clock sent next start last : ℕ) → AreBehind Oid clock Commands → AllSmall Start → IsRenewed Oid (clocks_at all b) sent Start → HasFired Oid Start → FiredOn b last h.group.members
-      → Watched (clocks_at all b) start last next (hears_all all states h).group.members
-  known_step all states h clock sent next start last behind small renewed fired on =
-      let x = fired_step (clocks_at all b) clock sent next behind small renewed fired in
+  known_step : (all : List Clocks) (states : List State) (h : Homing) (lines : Clocks) (clock sent next start last : ℕ) → AreBehind Oid clock Commands → AllSmall Start → IsRenewed Oid lines sent Start → HasFired Oid Start → FiredOn b last h.group.members
+      → Watched lines start last next (hears_all all states h).group.members
+  known_step all states h lines clock sent next start last behind small renewed fired on =
+      let x = fired_step lines clock sent next behind small renewed fired in
       (x.0, x.1, inr (x.2, hears_still b last all states h on), x.3)
 
-  pub watched_step : (all : List Clocks) (states : List State) (h : Homing) (ready start last sent : ℕ) (f : IsFollowed m b (clocks_at all b) ready start last) → b < length all → state_at b states ≡ t.state ∷ [] → h.start ≡ start → h.group.start ≡ start → h.group.last ≡ last
-      → ready + 4 ≤ length before → length before + 2 ≤ h.group.sent → h.group.sent ≤ last + 1 → (HeardUntil start b (length before + 300) h.group.members → sent ≤ length before + 400 → h.group.sent ≤ length before + 400)
-      → AreBehind Oid (low (turn_tick (clocks_at all b) h.group.sent)) Commands → RelayNone Commands → (sent ≡ h.group.sent) ⊎ SetsOne Commands → AllSmall Start → IsRenewed Oid (clocks_at all b) sent Start
-      → IsWatched m (clocks_at all b) b (length before) start last sent h.group.members Start → Watched (clocks_at all b) start last h.group.sent (hears_all all states h).group.members
-  watched_step all states h ready start last sent f here is begins group_begins group_ends low_so far most near behind relays sets small renewed (inr known) =
-      known_step all states h (low (turn_tick (clocks_at all b) h.group.sent)) sent h.group.sent start last behind small renewed known.0 known.1
-  watched_step all states h ready start last sent f here is begins group_begins group_ends low_so far most near behind relays sets small renewed (inl w) = elim w.0 [
-    | inr known ↦ known_step all states h (low (turn_tick (clocks_at all b) h.group.sent)) sent h.group.sent start last behind small renewed known.0 known.1
+  -- the group hears it by the lines that are known then
+  pub watched_step : (all : List Clocks) (states : List State) (h : Homing) (lines : Clocks) (clock ready start last sent : ℕ) (f : IsFollowed m b lines ready start last) → IsAlike (length before + 277) (clocks_at all b) lines → b < length all → state_at b states ≡ t.state ∷ [] → h.start ≡ start
+      → h.group.start ≡ start → h.group.last ≡ last → ready + 4 ≤ length before → start ≤ length before + 249 → length before + 2 ≤ h.group.sent → h.group.sent ≤ last + 1
+      → (HeardUntil start b (length before + 249) h.group.members → sent ≤ length before + 274 → h.group.sent ≤ length before + 274)
+      → AreBehind Oid clock Commands → (h.group.sent ≤ length before + 274 → clock ≡ low (turn_tick lines h.group.sent)) → RelayNone Commands → (sent ≡ h.group.sent) ⊎ SetsOne Commands → AllSmall Start → IsRenewed Oid lines sent Start
+      → IsWatched m lines b (length before) start last sent h.group.members Start → Watched lines start last h.group.sent (hears_all all states h).group.members
+  watched_step all states h lines clock ready start last sent f alike here is begins group_begins group_ends low_so far_start far most near behind_so clock_is relays sets small renewed (inr known) =
+      known_step all states h lines clock sent h.group.sent start last behind_so small renewed known.0 known.1
+  watched_step all states h lines clock ready start last sent f alike here is begins group_begins group_ends low_so far_start far most near behind_so clock_is relays sets small renewed (inl w) = elim w.0 [
+    | inr known ↦ known_step all states h lines clock sent h.group.sent start last behind_so small renewed known.0 known.1
     | inl alive ↦
-        let lines = clocks_at all b in
+        let known = clocks_at all b in
         let next = h.group.sent in
-        let clock = low (turn_tick lines next) in
         let base = lines_tick lines (start * turn_ns) in
         let every = report_ticks m b in
-        let ends = f.ends in
         let early = f.begins in
         let order = f.goes in
         let soon = near w.1 w.2 in
+        let sent_soon = w.2 in
         let limit = lines_tick lines (next * turn_ns) in
+        let upto = min last (length before + 274) in
+        let k = followed_alike m b known lines ready start last upto (length before + 276) f (subst (λ (n : ℕ). IsAlike n known lines) (let e : length before + 277 ≡ length before + 276 + 1 = omega arith in e) alike) (omega (arith, order, far_start)) (omega arith) (omega arith) in
+        let ends = k.ends in
+        let next_low : next ≤ upto + 1 = omega (arith, soon, most) in
+        let limit_is : lines_tick known (next * turn_ns) ≡ limit = alike.ticks next (omega (arith, soon)) in
+        let by_known : IsRenewed Oid known sent Start = λ tick. subst (λ (n : ℕ). IsLimited Oid tick n Start) (sym (alike.ticks sent (omega (arith, sent_soon)))) (renewed tick) in
+        let behind : AreBehind Oid (low (turn_tick known next)) Commands =
+        subst (λ (n : ℕ). AreBehind Oid n Commands) (clock_is soon ∙ ap low (sym (turn_alike known lines (length before + 277) next alike (omega (arith, soon))))) behind_so in
         let heard = subst (λ (n : ℕ). IsHeardOf own base every n b alive.0.next h.group.members) (sym group_begins) alive.1 in
-        let on = goes_on (board_at m b) pins b entries t before none are limits all states h Oid base every ready sent next f.ticks f.tracked here is (begins ∙ sym group_begins) (ap (λ (n : ℕ). lines_tick lines (n * turn_ns)) begins)
-        (omega (arith, early, begins)) low_so (omega (arith, far, most, ends)) (omega (arith, begins, ends, order)) (omega (arith, most, ends)) f.in_run in_range (f.rises (length before)) f.reports far (omega (arith, soon)) (omega (arith, most, group_ends)) f.trigger few at_tick runs
-        behind relays sets renewed sound alive.0 heard alive.3 in
-        let ahead = ahead_of lines ready start last next f (omega (arith, low_so)) far most (omega (arith, soon)) in
-        let later : own (length before) < nearest (own (length before)) clock = (let is_it = ahead.is in let more = ahead.later in omega (arith, is_it, more)) in
-        let able = able_now lines clock base every sent ready start last f low_so (omega (arith, far, most)) later behind relays small renewed alive.0 in
+        let on = goes_on (board_at m b) pins b entries t before none are limits all states h Oid base every ready sent next k.ticks k.tracked here is (begins ∙ sym group_begins)
+        (ap (λ (n : ℕ). lines_tick known (n * turn_ns)) begins ∙ alike.ticks start (omega (arith, far_start)))
+        (omega (arith, early, begins)) low_so (omega (arith, far, next_low, ends)) (omega (arith, begins, ends, order, far_start)) (omega (arith, next_low, ends)) k.in_run in_range (k.rises (length before)) k.reports far (omega (arith, soon)) (omega (arith, most, group_ends)) k.trigger few at_tick runs
+        behind relays sets by_known sound alive.0 heard alive.3 in
+        let turned : (tick : ℕ) → IsTurnedTo Oid tick limit (own (length before + 1)) Start Commands = λ tick. subst (λ (n : ℕ). IsTurnedTo Oid tick n (own (length before + 1)) Start Commands) limit_is (on.0 tick) in
+        let ahead = ahead_of known ready start upto next k (omega (arith, low_so)) far next_low (omega (arith, soon)) in
+        let later : own (length before) < nearest (own (length before)) (low (turn_tick known next)) = (let is_it = ahead.is in let more = ahead.later in omega (arith, is_it, more)) in
+        let able = able_now known (low (turn_tick known next)) base every sent ready start upto k low_so (omega (arith, far, next_low)) later behind relays small by_known alive.0 in
         let turn_so = turn_is (board_at m b) pins b entries t before none are limits in
-        let until = hears_until start (length before + 1 + 300) b all states h
+        let until = hears_until start (length before + 1 + 249) b all states h
         (λ s there. (
-        let At : ℕ → Type 0 = λ n. AllAbleBy lines n (length before + 1 + 300) t.state.news in
-        let now : AllAbleBy lines t.state.turn (length before + 1 + 300) t.state.news = subst At (sym turn_so) able in
-        subst (λ (x : State). AllAbleBy lines x.turn (length before + 1 + 300) x.news) (one_state s t.state (sym is ∙ there)) now)) (until_more start b (length before + 300) (length before + 1 + 300) h.group.members (omega arith) w.1) in
+        let At : ℕ → Type 0 = λ n. AllAbleBy known n (length before + 1 + 249) t.state.news in
+        let now : AllAbleBy known t.state.turn (length before + 1 + 249) t.state.news = subst At (sym turn_so) able in
+        subst (λ (x : State). AllAbleBy known x.turn (length before + 1 + 249) x.news) (one_state s t.state (sym is ∙ there)) now)) (until_more start b (length before + 249) (length before + 1 + 249) h.group.members (omega arith) w.1) in
         let Member : ℕ → ℕ → Type 0 = λ s l. IsMember own Oid base every s l b (length before + 1) After (hears_all all states h).group.members in
         let member : Member start last = subst (λ (s : ℕ). Member s last) group_begins (subst (λ (l : ℕ). Member h.group.start l) group_ends on.1) in (
-          (turn_small Oid clock (own (length before + 1)) Start Commands behind small).0,
-          (λ tick. (on.0 tick).limited),
+          (turn_small Oid clock (own (length before + 1)) Start Commands behind_so small).0,
+          (λ tick. (turned tick).limited),
           inl (member, until, omega (arith, soon)),
-          never lines clock limit behind small (renewed 0).sole on.0,
+          never clock limit behind_so small (renewed 0).sole turned,
         )
   ]
 
@@ -284,27 +300,48 @@ module _ (m : Machine) (b : ℕ) (pins : List (List Level)) (entries : List Entr
             omega (arith, back, one, next, past, in_range)
       ]
 
+  -- its turn is near
+  last_by : (lines : Clocks) (ready start last : ℕ) (f : IsFollowed m b lines ready start last) → ready + 1 ≤ length before → lines_tick lines ((last + 1) * turn_ns) < own (length before + 1) → last + 1 ≤ length before + 277
+  last_by lines ready start last f low_so past = elim (leb_tells (last + 1) (length before + 277)) [
+    | inl p ↦ p.1
+    | inr p ↦
+        let far = p.1 in
+        let ends = f.ends in
+        let next = f.tracked.behind (length before + 1) (omega (arith, low_so)) (omega (arith, far, ends)) in
+        let up = lines_up lines (length before + 1 + 1) (last + 1) (omega (arith, far)) in
+        omega (arith, next, up, past)
+  ]
+
+  -- what it tells of an expiry is of no turn up to the last one, by any lines by which turns begin as by its own
+  abbrev pub TellsLate : Clocks → ℕ → Type 0
+  TellsLate lines last = (known : Clocks) → IsAlike (length before + 277) known lines → (when : ℕ) → TellExpiry known (length before) when t.state.news → last < when
+
   late_by : (lines : Clocks) (clock ready start last : ℕ) (f : IsFollowed m b lines ready start last) → ready + 1 ≤ length before → lines_tick lines ((last + 1) * turn_ns) < own (length before + 1) → AreBehind Oid clock Commands → AllSmall Start → IsSole Oid Start
-      → AllTellOnly (lines_tick lines ((last + 1) * turn_ns)) Answers → (when : ℕ) → TellExpiry lines (length before) when t.state.news → last < when
-  late_by lines clock ready start last f low_so past behind small sole only = λ when tells. (
+      → AllTellOnly (lines_tick lines ((last + 1) * turn_ns)) Answers → TellsLate lines last
+  late_by lines clock ready start last f low_so past behind small sole only = λ known alike when tells. (
       let tick = lines_tick lines ((last + 1) * turn_ns) in
-      let now = turn_tick lines (length before) in
+      let now = turn_tick known (length before) in
       let near = nearest now (tick % 2 ^ 32) in
-      let late = near_late now tick (past_tick lines ready start last f low_so past) in
+      let now_is = turn_alike known lines (length before + 277) (length before) alike (omega arith) in
+      let far = past_tick lines ready start last f low_so past in
+      let late = near_late now tick (omega (arith, far, now_is)) in
       let same : tick % 2 ^ 32 ≡ near % 2 ^ 32 = (let e = near_same now (tick % 2 ^ 32) in omega (arith, e)) in
       let is : nearest now (near % 2 ^ 32) ≡ near = ap (nearest now) (sym same) in
-      let low_when = late_expiry (board_at m b) pins b entries t before none are limits own lines ready near when (last + 1) f.tracked (only_same tick near Answers same only) (turn_small Oid clock (own (length before + 1)) Start Commands behind small).1
-      (numbered clock behind sole) is late tells in
+      let e : length before + 277 ≡ length before + 276 + 1 = omega arith in
+      let k = tracked_alike own known lines ready (length before + 276) f.tracked (subst (λ (n : ℕ). IsAlike n known lines) e alike) in
+      let tick_is = alike.ticks (last + 1) (last_by lines ready start last f low_so past) in
+      let low_when = late_expiry (board_at m b) pins b entries t before none are limits own known ready near when (last + 1) k.0 (only_same tick near Answers same only) (turn_small Oid clock (own (length before + 1)) Start Commands behind small).1
+      (numbered clock behind sole) is (omega (arith, late, tick_is)) tells in
       omega (arith, low_when))
 
   pub last_step : (lines : Clocks) (clock ready start last : ℕ) (f : IsFollowed m b lines ready start last) → ready + 1 ≤ length before → AreBehind Oid clock Commands → SetsNone Commands → AllSmall Start → IsLast m lines b (length before) last Start
-      → AllSmall After × IsLast m lines b (length before + 1) last After × ((when : ℕ) → TellExpiry lines (length before) when t.state.news → last < when)
+      → AllSmall After × IsLast m lines b (length before + 1) last After × TellsLate lines last
   last_step lines clock ready start last f low_so behind unset small k =
       let tick = lines_tick lines ((last + 1) * turn_ns) in
       let until = own (length before + 1) in
       let rises = f.rises (length before) in
       let small_after = turn_small Oid clock until Start Commands behind small in
-      let once : IsLimited Oid tick tick Start → tick < until → AllSmall After × IsLast m lines b (length before + 1) last After × ((when : ℕ) → TellExpiry lines (length before) when t.state.news → last < when) =
+      let once : IsLimited Oid tick tick Start → tick < until → AllSmall After × IsLast m lines b (length before + 1) last After × TellsLate lines last =
       (λ limited past. (
       let turned = turn_far Oid tick tick clock until Start Commands runs behind unset (inr refl) limited in
       (small_after.0, inr (turned.limited, past), late_by lines clock ready start last f low_so past behind small limited.sole turned.tells))) in
@@ -313,8 +350,8 @@ module _ (m : Machine) (b : ℕ) (pins : List (List Level)) (entries : List Entr
         | inl renewed ↦ elim (leb_tells until tick) [
           | inl p ↦
               let turned : (x : ℕ) → IsTurnedTo Oid x tick until Start Commands = (λ x. turn_far Oid x tick clock until Start Commands runs behind unset (inl p.1) (renewed x)) in
-              let no = never lines clock tick behind small (renewed 0).sole turned in
-              (small_after.0, inl (λ x. (turned x).limited), λ when tells. absurd (no when tells))
+              let no = never clock tick behind small (renewed 0).sole turned in
+              (small_after.0, inl (λ x. (turned x).limited), λ known alike when tells. absurd (no known when tells))
           | inr p ↦ (let past = p.1 in once (renewed tick) (omega (arith, past)))
         ]
       ]

@@ -52,7 +52,8 @@ use Rattle.homing_laws.proofs.clear_boards.Sent.{sent_relays}
 use Rattle.homing_laws.proofs.clear_boards.Taking.{takes_in_turn}
 use Rattle.homing_laws.specs.clear_groups.Early.{HeardUntil}
 use Rattle.homing_laws.specs.clear_groups.Safe.{IsHeld, IsLast, IsRenewed, IsSafe, IsSafeIn, IsWatched}
-use Rattle.homing_laws.specs.clear_groups.Sections.{IsClearSection, IsFollowed, IsPlain, report_ticks, rig_at, turns_of}
+use Rattle.homing_laws.specs.clear_groups.Sections.{IsAlike, IsClearSection, IsFollowed, IsPlain, report_ticks, rig_at, turns_of}
+use Rattle.homing_laws.proofs.clear_groups.Alike.{turn_alike}
 use Rattle.homing_laws.proofs.clear_groups.Boards.{After, ahead_step, fired_step, last_step, relay_step, watched_step}
 use Rattle.homing_laws.proofs.clear_groups.Known.{behind_turn, homing_next, member_seen, group_waits, of_known, open_group, seen_member}
 use Rattle.homing_laws.proofs.clear_groups.Orders.{IsSent, near_turn, sent_from, timed_turn}
@@ -142,7 +143,7 @@ module _ (m : Machine) (switches : List Switch) (pins : ℕ → List (List Level
 
   -- what the board told of expiries in the turn
   abbrev TellsLate : ℕ → ℕ → Type 0
-  TellsLate b n = (when : ℕ) → TellExpiry (lines b) n when (j b).state.news → last < when
+  TellsLate b n = (known : Clocks) → IsAlike (n + 277) known (lines b) → (when : ℕ) → TellExpiry known n when (j b).state.news → last < when
 
   next_known : ((noted m c.note (known_by m switches (d ∷ past))).homing ≡ Some Next) × (answer_in K h.start G ≡ None)
   next_known = homing_next m switches from start members c d past h s.homes s.begins.0 s.goes_on early is
@@ -194,14 +195,27 @@ module _ (m : Machine) (switches : List Switch) (pins : ℕ → List (List Level
         let range = plain.in_range in
         omega (arith, up, same, range)
 
-    ordered : IsOrdered m (lines b) b h K G (Commands b)
-    ordered =
-        let open_phase : (noted m d.note (known_by m switches past)).phase ≡ Connecting → ⊥ = λ e. (s.homes.1.0 early).0 (sym (noted_phase m d.note (known_by m switches past)) ∙ e) in
-        let o = turn_ordered m switches (pins b) entries b d past (j b) (turns_of b js) h plain.run is open_phase next_known.1 in
-        subst (λ (cl : Clocks). IsOrdered m cl b h K G (Commands b)) (s.knows.1.0 h is now_of.0 b within).1 o
+    past_it : (known_by m switches past).phase ≡ Connecting → ⊥
+    past_it = (s.homes.1.0 early).0
 
-    sent : G.start ≡ start → IsSent m (lines b) b K G (Commands b)
-    sent e = sent_from m (lines b) b h K G (Commands b) ordered (omega (arith, e, far)) (unended e)
+    -- the clock lines that are known
+    abbrev Lines : Clocks
+    Lines = clocks_at (noted m d.note (known_by m switches past)).clocks b
+
+    alike : IsAlike (K + 276) Lines (lines b)
+    alike = (s.knows.1.0 past_it h is now_of.0 b within).1
+
+    ordered : IsOrdered m Lines b h K G (Commands b)
+    ordered = turn_ordered m switches (pins b) entries b d past (j b) (turns_of b js) h plain.run is (λ e. past_it (sym (noted_phase m d.note (known_by m switches past)) ∙ e)) next_known.1
+
+    sent : G.start ≡ start → IsSent m Lines b K G (Commands b)
+    sent e = sent_from m Lines b h K G (Commands b) ordered (omega (arith, e, far)) (unended e)
+
+    abbrev Clock : ℕ
+    Clock = low (turn_tick Lines (after G K).sent)
+
+    clock_is : (after G K).sent ≤ K + 274 → Clock ≡ low (turn_tick (lines b) (after G K).sent)
+    clock_is soon = ap low (turn_alike Lines (lines b) (K + 276) (after G K).sent alike (omega (arith, soon)))
 
     taken : Later b ≡ After m b (pins b) entries (j b) (turns_of b js) none plain.run.turns_are plain.limits plain.none_shut.0 few in_range
     taken = takes_in_turn (board_at m b) (pins b) b entries (j b) (turns_of b js) none plain.run.turns_are plain.limits
@@ -213,31 +227,31 @@ module _ (m : Machine) (switches : List Switch) (pins : ℕ → List (List Level
     fired_on : G.start ≡ start → AllSmall (Rigs b) → (old next : ℕ) → IsRenewed (trigger_of m b) (lines b) old (Rigs b) → HasFired (trigger_of m b) (Rigs b)
         → AllSmall (Later b) × IsRenewed (trigger_of m b) (lines b) next (Later b) × HasFired (trigger_of m b) (Later b) × TellsLate b K
     fired_on e small old next renewed fired =
-        let x = fired_step m b (pins b) entries (j b) (turns_of b js) none plain.run.turns_are plain.limits plain.none_shut.0 few in_range (lines b) (low (turn_tick (lines b) (after G K).sent)) old next (sent e).behind small renewed fired in
-        out (λ n r. AllSmall r × IsRenewed (trigger_of m b) (lines b) next r × HasFired (trigger_of m b) r × TellsLate b n) (x.0, x.1, x.2, λ when t. absurd (x.3 when t))
+        let x = fired_step m b (pins b) entries (j b) (turns_of b js) none plain.run.turns_are plain.limits plain.none_shut.0 few in_range (lines b) Clock old next (sent e).behind small renewed fired in
+        out (λ n r. AllSmall r × IsRenewed (trigger_of m b) (lines b) next r × HasFired (trigger_of m b) r × TellsLate b n) (x.0, x.1, x.2, λ known k when t. absurd (x.3 known when t))
 
     last_on : G.start ≡ start → G.sent ≡ G.last + 1 → AllSmall (Rigs b) → IsLast m (lines b) b K last (Rigs b) → AllSmall (Later b) × IsLast m (lines b) b (K + 1) last (Later b) × TellsLate b K
     last_on e ended small k =
         let o = sent e in
-        let x = last_step m b (pins b) entries (j b) (turns_of b js) none plain.run.turns_are plain.limits plain.none_shut.0 few in_range (lines b) (low (turn_tick (lines b) (after G K).sent)) ready start last (followed b on) (omega (arith, low_so, long)) o.behind (o.far ended) small
+        let x = last_step m b (pins b) entries (j b) (turns_of b js) none plain.run.turns_are plain.limits plain.none_shut.0 few in_range (lines b) Clock ready start last (followed b on) (omega (arith, low_so, long)) o.behind (o.far ended) small
         (subst (λ (n : ℕ). IsLast m (lines b) b n last (Rigs b)) long k) in
         out (λ n r. AllSmall r × IsLast m (lines b) b (n + 1) last r × TellsLate b n) x
 
-    ahead_on : G.start ≡ start → K + 2 ≤ (after G K).sent → (after G K).sent ≤ last + 1 → (after G K).sent ≤ K + 400 → AllSmall (Rigs b) → IsRenewed (trigger_of m b) (lines b) G.sent (Rigs b)
+    ahead_on : G.start ≡ start → K + 2 ≤ (after G K).sent → (after G K).sent ≤ last + 1 → (after G K).sent ≤ K + 274 → AllSmall (Rigs b) → IsRenewed (trigger_of m b) (lines b) G.sent (Rigs b)
         → AllSmall (Later b) × IsRenewed (trigger_of m b) (lines b) (after G K).sent (Later b) × TellsLate b K
     ahead_on e next most near small renewed =
         let o = sent e in
-        let x = ahead_step m b (pins b) entries (j b) (turns_of b js) none plain.run.turns_are plain.limits plain.none_shut.0 few in_range (lines b) ready start last G.sent (after G K).sent (followed b on) (omega (arith, low_so, long)) (omega (arith, next, long)) most (omega (arith, near, long)) o.behind
+        let x = ahead_step m b (pins b) entries (j b) (turns_of b js) none plain.run.turns_are plain.limits plain.none_shut.0 few in_range (lines b) ready start last G.sent (after G K).sent (followed b on) (omega (arith, low_so, long)) (omega (arith, next, long)) most (omega (arith, near, long)) (subst (λ (n : ℕ). AreBehind (trigger_of m b) n (Commands b)) (clock_is near) o.behind)
         (o.sets seen.0 seen.1 seen.2) small renewed in
-        out (λ n r. AllSmall r × IsRenewed (trigger_of m b) (lines b) (after G K).sent r × TellsLate b n) (x.0, x.1, λ when t. absurd (x.2 when t))
+        out (λ n r. AllSmall r × IsRenewed (trigger_of m b) (lines b) (after G K).sent r × TellsLate b n) (x.0, x.1, λ known k when t. absurd (x.2 known when t))
 
     relay_on : G.start ≡ start → (u : Slot) → slot_at (Rigs b) (trigger_of m b) ≡ Some u → RelaysOne (Commands b) → HasFired (trigger_of m b) (Later b)
     relay_on e u there relays =
-        let x = relay_step m b (pins b) entries (j b) (turns_of b js) none plain.run.turns_are plain.limits plain.none_shut.0 few in_range (low (turn_tick (lines b) (after G K).sent)) u there (sent e).behind relays in
+        let x = relay_step m b (pins b) entries (j b) (turns_of b js) none plain.run.turns_are plain.limits plain.none_shut.0 few in_range Clock u there (sent e).behind relays in
         out (λ n r. HasFired (trigger_of m b) r) x
 
-    near_on : G.start ≡ start → HeardUntil start b (K + 300) G.members → G.sent ≤ K + 400 → (after G K).sent ≤ K + 400
-    near_on e until soon = near_turn G b K seen.0 seen.1 seen.2 (omega (arith, e, far)) (unended e) (subst (λ (n : ℕ). HeardUntil n b (K + 300) G.members) (sym e) until) soon
+    near_on : G.start ≡ start → HeardUntil start b (K + 249) G.members → G.sent ≤ K + 274 → (after G K).sent ≤ K + 274
+    near_on e until soon = near_turn G b K seen.0 seen.1 seen.2 (omega (arith, e, far)) (unended e) (subst (λ (n : ℕ). HeardUntil n b (K + 249) G.members) (sym e) until) soon
 
     watched_on : G.start ≡ start → G.last ≡ last → G.relay ≡ None → relay_begins G K ≡ false → K + 2 ≤ (after G K).sent → (after G K).sent ≤ last + 1 → AllSmall (Rigs b) → IsRenewed (trigger_of m b) (lines b) G.sent (Rigs b)
         → IsWatched m (lines b) b K start last G.sent G.members (Rigs b)
@@ -245,25 +259,19 @@ module _ (m : Machine) (switches : List Switch) (pins : ℕ → List (List Level
     watched_on e f relay calm next most small renewed watched =
         let o = sent e in
         let turns = turns_of b js in
-        let knows = s.knows.0 Next next_known.0 next_of.0 b within in
-        let From : Clocks → Type 0 = λ cl. IsFollowed m b cl ready start last → AreBehind (trigger_of m b) (low (turn_tick cl (after G K).sent)) (Commands b) → IsRenewed (trigger_of m b) cl G.sent (Rigs b)
-        → IsWatched m cl b (length turns) start last G.sent (after G K).members (Rigs b)
-        → (AllSmall (After m b (pins b) entries (j b) turns none plain.run.turns_are plain.limits plain.none_shut.0 few in_range)
-        × IsRenewed (trigger_of m b) cl (after G K).sent (After m b (pins b) entries (j b) turns none plain.run.turns_are plain.limits plain.none_shut.0 few in_range)
-        × IsWatched m cl b (length turns + 1) start last (after G K).sent N.members (After m b (pins b) entries (j b) turns none plain.run.turns_are plain.limits plain.none_shut.0 few in_range)
-        × ((when : ℕ) → TellExpiry cl (length turns) when (j b).state.news → ⊥)) in
+        let past_next : (known_by m switches (d ∷ past)).phase ≡ Connecting → ⊥ = (s.homes.0 (omega (arith, early))).0 in
+        let knows = s.knows.0 past_next Next next_known.0 next_of.0 b within in
+        let same : length (d ∷ past) + 276 ≡ length turns + 277 = omega (arith, long) in
         let ends : Next.group.last ≡ last = after_last G K ∙ f in
-        let step : From (clocks_at All b) =
-        (λ k behind old w. watched_step m b (pins b) entries (j b) turns none plain.run.turns_are plain.limits plain.none_shut.0 few in_range All c.states Next ready start last G.sent k knows.0 (s.states b on) next_of.0 next_of.1 ends (omega (arith, low_so, long)) (omega (arith, next, long)) most
-        (λ until soon. (
-        let heard : HeardUntil start b (K + 300) G.members = subst (λ (n : ℕ). HeardUntil start b (n + 300) G.members) (sym long) (subst (λ (xs : List Seen). HeardUntil start b (length turns + 300) xs) same_members until) in
-        let near = near_on e heard (omega (arith, soon, long)) in
-        omega (arith, near, long))) behind (o.none relay calm) (o.sets seen.0 seen.1 seen.2) small old w) in
-        let here = subst From knows.1 step in
         let old : IsWatched m (lines b) b (length turns) start last G.sent (after G K).members (Rigs b) =
         subst (λ (xs : List Seen). IsWatched m (lines b) b (length turns) start last G.sent xs (Rigs b)) (sym same_members) (subst (λ (n : ℕ). IsWatched m (lines b) b n start last G.sent G.members (Rigs b)) long watched) in
-        let x = here (followed b on) o.behind renewed old in
-        out (λ n r. AllSmall r × IsRenewed (trigger_of m b) (lines b) (after G K).sent r × IsWatched m (lines b) b (n + 1) start last (after G K).sent N.members r × TellsLate b n) (x.0, x.1, x.2, λ when t. absurd (x.3 when t))
+        let x = watched_step m b (pins b) entries (j b) turns none plain.run.turns_are plain.limits plain.none_shut.0 few in_range All c.states Next (lines b) Clock ready start last G.sent (followed b on) (subst (λ (n : ℕ). IsAlike n (clocks_at All b) (lines b)) same knows.1) knows.0 (s.states b on)
+        next_of.0 next_of.1 ends (omega (arith, low_so, long)) (omega (arith, far, long)) (omega (arith, next, long)) most
+        (λ until soon. (
+        let heard : HeardUntil start b (K + 249) G.members = subst (λ (n : ℕ). HeardUntil start b (n + 249) G.members) (sym long) (subst (λ (xs : List Seen). HeardUntil start b (length turns + 249) xs) same_members until) in
+        let near = near_on e heard (omega (arith, soon, long)) in
+        omega (arith, near, long))) o.behind (λ soon. clock_is (omega (arith, soon, long))) (o.none relay calm) (o.sets seen.0 seen.1 seen.2) small renewed old in
+        out (λ n r. AllSmall r × IsRenewed (trigger_of m b) (lines b) (after G K).sent r × IsWatched m (lines b) b (n + 1) start last (after G K).sent N.members r × TellsLate b n) (x.0, x.1, x.2, λ known k when t. absurd (x.3 known when t))
 
   -- the group behind the turn
   module _ (safe : IsSafe m lines start last members K G Rigs) where
@@ -382,7 +390,7 @@ module _ (m : Machine) (switches : List Switch) (pins : ℕ → List (List Level
               let more = grown.1 in
               let near = near_on b on safe.begins w.1 w.2 in
               let told = none_at b x.0 G.members x.1 x.2 alive.3 in
-              let relay_it = sent_relays m (lines b) b h K G (Commands b) (ordered b on) begun (unended safe.begins begun) x.0 x.1 x.2 told known.0 relay known.1 in
+              let relay_it = sent_relays m (Lines b on) b h K G (Commands b) (ordered b on) begun (unended safe.begins begun) x.0 x.1 x.2 told known.0 relay known.1 in
               let y = ahead_on b on safe.begins (omega (arith, ahead, more)) most near (safe.small b on) renewed in
               (y.0, y.1, relay_on b on safe.begins alive.0.slot alive.0.is relay_it, y.2)
         ]
@@ -437,5 +445,5 @@ module _ (m : Machine) (switches : List Switch) (pins : ℕ → List (List Level
         let e : K + 1 ≡ length (d ∷ past) = omega arith in
         (Next, next_known.0, subst (λ (n : ℕ). IsSafe m lines start last members n N Later) e step.0)
 
-    pub step_late : (b : ℕ) → IsMember b members → (when : ℕ) → TellExpiry (lines b) (length (turns_of b js)) when (j b).state.news → last < when
+    pub step_late : (b : ℕ) → IsMember b members → (known : Clocks) → IsAlike (length (turns_of b js) + 277) known (lines b) → (when : ℕ) → TellExpiry known (length (turns_of b js)) when (j b).state.news → last < when
     step_late b on = subst (λ (n : ℕ). TellsLate b n) (long b on) (step.1 b on)

@@ -94,12 +94,12 @@ heard_there start b most x (y ∷ ys) c on k = elim (either y x ys c) [
 
 -- it goes no further than what was heard lets it
 pub near_turn : (g : GroupState) (b turn : ℕ) (x : Seen) → Contains g.members x → x.member.board ≡ b → g.start ≤ turn + 249 → (g.start ≤ turn → all_fired g.members ≡ false)
-    → HeardUntil g.start b (turn + 300) g.members → g.sent ≤ turn + 400 → (after g turn).sent ≤ turn + 400
+    → HeardUntil g.start b (turn + 249) g.members → g.sent ≤ turn + 274 → (after g turn).sent ≤ turn + 274
 near_turn g b turn x there on far unended until soon = elim (leb_tells g.start turn) [
   | inl p ↦
       let is = after_is g turn p.1 (unended p.1) in
       let least = least_at g.start g.last x g.members there in
-      let most = heard_there g.start b (turn + 300) x g.members there on until in
+      let most = heard_there g.start b (turn + 249) x g.members there on until in
       omega (arith, is, least, most, soon)
   | inr p ↦
       let low_so = p.1 in

@@ -26,7 +26,7 @@ use Rattle.homing_laws.specs.clear_boards.Expiry.{TellExpiry}
 use Rattle.homing_laws.proofs.clear_boards.Keeping.{hears_keep}
 use Rattle.homing_laws.proofs.clear_boards.Never.{never_expires}
 use Rattle.homing_laws.specs.clear_groups.Safe.{IsSafeAt, IsSafeIn}
-use Rattle.homing_laws.specs.clear_groups.Sections.{AllLate, IsClearSection, IsFollowed, IsPlain, turns_of}
+use Rattle.homing_laws.specs.clear_groups.Sections.{AllLate, IsAlike, IsClearSection, IsFollowed, IsPlain, turns_of}
 use Rattle.homing_laws.proofs.clear_groups.Groups.{step_in, step_late}
 use Rattle.homing_laws.proofs.clear_groups.Known.{of_known, some_known}
 
@@ -136,14 +136,17 @@ module _ (m : Machine) (switches : List Switch) (pins : ℕ → List (List Level
       let long = as_long m switches b more (turns_of b js) (k.plain b on).run.both.2 in
       let Known : Came → List Came → Type 0 = λ z zs. TellExpiry (clocks_at (noted m z.note (known_by m switches zs)).clocks b) s.turn when s.news in
       let here : Known c (x ∷ more) = subst (λ (z : Came). Known z (x ∷ more)) (sym both.0) (subst (λ (zs : List Came). Known d zs) (sym both.1) tells) in
-      let of = (k.homes.0 (omega (arith, early, reached, turn, long, first))).1 in
+      let homes = k.homes.0 (omega (arith, early, reached, turn, long, first)) in
+      let of = homes.1 in
       let known = some_known start members (noted m c.note (known_by m switches (x ∷ more))).homing of in
       let begins = (of_known start members (noted m c.note (known_by m switches (x ∷ more))).homing known.0 of known.1).0 in
-      let lines_are = (k.knows.0 known.0 known.1 begins b (k.plain b on).run.board).1 in
-      let Tells : Clocks → State → Type 0 = λ cl z. TellExpiry cl z.turn when z.news in
-      let by_lines : Tells (lines b) (j b).state = subst (λ (z : State). Tells (lines b) z) (sym told) (subst (λ (cl : Clocks). Tells cl s) lines_are here) in
-      let now : TellExpiry (lines b) (length (turns_of b js)) when (j b).state.news = subst (λ (n : ℕ). TellExpiry (lines b) n when (j b).state.news) turn by_lines in
-      let far_when = late.0 (omega (arith, reached, turn, first)) when now in
+      let alike = (k.knows.0 homes.0 known.0 known.1 begins b (k.plain b on).run.board).1 in
+      let lines_now = clocks_at (noted m c.note (known_by m switches (x ∷ more))).clocks b in
+      let same_turn : length (x ∷ more) + 276 ≡ length (turns_of b js) + 277 = omega (arith, long) in
+      let Tells : State → Type 0 = λ z. TellExpiry lines_now z.turn when z.news in
+      let by_state : Tells (j b).state = subst Tells (sym told) here in
+      let now : TellExpiry lines_now (length (turns_of b js)) when (j b).state.news = subst (λ (n : ℕ). TellExpiry lines_now n when (j b).state.news) turn by_state in
+      let far_when = late.0 (omega (arith, reached, turn, first)) lines_now (subst (λ (n : ℕ). IsAlike n lines_now (lines b)) same_turn alike) when now in
       omega (arith, far_when, low_when)
   never_told b on when low_when first c (x ∷ more) (j ∷ js) k late (y ∷ later) d past e s is begun tells =
       never_told b on when low_when first x more js (cut c x more j js k) late.1 later d past (heads c y (x ∷ more) (later ++ d ∷ past) e).1 s is begun tells

@@ -28,8 +28,9 @@ use Rattle.homing_laws.proofs.home_plans.Controlling.{all_hold}
 use Rattle.homing_laws.proofs.home_plans.Knowing.{now_was}
 use Rattle.homing_laws.specs.home_parts.Answers.{IsPlannedBy}
 use Rattle.homing_laws.specs.home_parts.Cuts.{cut_on, cuts_on}
-use Rattle.homing_laws.specs.home_parts.Known.{KnowsClocks, StartInRange, lines_by}
-use Rattle.homing_laws.proofs.home_parts.Held.{clocks_by, ticks_by}
+use Rattle.homing_laws.specs.home_parts.Known.{KnowsLately, StartInRange}
+use Rattle.homing_laws.proofs.home_parts.Held.{tick_known}
+use Rattle.homing_laws.proofs.home_parts.Known.{known_start}
 
 -- the controls of turns, in order
 took_both : (clocks : Clocks) (ss : List RunSection) (k : ℕ) (xs : List Orders) (o : Orders) → TookControlsIn clocks ss k xs → All (IsControlIn clocks ss (k + length xs)) o.control.commands → TookControlsIn clocks ss k (xs ++ o ∷ [])
@@ -58,10 +59,10 @@ least_first x y h = omega (arith, h)
 
 module _ (m : Machine) (switches : List Switch) (b : ℕ) (ts : List MotionTurn) (p : Plans m (length m.boards) ts) (t : Told) (until : ℕ)
     (range : StartInRange (clocks_at t.clocks b) p.seen.begun) (kept : AreKept (clocks_at t.clocks b)) where
-  bases : (came : List Came) → GoesOn m switches came → CameNotes p.seen.begun came → KnowsClocks m switches t.clocks came → KnowBases m switches b (clocks_at t.clocks b) (cut_on m t.clocks until b) came
+  bases : (came : List Came) → GoesOn m switches came → CameNotes p.seen.begun came → KnowsLately m switches t.clocks came → KnowBases m switches b (clocks_at t.clocks b) (cut_on m t.clocks until b) came
   bases [] g notes knows = tt
   bases (c ∷ before) g notes knows = (
-    λ h s e same.
+    λ past h s e same.
         let was : WasBegun p.seen.begun (Some h) = subst (WasBegun p.seen.begun) e (now_was m switches p.seen.begun c before g.1 notes) in
         let start = was.6 in
         let Range : List Started → Type 0 = λ ss. StartInRange (clocks_at t.clocks b) ss in
@@ -69,22 +70,22 @@ module _ (m : Machine) (switches : List Switch) (b : ℕ) (ts : List MotionTurn)
         let Tick : ℕ → Type 0 = λ n. lines_tick (clocks_at t.clocks b) (n * turn_ns) < 2 ^ 64 in
         let low = subst Tick (sym start) in_range in
         let own = clocks_at t.clocks b in
-        let known : clocks_at (noted m c.note (known_by m switches before)).clocks b ≡ lines_by (h.start + 17) own = ap (λ (cs : List Clocks). clocks_at cs b) (knows.0 h e) ∙ clocks_by (h.start + 17) t.clocks b in
-        let now : lines_tick (lines_by (h.start + 17) own) (h.start * turn_ns) ≡ lines_tick own (h.start * turn_ns) = ticks_by (h.start + 17) own (h.start * turn_ns) kept (omega arith) in
+        let soon = known_start m switches p.seen.begun c before h g.1 notes e in
+        let now = tick_known (noted m c.note (known_by m switches before)).clocks t.clocks (length before + 276) b h.start (knows.0 past) kept (omega (arith, soon)) in
         let whole : turn_tick own h.start ≡ lines_tick own (h.start * turn_ns) = least_first (lines_tick own (h.start * turn_ns)) (2 ^ 64 - 1) (omega (arith, low)) in
-        ap (λ (x : Clocks). turn_tick x h.start) known ∙ ap (λ n. min n (2 ^ 64 - 1)) now ∙ whole ∙ ap (λ n. lines_tick own (n * turn_ns)) same,
+        ap (λ n. min n (2 ^ 64 - 1)) now ∙ whole ∙ ap (λ n. lines_tick own (n * turn_ns)) same,
     bases before g.1 notes.1 knows.1,
   )
 
 pub hold_all : (m : Machine) (switches : List Switch) (pins : List (List Level)) (entries : List Entry) (b until : ℕ) (ts : List MotionTurn) (p : Plans m (length m.boards) ts) (t : Told) (came : List Came) (turns : List BoardTurn) → IsValidMachine m
     → IsPlannedBy m switches (length m.boards) ts p came → StartInRange (clocks_at t.clocks b) p.seen.begun → AreKept (clocks_at t.clocks b)
-    → KnowsClocks m switches t.clocks came → IsInRun m switches pins entries b came turns → HoldControlsIn (clocks_at t.clocks b) (cuts_on m t.clocks until p.seen.begun b) turns
+    → KnowsLately m switches t.clocks came → IsInRun m switches pins entries b came turns → HoldControlsIn (clocks_at t.clocks b) (cuts_on m t.clocks until p.seen.begun b) turns
 hold_all m switches pins entries b until ts p t came turns v by range kept knows run =
     let shows : ShowsSections (cut_on m t.clocks until b) p.seen.begun (cuts_on m t.clocks until p.seen.begun b) = record { are = refl; homes = λ s axis e. ap is_home e; start = λ s. refl } in
     all_hold m switches pins entries b (clocks_at t.clocks b) (cut_on m t.clocks until b) p.seen.begun (cuts_on m t.clocks until p.seen.begun b) came turns v run by.notes shows (bases m switches b ts p t until range kept came by.goes_on by.notes knows)
 
 pub controls_held : (m : Machine) (switches : List Switch) (pins : List (List Level)) (entries : List Entry) (b until : ℕ) (ts : List MotionTurn) (p : Plans m (length m.boards) ts) (t : Told) (came : List Came) (turns : List BoardTurn) → IsValidMachine m
     → IsPlannedBy m switches (length m.boards) ts p came → StartInRange (clocks_at t.clocks b) p.seen.begun → AreKept (clocks_at t.clocks b)
-    → KnowsClocks m switches t.clocks came → IsInRun m switches pins entries b came turns → TookControlsIn (clocks_at t.clocks b) (cuts_on m t.clocks until p.seen.begun b) 0 (orders_in turns)
+    → KnowsLately m switches t.clocks came → IsInRun m switches pins entries b came turns → TookControlsIn (clocks_at t.clocks b) (cuts_on m t.clocks until p.seen.begun b) 0 (orders_in turns)
 controls_held m switches pins entries b until ts p t came turns v by range kept knows run =
     took_all (clocks_at t.clocks b) (cuts_on m t.clocks until p.seen.begun b) turns (hold_all m switches pins entries b until ts p t came turns v by range kept knows run)

@@ -17,15 +17,15 @@ use Rattle.plan_types.specs.Plan.{AreSpaced, Fits}
 use Rattle.plan_types.specs.Sections.{clocks_at, section_end}
 use Rattle.clock_line.proofs.Turns.{turn-below}
 use Rattle.msg_code.specs.declared.unit.Batch.{Batch}
-use Rattle.step_feed.specs.Pacing.{ArePaced, Release, batch_at, units_of}
+use Rattle.step_feed.specs.Pacing.{Release, batch_at, units_of}
 use Rattle.section_units.specs.Fronts.{IsSectionFront}
 use Rattle.section_units.specs.Merged.{plan_at, section_of}
 use Rattle.section_units.specs.Plans.{plans_on}
 use Rattle.section_units.specs.Sections.{AreBefore, BoardSection, IsSection, base_of, of_stepper, section_steps, steps_said}
-use Rattle.section_units.proofs.Fronting.{paced_front, section_front, section_whole}
+use Rattle.section_units.proofs.Fronting.{section_front, section_whole}
 use Rattle.link_work.specs.Turn.{Orders}
 use Rattle.run_laws.specs.Events.{AreTicks}
-use Rattle.run_laws.specs.Homes.{AreInTurn, AreOrdersIn, AreSet, HasUnits, IsHomeRun, IsHomingIn, IsMovesIn, IsSectionBy, RunSection, SetsAny}
+use Rattle.run_laws.specs.Homes.{AreInTurn, AreOrdersIn, AreOut, AreOutBy, AreSet, HasUnits, IsHomeRun, IsHomingIn, IsMovesIn, IsSectionBy, RunSection, SetsAny}
 use Rattle.run_laws.specs.Parts.{AreTracked, MakesIn}
 use Rattle.run_laws.specs.Runs.{AreSpilled, IsSpilled}
 use Rattle.run_laws.proofs.Entering.{all_inside, begun_inside, early_fits}
@@ -38,7 +38,6 @@ use Rattle.motion_work.specs.Puts.{ArePut}
 use Rattle.motion_work.specs.Seen.{AreStarted, IsHomed, IsPlanned, Started, part_on}
 use Rattle.motion_work.specs.Told.{Told}
 use Rattle.motion_work.proofs.Boardwise.{moved_is}
-use Rattle.motion_work.proofs.Feeding.{at_before}
 use Rattle.motion_work.proofs.Turning.{end_after, planned_late}
 use Rattle.session_work.specs.declared.table.MotionTurn.{MotionTurn}
 use Rattle.session_work.specs.Bares.{bare_batch}
@@ -48,7 +47,7 @@ use Rattle.run_plans.specs.Given.{TookBatches}
 use Rattle.run_plans.specs.Homed.{TookControlsIn, is_home, runs_on, stops_of}
 use Rattle.run_plans.specs.Planned.{AreBare, Plans, put_of, puts_of}
 use Rattle.motion_work.proofs.Sending.{cut_before, cut_front}
-use Rattle.run_plans.proofs.Cutting.{homing_cut}
+use Rattle.run_plans.proofs.Cutting.{homed_before, homed_front, homing_cut}
 use Rattle.run_plans.proofs.Giving.{units_given}
 use Rattle.run_plans.proofs.Homed.{AreLong, StopsBy, in_turn, long_more, run_units, stops_ahead, stops_by}
 use Rattle.run_plans.proofs.Running.{started_in}
@@ -72,9 +71,9 @@ spaced_take (suc n) last [] a = tt
 spaced_take (suc n) last (s ∷ plan) a = (a.0, spaced_take n s.tick plan a.1)
 
 -- releases before a turn
-before_front : (turn : ℕ) (rs qs : List Release) → AreBefore turn (rs ++ qs) → AreBefore turn rs
-before_front turn [] qs b = tt
-before_front turn (r ∷ rs) qs b = (b.0, before_front turn rs qs b.1)
+before_both : (end turn : ℕ) (rs : List Release) → AreBefore end rs → AreBefore end (before_turn turn rs)
+before_both end turn [] b = tt
+before_both end turn (r ∷ rs) b = elim (leb_tells (suc r.turn) turn) [ inl p ↦ rw p.0 (b.0, before_both end turn rs b.1) | inr p ↦ rw p.0 (before_both end turn rs b.1) ]
 
 batch_before : (k n : ℕ) (rs : List Release) → k < n → batch_at k (before_turn n rs) ≡ batch_at k rs
 batch_before k n [] h = refl
@@ -90,7 +89,7 @@ cut_is clocks freq slots turn s i =
     let cut = before_turn turn s.releases in
     let f = cut_front clocks slots turn i.from [] s.releases i.paced in
     let Front : List Release → Type 0 = λ rs. IsSectionFront clocks freq slots (record { start = s.start; end = s.end; plan = s.plan; releases = rs }) in
-    let front = section_front clocks freq slots s.start s.end s.plan cut f.0 (subst Front f.1 (section_whole clocks freq slots s i)) in
+    let front = section_front false clocks freq slots s.start s.end s.plan cut f.0 (subst Front f.1 (section_whole false clocks freq slots s i)) in
     let said = λ (oid : ℕ). steps_said oid false (of_stepper oid (units_of cut)) in
     record {
       spaced = λ oid. spaced_take (length (said oid)) base (s.plan oid) (i.spaced oid);
@@ -103,8 +102,8 @@ cut_is clocks freq slots turn s i =
       paced = front.paced;
     }
 
--- none of its units is released behind its end, where none is behind its due turn
-out_in_time : (f : Frame) (turn turns : ℕ) (rs : List Release) → AreInside f rs → IsSpilled turns 0 rs → AreBefore turn rs → turn ≤ turns → AreBefore (f.end + 6) rs
+-- all its units are released by five turns behind its end, where those that are late are
+out_in_time : (f : Frame) (turn turns : ℕ) (rs : List Release) → AreInside f rs → AreOutBy turns f.end rs → AreBefore turn rs → turn ≤ turns → AreBefore (f.end + 6) rs
 out_in_time f turn turns [] i s b low = tt
 out_in_time f turn turns (r ∷ rs) i s b low =
     let up = i.0.up in
@@ -114,39 +113,42 @@ out_in_time f turn turns (r ∷ rs) i s b low =
     let due = turn-below f.clocks r.unit.first f.end first in
     let here = b.0 in
     let now : r.turn < f.end + 6 = elim (leb_tells (suc r.unit.due) turns) [
-      | inl p ↦ (let late = s.0 p.1 in omega (arith, late, is, due))
+      | inl p ↦ elim (leb_tells (suc r.unit.due) r.turn) [
+        | inl q ↦ (let late = s.0 p.1 q.1 in omega (arith, late))
+        | inr q ↦ (let soon = q.1 in omega (arith, soon, is, due))
+      ]
       | inr p ↦ (let far = p.1 in omega (arith, far, here, low, is, due))
     ] in
     (now, out_in_time f turn turns rs i.1 s.1 b.1 low)
 
-spilled_front : (turns m turn : ℕ) (rs : List Release) → IsSpilled turns m rs → IsSpilled turns m (before_turn turn rs)
-spilled_front turns m turn [] s = tt
-spilled_front turns m turn (r ∷ rs) s = elim (leb_tells (suc r.turn) turn) [ inl p ↦ rw p.0 (s.0, spilled_front turns m turn rs s.1) | inr p ↦ rw p.0 (spilled_front turns m turn rs s.1) ]
+out_front : (turns end turn : ℕ) (rs : List Release) → AreOutBy turns end rs → AreOutBy turns end (before_turn turn rs)
+out_front turns end turn [] s = tt
+out_front turns end turn (r ∷ rs) s = elim (leb_tells (suc r.turn) turn) [ inl p ↦ rw p.0 (s.0, out_front turns end turn rs s.1) | inr p ↦ rw p.0 (out_front turns end turn rs s.1) ]
 
--- where no unit that is due before the turn of the cut is released behind its due turn, none at all is
-spilled_cut : (turns turn : ℕ) (rs : List Release) → IsSpilled turn 0 rs → IsSpilled turns 0 (before_turn turn rs)
-spilled_cut turns turn [] s = tt
-spilled_cut turns turn (r ∷ rs) s = elim (leb_tells (suc r.turn) turn) [
-  | inl p ↦ rw p.0 ((λ soon. elim (leb_tells (suc r.unit.due) turn) [ inl q ↦ s.0 q.1 | inr q ↦ (let low = p.1 in let far = q.1 in omega (arith, low, far)) ]), spilled_cut turns turn rs s.1)
-  | inr p ↦ rw p.0 (spilled_cut turns turn rs s.1)
+-- where no unit that is due before the turn of the cut is released so many turns behind its due turn, none at all is
+spilled_cut : (turns turn m : ℕ) (rs : List Release) → IsSpilled turn m rs → IsSpilled turns m (before_turn turn rs)
+spilled_cut turns turn m [] s = tt
+spilled_cut turns turn m (r ∷ rs) s = elim (leb_tells (suc r.turn) turn) [
+  | inl p ↦ rw p.0 ((λ soon. elim (leb_tells (suc r.unit.due) turn) [ inl q ↦ s.0 q.1 | inr q ↦ (let low = p.1 in let far = q.1 in omega (arith, low, far)) ]), spilled_cut turns turn m rs s.1)
+  | inr p ↦ rw p.0 (spilled_cut turns turn m rs s.1)
 ]
 
-pub cuts_spilled : (m : Machine) (clocks : List Clocks) (turns turn b : ℕ) (begun : List Started) → AreSpilled turn 0 (parts_on m clocks begun b) → AreSpilled turns 0 (map (λ s. s.section) (cuts_on m clocks turn begun b))
-cuts_spilled m clocks turns turn b [] s = tt
-cuts_spilled m clocks turns turn b (x ∷ begun) s = (spilled_cut turns turn (part_on m clocks x b).releases s.0, cuts_spilled m clocks turns turn b begun s.1)
+pub cuts_spilled : (m : Machine) (clocks : List Clocks) (turns turn n b : ℕ) (begun : List Started) → AreSpilled turn n (parts_on m clocks begun b) → AreSpilled turns n (map (λ s. s.section) (cuts_on m clocks turn begun b))
+cuts_spilled m clocks turns turn n b [] s = tt
+cuts_spilled m clocks turns turn n b (x ∷ begun) s = (spilled_cut turns turn n (part_on m clocks x b).releases s.0, cuts_spilled m clocks turns turn n b begun s.1)
 
 moves_in : (own : ℕ → ℕ) (clocks : Clocks) (freq slots ready turn turns : ℕ) (stops : ℕ → Option ℕ) (s : BoardSection) → AreTicks own → (k : AreTracked own clocks ready) → IsSection clocks freq slots s → ready + 260 ≤ s.start → s.start ≤ s.end
-    → s.end < k.until → IsSpilled turns 0 s.releases → turn ≤ turns → StopsBy false stops s.start s.end → IsMovesIn clocks freq slots k.until stops (cut_section turn s)
-moves_in own clocks freq slots ready turn turns stops s ticks k i after order limit spills low stop =
+    → s.end < k.until → AreOutBy turns s.end s.releases → turn ≤ turns → StopsBy false stops s.start s.end → IsMovesIn clocks freq slots k.until stops (cut_section turn s)
+moves_in own clocks freq slots ready turn turns stops s ticks k i after order limit outs low stop =
     let cut = cut_section turn s in
     let c = cut_is clocks freq slots turn s i in
     let f : Frame = record { own = own; clocks = clocks; slots = slots; ready = ready; start = s.start; end = s.end; ticks = ticks; tracked = k; after = after; order = order; limit = limit } in
     let inside = all_inside f cut.releases (λ oid.
-    begun_inside f oid false (of_stepper oid (units_of cut.releases)) (c.begun oid) (early_fits freq (lines_tick clocks ((s.end + 1) * turn_ns)) (base_of clocks cut) (section_steps oid cut) (cut.plan oid) (c.fits oid) (c.within oid))) in
+    begun_inside f false oid false (of_stepper oid (units_of cut.releases)) (c.begun oid) (early_fits freq (lines_tick clocks ((s.end + 1) * turn_ns)) (base_of clocks cut) (section_steps oid cut) (cut.plan oid) (c.fits oid) (c.within oid))) in
     record {
       is = c;
       limit = limit;
-      released = out_in_time f turn turns cut.releases inside (spilled_front turns 0 turn s.releases spills) (cut_before turn s.releases) low;
+      released = out_in_time f turn turns cut.releases inside (out_front turns s.end turn s.releases outs) (cut_before turn s.releases) low;
       goes_on = stop;
     }
 
@@ -178,56 +180,38 @@ homed_in m clocks b until turn stops s h small limit few stop =
     let freq = (board_at m b).freq in
     let slots = (board_at m b).slots in
     let planned = section_end m clocks s.section.moves s.start in
-    let order = end_after m clocks s.section.moves s.start in
     let plans = plans_on m clocks s.section.moves s.start b in
-    let rs = slice_index_or h.planned b [] in
     let own = slice_index_or s.boards b [] in
-    let all = h.are.each b small in
-    homing_steps line freq slots until stops s.start s.end plans (before_turn turn own) (elim h.boards [
-      | inl w ↦
-          let f = cut_front line slots turn all.from [] rs all.paced in
-          let same : rs ≡ own = ap (λ x. slice_index_or x b []) (sym w.1) in
-          let At : List Release → Type 0 = λ x. IsHomingIn line freq slots until stops (section_of s.start s.end plans (before_turn turn x)) in
-          let end = w.0 in
-          subst At same (homing_cut line freq slots until s.start planned s.end plans rs (before_turn turn rs) stops all f.0 f.1 (before_least turn s.end (before_turn turn rs) (omega (arith, few, end)) (cut_before turn rs)) order limit stop)
-      | inr w ↦
-          let first = before_turn s.end rs in
-          let same : own ≡ first = ap (λ x. slice_index_or x b []) w.1 ∙ at_before s.end h.planned b in
-          let f = cut_front line slots s.end all.from [] rs all.paced in
-          let Paced : List Release → Type 0 = λ x. ArePaced line slots all.from [] x in
-          let g = cut_front line slots turn all.from [] first (paced_front line slots all.from [] first f.0 (subst Paced f.1 all.paced)) in
-          let cut = before_turn turn first in
-          let Ends : List Release → Type 0 = λ x. AreBefore s.end x in
-          let At : List Release → Type 0 = λ x. IsHomingIn line freq slots until stops (section_of s.start s.end plans (before_turn turn x)) in
-          let joined : rs ≡ cut ++ (g.0 ++ f.0) = f.1 ∙ ap (λ x. x ++ f.0) g.1 ∙ append_assoc cut g.0 f.0 in
-          subst At (sym same) (homing_cut line freq slots until s.start planned s.end plans rs cut stops all (g.0 ++ f.0) joined (before_front s.end cut g.0 (subst Ends g.1 (cut_before s.end rs))) order limit stop)
-    ])
+    let cut = before_turn turn own in
+    let f = homed_before m clocks b turn s h small in
+    let before : AreBefore s.end cut = elim (homed_front m clocks b s h small).2 [ inl none ↦ before_least turn s.end cut (omega (arith, few, none)) (cut_before turn own) | inr b ↦ before_both s.end turn own b ] in
+    homing_steps line freq slots until stops s.start s.end plans cut (homing_cut line freq slots until s.start planned s.end plans (slice_index_or h.planned b []) cut stops (h.are.each b small) f.0 f.1 before (end_after m clocks s.section.moves s.start) limit stop)
 
 one_in : (kind : SectionKind) (m : Machine) (own : ℕ → ℕ) (clocks : List Clocks) (b ready turn turns : ℕ) (stops : ℕ → Option ℕ) (s : Started) → AreTicks own → (k : AreTracked own (clocks_at clocks b) ready) → IsPlanned kind m clocks s → b < length m.boards
-    → ready + 260 ≤ s.start → section_end m clocks s.section.moves s.start < k.until → IsSpilled turns 0 (part_on m clocks s b).releases → turn ≤ turns → turn ≤ no_end → StopsBy (is_home kind) stops s.start s.end
+    → ready + 260 ≤ s.start → section_end m clocks s.section.moves s.start < k.until → (is_home kind ≡ false → AreOutBy turns s.end (part_on m clocks s b).releases) → turn ≤ turns → turn ≤ no_end → StopsBy (is_home kind) stops s.start s.end
     → IsSectionBy (is_home kind) (clocks_at clocks b) (board_at m b).freq (board_at m b).slots k.until stops (cut_section turn (part_on m clocks s b))
-one_in Moves m own clocks b ready turn turns stops s ticks k h small after limit spills low few stop =
+one_in Moves m own clocks b ready turn turns stops s ticks k h small after limit outs low few stop =
     let end = h.end in
     let order = end_after m clocks s.section.moves s.start in
-    moves_in own (clocks_at clocks b) (board_at m b).freq (board_at m b).slots ready turn turns stops (part_on m clocks s b) ticks k (moved_is m clocks s b h small) after (omega (arith, end, order)) (omega (arith, end, limit)) spills low stop
-one_in (Home axis) m own clocks b ready turn turns stops s ticks k h small after limit spills low few stop = homed_in m clocks b k.until turn stops s h small limit few stop
+    moves_in own (clocks_at clocks b) (board_at m b).freq (board_at m b).slots ready turn turns stops (part_on m clocks s b) ticks k (moved_is m clocks s b h small) after (omega (arith, end, order)) (omega (arith, end, limit)) (outs refl) low stop
+one_in (Home axis) m own clocks b ready turn turns stops s ticks k h small after limit outs low few stop = homed_in m clocks b k.until turn stops s h small limit few stop
 
 -- the sections
 sections_in : (m : Machine) (own : ℕ → ℕ) (clocks : List Clocks) (b ready at turn turns : ℕ) (all past rest : List Started) → AreTicks own → (k : AreTracked own (clocks_at clocks b) ready) → all ≡ past ++ rest → AreLong at past → ready + 260 ≤ at
-    → AreStarted m clocks at rest → b < length m.boards → PlansEndBefore m clocks k.until rest → AreSpilled turns 0 (parts_on m clocks rest b) → turn ≤ turns → turn ≤ no_end
+    → AreStarted m clocks at rest → b < length m.boards → PlansEndBefore m clocks k.until rest → AreOut turns (runs_on m clocks rest b) → turn ≤ turns → turn ≤ no_end
     → All (λ s. IsSectionBy s.homes (clocks_at clocks b) (board_at m b).freq (board_at m b).slots k.until (stops_of all) s.section) (cuts_on m clocks turn rest b)
-sections_in m own clocks b ready at turn turns all past [] ticks k cut long after h small limits spills low few =
+sections_in m own clocks b ready at turn turns all past [] ticks k cut long after h small limits outs low few =
     All-nil (λ (s : RunSection). IsSectionBy s.homes (clocks_at clocks b) (board_at m b).freq (board_at m b).slots k.until (stops_of all) s.section)
-sections_in m own clocks b ready at turn turns all past (s ∷ rest) ticks k cut long after h small limits spills low few =
+sections_in m own clocks b ready at turn turns all past (s ∷ rest) ticks k cut long after h small limits outs low few =
     let P : RunSection → Type 0 = λ x. IsSectionBy x.homes (clocks_at clocks b) (board_at m b).freq (board_at m b).slots k.until (stops_of all) x.section in
     let Stops : List Started → Type 0 = λ x. StopsBy (is_home s.section.kind) (stops_of x) s.start s.end in
     let start = h.0.start in
     let late = planned_late s.section.kind m clocks s h.0.planned in
     let stop = subst Stops (sym cut) (stops_by m clocks (is_home s.section.kind) at past s rest refl long (omega (arith, start)) h.1) in
     All-cons P (cut_on m clocks turn b s) (cuts_on m clocks turn rest b)
-    (one_in s.section.kind m own clocks b ready turn turns (stops_of all) s ticks k h.0.planned small (omega (arith, start, after)) limits.0 spills.0 low few stop)
+    (one_in s.section.kind m own clocks b ready turn turns (stops_of all) s ticks k h.0.planned small (omega (arith, start, after)) limits.0 outs.0 low few stop)
     (sections_in m own clocks b ready (s.end + 260) turn turns all (past ++ s ∷ []) rest ticks k (cut ∙ sym (append_assoc past (s ∷ []) rest)) (long_more at past s (s.end + 260) long (omega (arith, start, late)) (omega (arith, late)))
-    (omega (arith, start, late, after)) h.1 small limits.1 spills.1 low few)
+    (omega (arith, start, late, after)) h.1 small limits.1 outs.1 low few)
 
 cut_turn : (m : Machine) (clocks : List Clocks) (turn b e : ℕ) (begun : List Started) → AreInTurn e (runs_on m clocks begun b) → AreInTurn e (cuts_on m clocks turn begun b)
 cut_turn m clocks turn b e [] h = tt
@@ -307,10 +291,10 @@ cut_orders m text clocks begun turn b k (t ∷ made) bare (o ∷ os) rest small 
 
 pub home_run : (m : Machine) (ts : List MotionTurn) (p : Plans m (length m.boards) ts) (t : Told) (b ready until : ℕ) (own : ℕ → ℕ) (os : List Orders) → b < length m.boards → p.seen.told ≡ Some t → until ≤ length p.made
     → (length os ≤ until) ⊎ (length p.made ≤ until) → TookBatches b ts os → TookControlsIn (clocks_at t.clocks b) (cuts_on m t.clocks until p.seen.begun b) 0 os → AreTicks own → (k : AreTracked own (clocks_at t.clocks b) ready)
-    → ready + 260 ≤ t.first → PlansEndBefore m t.clocks k.until p.seen.begun → AreSpilled until 0 (parts_on m t.clocks p.seen.begun b) → ((oid : ℕ) → AreSet oid (cuts_on m t.clocks until p.seen.begun b) 0 os)
+    → ready + 260 ≤ t.first → PlansEndBefore m t.clocks k.until p.seen.begun → AreOut until (runs_on m t.clocks p.seen.begun b) → ((oid : ℕ) → AreSet oid (cuts_on m t.clocks until p.seen.begun b) 0 os)
     → (ready ≤ length os → (oid : ℕ) → HasUnits oid (cuts_on m t.clocks until p.seen.begun b) ⊎ SetsAny oid os → MakesIn oid (take ready os))
     → IsHomeRun own (clocks_at t.clocks b) (board_at m b).freq (board_at m b).slots ready (stops_of p.seen.begun) (cuts_on m t.clocks until p.seen.begun b) os
-home_run m ts p t b ready until own os small told low far took controls ticks k early limits spills set made =
+home_run m ts p t b ready until own os small told low far took controls ticks k early limits outs set made =
     let begun = started_in m ts p t told in
     let size = length-map p.made put_of in
     let most = p.small in
@@ -318,7 +302,7 @@ home_run m ts p t b ready until own os small told low far took controls ticks k 
     let At : List MotionTurn → Type 0 = λ x. map (λ (o : Orders). o.batch) os ++ took.0 ≡ gather (λ (y : MotionTurn). item b y.batches) x in
     record {
       tracked = k;
-      sections = sections_in m own t.clocks b ready t.first until until p.seen.begun [] p.seen.begun ticks k refl tt early begun small limits spills (omega arith) (omega (arith, low, size, most));
+      sections = sections_in m own t.clocks b ready t.first until until p.seen.begun [] p.seen.begun ticks k refl tt early begun small limits outs (omega arith) (omega (arith, low, size, most));
       row = cut_turn m t.clocks until b ready p.seen.begun (in_turn m t.clocks b ready t.first p.seen.begun early begun);
       orders = cut_orders m p.seen.text t.clocks p.seen.begun until b 0 p.made p.bare os took.0 small p.put p.are_bare (omega (arith, low)) far_all (subst At p.are took.1) controls;
       set = set;

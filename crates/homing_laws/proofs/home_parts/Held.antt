@@ -1,5 +1,5 @@
 -- The clock lines of a board that hold by the beginning of a turn.
-use Rattle.std.proofs.Common.{◌≡◌, inl, inr, ℕ, zero, suc, ◌*◌, ◌<◌, ◌≤◌, List, [], ◌∷◌, map, max, cond, refl, ap, sym, ◌∙◌, arith}
+use Rattle.std.proofs.Common.{◌≡◌, inl, inr, ℕ, zero, suc, ◌*◌, ◌<◌, ◌≤◌, List, [], ◌∷◌, map, max, cond, refl, ap, sym, ◌∙◌, subst, arith}
 use Rattle.std.specs.Prelude.{nat_le}
 use Rattle.std.proofs.lemmas.Bool.Decides.{leb_tells, nat_tests}
 use Rattle.plan_types.specs.declared.plan.Held.{Held}
@@ -44,3 +44,19 @@ tick_by turn first line from most old (h ∷ held) time are early =
 
 pub ticks_by : (turn : ℕ) (clocks : Clocks) (time : ℕ) → AreKept clocks → time ≤ turn * turn_ns → lines_tick (lines_by turn clocks) time ≡ lines_tick clocks time
 ticks_by turn clocks time kept early = tick_by turn clocks.first clocks.first 0 0 0 clocks.held time kept.held early
+
+-- they hold one after the other
+held_on : (turn : ℕ) (first line : Line) (from most : ℕ) (held : List Held) → AreHeld first line from most held → AreHeld first line from most (held_by turn held)
+held_on turn first line from most [] are = are
+held_on turn first line from most (h ∷ held) are = elim (leb_tells (suc (turn * turn_ns)) h.from) [
+  | inl p ↦ rw p.0 (let none = none_by turn first h.line h.from h.most held are.4 p.1 in subst (AreHeld first line from most) (sym none) tt)
+  | inr p ↦ rw p.0 (are.0, are.1, are.2, are.3, held_on turn first h.line h.from h.most held are.4, are.5)
+]
+
+pub kept_by : (turn : ℕ) (clocks : Clocks) → AreKept clocks → AreKept (lines_by turn clocks)
+kept_by turn clocks kept = record { valid = kept.valid; held = held_on turn clocks.first clocks.first 0 0 clocks.held kept.held }
+
+-- where a reactor knows those that hold by a turn, each turn up to it begins at the same tick as by all
+pub tick_known : (known clocks : List Clocks) (most b turn : ℕ) → known ≡ map (lines_by most) clocks → AreKept (clocks_at clocks b) → turn ≤ most → lines_tick (clocks_at known b) (turn * turn_ns) ≡ lines_tick (clocks_at clocks b) (turn * turn_ns)
+tick_known known clocks most b turn is kept low =
+    ap (λ (cs : List Clocks). lines_tick (clocks_at cs b) (turn * turn_ns)) is ∙ ap (λ (x : Clocks). lines_tick x (turn * turn_ns)) (clocks_by most clocks b) ∙ ticks_by most (clocks_at clocks b) (turn * turn_ns) kept (omega (arith, low))

@@ -1,33 +1,29 @@
 -- The steppers that have units in a homing section move in it.
-use Rattle.std.proofs.Common.{◌≡◌, ◌≢◌, ℕ, zero, suc, ◌+◌, ◌<◌, ◌≤◌, Bool, false, List, [], ◌∷◌, ◌++◌, length, take, append_assoc, Some, refl, ap, sym, ◌∙◌, subst, arith, inl, inr}
+use Rattle.std.proofs.Common.{◌≡◌, ◌≢◌, ℕ, zero, suc, ◌+◌, ◌<◌, ◌≤◌, Bool, true, false, List, [], ◌∷◌, ◌++◌, length, take, append_assoc, Some, refl, ap, sym, ◌∙◌, subst, arith, inl, inr}
 use Rattle.std.specs.Prelude.{slice_index_or}
 use Rattle.std.proofs.lemmas.Bool.Decides.{leb_tells}
 use Rattle.plan_types.specs.declared.machine.Machine.{Machine}
 use Rattle.plan_types.specs.declared.plan.Move.{Move}
 use Rattle.plan_types.specs.declared.plan.Planned.{Planned}
-use Rattle.plan_types.specs.declared.plan.SectionKind.{SectionKind}
-use Rattle.plan_types.specs.declared.plan.SectionKind.TheVariants.{Home}
 use Rattle.plan_types.specs.Lines.{Clocks}
-use Rattle.plan_types.specs.Machines.{IsValidMachine, axis_at, board_at, stepper_at}
+use Rattle.plan_types.specs.Machines.{IsValidMachine, axis_at, stepper_at}
 use Rattle.plan_types.specs.Sections.{clocks_at, section_plans, stepper_plan}
 use Rattle.section_units.specs.Merged.{plan_at}
 use Rattle.section_units.specs.Plans.{plans_on}
-use Rattle.section_units.specs.Sections.{AreBegun, of_stepper, steps_said}
+use Rattle.section_units.specs.Sections.{AreBegunBy, of_stepper, steps_said}
 use Rattle.section_units.specs.Units.{as_sent}
-use Rattle.section_units.proofs.Fronting.{of_front, paced_front}
-use Rattle.step_feed.specs.Pacing.{ArePaced, Release, units_of}
+use Rattle.section_units.proofs.Fronting.{of_front}
+use Rattle.step_feed.specs.Pacing.{Release, units_of}
 use Rattle.step_feed.specs.Units.{StepUnit}
 use Rattle.trigger_group.specs.Group.{bits}
 use Rattle.axis_homing.specs.Homing.{moving_on}
 use Rattle.clock_runs.specs.Samples.{IsAmong}
-use Rattle.motion_work.specs.Homes.{before_turn, moving_among, moving_in, one_moving, without_resets}
-use Rattle.motion_work.specs.Seen.{AreStarted, IsHomed, IsPlanned, Started}
+use Rattle.motion_work.specs.Homes.{before_turn, moving_among, moving_in, one_moving}
+use Rattle.motion_work.specs.Seen.{AreStarted, IsHomed, Started}
 use Rattle.motion_work.specs.Told.{Told}
-use Rattle.motion_work.proofs.Feeding.{at_before}
 use Rattle.session_work.specs.declared.table.MotionTurn.{MotionTurn}
 use Rattle.run_plans.specs.Planned.{Plans}
-use Rattle.motion_work.proofs.Sending.{cut_front}
-use Rattle.run_plans.proofs.Cutting.{plain_of}
+use Rattle.run_plans.proofs.Cutting.{homed_before, homed_of}
 use Rattle.run_plans.proofs.Fitting.{plan_is}
 use Rattle.run_plans.proofs.Placing.{count_is, count_on}
 use Rattle.run_plans.proofs.Running.{started_in}
@@ -46,32 +42,10 @@ none_front : (oid : ℕ) (rs cut rest : List Release) → rs ≡ cut ++ rest →
 none_front oid rs cut rest same none =
     none_left (of_stepper oid (units_of cut)) (of_stepper oid (units_of rest)) (sym (of_front oid cut rest) ∙ ap (λ x. of_stepper oid (units_of x)) (sym same) ∙ none)
 
--- the units of a homing section that are released before a turn are the first ones of its plan
-cut_units : (m : Machine) (clocks : List Clocks) (b until : ℕ) (s : Started) (h : IsHomed m clocks s) → b < length m.boards → (rest : List Release) × (slice_index_or h.planned b [] ≡ before_turn until (slice_index_or s.boards b []) ++ rest)
-cut_units m clocks b until s h small =
-    let line = clocks_at clocks b in
-    let slots = (board_at m b).slots in
-    let rs = slice_index_or h.planned b [] in
-    let own = slice_index_or s.boards b [] in
-    let all = h.are.each b small in
-    let Front : List Release → Type 0 = λ x. (rest : List Release) × (rs ≡ before_turn until x ++ rest) in
-    elim h.boards [
-      | inl w ↦
-          let same : rs ≡ own = ap (λ x. slice_index_or x b []) (sym w.1) in
-          subst Front same (cut_front line slots until all.from [] rs all.paced)
-      | inr w ↦
-          let first = before_turn s.end rs in
-          let same : own ≡ first = ap (λ x. slice_index_or x b []) w.1 ∙ at_before s.end h.planned b in
-          let f = cut_front line slots s.end all.from [] rs all.paced in
-          let Paced : List Release → Type 0 = λ x. ArePaced line slots all.from [] x in
-          let g = cut_front line slots until all.from [] first (paced_front line slots all.from [] first f.0 (subst Paced f.1 all.paced)) in
-          subst Front (sym same) (g.0 ++ f.0, f.1 ∙ ap (λ x. x ++ f.0) g.1 ∙ append_assoc (before_turn until first) g.0 f.0)
-    ]
-
 -- one that has units has a plan
-pub no_units : (oid : ℕ) (clocks : Clocks) (base : ℕ) (us : List StepUnit) → AreBegun clocks base us → length (steps_said oid false us) ≡ 0 → us ≡ []
-no_units oid clocks base [] a e = refl
-no_units oid clocks base (u ∷ us) a e = absurd (let some = have_steps oid clocks base (u ∷ us) a (λ f. none u us f) in omega (arith, some, e))
+pub no_units : (homing : Bool) (oid : ℕ) (clocks : Clocks) (base : ℕ) (us : List StepUnit) → AreBegunBy homing clocks base us → length (steps_said oid false us) ≡ 0 → us ≡ []
+no_units homing oid clocks base [] a e = refl
+no_units homing oid clocks base (u ∷ us) a e = absurd (let some = have_steps homing oid clocks base (u ∷ us) a (λ f. none u us f) in omega (arith, some, e))
   where
     none : (u : StepUnit) (us : List StepUnit) → u ∷ us ≡ [] → ⊥
     none u us f = cc
@@ -80,11 +54,9 @@ has_plan : (m : Machine) (clocks : List Clocks) (b until oid : ℕ) (s : Started
     → plan_at (plans_on m clocks s.section.moves s.start b) oid ≢ []
 has_plan m clocks b until oid s h small some none =
     let all = h.are.each b small in
-    let own = of_stepper oid all.moved in
-    let f = cut_units m clocks b until s h small in
-    let nothing : own ≡ [] = no_units oid (clocks_at clocks b) _ own (all.begun oid) (all.whole oid ∙ ap length none) in
-    let units : of_stepper oid (units_of (slice_index_or h.planned b [])) ≡ [] = ap (of_stepper oid) all.units ∙ plain_of oid all.moved ∙ ap without_resets nothing in
-    some (none_front oid (slice_index_or h.planned b []) (before_turn until (slice_index_or s.boards b [])) f.0 f.1 units)
+    let rs = slice_index_or h.planned b [] in
+    let f = homed_before m clocks b until s h small in
+    some (none_front oid rs (before_turn until (slice_index_or s.boards b [])) f.0 f.1 (no_units true oid (clocks_at clocks b) _ (of_stepper oid (units_of rs)) (all.begun oid) (all.whole oid ∙ ap length none)))
 
 moving_is : (corexy : Bool) (one : Move) (drive : ℕ) → (one_moving corexy one drive ≡ 0 → ⊥) → one_moving corexy one drive ≡ 1
 moving_is corexy one drive n = by (one_moving corexy one drive) (moving_bit corexy one drive) n
@@ -118,9 +90,6 @@ mover m v clocks b until axis oid s one h small moves some =
           let among = subst (λ n. IsAmong n (bits 0 16 (moving_on b s.moving m.steppers))) zero_more on in
           record { stepper = j; there = there; on = at.2; oid_is = own; moves = moves_from m (axis_at m axis) b s.moving j 0 m.boards (omega arith) (omega (arith, small)) among }
     ]
-
-homed_of : (m : Machine) (clocks : List Clocks) (s : Started) (kind : SectionKind) (axis : ℕ) → kind ≡ Home axis → IsPlanned kind m clocks s → IsHomed m clocks s
-homed_of m clocks s kind axis e h = let At : SectionKind → Type 0 = λ k. IsPlanned k m clocks s in subst At e h
 
 movers_from : (m : Machine) (v : IsValidMachine m) (ts : List MotionTurn) (p : Plans m (length m.boards) ts) (clocks : List Clocks) (b until ready : ℕ) → b < length m.boards → (xs rest : List Started) → p.seen.begun ≡ xs ++ rest → AreStarted m clocks ready rest
     → HaveMovers m clocks until b rest

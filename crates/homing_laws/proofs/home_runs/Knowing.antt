@@ -228,6 +228,9 @@ known_on m switches from start ms (c ∷ before) g b =
 pub homing_known : (m : Machine) (switches : List Switch) (from start : ℕ) (ms : List Member) (came : List Came) → GoesOn m switches came → IsBegunIn m switches from start ms came → HomesFrom m switches from start ms came
 homing_known m switches from start ms came g b = (known_on m switches from start ms came g b).0
 
+pub past_known : (m : Machine) (switches : List Switch) (from start : ℕ) (ms : List Member) (came : List Came) → GoesOn m switches came → IsBegunIn m switches from start ms came → from < length came → (known_by m switches came).phase ≡ Connecting → ⊥
+past_known m switches from start ms came g b later = ((known_on m switches from start ms came g b).1 later).past
+
 pub word_answers : (m : Machine) (switches : List Switch) (from start : ℕ) (ms : List Member) (c : Came) (before : List Came) → GoesOn m switches (c ∷ before) → IsBegunIn m switches from start ms before → from < length before → BeginsNone (news_of c.note)
     → TellsHomed (last_turn m switches c before).ordered.word.news
     → (h : Homing) × (tick : ℕ) × ((noted m c.note (known_by m switches before)).homing ≡ Some h) × (h.start ≡ start) × (members_of h.group ≡ ms)

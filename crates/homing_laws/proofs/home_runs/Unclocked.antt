@@ -7,13 +7,13 @@ use Rattle.std.proofs.lemmas.List.Elements.{All-head, All-tail}
 use Rattle.plan_types.specs.Lines.{Clocks}
 use Rattle.msg_code.specs.declared.unit.Unit.{Unit as StepUnit}
 use Rattle.step_feed.specs.Pacing.{Release, batch_at, units_of}
-use Rattle.section_units.specs.Sections.{AreBefore, AreChained, base_of, of_stepper}
+use Rattle.section_units.specs.Sections.{AreBefore, AreBegunBy, AreChained, base_of, of_stepper}
 use Rattle.link_work.specs.Stands.{orders}
 use Rattle.link_work.specs.Turn.{Orders}
 use Rattle.board_runs.specs.Turns.{BoardTurn}
 use Rattle.clock_runs.specs.Runs.{orders_in}
 use Rattle.clock_runs.proofs.Orders.{order_length}
-use Rattle.run_laws.specs.Homes.{AreBegunApart, AreInTurn, AreOrdersIn, IsHomingIn, IsSectionBy, RunSection}
+use Rattle.run_laws.specs.Homes.{AreInTurn, AreOrdersIn, IsHomingIn, IsSectionBy, RunSection}
 use Rattle.run_laws.proofs.Releasing.{AreFrom, from_down, none_at, paced_from}
 use Rattle.homing_laws.specs.home_runs.Settled.{SetNoClock, SetNoClockFrom}
 
@@ -39,7 +39,7 @@ chained_none : (clocks : Clocks) (last : ℕ) (us : List StepUnit) → AreChaine
 chained_none clocks last [] c = tt
 chained_none clocks last (u ∷ us) c = (c.0, chained_none clocks u.last us c.2)
 
-begun_none : (clocks : Clocks) (base : ℕ) (us : List StepUnit) → AreBegunApart clocks base us → SetNoClock us
+begun_none : (clocks : Clocks) (base : ℕ) (us : List StepUnit) → AreBegunBy true clocks base us → SetNoClock us
 begun_none clocks base [] b = tt
 begun_none clocks base (u ∷ us) b = (b.0, chained_none clocks u.last us b.3)
 

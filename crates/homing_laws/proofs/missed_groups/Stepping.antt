@@ -219,17 +219,18 @@ module _ (m : Machine) (v : IsValidMachine m) (switches : List Switch) (pins : �
     long : K ≡ length (turns_of b js)
     long = as_long m switches b past (turns_of b js) plain.run.both.2
 
-    ordered : IsOrdered m (lines b) b h K G (Commands b)
-    ordered =
-        let open_phase : (noted m d.note (known_by m switches past)).phase ≡ Connecting → ⊥ = λ e. connected (sym (noted_phase m d.note (known_by m switches past)) ∙ e) in
-        let o = turn_ordered m switches (pins b) entries b d past (j b) (turns_of b js) h plain.run is open_phase next_known.1 in
-        subst (λ (cl : Clocks). IsOrdered m cl b h K G (Commands b)) (s.knows.1.0 h is now_of.0 b within).1 o
+    -- the clock lines that are known
+    abbrev Lines : Clocks
+    Lines = clocks_at (noted m d.note (known_by m switches past)).clocks b
 
-    sent : G.start ≡ start → IsSent m (lines b) b K G (Commands b)
-    sent e = sent_from m (lines b) b h K G (Commands b) ordered (omega (arith, e, far)) (unended e)
+    ordered : IsOrdered m Lines b h K G (Commands b)
+    ordered = turn_ordered m switches (pins b) entries b d past (j b) (turns_of b js) h plain.run is (λ e. connected (sym (noted_phase m d.note (known_by m switches past)) ∙ e)) next_known.1
+
+    sent : G.start ≡ start → IsSent m Lines b K G (Commands b)
+    sent e = sent_from m Lines b h K G (Commands b) ordered (omega (arith, e, far)) (unended e)
 
     abbrev Clock : ℕ
-    Clock = low (turn_tick (lines b) (after G K).sent)
+    Clock = low (turn_tick Lines (after G K).sent)
 
     taken : Later b ≡ (passes (takes_all (Rigs b) (Commands b)).rig (Own b (length (turns_of b js) + 1))).rig
     taken = takes_in_turn (board_at m b) (pins b) b entries (j b) (turns_of b js) none plain.run.turns_are plain.limits

@@ -64,8 +64,8 @@ BeginsWell m switches lines ready (c ∷ before) =
     (BeginsNone (news_of c.note) ⊎ (((known_by m switches before).homing ≡ None) × ((h : Homing) → (noted m c.note (known_by m switches before)).homing ≡ Some h → IsBegunWell m switches lines ready before h)))
     × BeginsWell m switches lines ready before
 
--- A run of all boards together up to a turn, in a scene without entries: every board goes on with the reactor, which knows each homing section's own clock
--- lines, by its start, where the section is known; each state comes in the turn behind its own; and homing sections are begun well.
+-- A run of all boards together up to a turn, in a scene without entries: every board goes on with the reactor; where a homing section is known, turns
+-- begin by the clock lines that it knows as by the section's own ones, by its start; each state comes in the turn behind its own; and homing sections are begun well.
 pub record IsClearRun (m : Machine) (switches : List Switch) (pins : ℕ → List (List Level)) (entries : List Entry) (lines : ℕ → ℕ → Clocks) (ready : ℕ) (c : Came) (before : List Came) (all : List (ℕ → BoardTurn)) : Type 0 where
   pub goes_on : GoesOn m switches before
   pub long : length all ≡ length before

@@ -31,11 +31,11 @@ use Rattle.homing_laws.specs.clear_groups.Sections.{report_ticks, rest_of, rig_a
 abbrev pub IsRenewed : ℕ → Clocks → ℕ → Rig → Type 0
 IsRenewed oid clocks timeout r = (tick : ℕ) → IsLimited oid tick (lines_tick clocks (timeout * turn_ns)) r
 
--- Its group, with this last timeout and these members, watches it: it can trigger and was heard of lately, by no more than 300 turns ahead, and the
--- timeout is at most 400 turns ahead; or it triggered and is known to have by the section's last turn.
+-- Its group, with this last timeout and these members, watches it: it can trigger and was heard of lately, by no more than 249 turns ahead, and the
+-- timeout is at most 274 turns ahead; or it triggered and is known to have by the section's last turn.
 abbrev pub IsWatched : Machine → Clocks → (b turn start last sent : ℕ) → List Seen → Rig → Type 0
 IsWatched m clocks b turn start last sent members r =
-    (IsMemberAt (λ k. board_tick (clock_of (board_at m b)) k) (trigger_of m b) (lines_tick clocks (start * turn_ns)) (report_ticks m b) start last b turn r members × HeardUntil start b (turn + 300) members × (sent ≤ turn + 400))
+    (IsMemberAt (λ k. board_tick (clock_of (board_at m b)) k) (trigger_of m b) (lines_tick clocks (start * turn_ns)) (report_ticks m b) start last b turn r members × HeardUntil start b (turn + 249) members × (sent ≤ turn + 274))
     ⊎ (HasFired (trigger_of m b) r × FiredOn b last members)
 
 -- its timeout is the one behind the section's last turn, and it never expired, or at that tick alone, and that is past

@@ -2,11 +2,12 @@
 use Rattle.std.specs.Prelude.{◌≡◌, ◌<◌, ◌≤◌, ◌+◌, ◌*◌, ◌/◌, ◌^◌, ℕ, List, [], ◌∷◌, None, Some, length}
 use Rattle.plan_types.specs.declared.levels.Level.{Level}
 use Rattle.plan_types.specs.declared.machine.Machine.{Machine}
-use Rattle.plan_types.specs.Clock.{board_tick, clock_of}
-use Rattle.plan_types.specs.Lines.{Clocks}
+use Rattle.plan_types.specs.Clock.{board_tick, clock_of, turn_ns}
+use Rattle.plan_types.specs.Lines.{Clocks, lines_tick}
 use Rattle.plan_types.specs.Machines.{board_at}
 use Rattle.plan_types.specs.Sections.{clocks_at}
 use Rattle.clock_line.specs.Early.{run_turns}
+use Rattle.clock_line.specs.Kept.{AreKept}
 use Rattle.msg_code.specs.declared.talk.State.{State}
 use Rattle.wire_scene.specs.declared.scene.Entry.{Entry}
 use Rattle.wire_scene.specs.declared.scene.Switch.{Switch}
@@ -15,6 +16,7 @@ use Rattle.link_work.specs.Limits.{AllKeepLimits}
 use Rattle.link_work.specs.Stands.{first_state}
 use Rattle.trigger_group.specs.declared.order.Member.{Member}
 use Rattle.axis_homing.specs.declared.homing.Homing.{Homing}
+use Rattle.host_reactor.specs.declared.ordered.Phase.TheVariants.{Connecting}
 use Rattle.host_reactor.specs.Notes.{news_of, noted}
 use Rattle.host_reactor.specs.Runs.{Came, GoesOn, known_by, state_at}
 use Rattle.board_runs.specs.Turns.{BoardTurn, latest_state, stands_after}
@@ -42,12 +44,18 @@ abbrev pub BeginsNoneFrom : ℕ → List Came → Type 0
 BeginsNoneFrom from [] = Unit {0}
 BeginsNoneFrom from (c ∷ before) = (from < length before → BeginsNone (news_of c.note)) × BeginsNoneFrom from before
 
--- in each turn in which a homing section with this start is known the reactor knows these clock lines of each board
+-- Clock lines of a board that hold one after the other, by which each turn up to one begins at the same tick as by others.
+pub record IsAlike (most : ℕ) (known lines : Clocks) : Type 0 where
+  pub kept : AreKept known
+  pub ticks : (turn : ℕ) → turn ≤ most → lines_tick known (turn * turn_ns) ≡ lines_tick lines (turn * turn_ns)
+
+-- In each turn behind connecting in which a homing section with this start is known the reactor knows clock lines of each board by which each turn up
+-- to 276 behind this one begins at the same tick as by these.
 abbrev pub KnowsLines : Machine → List Switch → ℕ → (ℕ → Clocks) → List Came → Type 0
 KnowsLines m switches start lines [] = Unit {0}
 KnowsLines m switches start lines (c ∷ before) =
-    ((h : Homing) → (noted m c.note (known_by m switches before)).homing ≡ Some h → h.start ≡ start → (b : ℕ) → b < length m.boards →
-    (b < length (noted m c.note (known_by m switches before)).clocks) × (clocks_at (noted m c.note (known_by m switches before)).clocks b ≡ lines b))
+    (((known_by m switches before).phase ≡ Connecting → ⊥) → (h : Homing) → (noted m c.note (known_by m switches before)).homing ≡ Some h → h.start ≡ start → (b : ℕ) → b < length m.boards →
+    (b < length (noted m c.note (known_by m switches before)).clocks) × IsAlike (length before + 276) (clocks_at (noted m c.note (known_by m switches before)).clocks b) (lines b))
     × KnowsLines m switches start lines before
 
 -- the ticks between two reports of a board's trigger
@@ -74,8 +82,8 @@ pub record IsPlain (m : Machine) (switches : List Switch) (pins : List (List Lev
   pub none_shut : ShutNone turns
   pub in_range : board_tick (clock_of (board_at m b)) (length turns) < 2 ^ 63
 
--- A homing section that is known from a turn on, as the reactor begins another turn: no later note begins one, the clock lines that are known with it are
--- these, and the reactor and the members' boards go on together.
+-- A homing section that is known from a turn on, as the reactor begins another turn: no later note begins one, by the clock lines that are known with it
+-- turns begin as by these, and the reactor and the members' boards go on together.
 pub record IsClearSection (m : Machine) (switches : List Switch) (pins : ℕ → List (List Level)) (entries : List Entry) (lines : ℕ → Clocks) (from start : ℕ) (members : List Member) (c : Came) (before : List Came) (all : List (ℕ → BoardTurn)) : Type 0 where
   pub goes_on : GoesOn m switches before
   pub long : length all ≡ length before
@@ -89,10 +97,11 @@ pub record IsClearSection (m : Machine) (switches : List Switch) (pins : ℕ →
 abbrev pub rig_at : Machine → (ℕ → List (List Level)) → List Entry → List (ℕ → BoardTurn) → ℕ → Rig
 rig_at m pins entries all b = (stands_after (first_state (board_at m b) (pins b) b entries) (turns_of b all)).core.board
 
--- what a board told of expiries in some turns, from a number on, is of no turn that isn't past the section's last one
+-- what a board told of expiries in some turns, from a number on, is of no turn that isn't past the section's last one, by any clock lines by which
+-- turns begin as by these
 abbrev pub AllLate : Clocks → ℕ → ℕ → List BoardTurn → Type 0
 AllLate clocks last at [] = Unit {0}
-AllLate clocks last at (t ∷ before) = (at ≤ length before → (when : ℕ) → TellExpiry clocks (length before) when t.state.news → last < when) × AllLate clocks last at before
+AllLate clocks last at (t ∷ before) = (at ≤ length before → (known : Clocks) → IsAlike (length before + 277) known clocks → (when : ℕ) → TellExpiry known (length before) when t.state.news → last < when) × AllLate clocks last at before
 
 -- the turns before the latest one
 abbrev pub rest_of : List (ℕ → BoardTurn) → List (ℕ → BoardTurn)

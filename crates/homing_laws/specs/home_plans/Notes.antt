@@ -59,10 +59,11 @@ pub record ShowsSections (part : Started → RunSection) (begun : List Started) 
   pub homes : (s : Started) (axis : ℕ) → s.section.kind ≡ Home axis → (part s).homes ≡ true
   pub start : (s : Started) → (part s).section.start ≡ s.start
 
--- in some turns the homing section that the reactor knows starts, by the clock lines that it knows of a board then, at the same tick as by
--- all of them
+-- in some turns behind connecting the homing section that the reactor knows starts, by the clock lines that it knows of a board then, at the same
+-- tick as by all of them
 abbrev pub KnowBases : Machine → List Switch → ℕ → Clocks → (Started → RunSection) → List Came → Type 0
 KnowBases m switches b clocks part [] = Unit {0}
 KnowBases m switches b clocks part (c ∷ before) =
-    ((h : Homing) (s : Started) → (noted m c.note (known_by m switches before)).homing ≡ Some h → h.start ≡ s.start → turn_tick (clocks_at (noted m c.note (known_by m switches before)).clocks b) h.start ≡ base_of clocks (part s).section)
+    (((known_by m switches before).phase ≡ Connecting → ⊥) → (h : Homing) (s : Started) → (noted m c.note (known_by m switches before)).homing ≡ Some h → h.start ≡ s.start →
+    turn_tick (clocks_at (noted m c.note (known_by m switches before)).clocks b) h.start ≡ base_of clocks (part s).section)
     × KnowBases m switches b clocks part before

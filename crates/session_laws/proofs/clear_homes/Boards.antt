@@ -29,10 +29,10 @@ use Rattle.homing_laws.specs.home_plans.Notes.{AreInARow}
 use Rattle.homing_laws.proofs.home_plans.Noting.{begun_row}
 use Rattle.homing_laws.specs.home_parts.Answers.{ArePastConnecting, IsPlannedBy, MayHome}
 use Rattle.homing_laws.specs.home_parts.Cuts.{cuts_on}
-use Rattle.homing_laws.specs.home_parts.Known.{HoldApart, KnowsClocks, StartInRange}
+use Rattle.homing_laws.specs.home_parts.Known.{KnowsLately, StartInRange}
 use Rattle.session_laws.specs.home_headline.Little.{HomesLittle}
 use Rattle.session_laws.proofs.home_headline.Board.{Followed, boarded, here, lines_of}
-use Rattle.session_laws.proofs.home_headline.Clocks.{run_apart, run_knows}
+use Rattle.session_laws.proofs.home_headline.Clocks.{run_knows}
 use Rattle.session_laws.proofs.home_headline.Planned.{planned_by}
 use Rattle.session_laws.proofs.home_headline.Ranges.{may_all, own_small, range_all, starts_soon}
 
@@ -104,13 +104,9 @@ module _ (m : Machine) (v : IsValidMachine m) (s : Scene) (ts : List MotionTurn)
   pub by : IsPlannedBy m s.switches (length m.boards) ts p Came_all
   by = let size = length-append rest (end ∷ []) in planned_by m s.switches (length m.boards) f.ahead ts p first rest f.words_left f.turns f.words notes (omega (arith, long, size))
 
-  -- the further clock lines, of which none changes a step of a section that homes
-  pub apart : HoldApart m t.clocks p.seen.begun
-  apart = run_apart m v s ts p t first rest end told turn f.turns sound
-
   -- the clock lines that are known
-  pub known : KnowsClocks m s.switches t.clocks Came_all × ArePastConnecting m s.switches By Came_all
-  known = run_knows m v s ts p t first rest end told turn f.turns sound notes by
+  pub known : KnowsLately m s.switches t.clocks Came_all × ArePastConnecting m s.switches By Came_all
+  known = run_knows m v s ts p t first rest end told turn f.turns sound notes
 
   pub count : (b : ℕ) (h : b < length m.boards) → length (Turns_of b h) ≡ length (rest ++ end ∷ [])
   count b h = let a = order_length (Turns_of b h) in let d = (on b h).count in omega (arith, a, d)

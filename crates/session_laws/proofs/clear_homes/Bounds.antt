@@ -1,32 +1,26 @@
 -- The turns of a run's homing sections are in the turns of the boards' clock lines.
 use Rattle.std.proofs.Common.{◌≡◌, ℕ, ◌+◌, ◌^◌, ◌<◌, ◌≤◌, max, List, [], ◌∷◌, ◌++◌, All, length, map, append_assoc, Some, refl, ap, sym, ◌∙◌, subst, arith}
 use Rattle.std.proofs.lemmas.List.{map-append}
-use Rattle.gcode_program.specs.Held.{IsNear}
 use Rattle.gcode_program.specs.Programs.{program_sections}
-use Rattle.gcode_program.proofs.Plannable.{sections_plannable}
 use Rattle.plan_types.specs.declared.machine.Machine.{Machine}
 use Rattle.plan_types.specs.declared.plan.Section.{Section}
-use Rattle.plan_types.specs.declared.plan.SectionKind.{SectionKind}
 use Rattle.plan_types.specs.declared.plan.SectionKind.TheVariants.{Home}
 use Rattle.plan_types.specs.Lines.{Clocks}
 use Rattle.plan_types.specs.Machines.{IsValidMachine}
 use Rattle.plan_types.specs.Sections.{clocks_at, section_end}
-use Rattle.plan_types.specs.Valid.{IsValidMove}
 use Rattle.clock_line.specs.Early.{run_turns}
-use Rattle.motion_work.specs.Seen.{AreBoardClocks, AreStarted, IsHomed, IsPlanned, Started}
+use Rattle.motion_work.specs.Seen.{AreBoardClocks, AreStarted, Started}
 use Rattle.motion_work.specs.Told.{Told}
-use Rattle.motion_work.proofs.Homing.{near_short}
 use Rattle.motion_work.proofs.Turning.{end_after}
-use Rattle.motion_stream.proofs.Bounding.{section_known}
 use Rattle.motion_stream.proofs.Wholing.{at_place}
-use Rattle.motion_stream.proofs.Taking.{may_start}
 use Rattle.session_work.specs.declared.table.MotionTurn.{MotionTurn}
 use Rattle.run_plans.specs.Planned.{Plans}
+use Rattle.run_plans.proofs.Cutting.{homed_of}
 use Rattle.run_plans.proofs.Running.{started_in}
 use Rattle.homing_laws.specs.home_plans.Notes.{AreInARow}
 use Rattle.homing_laws.specs.home_parts.Cuts.{PlansEndBefore}
 use Rattle.homing_laws.proofs.home_parts.Told.{row_from}
-use Rattle.session_laws.proofs.home_headline.Ranges.{starts_soon}
+use Rattle.session_laws.proofs.home_headline.Ranges.{section_soon, starts_soon}
 use Rattle.session_laws.proofs.home_headline.Uncut.{planned_at}
 
 -- the turn behind the plans of all sections
@@ -59,13 +53,7 @@ module _ (m : Machine) (v : IsValidMachine m) (ts : List MotionTurn) (p : Plans 
       let here = at_place (λ (z : Started). z.start < 2 ^ 42 + 260) past s later (subst Soon cut (starts_soon m (length m.boards) ts p)) in
       let split : program_sections m text ≡ front ++ s.section ∷ behind =
       p.of_text.1 ∙ ap (λ z. map Of z ++ others) cut ∙ ap (λ z. z ++ others) (map-append Of past (s ∷ later)) ∙ append_assoc front (s.section ∷ map Of later) others in
-      let late : AreBoardClocks m t.clocks s.start = record { count = are.count; valid = are.valid; lasting = are.lasting; freq = are.freq; before = λ b lt. (let x = are.before b lt in omega (arith, x, start)) } in
-      let may = λ (b : ℕ) (lt : b < length m.boards). may_start m t.clocks s.start b late clock (omega (arith, here)) lt in
-      let plan = sections_plannable m text v in
-      let few = at_place (λ (y : Section). length y.moves ≤ 2_000_000) front s.section behind (subst (λ (z : List Section). All (λ (y : Section). length y.moves ≤ 2_000_000) z) split plan.few) in
-      let good = at_place (λ (y : Section). All IsValidMove y.moves) front s.section behind (subst (λ (z : List Section). All (λ (y : Section). All IsValidMove y.moves) z) split plan.valid) in
-      let near = at_place (λ (y : Section). All IsNear y.moves) front s.section behind (subst (λ (z : List Section). All (λ (y : Section). All IsNear y.moves) z) split plan.near) in
-      let soon = section_known m t.clocks s.section.moves s.start v may (near_short s.section.moves good near) few in
+      let soon = section_soon m v text t.clocks t.first s.start front behind s.section split are start here clock in
       omega (arith, soon)
 
   ends_soon : (past begun : List Started) → p.seen.begun ≡ past ++ begun → ends_by m t.clocks begun < 2 ^ 61 + 1
@@ -79,13 +67,10 @@ module _ (m : Machine) (v : IsValidMachine m) (ts : List MotionTurn) (p : Plans 
   all_soon = let soon = ends_soon [] p.seen.begun refl in omega (arith, soon)
 
   -- a homing section's last turn
-  homed_of : (kind : SectionKind) (axis : ℕ) (s : Started) → kind ≡ Home axis → IsPlanned kind m t.clocks s → IsHomed m t.clocks s
-  homed_of kind axis s e h = let At : SectionKind → Type 0 = λ k. IsPlanned k m t.clocks s in subst At e h
-
   pub last_in : (past : List Started) (s : Started) (later : List Started) (axis : ℕ) → p.seen.begun ≡ past ++ s ∷ later → s.section.kind ≡ Home axis → (s.start ≤ s.last) × (s.last + 1 ≤ ends_by m t.clocks p.seen.begun)
   last_in past s later axis cut home =
       let Begun : List Started → Type 0 = λ z. AreStarted m t.clocks t.first z in
-      let homed = homed_of s.section.kind axis s home (planned_at m t.clocks t.first past s later (subst Begun cut (started_in m ts p t told))) in
+      let homed = homed_of m t.clocks s s.section.kind axis home (planned_at m t.clocks t.first past s later (subst Begun cut (started_in m ts p t told))) in
       let last = homed.last in
       let after = end_after m t.clocks s.section.moves s.start in
       let Low : List Started → Type 0 = λ z. section_end m t.clocks s.section.moves s.start + 1 ≤ ends_by m t.clocks z in

@@ -29,7 +29,6 @@ use Rattle.run_laws.specs.Links.{ends_of, steps_of, turns_told}
 use Rattle.run_laws.specs.Parts.{AreTracked}
 use Rattle.run_laws.proofs.Entering.{all_inside, begun_inside, early_fits}
 use Rattle.run_laws.proofs.Halted.{all_fair}
-use Rattle.run_laws.proofs.HomeAll.{apart_inside}
 use Rattle.run_laws.proofs.Linking.{valid_ticks}
 use Rattle.run_laws.proofs.Releasing.{from_down, paced_from}
 use Rattle.run_laws.proofs.Waiting.{Frame}
@@ -60,14 +59,14 @@ section_ahead : (own : ℕ → ℕ) (clocks : Clocks) (freq slots ready turns n 
 section_ahead own clocks freq slots ready turns n stops true s ticks tracked near i after order led =
     let f : Frame = record { own = own; clocks = clocks; slots = slots; ready = ready; start = s.start; end = i.last; ticks = ticks; tracked = tracked; after = after; order = i.order; limit = i.limit } in
     let inside = all_inside f s.releases (λ oid.
-    apart_inside f oid false (of_stepper oid (units_of s.releases)) (i.begun oid) (early_fits freq (lines_tick clocks ((i.last + 1) * turn_ns)) (base_of clocks s) (section_steps oid s) (s.plan oid) (i.fits oid) (i.within oid))) in
+    begun_inside f true oid false (of_stepper oid (units_of s.releases)) (i.begun oid) (early_fits freq (lines_tick clocks ((i.last + 1) * turn_ns)) (base_of clocks s) (section_steps oid s) (s.plan oid) (i.fits oid) (i.within oid))) in
     let soon = i.exact in
     let from = from_down (ready + 1) i.from s.releases (omega (arith, after, soon)) (paced_from clocks slots i.from [] s.releases i.paced) in
     ahead_in f turns n s.releases near inside led from
 section_ahead own clocks freq slots ready turns n stops false s ticks tracked near i after order led =
     let f : Frame = record { own = own; clocks = clocks; slots = slots; ready = ready; start = s.start; end = s.end; ticks = ticks; tracked = tracked; after = after; order = order; limit = i.limit } in
     let inside = all_inside f s.releases (λ oid.
-    begun_inside f oid false (of_stepper oid (units_of s.releases)) (i.is.begun oid) (early_fits freq (lines_tick clocks ((s.end + 1) * turn_ns)) (base_of clocks s) (section_steps oid s) (s.plan oid) (i.is.fits oid) (i.is.within oid))) in
+    begun_inside f false oid false (of_stepper oid (units_of s.releases)) (i.is.begun oid) (early_fits freq (lines_tick clocks ((s.end + 1) * turn_ns)) (base_of clocks s) (section_steps oid s) (s.plan oid) (i.is.fits oid) (i.is.within oid))) in
     let soon = i.is.exact in
     let from = from_down (ready + 1) i.is.from s.releases (omega (arith, after, soon)) (paced_from clocks slots i.is.from [] s.releases i.is.paced) in
     ahead_in f turns n s.releases near inside led from

@@ -108,7 +108,6 @@ use Rattle.host_reactor.specs.Runs.{GoesOn}
 use Rattle.plan_types.specs.declared.machine.AxisDef.{AxisDef}
 use Rattle.run_laws.proofs.Lists.{one_place}
 use Rattle.trigger_group.specs.declared.order.End.TheVariants as end_of
-use Rattle.homing_laws.specs.home_parts.Known.{lines_by}
 use Rattle.homing_laws.specs.missed_groups.Ticks.{IsSwitchTick}
 use Rattle.session_laws.proofs.clear_runs.Through.{first_none, spilled}
 use Rattle.session_laws.proofs.run_headline.Asked.{whole_by}
@@ -458,7 +457,7 @@ module _ (m : Machine) (v : IsValidMachine m) (s : Scene) (ts : List MotionTurn)
             by_told (Some t) told h is answers number was =
                 let late = never_missed m v s ts p t first rest end c told f long (little t told) clear not_stopping (have 0 v.boards_some) (λ b low. in_time b low) notes h is answers in
                 let Late : ℕ → ℕ → ℕ → Type 0 = λ axis start last. (tick : ℕ) → IsSwitchTick m (pins_of (board_at m (axis_at m axis).board) (axis_at m axis).board s.switches) (axis_at m axis).board (axis_at m axis)
-                (lines_tick (lines_by (start + 17) (clocks_at t.clocks (axis_at m axis).board)) (start * turn_ns)) tick → lines_tick (lines_by (start + 17) (clocks_at t.clocks (axis_at m axis).board)) ((last + 1) * turn_ns) ≤ tick in
+                (lines_tick (clocks_at t.clocks (axis_at m axis).board) (start * turn_ns)) tick → lines_tick (clocks_at t.clocks (axis_at m axis).board) ((last + 1) * turn_ns) ≤ tick in
                 let at_last : Late h.axis h.start was.1.last = subst (λ (n : ℕ). Late h.axis h.start n) was.10 late in
                 let at_start : Late h.axis was.1.start was.1.last = subst (λ (n : ℕ). Late h.axis n was.1.last) was.6 at_last in
                 let at_axis : Late was.3 was.1.start was.1.last = subst (λ (n : ℕ). Late n was.1.start was.1.last) was.9 at_start in
@@ -509,7 +508,7 @@ module _ (m : Machine) (v : IsValidMachine m) (s : Scene) (ts : List MotionTurn)
           (came_in end ∷ ahead) y before later turns (came_snoc (came_in first ∷ []) rest end ∙ at_end) made (sym ends) (long_so ∙ sym ends))) in
           let closes = closes_first m v s ts p t first rest end c told f long (little t told) clear not_stopping (have 0 v.boards_some) (λ b low. in_time b low) notes (came_in end ∷ ahead) y before at_end h x.known hear x.tick x.answer in
           let At : ℕ → ℕ → Type 0 = λ axis start. IsSwitchTick m (pins_of (board_at m (axis_at m axis).board) (axis_at m axis).board s.switches) (axis_at m axis).board (axis_at m axis)
-          (lines_tick (lines_by (start + 17) (clocks_at t.clocks (axis_at m axis).board)) (start * turn_ns)) x.tick in
+          (lines_tick (clocks_at t.clocks (axis_at m axis).board) (start * turn_ns)) x.tick in
           let at_start : At h.axis was.1.start = subst (λ (n : ℕ). At h.axis n) was.6 closes in
           let at_axis : At was.3 was.1.start = subst (λ (n : ℕ). At n was.1.start) was.9 at_start in
           record { told = t; told_is = told; past = was.0; x = was.1; later = was.2; axis = was.3; cut = was.4; number = was.8; home = was.5; closes = at_axis }

@@ -38,7 +38,7 @@ use Rattle.session_laws.proofs.run_headline.Going.{Lasts, lasts}
 use Rattle.session_laws.proofs.run_headline.Showing.{Facts, came_long}
 use Rattle.homing_laws.specs.home_plans.Notes.{CameNotes, WasBegun}
 use Rattle.homing_laws.specs.home_parts.Cuts.{cuts_on}
-use Rattle.homing_laws.specs.home_parts.Known.{HoldApart, lines_by}
+use Rattle.homing_laws.specs.home_parts.Known.{lines_by}
 use Rattle.homing_laws.proofs.home_parts.Limits.{turns_fit}
 use Rattle.session_laws.specs.home_headline.Little.{HomesLittle}
 use Rattle.session_laws.proofs.home_headline.Clocks.{end_knows}
@@ -64,7 +64,7 @@ use Rattle.gcode_program.specs.Programs.{outcome_of}
 use Rattle.homing_laws.proofs.clear_groups.Joined.{join, tracked_later}
 use Rattle.session_laws.proofs.clear_homes.Boards as boards
 use Rattle.session_laws.proofs.clear_homes.Bounds.{all_soon, ends_low, last_in}
-use Rattle.session_laws.proofs.clear_homes.Lines.{apart_at, lines_known, tracked_by}
+use Rattle.session_laws.proofs.clear_homes.Lines.{lines_known, tracked_by}
 use Rattle.session_laws.proofs.clear_homes.Opened.{begin_well}
 use Rattle.session_laws.proofs.clear_homes.Running.{all_none, end_none}
 
@@ -176,12 +176,12 @@ module _ (m : Machine) (v : IsValidMachine m) (s : Scene) (ts : List MotionTurn)
       let Notes : List Came → Type 0 = λ z. CameNotes p.seen.begun z in
       subst Notes (came_split [] (first ∷ rest) end []) (all_notes m p.seen.text p.seen.begun p.made first (rest ++ end ∷ []) p.put notes)
 
-  knows : ((known_by m s.switches Came_all).phase ≡ Connecting → ⊥) × ((h : Homing) → (noted m end.note (known_by m s.switches Came_all)).homing ≡ Some h → (noted m end.note (known_by m s.switches Came_all)).clocks ≡ map (lines_by (h.start + 17)) t.clocks)
-  knows = end_knows m v s ts p t first rest end told Turn f.turns (boards.sound m v s ts p t first rest end c told f long little) notes given (boards.by m v s ts p t first rest end c told f long little)
+  knows : ((known_by m s.switches Came_all).phase ≡ Connecting → ⊥) × ((noted m end.note (known_by m s.switches Came_all)).clocks ≡ map (lines_by (length Came_all + 276)) t.clocks)
+  knows = end_knows m v s ts p t first rest end told Turn f.turns (boards.sound m v s ts p t first rest end c told f long little) notes
 
-  -- each section's own clock lines
+  -- each section's own clock lines, which are all
   abbrev Lines : ℕ → ℕ → Clocks
-  Lines start b = lines_by (start + 17) (clocks_at t.clocks b)
+  Lines start b = clocks_at t.clocks b
 
   tracked : (past : List Started) (x : Started) (later : List Started) (axis : ℕ) → p.seen.begun ≡ past ++ x ∷ later → x.section.kind ≡ Home axis
       → (x.start ≤ x.last) × ((b : ℕ) → b < length m.boards → IsTracked m b (Lines x.start b) (From + 1) x.last)
@@ -191,8 +191,6 @@ module _ (m : Machine) (v : IsValidMachine m) (s : Scene) (ts : List MotionTurn)
       let clock = boards.clock m v s ts p t first rest end c told f long little in
       let both = last_in m v ts p t told sound.clocks_are row clock past x later axis cut home in
       let soon = all_soon m v ts p t told sound.clocks_are row clock in
-      let Apart : List Started → Type 0 = λ z. HoldApart m t.clocks z in
-      let apart = apart_at m t.clocks past x later (subst Apart cut (boards.apart m v s ts p t first rest end c told f long little)) in
       let last = both.1 in (
         both.0,
         λ b h. (
@@ -201,7 +199,7 @@ module _ (m : Machine) (v : IsValidMachine m) (s : Scene) (ts : List MotionTurn)
             let low = ends_low m t.clocks l.tracked.until p.seen.begun l.over in
             let late = tracked_later own (clocks_at t.clocks b) From (From + 1) (omega arith) l.tracked in
             let same = late.1 in
-            let y = tracked_by own (clocks_at t.clocks b) (From + 1) x late.0 (apart axis b home h) (omega (arith, low, same, last)) in
+            let y = tracked_by own (clocks_at t.clocks b) (From + 1) x.last late.0 (omega (arith, low, same, last)) in
             let is = y.1 in
             (y.0, omega (arith, is), omega (arith, is, soon, last))),
       )
@@ -218,7 +216,7 @@ module _ (m : Machine) (v : IsValidMachine m) (s : Scene) (ts : List MotionTurn)
         long = size;
         have = have;
         begins = begin_well m s.switches ts p Lines From t.first Turn.early row tracked Came_all by known.1 (came_in end) given.0 knows.0;
-        knows = λ start. lines_known m s.switches t.clocks start (came_in end ∷ Came_all) sound.clocks_are.count (knows.1, known.0);
+        knows = λ start. lines_known m s.switches t.clocks start (came_in end ∷ Came_all) sound.clocks_are.count sound.kept ((λ past. knows.1), known.0);
         plain = λ b h. subst (λ (turns : List BoardTurn). IsPlain m s.switches (Pins b) s.entries b Came_all turns) (sym (same b h)) (plain b h);
         states = λ b h. item_state b end.states ∙ (last b h).at ∙ sym (latest b h) ∙ ap latest_state (sym (same b h));
       }

@@ -103,7 +103,7 @@ all_ahead own clocks freq slots ready e turns n (x ∷ ss) ticks tracked near lo
     let first = All-head P x ss i in
     let f : Frame = record { own = own; clocks = clocks; slots = slots; ready = ready; start = x.start; end = x.end; ticks = ticks; tracked = tracked; after = omega (arith, low, row.0); order = row.1; limit = row.2 } in
     let inside = all_inside f x.releases (λ oid.
-    begun_inside f oid false (of_stepper oid (units_of x.releases)) (first.begun oid) (early_fits freq (lines_tick clocks ((x.end + 1) * turn_ns)) (base_of clocks x) (section_steps oid x) (x.plan oid) (first.fits oid) (first.within oid))) in
+    begun_inside f false oid false (of_stepper oid (units_of x.releases)) (first.begun oid) (early_fits freq (lines_tick clocks ((x.end + 1) * turn_ns)) (base_of clocks x) (section_steps oid x) (x.plan oid) (first.fits oid) (first.within oid))) in
     let from = from_down (ready + 1) first.from x.releases (omega (arith, low, row.0, first.exact)) (paced_from clocks slots first.from [] x.releases first.paced) in
     (ahead_in f turns n x.releases near inside s.0 from, all_ahead own clocks freq slots ready x.end turns n ss ticks tracked near (omega (arith, low, row.0, row.1)) (All-tail P x ss i) row.3 s.1)
 

@@ -1,5 +1,5 @@
 -- Each board of a whole run in which axes home, as the law of its lines asks for it.
-use Rattle.std.proofs.Common.{◌≡◌, ℕ, ◌+◌, ◌*◌, ◌<◌, ◌≤◌, ◌⊎◌, List, [], ◌∷◌, ◌++◌, All, map, take, length, Some, ap, sym, ◌∙◌, subst, arith, inl, inr, length-append}
+use Rattle.std.proofs.Common.{◌≡◌, ℕ, ◌+◌, ◌-◌, ◌*◌, ◌<◌, ◌≤◌, ◌⊎◌, List, [], ◌∷◌, ◌++◌, All, map, take, length, Some, ap, sym, ◌∙◌, subst, arith, inl, inr, length-append}
 use Rattle.std.proofs.lemmas.List.Elements.{All-cons, All-nil}
 use Rattle.plan_types.specs.declared.clock.BoardClock.{BoardClock}
 use Rattle.plan_types.specs.declared.machine.Machine.{Machine}
@@ -42,12 +42,12 @@ use Rattle.run_laws.specs.Runs.{AreSpilled}
 use Rattle.run_laws.proofs.Calm.{calm_links}
 use Rattle.run_laws.proofs.HomeTimes.{home_timely}
 use Rattle.run_laws.proofs.Linking.{valid_ticks}
-use Rattle.run_laws.proofs.Released.{spilled_before}
+use Rattle.run_laws.proofs.Released.{out_before, spilled_before}
 use Rattle.run_parts.specs.Renewed.{AreSampled, NoneBefore}
 use Rattle.run_parts.proofs.Followed.{lines_in_time}
 use Rattle.run_boards.specs.Boards.{IsInWhole, behind, orders_of, states_of}
 use Rattle.run_plans.specs.Given.{TookBatches}
-use Rattle.run_plans.specs.Homed.{stops_of}
+use Rattle.run_plans.specs.Homed.{runs_on, stops_of}
 use Rattle.run_plans.specs.Lines.{TookNotes}
 use Rattle.run_plans.specs.Planned.{Plans}
 use Rattle.run_plans.proofs.Running.{started_in}
@@ -61,7 +61,7 @@ use Rattle.homing_laws.specs.home_plans.Notes.{AreInARow}
 use Rattle.homing_laws.proofs.home_plans.Noting.{begun_row}
 use Rattle.homing_laws.specs.home_parts.Answers.{ArePastConnecting, IsPlannedBy, MayHome, TakeSetUps}
 use Rattle.homing_laws.specs.home_parts.Cuts.{PlansEndBefore, cut_on, cuts_on}
-use Rattle.homing_laws.specs.home_parts.Known.{KnowsClocks, StartInRange}
+use Rattle.homing_laws.specs.home_parts.Known.{KnowsLately, StartInRange}
 use Rattle.homing_laws.proofs.home_parts.Controls.{hold_all, took_all}
 use Rattle.homing_laws.proofs.home_parts.Cut.{cuts_spilled, home_run}
 use Rattle.homing_laws.proofs.home_parts.Limits.{turns_fit}
@@ -117,16 +117,18 @@ followed m b turns ready clocks begun first early kept sampled none freq drift n
 -- a board in turns that its link told of, where few of them were spoiled
 module _ (m : Machine) (v : IsValidMachine m) (s : Scene) (b ready until : ℕ) (ts : List MotionTurn) (p : Plans m (length m.boards) ts) (t : Told) (turns : List BoardTurn) (states : List State) (end : LinkState) (small : b < length m.boards)
     (ss : List RunSection) (are : AreBoardTurns (clock_of (board_at m b)) (link_of m s b) turns) (run : IsHomeRun (board_tick (clock_of (board_at m b))) (clocks_at t.clocks b) (board_at m b).freq (board_at m b).slots ready (stops_of p.seen.begun) ss (orders_in turns))
-    (spilled : AreSpilled (length (orders_in turns)) 0 (map (λ x. x.section) ss)) (limits : (done : List Orders) (o : Orders) (more : List Orders) → orders_in turns ≡ done ++ (o ∷ more) → AllKeepLimits done)
+    (limits : (done : List Orders) (o : Orders) (more : List Orders) → orders_in turns ≡ done ++ (o ∷ more) → AllKeepLimits done)
     (sections : AreToldIn m s.switches (pins_of (board_at m b) b s.switches) s.entries b (stops_of p.seen.begun) ss turns) where
   abbrev Clock : BoardClock
   Clock = clock_of (board_at m b)
 
-  abbrev Few : (os : List Orders) → AreTold Clock 0 os states (link_of m s b) end → Type 0
-  Few os told = (k : ℕ) → spoiled (take k (ends_of Clock 0 os (link_of m s b) end (turns_told Clock 0 os states (link_of m s b) end told))) ≤ 10_000
+  abbrev Few : ℕ → (os : List Orders) → AreTold Clock 0 os states (link_of m s b) end → Type 0
+  Few late os told = (k : ℕ) → spoiled (take k (ends_of Clock 0 os (link_of m s b) end (turns_told Clock 0 os states (link_of m s b) end told))) ≤ 10_700 - late
 
   abbrev Near : (os : List Orders) → AreTold Clock 0 os states (link_of m s b) end → Type 0
-  Near os told = Few os told ⊎ AllTimely (start (board_at m b) (pins_of (board_at m b) b s.switches)) (steps_of Clock 0 os (link_of m s b) end (turns_told Clock 0 os states (link_of m s b) end told))
+  Near os told =
+      ((late : ℕ) × (late ≤ 10_700) × AreSpilled (length (orders_in turns)) late (map (λ x. x.section) ss) × Few late os told)
+      ⊎ AllTimely (start (board_at m b) (pins_of (board_at m b) b s.switches)) (steps_of Clock 0 os (link_of m s b) end (turns_told Clock 0 os states (link_of m s b) end told))
 
   abbrev Result : Type 0
   Result = IsHomeBoard b s.entries ready (length turns) ss (record {
@@ -144,7 +146,13 @@ module _ (m : Machine) (v : IsValidMachine m) (s : Scene) (b ready until : ℕ) 
       let pins = pins_of def b s.switches in
       let valid = valid_at m.boards b small v.boards in
       let Timely : Type 0 = AllTimely (start def pins) (steps_of Clock 0 (orders_in turns) (link_of m s b) end (turns_told Clock 0 (orders_in turns) states (link_of m s b) end told)) in
-      let timely : Timely = elim near [ inr t ↦ t | inl few ↦ home_timely def pins b s.entries (clocks_at t.clocks b) ready 10_000 0 (length (orders_in turns)) (stops_of p.seen.begun) ss (orders_in turns) end (turns_told Clock 0 (orders_in turns) states (link_of m s b) end told) valid run spilled (omega arith) limits few (omega arith) ] in
+      let timely : Timely = elim near [
+        | inr t ↦ t
+        | inl x ↦
+            let (late, most, spills, few) = x in
+            home_timely def pins b s.entries (clocks_at t.clocks b) ready (10_700 - late) late (length (orders_in turns)) (stops_of p.seen.begun) ss (orders_in turns) end (turns_told Clock 0 (orders_in turns) states (link_of m s b) end told) valid run
+            spills (omega arith) limits few (omega (arith, most))
+      ] in
       home_board m s.switches pins s.entries b ready (clocks_at t.clocks b) (stops_of p.seen.begun) ss turns states end told v small are run timely sections
 
   home_by : (os : List Orders) → orders_in turns ≡ os → (told : AreTold Clock 0 os states (link_of m s b) end) → Near os told → Result
@@ -180,7 +188,7 @@ module _ (m : Machine) (v : IsValidMachine m) (s : Scene) (ts : List MotionTurn)
   -- set-ups of those that home in time
   pub record Homing (until b : ℕ) (r : Ready m v s ts p t first rest end told) (turns : List BoardTurn) : Type 0 where
     pub by : IsPlannedBy m s.switches (length m.boards) ts p (came_from [] (first ∷ rest))
-    pub known : KnowsClocks m s.switches t.clocks (came_from [] (first ∷ rest)) × ArePastConnecting m s.switches (length (came_from [] r.past)) (came_from [] (first ∷ rest))
+    pub known : KnowsLately m s.switches t.clocks (came_from [] (first ∷ rest)) × ArePastConnecting m s.switches (length (came_from [] r.past)) (came_from [] (first ∷ rest))
     pub run : IsInRun m s.switches (pins_of (board_at m b) b s.switches) s.entries b (came_from [] (first ∷ rest)) turns
     pub count : length (orders_in turns) ≡ length (rest ++ end ∷ [])
     pub home : IsHomeRun (board_tick (clock_of (board_at m b))) (clocks_at t.clocks b) (board_at m b).freq (board_at m b).slots (length (came_from [] r.past)) (stops_of p.seen.begun)
@@ -215,7 +223,7 @@ module _ (m : Machine) (v : IsValidMachine m) (s : Scene) (ts : List MotionTurn)
         let size = length-append rest (end ∷ []) in
         let by = planned_by m s.switches (length m.boards) n ts p first rest left turns_are words notes (omega (arith, few, size)) in
         let row = begun_row m t.clocks t.first p.seen.begun (started_in m ts p t told) in
-        let known = run_knows m v s ts p t first rest end told r turns_are sound notes by in
+        let known = run_knows m v s ts p t first rest end told r turns_are sound notes in
         let count : length (orders_in turns) ≡ length (rest ++ end ∷ []) =
         (let a = order_length turns in let c = as_long m s.switches b whole turns run.both in let d = came_long [] (first ∷ rest) in omega (arith, a, c, d, size)) in
         let hold = hold_all m s.switches pins s.entries b until ts p t whole turns v by range (sound.kept b h) known.0 run in
@@ -230,9 +238,9 @@ module _ (m : Machine) (v : IsValidMachine m) (s : Scene) (ts : List MotionTurn)
         let At : ℕ → Type 0 = λ k. MakesIn k (take (length before) (orders_in turns)) in
         subst At own.oid_is (made_here own.stepper own.there own.on)) in
         let Batches : List Orders → Type 0 = λ os. TookBatches b ts os in
-        let spills = spilled_before until (length p.made) 0 (parts_on m t.clocks p.seen.begun b) low little.in_time in
+        let outs = out_before until (length p.made) (runs_on m t.clocks p.seen.begun b) low little.out in
         let behind_all : (length (orders_in turns) ≤ until) ⊎ (length p.made ≤ until) = elim far [ inl a ↦ inl (omega (arith, a, count)) | inr a ↦ inr a ] in
-        let home = home_run m ts p t b (length before) until (board_tick clock) (orders_in turns) h told low behind_all (subst Batches (sym w.in_order) w.batches) controls (valid_ticks (board_at m b) valid) lines.tracked r.early lines.over spills set (λ ready_by. used) in
+        let home = home_run m ts p t b (length before) until (board_tick clock) (orders_in turns) h told low behind_all (subst Batches (sym w.in_order) w.batches) controls (valid_ticks (board_at m b) valid) lines.tracked r.early lines.over outs set (λ ready_by. used) in
         let units = turns_fit (board_tick clock) (clocks_at t.clocks b) (board_at m b).freq (board_at m b).slots (length before) (stops_of p.seen.begun) (cuts_on m t.clocks until p.seen.begun b) turns home in
         let limits = limited m v s.switches pins s.entries b whole turns run units in
         let first_low = r.early in
@@ -252,17 +260,25 @@ module _ (m : Machine) (v : IsValidMachine m) (s : Scene) (ts : List MotionTurn)
         let whole = came_from [] (first ∷ rest) in
         let x = homing_by in
         let count = x.count in
-        let spills = spilled_before until (length p.made) 0 (parts_on m t.clocks p.seen.begun b) low little.in_time in
         let sections = all_told m s.switches pins s.entries b (length before) until ts p t whole turns x.by told r.early x.known.1 formed x.run x.set_ups in
         let many : length turns ≡ length (rest ++ end ∷ []) = (let a = order_length turns in omega (arith, a, count)) in
         let Long : ℕ → Type 0 = λ k. IsHomeBoard b s.entries (length before) k (cuts_on m t.clocks until p.seen.begun b) (here_by until b w) in
         let after = stands_after (link_of m s b) turns in
         let told = turns_told clock 0 (orders_of w.made) (states_of w.made) (link_of m s b) after w.told in
-        let Few : Type 0 = (k : ℕ) → spoiled (take k (ends_of clock 0 (orders_of w.made) (link_of m s b) after told)) ≤ 10_000 in
+        let Few : ℕ → Type 0 = λ late. (k : ℕ) → spoiled (take k (ends_of clock 0 (orders_of w.made) (link_of m s b) after told)) ≤ 10_700 - late in
         let Timely : Type 0 = AllTimely (start (board_at m b) pins) (steps_of clock 0 (orders_of w.made) (link_of m s b) after told) in
-        let near : Few ⊎ Timely = elim little.few [ inl e ↦ inl (λ k. omega (arith, calm_links clock (board_at m b) pins b s.entries (orders_of w.made) after told k e)) | inr g ↦ g ] in
-        subst Long many (home_by m v s b (length before) until ts p t turns (states_of w.made) (stands_after (link_of m s b) turns) h (cuts_on m t.clocks until p.seen.begun b) w.turns_are x.home
-        (cuts_spilled m t.clocks (length (orders_in turns)) until b p.seen.begun spills) x.limits sections (orders_of w.made) w.in_order w.told near)
+        let ss = cuts_on m t.clocks until p.seen.begun b in
+        let Near : Type 0 = ((late : ℕ) × (late ≤ 10_700) × AreSpilled (length (orders_in turns)) late (map (λ (y : RunSection). y.section) ss) × Few late) ⊎ Timely in
+        let near : Near = elim little.few [
+          | inl g ↦
+              let (late, most, spilled, spoils) = g in
+              let spills = spilled_before until (length p.made) late (parts_on m t.clocks p.seen.begun b) low spilled in
+              let few : Few late = elim spoils [ inl e ↦ (λ k. omega (arith, calm_links clock (board_at m b) pins b s.entries (orders_of w.made) after told k e)) | inr f ↦ f ] in
+              inl (late, most, cuts_spilled m t.clocks (length (orders_in turns)) until late b p.seen.begun spills, few)
+          | inr g ↦ inr g
+        ] in
+        subst Long many (home_by m v s b (length before) until ts p t turns (states_of w.made) (stands_after (link_of m s b) turns) h (cuts_on m t.clocks until p.seen.begun b) w.turns_are x.home x.limits
+        sections (orders_of w.made) w.in_order w.told near)
 
     -- behind its last turn it runs, or shut down for one of the two reasons
     pub may_by : MayBe (stands_after (link_of m s b) (behind [] w.made)).core.board.controller.state

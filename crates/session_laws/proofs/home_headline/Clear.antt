@@ -11,7 +11,13 @@ use Rattle.link_work.specs.Turn.{LinkState, Orders}
 use Rattle.board_runs.specs.Turns.{AreBoardTurns, BoardTurn}
 use Rattle.clock_runs.specs.Runs.{orders_in}
 use Rattle.clock_runs.proofs.Orders.{order_length}
-use Rattle.motion_work.specs.Seen.{Started}
+use Rattle.motion_work.specs.Boards.{parts_on}
+use Rattle.motion_work.specs.Seen.{Started, part_on}
+use Rattle.plan_types.specs.Lines.{Clocks}
+use Rattle.step_feed.specs.Pacing.{Release}
+use Rattle.run_laws.specs.Homes.{AreOut, AreOutBy}
+use Rattle.run_laws.specs.Runs.{AreSpilled, IsSpilled}
+use Rattle.run_plans.specs.Homed.{runs_on}
 use Rattle.homing_laws.specs.home_runs.Sections.{TakesSetUp}
 use Rattle.homing_laws.proofs.home_runs.Clear.{clear_set_up, first_turns}
 use Rattle.homing_laws.proofs.home_runs.Settled.{later_orders}
@@ -21,7 +27,7 @@ use Rattle.session_work.specs.declared.table.MotionTurn.{MotionTurn}
 use Rattle.session_work.specs.declared.table.ReactorTurn.{ReactorTurn}
 use Rattle.wire_scene.specs.declared.scene.Scene.{Scene}
 use Rattle.homing_laws.specs.home_parts.Answers.{TakeSetUps}
-use Rattle.session_laws.specs.home_headline.Little.{AllHomeLittle, SendsAllInTime}
+use Rattle.session_laws.specs.home_headline.Little.{AllHomeLittle, SendsAllInTime, SendsAllOut}
 
 -- a set-up that was taken in time in some turns was so in more
 longer : (first : LinkState) (start : ℕ) (later turns : List BoardTurn) → TakesSetUp first start turns → TakesSetUp first start (later ++ turns)
@@ -67,8 +73,31 @@ module _ (m : Machine) (pins : List (List Level)) (entries : List Entry) (b : �
       let ends = row.1 in
       ((λ axis homes later past cut long. one_set_up later past s.start cut (omega (arith, low, starts)) (omega (arith, ends, long))), clear_set_ups (s.end + 260) begun (omega arith) row.2)
 
--- where all units are sent in time, nothing is held long
+-- where no unit is sent behind the turn in which it is due, none is late
+spilled_out : (turns end : ℕ) (rs : List Release) → IsSpilled turns 0 rs → AreOutBy turns end rs
+spilled_out turns end [] s = tt
+spilled_out turns end (r ∷ rs) s = ((λ due late. let soon = s.0 due in absurd (omega (arith, soon, late))), spilled_out turns end rs s.1)
+
+spilled_more : (turns n : ℕ) (rs : List Release) → IsSpilled turns 0 rs → IsSpilled turns n rs
+spilled_more turns n [] s = tt
+spilled_more turns n (r ∷ rs) s = ((λ due. let soon = s.0 due in omega (arith, soon)), spilled_more turns n rs s.1)
+
+parts_out : (m : Machine) (clocks : List Clocks) (turns n b : ℕ) (begun : List Started) → AreSpilled turns 0 (parts_on m clocks begun b) → AreOut turns (runs_on m clocks begun b) × AreSpilled turns n (parts_on m clocks begun b)
+parts_out m clocks turns n b [] s = (tt, tt)
+parts_out m clocks turns n b (x ∷ begun) s =
+    let rs = (part_on m clocks x b).releases in
+    let rest = parts_out m clocks turns n b begun s.1 in
+    (((λ moves. spilled_out turns x.end rs s.0), rest.0), (spilled_more turns n rs s.0, rest.1))
+
+pub time_out : (m : Machine) (text : List ℕ) (planned : List MotionTurn) → SendsAllInTime m text planned → SendsAllOut m text planned
+time_out m text planned sends = λ p t b same told low.
+    (let x = sends p t b same told low in let y = parts_out m t.clocks (length p.made) 10_700 b p.seen.begun x.0 in (y.0, y.1, x.1))
+
+-- where all units are sent in time, or so late at most, nothing is held long
+pub out_little : (m : Machine) (s : Scene) (text : List ℕ) (planned : List MotionTurn) (turns : List ReactorTurn) → s.entries ≡ [] → SendsAllOut m text planned → AllHomeLittle m s text planned turns
+out_little m s text planned [] e sends = tt
+out_little m s text planned (first ∷ rest) e sends = λ p t b same told low w.
+    (let x = sends p t b same told low in record { out = x.0; few = inl (10_700, omega arith, x.1, inl e); near = x.2; set_up = inl e })
+
 pub clear_little : (m : Machine) (s : Scene) (text : List ℕ) (planned : List MotionTurn) (turns : List ReactorTurn) → s.entries ≡ [] → SendsAllInTime m text planned → AllHomeLittle m s text planned turns
-clear_little m s text planned [] e sends = tt
-clear_little m s text planned (first ∷ rest) e sends = λ p t b same told low w.
-    (let x = sends p t b same told low in record { in_time = x.0; few = inl e; near = x.1; set_up = inl e })
+clear_little m s text planned turns e sends = out_little m s text planned turns e (time_out m text planned sends)

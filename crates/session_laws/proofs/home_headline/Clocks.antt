@@ -6,7 +6,6 @@ use Rattle.std.proofs.lemmas.List.{append_cancel_left, get_or-set_other, get_or-
 use Rattle.plan_types.specs.declared.machine.Machine.{Machine}
 use Rattle.plan_types.specs.declared.plan.Held.{Held}
 use Rattle.plan_types.specs.declared.plan.Line.{Line}
-use Rattle.plan_types.specs.declared.plan.SectionKind.TheVariants.{Home}
 use Rattle.plan_types.specs.Clock.{tick, turn_ns}
 use Rattle.plan_types.specs.Lines.{Clocks, lines_tick, one_line}
 use Rattle.plan_types.specs.Machines.{IsValidMachine}
@@ -21,7 +20,6 @@ use Rattle.wire_scene.specs.declared.scene.Scene.{Scene}
 use Rattle.wire_scene.specs.declared.scene.Switch.{Switch}
 use Rattle.board_asking.specs.Clocks.{added_at}
 use Rattle.board_asking.specs.Connecting.{board_lines, clocks_of, listen_all, ready_all}
-use Rattle.axis_homing.specs.declared.homing.Homing.{Homing}
 use Rattle.host_reactor.specs.declared.ordered.Known.{Known}
 use Rattle.host_reactor.specs.declared.ordered.Phase.TheVariants.{Connecting, Running}
 use Rattle.host_reactor.specs.Notes.{news_of, noted, told, told_all}
@@ -38,20 +36,14 @@ use Rattle.session_work.specs.declared.table.ReactorTurn.{ReactorTurn}
 use Rattle.session_run.specs.Boards.{AreReactorTurns, came_from, came_in}
 use Rattle.run_plans.specs.Lines.{TookEach, TookNotes}
 use Rattle.run_plans.specs.Planned.{Plans, put_of, puts_of}
-use Rattle.run_plans.proofs.Running.{started_in}
 use Rattle.session_laws.specs.run_headline.Timely.{AreSound, EachMayHold}
 use Rattle.session_laws.proofs.run_headline.Boarded.{Ready}
 use Rattle.session_laws.proofs.run_headline.Further.{EachHeld, none_asked, noted_append, noted_first, noted_grown, noted_long, told_more}
 use Rattle.session_laws.proofs.run_headline.Facts.{came_long, turns_cut}
 use Rattle.session_laws.proofs.run_headline.Words.{Connected, line_is, news_in}
-use Rattle.homing_laws.specs.home_plans.Notes.{AreInARow, CameNotes, WasBegun}
-use Rattle.homing_laws.proofs.home_plans.Knowing.{now_was}
-use Rattle.homing_laws.proofs.home_plans.Noting.{begun_row}
-use Rattle.homing_laws.specs.home_parts.Answers.{ArePastConnecting, IsPlannedBy, TellsIn}
-use Rattle.homing_laws.specs.home_parts.Known.{HoldApart, KnowsClocks, lines_by}
-use Rattle.homing_laws.proofs.home_parts.Ends.{ends_told}
-use Rattle.homing_laws.proofs.home_parts.Known.{known_silent, known_start, none_tells}
-use Rattle.session_laws.proofs.home_headline.Noted.{IsNotedIn, WereNoted, all_apart, all_in, each_more, home_over, lines_cut, noted_next, put_in}
+use Rattle.homing_laws.specs.home_parts.Answers.{ArePastConnecting}
+use Rattle.homing_laws.specs.home_parts.Known.{KnowsLately, lines_by}
+use Rattle.session_laws.proofs.home_headline.Noted.{IsNotedIn, WereNoted, all_in, each_more, lines_cut, noted_next, put_in}
 use Rattle.session_laws.proofs.home_headline.Planned.{all_on}
 
 -- each further line that some news tell may hold behind those that its board has by then, where the board is there
@@ -185,82 +177,44 @@ on_next m switches clocks c before g may on =
       ]
     ]
 
-front_came : (begun : List Started) (before : List Came) (rs : List ReactorTurn) → CameNotes begun (came_from before rs) → CameNotes begun before
-front_came begun before [] notes = notes
-front_came begun before (r ∷ rs) notes = (front_came begun (came_in r ∷ before) rs notes).1
-
--- Where a homing section has ended in some turns, a word in the turn of its end tells of the answer.
-module _ (m : Machine) (switches : List Switch) (begun : List Started) where
-  abbrev AreAnswered : List Came → Type 0
-  AreAnswered came = (past : List Started) (s : Started) (later : List Started) (axis : ℕ) → begun ≡ past ++ s ∷ later → s.section.kind ≡ Home axis → s.end < length came → TellsIn m switches s.end came
-
-  tells_front : (j : ℕ) (before : List Came) (rs : List ReactorTurn) → j < length before → TellsIn m switches j (came_from before rs) → TellsIn m switches j before
-  tells_front j before [] low t = t
-  tells_front j before (r ∷ rs) low t = elim (tells_front j (came_in r ∷ before) rs (omega (arith, low)) t) [ inl here ↦ absurd (let at = here.0 in omega (arith, at, low)) | inr front ↦ front ]
-
-  front_answered : (before : List Came) (rs : List ReactorTurn) → AreAnswered (came_from before rs) → AreAnswered before
-  front_answered before rs all past s later axis cut home low =
-      let long = came_long before rs in
-      tells_front s.end before rs low (all past s later axis cut home (omega (arith, low, long)))
-
-  -- one that is known has not ended
-  still_open : (c : Came) (before : List Came) (h : Homing) → GoesOn m switches before → CameNotes begun (c ∷ before) → (noted m c.note (known_by m switches before)).homing ≡ Some h → (was : WasBegun begun (Some h)) → was.1.start ≤ was.1.end → AreAnswered before
-      → length before ≤ was.1.end
-  still_open c before h g notes e was order answered =
-      let s = was.1 in
-      let start = was.6 in
-      elim (leb_tells (suc s.end) (length before)) [
-        | inl p ↦
-            let told = answered was.0 s was.2 was.3 was.4 was.5 p.1 in
-            let none = known_silent m switches begun c before h s.end (suc s.end) g notes e (omega (arith, start, order)) in
-            absurd (none_tells m switches s.end (suc s.end) s.end before none (omega arith) (omega arith) told)
-        | inr p ↦ let far = p.1 in omega (arith, far)
+-- where the boards connect behind a turn, they do before it
+phase_before : (m : Machine) (switches : List Switch) (c : Came) (before : List Came) → (last_turn m switches c before).ordered.end ≡ None → (known_by m switches (c ∷ before)).phase ≡ Connecting → (known_by m switches before).phase ≡ Connecting
+phase_before m switches c before g e =
+    let r = known_by m switches before in
+    let phase = noted_phase m c.note r in
+    elim (goes m switches r (length before) c.states c.note g) [
+      | inl a ↦ sym phase ∙ a.phase
+      | inr later ↦ elim later [
+        | inl a ↦ sym phase ∙ a.phase
+        | inr a ↦ absurd (phase_not a.stop (sym (ap (λ (y : Reacted). y.known.phase) a.is) ∙ e))
       ]
+    ]
 
-module _ (m : Machine) (switches : List Switch) (text : List ℕ) (begun : List Started) (ready : ℕ) (all : List Clocks)
-    (order : (past : List Started) (s : Started) (later : List Started) → begun ≡ past ++ s ∷ later → s.start ≤ s.end) where
+module _ (m : Machine) (switches : List Switch) (text : List ℕ) (begun : List Started) (ready : ℕ) (all : List Clocks) where
   abbrev Knows : List Came → Type 0
-  Knows came = KnowsClocks m switches all came × ArePastConnecting m switches ready came
+  Knows came = KnowsLately m switches all came × ArePastConnecting m switches ready came
 
-  -- no homing section is known while the boards connect
-  none_yet : ((xs : List Started) (s : Started) (later : List Started) → begun ≡ xs ++ s ∷ later → ready + 260 ≤ s.start) → (came : List Came) → length came ≤ ready + 1 → GoesOn m switches came → CameNotes begun came → Knows came
-  none_yet late [] low g notes = (tt, tt)
-  none_yet late (c ∷ before) low g notes =
-      let r = none_yet late before (omega (arith, low)) g.1 notes.1 in (
-        (
-          λ h e. (let was : WasBegun begun (Some h) = subst (WasBegun begun) e (now_was m switches begun c before g.1 notes) in
-              let soon = known_start m switches begun c before h g.1 notes e in
-              let start = was.6 in
-              let far = late was.0 was.1 was.2 was.4 in
-              absurd (omega (arith, soon, start, far, low))),
-          r.0,
-        ),
-        ((λ far. absurd (omega (arith, far, low))), r.1),
-      )
+  -- the turns up to the one that connects the boards
+  none_yet : (c : Came) (before : List Came) → length before ≤ ready → GoesOn m switches before → (known_by m switches before).phase ≡ Connecting → Knows (c ∷ before)
+  none_yet c [] low g phase = (((λ past. absurd (past phase)), tt), ((λ far. absurd (omega (arith, far, low))), tt))
+  none_yet c (d ∷ past) low g phase =
+      let r = none_yet d past (omega (arith, low)) g.1 (phase_before m switches d past g.0 phase) in
+      (((λ on. absurd (on phase)), r.0), ((λ far. absurd (omega (arith, far, low))), r.1))
 
-  -- Where one is known, the lines that were told hold by 17 turns behind its start, and those that later notes tell hold later.
-  one_knows : (k : ℕ) (before : List Came) (r : ReactorTurn) (d : MotionTurn) (ms : List MotionTurn) (clocks : List Clocks) → length before ≡ suc k → r.note ≡ Some d.note → ArePut m text begun k (puts_of (d ∷ ms)) → GoesOn m switches before
-      → CameNotes begun (came_in r ∷ before) → MayNote (news_in (d ∷ ms)) clocks → all ≡ noted_lines (news_in (d ∷ ms)) clocks → IsOn m switches clocks before → WereNoted begun k clocks → AreAnswered m switches begun before
-      → (h : Homing) → (noted m r.note (known_by m switches before)).homing ≡ Some h → (noted m r.note (known_by m switches before)).clocks ≡ map (lines_by (h.start + 17)) all
-  one_knows k before r d ms clocks at note put g notes may is on were answered h e =
+  -- The lines that were told hold by 276 turns behind a turn, and those that later notes tell hold later.
+  one_knows : (k : ℕ) (before : List Came) (r : ReactorTurn) (d : MotionTurn) (ms : List MotionTurn) (clocks : List Clocks) → length before ≡ suc k → r.note ≡ Some d.note → ArePut m text begun k (puts_of (d ∷ ms)) → MayNote (news_in (d ∷ ms)) clocks
+      → all ≡ noted_lines (news_in (d ∷ ms)) clocks → IsOn m switches clocks before → WereNoted begun k clocks → (noted m r.note (known_by m switches before)).clocks ≡ map (lines_by (length before + 276)) all
+  one_knows k before r d ms clocks at note put may is on were =
       let next = noted_lines d.note.news clocks in
       let same : news_of r.note ≡ d.note.news = ap news_of note in
       let may_here : MayNote (news_of r.note) clocks = subst (λ (ns : List NoteNews). MayNote ns clocks) (sym same) (may_both d.note.news (news_in ms) clocks may).0 in
       let now : (noted m r.note (known_by m switches before)).clocks ≡ next = noted_clocks m r.note (known_by m switches before) clocks on.clocks_are may_here ∙ ap (λ (ns : List NoteNews). noted_lines ns clocks) same in
-      let was : WasBegun begun (Some h) = subst (WasBegun begun) e (now_was m switches begun (came_in r) before g notes) in
-      let soon = known_start m switches begun (came_in r) before h g notes e in
-      let start = was.6 in
-      let later = still_open m switches begun (came_in r) before h g notes e was (order was.0 was.1 was.2 was.4) answered in
-      let Old : Line → ℕ → Type 0 = λ line from. from ≤ (h.start + 17) * turn_ns in
-      let New : ℕ → Line → ℕ → Type 0 = λ board line from. (h.start + 17) * turn_ns < from in
+      let Old : Line → ℕ → Type 0 = λ line from. from ≤ (length before + 276) * turn_ns in
+      let New : ℕ → Line → ℕ → Type 0 = λ board line from. (length before + 276) * turn_ns < from in
       let told = noted_next begun k d.note.news clocks (put_in m text begun k (put_of d) put.0) were in
-      let early = λ (b : ℕ) (low : b < length next). each_more (λ line from. IsNotedIn begun 0 (k + 1) from) Old (clocks_at next b).held (λ line from x.
-      let y = home_over begun 0 (k + 1) from was.0 was.1 was.2 was.3 x was.4 was.5 in
-      let by_now = y.2 in
-      let from_is = y.3 in
-      elim y.4 [ inl ahead ↦ omega (arith, from_is, ahead, start) | inr over ↦ absurd (let ended = over.0 in omega (arith, ended, by_now, later, at)) ]) (told b low) in
-      let late = told_more (λ board line from. IsNotedIn begun (k + 1) (k + 1 + length ms) from) New (news_in ms) (λ board line from x. (let far = x.1 in let from_is = x.3 in omega (arith, from_is, far, soon, at))) (all_in m text begun (k + 1) ms put.1) in
-      now ∙ lines_cut (h.start + 17) (news_in ms) next early late ∙ ap (map (lines_by (h.start + 17))) (sym (is ∙ noted_append d.note.news (news_in ms) clocks))
+      let early = λ (b : ℕ) (low : b < length next). each_more (λ line from. IsNotedIn begun 0 (k + 1) from) Old (clocks_at next b).held (λ line from x. (let by_now = x.2 in let from_is = x.3 in omega (arith, from_is, by_now, at))) (told b low) in
+      let late = told_more (λ board line from. IsNotedIn begun (k + 1) (k + 1 + length ms) from) New (news_in ms) (λ board line from x. (let far = x.1 in let from_is = x.3 in omega (arith, from_is, far, at))) (all_in m text begun (k + 1) ms put.1) in
+      now ∙ lines_cut (length before + 276) (news_in ms) next early late ∙ ap (map (lines_by (length before + 276))) (sym (is ∙ noted_append d.note.news (news_in ms) clocks))
 
   -- the lines behind a turn
   one_on : (before : List Came) (r : ReactorTurn) (d : MotionTurn) (ms : List MotionTurn) (clocks : List Clocks) → r.note ≡ Some d.note → (last_turn m switches (came_in r) before).ordered.end ≡ None → MayNote (news_in (d ∷ ms)) clocks → IsOn m switches clocks before
@@ -271,29 +225,24 @@ module _ (m : Machine) (switches : List Switch) (text : List ℕ) (begun : List 
       subst (λ (ns : List NoteNews). IsOn m switches (noted_lines ns clocks) (came_in r ∷ before)) same (on_next m switches clocks (came_in r) before g may_here on)
 
   on_from : (k : ℕ) (before : List Came) (rs : List ReactorTurn) (ms : List MotionTurn) (clocks : List Clocks) → length before ≡ suc k → AreReactorTurns m switches before rs → TookEach (map (λ (t : MotionTurn). t.note) ms) rs → ArePut m text begun k (puts_of ms)
-      → GoesOn m switches before → CameNotes begun (came_from before rs) → MayNote (news_in ms) clocks → all ≡ noted_lines (news_in ms) clocks → IsOn m switches clocks before → WereNoted begun k clocks → AreAnswered m switches begun (came_from before rs) → Knows before
-      → Knows (came_from before rs)
-  on_from k before [] ms clocks at turns took put g notes may is on were answered knows = knows
-  on_from k before (r ∷ rs) [] clocks at turns took put g notes may is on were answered knows = absurd took
-  on_from k before (r ∷ rs) (d ∷ ms) clocks at turns took put g notes may is on were answered knows =
-      let here = front_came begun (came_in r ∷ before) rs notes in
-      let front = front_answered m switches begun before (r ∷ rs) answered in
-      on_from (k + 1) (came_in r ∷ before) rs ms (noted_lines d.note.news clocks) (omega (arith, at)) turns.1 took.1 put.1 (turns.0.goes_on, g) notes (may_both d.note.news (news_in ms) clocks may).1 (is ∙ noted_append d.note.news (news_in ms) clocks)
-      (one_on before r d ms clocks took.0 turns.0.goes_on may on) (noted_next begun k d.note.news clocks (put_in m text begun k (put_of d) put.0) were) answered
-      ((one_knows k before r d ms clocks at took.0 put g here may is on were front, knows.0), ((λ far. on.past), knows.1))
+      → MayNote (news_in ms) clocks → all ≡ noted_lines (news_in ms) clocks → IsOn m switches clocks before → WereNoted begun k clocks → Knows before → Knows (came_from before rs)
+  on_from k before [] ms clocks at turns took put may is on were knows = knows
+  on_from k before (r ∷ rs) [] clocks at turns took put may is on were knows = absurd took
+  on_from k before (r ∷ rs) (d ∷ ms) clocks at turns took put may is on were knows =
+      on_from (k + 1) (came_in r ∷ before) rs ms (noted_lines d.note.news clocks) (omega (arith, at)) turns.1 took.1 put.1 (may_both d.note.news (news_in ms) clocks may).1 (is ∙ noted_append d.note.news (news_in ms) clocks)
+      (one_on before r d ms clocks took.0 turns.0.goes_on may on) (noted_next begun k d.note.news clocks (put_in m text begun k (put_of d) put.0) were)
+      (((λ past. one_knows k before r d ms clocks at took.0 put may is on were), knows.0), ((λ far. on.past), knows.1))
 
   -- the turn behind these
   end_from : (k : ℕ) (before : List Came) (rs : List ReactorTurn) (end : ReactorTurn) (ms : List MotionTurn) (clocks : List Clocks) → length before ≡ suc k → AreReactorTurns m switches before rs → TookEach (map (λ (t : MotionTurn). t.note) ms) (rs ++ end ∷ [])
-      → ArePut m text begun k (puts_of ms) → GoesOn m switches before → CameNotes begun (came_in end ∷ came_from before rs) → MayNote (news_in ms) clocks → all ≡ noted_lines (news_in ms) clocks → IsOn m switches clocks before
-      → WereNoted begun k clocks → AreAnswered m switches begun (came_from before rs)
-      → ((known_by m switches (came_from before rs)).phase ≡ Connecting → ⊥)
-      × ((h : Homing) → (noted m end.note (known_by m switches (came_from before rs))).homing ≡ Some h → (noted m end.note (known_by m switches (came_from before rs))).clocks ≡ map (lines_by (h.start + 17)) all)
-  end_from k before [] end [] clocks at turns took put g notes may is on were answered = absurd took
-  end_from k before [] end (d ∷ ms) clocks at turns took put g notes may is on were answered = (on.past, one_knows k before end d ms clocks at took.0 put g notes may is on were answered)
-  end_from k before (r ∷ rs) end [] clocks at turns took put g notes may is on were answered = absurd took
-  end_from k before (r ∷ rs) end (d ∷ ms) clocks at turns took put g notes may is on were answered =
-      end_from (k + 1) (came_in r ∷ before) rs end ms (noted_lines d.note.news clocks) (omega (arith, at)) turns.1 took.1 put.1 (turns.0.goes_on, g) notes (may_both d.note.news (news_in ms) clocks may).1 (is ∙ noted_append d.note.news (news_in ms) clocks)
-      (one_on before r d ms clocks took.0 turns.0.goes_on may on) (noted_next begun k d.note.news clocks (put_in m text begun k (put_of d) put.0) were) answered
+      → ArePut m text begun k (puts_of ms) → MayNote (news_in ms) clocks → all ≡ noted_lines (news_in ms) clocks → IsOn m switches clocks before → WereNoted begun k clocks
+      → ((known_by m switches (came_from before rs)).phase ≡ Connecting → ⊥) × ((noted m end.note (known_by m switches (came_from before rs))).clocks ≡ map (lines_by (length (came_from before rs) + 276)) all)
+  end_from k before [] end [] clocks at turns took put may is on were = absurd took
+  end_from k before [] end (d ∷ ms) clocks at turns took put may is on were = (on.past, one_knows k before end d ms clocks at took.0 put may is on were)
+  end_from k before (r ∷ rs) end [] clocks at turns took put may is on were = absurd took
+  end_from k before (r ∷ rs) end (d ∷ ms) clocks at turns took put may is on were =
+      end_from (k + 1) (came_in r ∷ before) rs end ms (noted_lines d.note.news clocks) (omega (arith, at)) turns.1 took.1 put.1 (may_both d.note.news (news_in ms) clocks may).1 (is ∙ noted_append d.note.news (news_in ms) clocks)
+      (one_on before r d ms clocks took.0 turns.0.goes_on may on) (noted_next begun k d.note.news clocks (put_in m text begun k (put_of d) put.0) were)
 
 lines_clocks : (ls : List Line) → clocks_of ls ≡ map one_line ls
 lines_clocks [] = refl
@@ -341,20 +290,6 @@ put_behind m text begun k (d ∷ hp) ms p =
     let e : k + 1 + length hp ≡ k + length (d ∷ hp) = omega arith in
     subst (λ (n : ℕ). ArePut m text begun n (puts_of ms)) e (put_behind m text begun (k + 1) hp ms p.1)
 
-pub start_late : (at : ℕ) (begun xs : List Started) (s : Started) (later : List Started) → AreInARow at begun → begun ≡ xs ++ s ∷ later → at ≤ s.start
-start_late at begun xs s later row cut = by at xs (subst (AreInARow at) cut row)
-  where
-    by : (n : ℕ) (ys : List Started) → AreInARow n (ys ++ s ∷ later) → n ≤ s.start
-    by n [] r = r.0
-    by n (y ∷ ys) r = let a = r.0 in let c = r.1 in let rest = by (y.end + 260) ys r.2 in omega (arith, a, c, rest)
-
-start_order : (at : ℕ) (begun xs : List Started) (s : Started) (later : List Started) → AreInARow at begun → begun ≡ xs ++ s ∷ later → s.start ≤ s.end
-start_order at begun xs s later row cut = by at xs (subst (AreInARow at) cut row)
-  where
-    by : (n : ℕ) (ys : List Started) → AreInARow n (ys ++ s ∷ later) → s.start ≤ s.end
-    by n [] r = r.1
-    by n (y ∷ ys) r = by (y.end + 260) ys r.2
-
 -- a whole run
 module _ (m : Machine) (v : IsValidMachine m) (s : Scene) (ts : List MotionTurn) (p : Plans m (length m.boards) ts) (t : Told) (first : ReactorTurn) (rest : List ReactorTurn) (end : ReactorTurn) (told : p.seen.told ≡ Some t) (r : Ready m v s ts p t first rest end told)
     (turns : AreReactorTurns m s.switches [] (first ∷ rest)) (sound : AreSound m t.clocks t.first) where
@@ -366,18 +301,6 @@ module _ (m : Machine) (v : IsValidMachine m) (s : Scene) (ts : List MotionTurn)
 
   parts : AreReactorTurns m s.switches [] r.past × AreReactorTurns m s.switches Before (r.turn ∷ r.later)
   parts = let Turns : List ReactorTurn → Type 0 = λ z. AreReactorTurns m s.switches [] z in turns_cut m s.switches [] r.past (r.turn ∷ r.later) (subst Turns r.are turns)
-
-  row : AreInARow t.first p.seen.begun
-  row = begun_row m t.clocks t.first p.seen.begun (started_in m ts p t told)
-
-  late : (xs : List Started) (x : Started) (later : List Started) → p.seen.begun ≡ xs ++ x ∷ later → length Before + 260 ≤ x.start
-  late xs x later at =
-      let early = r.early in
-      let far = start_late t.first p.seen.begun xs x later row at in
-      omega (arith, early, far)
-
-  order : (xs : List Started) (x : Started) (later : List Started) → p.seen.begun ≡ xs ++ x ∷ later → x.start ≤ x.end
-  order xs x later at = start_order t.first p.seen.begun xs x later row at
 
   long : length r.heard.past ≡ length r.past
   long = let a = r.number in let b = came_long [] r.past in omega (arith, a, b)
@@ -423,46 +346,21 @@ module _ (m : Machine) (v : IsValidMachine m) (s : Scene) (ts : List MotionTurn)
       let Made : List MotionTurn → Type 0 = λ z. TookNotes (map (λ (d : MotionTurn). d.note) z) (r.past ++ r.turn ∷ (r.later ++ more)) in
       took_later r.heard.past Notes_from r.past r.turn (r.later ++ more) long (subst Made r.heard.are (subst Notes are notes))
 
-  -- and a word tells of the answer of each that has ended
-  answered : IsPlannedBy m s.switches (length m.boards) ts p (came_from [] (first ∷ rest)) → AreAnswered m s.switches p.seen.begun (came_from (came_in r.turn ∷ Before) r.later)
-  answered by = subst (AreAnswered m s.switches p.seen.begun) r.came_is (λ past x later axis cut home low. ends_told m s.switches (length m.boards) ts p (came_from [] (first ∷ rest)) past x later axis by cut home low)
-
-  -- where a homing section is known, the reactor knows the lines that hold by 17 turns behind its start
-  pub run_knows : TookNotes (map (λ d. d.note) p.made) (first ∷ rest) → IsPlannedBy m s.switches (length m.boards) ts p (came_from [] (first ∷ rest))
-      → KnowsClocks m s.switches t.clocks (came_from [] (first ∷ rest)) × ArePastConnecting m s.switches (length (came_from [] r.past)) (came_from [] (first ∷ rest))
-  run_knows notes by =
+  -- in each turn behind connecting the reactor knows the lines that hold by 276 turns behind it
+  pub run_knows : TookNotes (map (λ d. d.note) p.made) (first ∷ rest) → KnowsLately m s.switches t.clocks (came_from [] (first ∷ rest)) × ArePastConnecting m s.switches (length (came_from [] r.past)) (came_from [] (first ∷ rest))
+  run_knows notes =
       let here : TookEach (map (λ (d : MotionTurn). d.note) Notes_from) r.later =
       subst (TookEach (map (λ (d : MotionTurn). d.note) Notes_from)) (append-nil r.later) (took [] (subst (TookNotes (map (λ (d : MotionTurn). d.note) p.made)) (sym (append-nil (first ∷ rest))) notes)) in
-      let Came_notes : List Came → Type 0 = λ z. CameNotes p.seen.begun z in
-      let came_here = subst Came_notes r.came_is by.notes in
-      let Result : List Came → Type 0 = λ z. KnowsClocks m s.switches t.clocks z × ArePastConnecting m s.switches (length Before) z in
+      let Result : List Came → Type 0 = λ z. KnowsLately m s.switches t.clocks z × ArePastConnecting m s.switches (length Before) z in
       subst Result (sym r.came_is)
-      (on_from m s.switches p.seen.text p.seen.begun (length Before) t.clocks order (length Before) (came_in r.turn ∷ Before) r.later Notes_from r.heard.clocks refl parts.1.1 here put (parts.1.0.goes_on, goes_before) came_here may r.heard.on on were
-      (answered by)
-      (none_yet m s.switches p.seen.text p.seen.begun (length Before) t.clocks order late (came_in r.turn ∷ Before) (omega arith) (parts.1.0.goes_on, goes_before) (front_came p.seen.begun (came_in r.turn ∷ Before) r.later came_here)))
+      (on_from m s.switches p.seen.text p.seen.begun (length Before) t.clocks (length Before) (came_in r.turn ∷ Before) r.later Notes_from r.heard.clocks refl parts.1.1 here put may r.heard.on on were
+      (none_yet m s.switches p.seen.text p.seen.begun (length Before) t.clocks (came_in r.turn) Before (omega arith) goes_before r.is.phase))
 
   -- so in the turn behind all that go on, which is past connecting
-  pub end_knows : TookNotes (map (λ d. d.note) p.made) (first ∷ (rest ++ end ∷ [])) → CameNotes p.seen.begun (came_in end ∷ came_from [] (first ∷ rest)) → IsPlannedBy m s.switches (length m.boards) ts p (came_from [] (first ∷ rest))
+  pub end_knows : TookNotes (map (λ d. d.note) p.made) (first ∷ (rest ++ end ∷ []))
       → ((known_by m s.switches (came_from [] (first ∷ rest))).phase ≡ Connecting → ⊥)
-      × ((h : Homing) → (noted m end.note (known_by m s.switches (came_from [] (first ∷ rest)))).homing ≡ Some h → (noted m end.note (known_by m s.switches (came_from [] (first ∷ rest)))).clocks ≡ map (lines_by (h.start + 17)) t.clocks)
-  end_knows notes came by =
-      let Came_notes : List Came → Type 0 = λ z. CameNotes p.seen.begun (came_in end ∷ z) in
-      let Result : List Came → Type 0 = λ z. ((known_by m s.switches z).phase ≡ Connecting → ⊥)
-      × ((h : Homing) → (noted m end.note (known_by m s.switches z)).homing ≡ Some h → (noted m end.note (known_by m s.switches z)).clocks ≡ map (lines_by (h.start + 17)) t.clocks) in
+      × ((noted m end.note (known_by m s.switches (came_from [] (first ∷ rest)))).clocks ≡ map (lines_by (length (came_from [] (first ∷ rest)) + 276)) t.clocks)
+  end_knows notes =
+      let Result : List Came → Type 0 = λ z. ((known_by m s.switches z).phase ≡ Connecting → ⊥) × ((noted m end.note (known_by m s.switches z)).clocks ≡ map (lines_by (length z + 276)) t.clocks) in
       subst Result (sym r.came_is)
-      (end_from m s.switches p.seen.text p.seen.begun (length Before) t.clocks order (length Before) (came_in r.turn ∷ Before) r.later end Notes_from r.heard.clocks refl parts.1.1 (took (end ∷ []) notes) put (parts.1.0.goes_on, goes_before) (subst Came_notes r.came_is came) may r.heard.on on were
-      (answered by))
-
-  -- the lines of all notes are taken up before a homing section is begun, or hold behind its last planned step
-  pub run_apart : HoldApart m t.clocks p.seen.begun
-  run_apart =
-      let k = length Before in
-      let high = k + length Notes_from in
-      let ns = news_in Notes_from in
-      let each = λ (b : ℕ) (inside : b < length m.boards).
-      (let low : b < length r.heard.clocks = omega (arith, inside, count) in
-      let one = alone b low in
-      let g = noted_grown (λ board line from. IsNotedIn p.seen.begun k high from) ns r.heard.clocks b low (all_in m p.seen.text p.seen.begun k Notes_from put) in
-      let held : g.more ≡ (clocks_at t.clocks b).held = sym (ap (λ (cs : List Clocks). (clocks_at cs b).held) r.heard.on ∙ g.held ∙ ap (λ (c : Clocks). c.held ++ g.more) one.1) in
-      subst (EachHeld (λ line from. IsNotedIn p.seen.begun k high from)) held g.each) in
-      all_apart m t.clocks p.seen.begun k high t.first [] p.seen.begun refl row each
+      (end_from m s.switches p.seen.text p.seen.begun (length Before) t.clocks (length Before) (came_in r.turn ∷ Before) r.later end Notes_from r.heard.clocks refl parts.1.1 (took (end ∷ []) notes) put may r.heard.on on were)

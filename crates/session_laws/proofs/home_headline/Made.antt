@@ -1,5 +1,5 @@
 -- The steppers of a board that are used in a run in which axes home are the board's.
-use Rattle.std.proofs.Common.{◌≡◌, ◌≢◌, ℕ, suc, ◌+◌, ◌<◌, ◌≤◌, ◌⊎◌, List, [], ◌∷◌, ◌++◌, All, length, take, Option, Some, None, refl, ap, sym, ◌∙◌, subst, arith, inl, inr}
+use Rattle.std.proofs.Common.{◌≡◌, ◌≢◌, ℕ, suc, ◌+◌, ◌<◌, ◌≤◌, ◌⊎◌, false, List, [], ◌∷◌, ◌++◌, All, length, take, Option, Some, None, refl, ap, sym, ◌∙◌, subst, arith, inl, inr}
 use Rattle.std.proofs.lemmas.Bool.Decides.{leb_tells}
 use Rattle.std.proofs.lemmas.List.Elements.{All-head, All-tail}
 use Rattle.plan_types.specs.declared.levels.Level.{Level}
@@ -145,7 +145,7 @@ moves_own m v clocks b until oid s h small some = elim (leb_tells (suc oid) (cou
       let rs = (part_on m clocks s b).releases in
       let far = p.1 in
       let none = past (plans_on m clocks s.section.moves s.start b) oid (let few = plans_few b m.steppers (section_plans m clocks s.section.moves s.start) in omega (arith, few, far)) in
-      let all = no_units oid (clocks_at clocks b) _ (of_stepper oid (units_of rs)) (i.begun oid) (i.whole oid ∙ ap length none) in
+      let all = no_units false oid (clocks_at clocks b) _ (of_stepper oid (units_of rs)) (i.begun oid) (i.whole oid ∙ ap length none) in
       let f = cut_front (clocks_at clocks b) (board_at m b).slots until i.from [] rs i.paced in
       let cut = before_turn until rs in
       absurd (some (none_left (of_stepper oid (units_of cut)) (of_stepper oid (units_of f.0)) (sym (of_front oid cut f.0) ∙ ap (λ x. of_stepper oid (units_of x)) (sym f.1) ∙ all)))

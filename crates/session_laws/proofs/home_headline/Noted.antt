@@ -1,5 +1,5 @@
 -- The further lines that notes tell, and the sections that home by then.
-use Rattle.std.proofs.Common.{◌≡◌, ◌⊎◌, ℕ, suc, zero, ◌+◌, ◌*◌, ◌<◌, ◌≤◌, List, [], ◌∷◌, ◌++◌, length, map, refl, ap, sym, ◌∙◌, subst, arith, inl, inr, append_assoc, append-nil}
+use Rattle.std.proofs.Common.{◌≡◌, ◌⊎◌, ℕ, suc, zero, ◌+◌, ◌*◌, ◌<◌, ◌≤◌, List, [], ◌∷◌, ◌++◌, length, map, refl, ap, sym, ◌∙◌, subst, arith, inl, inr, append-nil}
 use Rattle.std.proofs.lemmas.Bool.Decides.{leb_tells}
 use Rattle.std.proofs.lemmas.List.{length-map}
 use Rattle.plan_types.specs.declared.machine.Machine.{Machine}
@@ -20,8 +20,7 @@ use Rattle.run_plans.specs.Planned.{put_of, puts_of}
 use Rattle.session_laws.proofs.run_headline.Further.{EachHeld, EachTold, noted_grown, noted_long, told_both, told_more}
 use Rattle.session_laws.proofs.run_headline.Noting.{none_begun, none_done, none_read}
 use Rattle.session_laws.proofs.run_headline.Words.{news_in}
-use Rattle.homing_laws.specs.home_plans.Notes.{AreInARow}
-use Rattle.homing_laws.specs.home_parts.Known.{AreApart, HoldApart, IsApart, held_by, lines_by}
+use Rattle.homing_laws.specs.home_parts.Known.{held_by, lines_by}
 use Rattle.homing_laws.proofs.home_parts.Held.{clocks_by}
 
 -- From a turn on a further line holds that a note of some turns tells, and there all sections are of moves or over.
@@ -137,24 +136,3 @@ noted_next begun k ns clocks told were = λ b low.
     let more = each_more (λ line from. IsNotedIn begun k (k + 1) from) New g.more (λ line from x. noted_wide begun k (k + 1) 0 (k + 1) from (omega arith) (omega arith) x) g.each in
     let old = each_more Old New (clocks_at clocks b).held (λ line from x. noted_wide begun 0 k 0 (k + 1) from (omega arith) (omega arith) x) (were b inside) in
     subst (EachHeld New) (sym g.held) (each_both New (clocks_at clocks b).held g.more old more)
-
--- each line of all notes holds by 17 turns behind the start of a homing section, or from eight turns behind its last planned step on
-one_apart : (begun : List Started) (low high : ℕ) (xs : List Started) (s : Started) (later : List Started) (axis : ℕ) (held : List Held) → begun ≡ xs ++ s ∷ later → s.section.kind ≡ Home axis → s.start ≤ s.end
-    → EachHeld (λ line from. IsNotedIn begun low high from) held → AreApart s held
-one_apart begun low high xs s later axis [] cut home order a = tt
-one_apart begun low high xs s later axis (h ∷ held) cut home order a =
-    let x = home_over begun low high h.from xs s later axis a.0 cut home in
-    let from = x.3 in
-    let one : IsApart s h = elim x.4 [
-      | inl ahead ↦ inl (omega (arith, from, ahead))
-      | inr over ↦ let ended = over.0 in let last = over.1 in inr (omega (arith, from, ended, order), omega (arith, from, last))
-    ] in
-    (one, one_apart begun low high xs s later axis held cut home order a.1)
-
-pub all_apart : (m : Machine) (clocks : List Clocks) (begun : List Started) (low high at : ℕ) (xs ss : List Started) → begun ≡ xs ++ ss → AreInARow at ss → ((b : ℕ) → b < length m.boards → EachHeld (λ line from. IsNotedIn begun low high from) (clocks_at clocks b).held)
-    → HoldApart m clocks ss
-all_apart m clocks begun low high at xs [] cut row each = tt
-all_apart m clocks begun low high at xs (s ∷ ss) cut row each = (
-  λ axis b home inside. one_apart begun low high xs s ss axis (clocks_at clocks b).held cut home row.1 (each b inside),
-  all_apart m clocks begun low high (s.end + 260) (xs ++ s ∷ []) ss (cut ∙ sym (append_assoc xs (s ∷ []) ss)) row.2 each,
-)

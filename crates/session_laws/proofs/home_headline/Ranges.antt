@@ -11,19 +11,16 @@ use Rattle.gcode_program.proofs.Plannable.{sections_plannable}
 use Rattle.plan_types.specs.declared.machine.BoardDef.{BoardDef}
 use Rattle.plan_types.specs.declared.machine.Machine.{Machine}
 use Rattle.plan_types.specs.declared.plan.Section.{Section}
-use Rattle.plan_types.specs.declared.plan.SectionKind.{SectionKind}
-use Rattle.plan_types.specs.declared.plan.SectionKind.TheVariants.{Home}
 use Rattle.plan_types.specs.Clock.{board_tick, clock_of, own_tick, rate}
 use Rattle.plan_types.specs.Lines.{Clocks}
 use Rattle.plan_types.specs.Machines.{IsValidBoard, IsValidMachine, axis_at}
-use Rattle.plan_types.specs.Sections.{clocks_at}
+use Rattle.plan_types.specs.Sections.{clocks_at, section_end}
 use Rattle.plan_types.specs.Valid.{IsValidMove}
-use Rattle.section_feed.specs.Boards.{MayStart}
 use Rattle.trigger_group.specs.declared.seen.Seen.{Seen}
 use Rattle.trigger_group.specs.Group.{unseen}
 use Rattle.trigger_group.specs.Kept.{may_be, movers}
 use Rattle.axis_homing.specs.Homing.{members_from}
-use Rattle.motion_work.specs.Seen.{AreBoardClocks, AreStarted, IsHomed, IsPlanned, Started}
+use Rattle.motion_work.specs.Seen.{AreBoardClocks, AreStarted, IsHomed, Started}
 use Rattle.motion_work.specs.Told.{Told}
 use Rattle.motion_work.proofs.Homing.{near_short}
 use Rattle.motion_work.proofs.Turning.{end_after}
@@ -33,6 +30,7 @@ use Rattle.motion_stream.proofs.Taking.{may_start}
 use Rattle.session_work.specs.declared.table.MotionTurn.{MotionTurn}
 use Rattle.run_laws.specs.Parts.{AreTracked}
 use Rattle.run_plans.specs.Planned.{Plans}
+use Rattle.run_plans.proofs.Cutting.{homed_of}
 use Rattle.run_plans.proofs.Running.{started_in}
 use Rattle.homing_laws.specs.home_plans.Notes.{AreInARow}
 use Rattle.homing_laws.specs.home_parts.Answers.{MayHome}
@@ -83,18 +81,20 @@ may_true ms start last a b c d = elim (leb_tells 254 start) [
   ]
 ]
 
-homed_of : (m : Machine) (clocks : List Clocks) (s : Started) (kind : SectionKind) (axis : ℕ) → kind ≡ Home axis → IsPlanned kind m clocks s → IsHomed m clocks s
-homed_of m clocks s kind axis e h = let At : SectionKind → Type 0 = λ k. IsPlanned k m clocks s in subst At e h
-
-one_may : (m : Machine) (v : IsValidMachine m) (text : List ℕ) (clocks : List Clocks) (s : Started) (axis : ℕ) (xs ys : List Section) → program_sections m text ≡ xs ++ s.section ∷ ys → IsHomed m clocks s → 254 ≤ s.start → s.start < 2 ^ 43
-    → ((b : ℕ) → b < length m.boards → MayStart (clocks_at clocks b) s.start) → may_be (map unseen (members_from m (axis_at m axis) s.moving 0 m.boards)) s.start s.last ≡ true
-one_may m v text clocks s axis xs ys split h early small may =
+-- a section of a text ends soon
+pub section_soon : (m : Machine) (v : IsValidMachine m) (text : List ℕ) (clocks : List Clocks) (first start : ℕ) (xs ys : List Section) (one : Section) → program_sections m text ≡ xs ++ one ∷ ys → AreBoardClocks m clocks first → first ≤ start → start < 2 ^ 42 + 260
+    → ((b : ℕ) → b < length m.boards → (clocks_at clocks b).first.clock < 2 ^ 62) → section_end m clocks one.moves start ≤ 2 ^ 58
+section_soon m v text clocks first start xs ys one split are late soon clock =
     let plan = sections_plannable m text v in
-    let At : (Section → Type 0) → Type 0 = λ P. All P (program_sections m text) in
-    let few = at_place (λ (y : Section). length y.moves ≤ 2_000_000) xs s.section ys (subst (λ (z : List Section). All (λ (y : Section). length y.moves ≤ 2_000_000) z) split plan.few) in
-    let good = at_place (λ (y : Section). All IsValidMove y.moves) xs s.section ys (subst (λ (z : List Section). All (λ (y : Section). All IsValidMove y.moves) z) split plan.valid) in
-    let near = at_place (λ (y : Section). All IsNear y.moves) xs s.section ys (subst (λ (z : List Section). All (λ (y : Section). All IsNear y.moves) z) split plan.near) in
-    let soon = section_known m clocks s.section.moves s.start v may (near_short s.section.moves good near) few in
+    let few = at_place (λ (y : Section). length y.moves ≤ 2_000_000) xs one ys (subst (λ (z : List Section). All (λ (y : Section). length y.moves ≤ 2_000_000) z) split plan.few) in
+    let good = at_place (λ (y : Section). All IsValidMove y.moves) xs one ys (subst (λ (z : List Section). All (λ (y : Section). All IsValidMove y.moves) z) split plan.valid) in
+    let near = at_place (λ (y : Section). All IsNear y.moves) xs one ys (subst (λ (z : List Section). All (λ (y : Section). All IsNear y.moves) z) split plan.near) in
+    let later : AreBoardClocks m clocks start = record { count = are.count; valid = are.valid; lasting = are.lasting; freq = are.freq; before = λ b lt. (let x = are.before b lt in omega (arith, x, late)) } in
+    section_known m clocks one.moves start v (λ b lt. may_start m clocks start b later clock (omega (arith, soon)) lt) (near_short one.moves good near) few
+
+one_may : (m : Machine) (v : IsValidMachine m) (clocks : List Clocks) (s : Started) (axis : ℕ) → IsHomed m clocks s → 254 ≤ s.start → s.start < 2 ^ 43 → section_end m clocks s.section.moves s.start ≤ 2 ^ 58
+    → may_be (map unseen (members_from m (axis_at m axis) s.moving 0 m.boards)) s.start s.last ≡ true
+one_may m v clocks s axis h early small soon =
     let last = h.last in
     let steppers = movers_few m (axis_at m axis) s.moving in
     let most = v.steppers_few in
@@ -111,13 +111,10 @@ may_from m v text clocks first at all xs (s ∷ rest) others split cut are low l
     let Of : Started → Section = λ x. x.section in
     let parts : program_sections m text ≡ map Of xs ++ s.section ∷ (map Of rest ++ others) =
     split ∙ ap (λ z. map Of z ++ others) cut ∙ ap (λ z. z ++ others) (map-append Of xs (s ∷ rest)) ∙ append_assoc (map Of xs) (s.section ∷ map Of rest) others in
-    let may = λ (b : ℕ) (lt : b < length m.boards). may_start m clocks s.start b (later_clocks m clocks first s.start are (omega (arith, late, start))) clock (omega (arith, here)) lt in (
-      λ axis home. one_may m v text clocks s axis (map Of xs) (map Of rest ++ others) parts (homed_of m clocks s s.section.kind axis home h.0.planned) (omega (arith, low, late, start)) (omega (arith, here)) may,
+    let ends = section_soon m v text clocks first s.start (map Of xs) (map Of rest ++ others) s.section parts are (omega (arith, late, start)) here clock in (
+      λ axis home. one_may m v clocks s axis (homed_of m clocks s s.section.kind axis home h.0.planned) (omega (arith, low, late, start)) (omega (arith, here)) ends,
       may_from m v text clocks first (s.end + 260) all (xs ++ s ∷ []) rest others split (cut ∙ sym (append_assoc xs (s ∷ []) rest)) are low (omega (arith, late, start, order)) h.1 row.2 (All-tail P s rest soon) clock,
     )
-  where
-    later_clocks : (m : Machine) (clocks : List Clocks) (first turn : ℕ) → AreBoardClocks m clocks first → first ≤ turn → AreBoardClocks m clocks turn
-    later_clocks m clocks first turn h l = record { count = h.count; valid = h.valid; lasting = h.lasting; freq = h.freq; before = λ b lt. (let x = h.before b lt in omega (arith, x, l)) }
 
 pub may_all : (m : Machine) (v : IsValidMachine m) (ts : List MotionTurn) (p : Plans m (length m.boards) ts) (t : Told) → p.seen.told ≡ Some t → AreBoardClocks m t.clocks t.first → 254 ≤ t.first → AreInARow t.first p.seen.begun → All (λ s. s.start < 2 ^ 42 + 260) p.seen.begun
     → ((b : ℕ) → b < length m.boards → (clocks_at t.clocks b).first.clock < 2 ^ 62) → MayHome m p.seen.begun

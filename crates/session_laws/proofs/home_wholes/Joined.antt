@@ -54,7 +54,7 @@ use Rattle.homing_laws.proofs.home_runs.Homed.{none_set}
 use Rattle.homing_laws.specs.home_plans.Notes.{AreInARow, CameNotes, WasBegun}
 use Rattle.homing_laws.proofs.home_plans.Knowing.{now_was}
 use Rattle.homing_laws.specs.home_parts.Cuts.{PlansEndBefore, cut_on, cuts_on}
-use Rattle.homing_laws.specs.home_parts.Known.{KnowsClocks}
+use Rattle.homing_laws.specs.home_parts.Known.{KnowsLately}
 use Rattle.homing_laws.proofs.home_parts.Told.{row_from, section_told}
 use Rattle.homing_laws.specs.switch_runs.Reports.{HearSoon, WasReported}
 use Rattle.homing_laws.specs.switch_runs.Runs.{IsReadIn}
@@ -83,7 +83,7 @@ one_line m switches i j a b tick at e = cc
 no_line : (m : Machine) (switches : List Switch) (i : ℕ) (a : AxisDef) (tick : ℕ) → [] ≡ cut_line m switches i a (Some tick) → ⊥
 no_line m switches i a tick e = cc
 
-knows_tail : (m : Machine) (switches : List Switch) (clocks : List Clocks) (xs ys : List Came) → KnowsClocks m switches clocks (xs ++ ys) → KnowsClocks m switches clocks ys
+knows_tail : (m : Machine) (switches : List Switch) (clocks : List Clocks) (xs ys : List Came) → KnowsLately m switches clocks (xs ++ ys) → KnowsLately m switches clocks ys
 knows_tail m switches clocks [] ys k = k
 knows_tail m switches clocks (x ∷ xs) ys k = knows_tail m switches clocks xs ys k.1
 
@@ -166,8 +166,8 @@ module _ (m : Machine) (v : IsValidMachine m) (s : Scene) (ts : List MotionTurn)
         let next : st.start - 1 + 1 ≡ st.start = omega (arith, early, start) in
         subst (λ (n : ℕ). board_tick (clock_of (board_at m Board)) (st.start - 1) ≤ lines_tick (clocks_at t.clocks Board) (n * turn_ns)) next (l.tracked.behind (st.start - 1) (omega (arith, early, start)) (omega (arith, over, after)))
 
-    known_so : KnowsClocks m s.switches t.clocks (y ∷ before)
-    known_so = let Knows : List Came → Type 0 = λ z. KnowsClocks m s.switches t.clocks z in knows_tail m s.switches t.clocks ahead (y ∷ before) (subst Knows are (knows m v s ts p t first rest end c told f long little))
+    known_so : KnowsLately m s.switches t.clocks (y ∷ before)
+    known_so = let Knows : List Came → Type 0 = λ z. KnowsLately m s.switches t.clocks z in knows_tail m s.switches t.clocks ahead (y ∷ before) (subst Knows are (knows m v s ts p t first rest end c told f long little))
 
     -- what the group answered
     own_answer : (h : Homing) (tick turn : ℕ) → h.start ≡ st.start → (noted m y.note (known_by m s.switches before)).homing ≡ Some h
@@ -177,7 +177,7 @@ module _ (m : Machine) (v : IsValidMachine m) (s : Scene) (ts : List MotionTurn)
         let x = section.0 in
         let Says : Came → List Came → Type 0 = λ cc bb. (noted m cc.note (known_by m s.switches bb)).homing ≡ Some h
         → answer_in (length bb) h.start (hears_all (noted m cc.note (known_by m s.switches bb)).clocks cc.states h).group ≡ Some (Endstop tick)
-        → WasReported m s.switches Board h.start (record { reason = 1; tick = tick; turn = turn }) (cc ∷ bb) → CameNotes p.seen.begun bb → HearSoon m s.switches Board st.start (cc ∷ bb) x.past → KnowsClocks m s.switches t.clocks (cc ∷ bb) → IsReadIn m s.switches Pins Board h.start axis bb tick in
+        → WasReported m s.switches Board h.start (record { reason = 1; tick = tick; turn = turn }) (cc ∷ bb) → CameNotes p.seen.begun bb → HearSoon m s.switches Board st.start (cc ∷ bb) x.past → KnowsLately m s.switches t.clocks (cc ∷ bb) → IsReadIn m s.switches Pins Board h.start axis bb tick in
         let Row : List Started → Type 0 = λ z. AreInARow t.first z in
         let Notes : List Started → Type 0 = λ z. CameNotes z x.before in
         let kept = (lines m v s ts p t first rest end c told f long little Board there).tracked.kept in

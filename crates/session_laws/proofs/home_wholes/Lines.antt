@@ -23,7 +23,6 @@ use Rattle.host_reactor.specs.Runs.{Came}
 use Rattle.board_runs.specs.Turns.{BoardTurn, stands_after}
 use Rattle.clock_runs.specs.Runs.{IsInRun, orders_in}
 use Rattle.clock_runs.proofs.Orders.{order_length}
-use Rattle.motion_work.specs.Boards.{parts_on}
 use Rattle.motion_work.specs.Seen.{AreStarted, IsMoved, IsPlanned, Started, part_on}
 use Rattle.motion_work.specs.Told.{Told}
 use Rattle.session_work.specs.declared.table.MotionTurn.{MotionTurn}
@@ -31,14 +30,13 @@ use Rattle.session_work.specs.declared.table.ReactorTurn.{ReactorTurn}
 use Rattle.session_run.specs.Boards.{came_from}
 use Rattle.run_laws.specs.Boards.{IsWindow, OnBoard, told_in}
 use Rattle.run_laws.specs.Ends.{MayBe}
-use Rattle.run_laws.specs.Homes.{IsHomeBoard, RunSection}
-use Rattle.run_laws.specs.Runs.{AreSpilled}
+use Rattle.run_laws.specs.Homes.{AreOut, IsHomeBoard, RunSection}
 use Rattle.run_laws.specs.Stops.{NeverStop}
 use Rattle.run_laws.proofs.Linking.{valid_ticks}
 use Rattle.run_boards.specs.Boards.{IsInWhole, behind}
 use Rattle.run_boards.specs.Turns.{came_before}
 use Rattle.run_plans.specs.Boards.{TookStates, as_told, lines_between, times_of}
-use Rattle.run_plans.specs.Homed.{is_home, stops_of}
+use Rattle.run_plans.specs.Homed.{is_home, runs_on, stops_of}
 use Rattle.run_plans.specs.Lines.{TellTurns, TookNotes, pulses_of}
 use Rattle.run_plans.specs.Planned.{Plans}
 use Rattle.run_plans.proofs.Fitting.{between, plan_is}
@@ -51,7 +49,7 @@ use Rattle.homing_laws.specs.home_plans.Notes.{AreInARow}
 use Rattle.homing_laws.proofs.home_plans.Noting.{begun_row}
 use Rattle.homing_laws.specs.home_parts.Answers.{ArePastConnecting, IsPlannedBy, MayHome, TakeSetUps}
 use Rattle.homing_laws.specs.home_parts.Cuts.{PlansEndBefore, cut_on, cuts_on}
-use Rattle.homing_laws.specs.home_parts.Known.{KnowsClocks, StartInRange}
+use Rattle.homing_laws.specs.home_parts.Known.{KnowsLately, StartInRange}
 use Rattle.homing_laws.proofs.home_parts.Told.{all_told, row_from}
 use Rattle.homing_laws.proofs.home_parts.Limits.{turns_fit}
 use Rattle.session_laws.proofs.run_headline.Fronts.{limited}
@@ -65,7 +63,7 @@ use Rattle.session_laws.specs.home_wholes.Still.{IsStillIn}
 use Rattle.session_laws.proofs.home_wholes.Between.{still_between}
 use Rattle.session_laws.proofs.home_wholes.Board.{whole_idle, whole_passed}
 use Rattle.session_laws.proofs.home_wholes.Told.{all_homed}
-use Rattle.session_laws.proofs.home_headline.Uncut.{cut_many, cut_released, planned_at, released_by, spilled_at}
+use Rattle.session_laws.proofs.home_headline.Uncut.{cut_many, cut_released, out_at, planned_at, released_by}
 use Rattle.homing_laws.proofs.home_parts.Lines.{next_behind}
 
 pub end_at : (m : Machine) (clocks : List Clocks) (until : ℕ) (xs : List Started) (x : Started) (later : List Started) → PlansEndBefore m clocks until (xs ++ x ∷ later) → section_end m clocks x.section.moves x.start < until
@@ -141,12 +139,12 @@ module _ (m : Machine) (v : IsValidMachine m) (s : Scene) (ts : List MotionTurn)
   pub by : IsPlannedBy m s.switches (length m.boards) ts p Came_all
   by = let size = length-append rest (end ∷ []) in planned_by m s.switches (length m.boards) f.ahead ts p first rest f.words_left f.turns f.words notes (omega (arith, long, size))
 
-  -- the clock lines that the reactor knows while a section homes
-  pub knows : KnowsClocks m s.switches t.clocks Came_all
-  knows = (run_knows m v s ts p t first rest end told turn f.turns sound notes by).0
+  -- the clock lines that the reactor knows
+  pub knows : KnowsLately m s.switches t.clocks Came_all
+  knows = (run_knows m v s ts p t first rest end told turn f.turns sound notes).0
 
   pub connected : ArePastConnecting m s.switches By Came_all
-  connected = (run_knows m v s ts p t first rest end told turn f.turns sound notes by).1
+  connected = (run_knows m v s ts p t first rest end told turn f.turns sound notes).1
 
   pub count : (b : ℕ) (h : b < length m.boards) → length (Turns_of b h) ≡ length (rest ++ end ∷ [])
   count b h = let a = order_length (Turns_of b h) in let d = (on b h).count in omega (arith, a, d)
@@ -207,16 +205,16 @@ module _ (m : Machine) (v : IsValidMachine m) (s : Scene) (ts : List MotionTurn)
         let At : SectionKind → Type 0 = λ k. IsPlanned k m t.clocks x in
         subst At moves (planned_at m t.clocks t.first past x later (subst Begun cut (started_in m ts p t told)))
 
-    released : AreBefore (x.end + 1) (part_on m t.clocks x b).releases
+    released : AreBefore (x.end + 5) (part_on m t.clocks x b).releases
     released =
         let l = lines b h in
         let early = turn.early in
         let start = starts.0 in
         let within = w.within in
         let Ends : List Started → Type 0 = λ ss. PlansEndBefore m t.clocks l.tracked.until ss in
-        let Spilled : List Started → Type 0 = λ ss. AreSpilled (length p.made) 0 (parts_on m t.clocks ss b) in
+        let Out : List Started → Type 0 = λ ss. AreOut (length p.made) (runs_on m t.clocks ss b) in
         released_by m (board_tick (clock_of (board_at m b))) t.clocks b By (length p.made) x (valid_ticks (board_at m b) (valid_at m.boards b h v.boards)) l.tracked moved h (omega (arith, early, start))
-        (end_at m t.clocks l.tracked.until past x later (subst Ends cut l.over)) (spilled_at m t.clocks (length p.made) 0 b past x later (subst Spilled cut (little b h (whole b h)).in_time)) (omega (arith, over, within, long))
+        (end_at m t.clocks l.tracked.until past x later (subst Ends cut l.over)) (out_at m t.clocks (length p.made) b past x later (subst Out cut (little b h (whole b h)).out) (ap is_home moves)) (omega (arith, over, within, long))
 
     as_planned : (oid : ℕ) → length (Cut.section.plan oid) ≡ length ((part_on m t.clocks x b).plan oid)
     as_planned oid = let within = w.within in cut_many m t.clocks b N x moved h released (omega (arith, over, within)) oid

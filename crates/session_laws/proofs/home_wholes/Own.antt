@@ -1,5 +1,5 @@
 -- Why the answer of a homing section is of its own readings, in a whole run in which axes home.
-use Rattle.std.proofs.Common.{◌≡◌, ℕ, ◌+◌, ◌-◌, ◌*◌, ◌<◌, ◌≤◌, List, [], ◌∷◌, ◌++◌, length, Option, Some, None, refl, ap, sym, ◌∙◌, subst, arith, inl, inr}
+use Rattle.std.proofs.Common.{◌≡◌, ℕ, ◌+◌, ◌-◌, ◌*◌, ◌<◌, ◌≤◌, List, [], ◌∷◌, ◌++◌, length, Option, Some, None, ap, sym, ◌∙◌, subst, arith, inl, inr}
 use Rattle.plan_types.specs.declared.levels.Level.{Level}
 use Rattle.plan_types.specs.declared.machine.Machine.{Machine}
 use Rattle.plan_types.specs.declared.plan.SectionKind.TheVariants.{Home}
@@ -16,6 +16,7 @@ use Rattle.trigger_group.specs.declared.order.Member.{Member}
 use Rattle.axis_homing.specs.declared.homing.Homing.{Homing}
 use Rattle.axis_homing.specs.Homing.{answer_in, hears_all}
 use Rattle.axis_homing.specs.Rising.{members_of}
+use Rattle.host_reactor.specs.declared.ordered.Phase.TheVariants.{Connecting}
 use Rattle.host_reactor.specs.Notes.{noted}
 use Rattle.host_reactor.specs.Runs.{Came, GoesOn, known_by}
 use Rattle.board_runs.specs.Turns.{BoardTurn, stands_after}
@@ -26,11 +27,11 @@ use Rattle.homing_laws.specs.home_runs.Sections.{HomesFrom, IsOf, TakesSetUp}
 use Rattle.homing_laws.specs.home_runs.Settled.{SetNoClockFrom}
 use Rattle.homing_laws.specs.home_runs.Words.{IsToldIn}
 use Rattle.homing_laws.proofs.home_runs.Joining.{homes_later}
-use Rattle.homing_laws.proofs.home_runs.Knowing.{homing_known, word_answers}
+use Rattle.homing_laws.proofs.home_runs.Knowing.{homing_known, past_known, word_answers}
 use Rattle.homing_laws.specs.home_plans.Notes.{AreInARow, CameNotes, WasBegun}
 use Rattle.homing_laws.proofs.home_plans.Knowing.{now_was}
-use Rattle.homing_laws.specs.home_parts.Known.{KnowsClocks, lines_by}
-use Rattle.homing_laws.proofs.home_parts.Held.{clocks_by, ticks_by}
+use Rattle.homing_laws.specs.home_parts.Known.{KnowsLately}
+use Rattle.homing_laws.proofs.home_parts.Held.{tick_known}
 use Rattle.homing_laws.proofs.home_parts.Ends.{row_later, row_past}
 use Rattle.homing_laws.proofs.home_parts.Told.{row_from}
 use Rattle.homing_laws.specs.switch_runs.Reports.{HearSoon, IsBehind, WasReported}
@@ -74,25 +75,14 @@ module _ (m : Machine) (switches : List Switch) (ready from axis : ℕ) (ms : Li
 -- as a section starts its board is no more than a turn ahead of the lines that are known in the turns in which the section is
 module _ (m : Machine) (switches : List Switch) (b from start : ℕ) (ms : List Member) (clocks : List Clocks) (low : from ≤ start) (kept : AreKept (clocks_at clocks b))
     (begin : board_tick (clock_of (board_at m b)) (start - 1) ≤ lines_tick (clocks_at clocks b) (start * turn_ns)) where
-  behind_now : (c : Came) (before : List Came) (h : Homing) → (noted m c.note (known_by m switches before)).homing ≡ Some h → h.start ≡ start → KnowsClocks m switches clocks (c ∷ before)
+  behind_now : (c : Came) (before : List Came) → start ≤ length before → ((known_by m switches before).phase ≡ Connecting → ⊥) → KnowsLately m switches clocks (c ∷ before)
       → board_tick (clock_of (board_at m b)) (start - 1) ≤ lines_tick (clocks_at (noted m c.note (known_by m switches before)).clocks b) (start * turn_ns)
-  behind_now c before h known same knows =
-      let own = clocks_at clocks b in
-      let lines : clocks_at (noted m c.note (known_by m switches before)).clocks b ≡ lines_by (h.start + 17) own = ap (λ (cs : List Clocks). clocks_at cs b) (knows.0 h known) ∙ clocks_by (h.start + 17) clocks b in
-      let now : lines_tick (lines_by (h.start + 17) own) (start * turn_ns) ≡ lines_tick own (start * turn_ns) = ticks_by (h.start + 17) own (start * turn_ns) kept (omega (arith, same)) in
-      subst (λ (n : ℕ). board_tick (clock_of (board_at m b)) (start - 1) ≤ n) (sym (ap (λ (x : Clocks). lines_tick x (start * turn_ns)) lines ∙ now)) begin
+  behind_now c before late past knows =
+      subst (λ (n : ℕ). board_tick (clock_of (board_at m b)) (start - 1) ≤ n) (sym (tick_known (noted m c.note (known_by m switches before)).clocks clocks (length before + 276) b start (knows.0 past) kept (omega (arith, late)))) begin
 
-  behind_of : (c : Came) (before : List Came) (o : Option Homing) → (noted m c.note (known_by m switches before)).homing ≡ o → IsOf start ms o → KnowsClocks m switches clocks (c ∷ before)
-      → board_tick (clock_of (board_at m b)) (start - 1) ≤ lines_tick (clocks_at (noted m c.note (known_by m switches before)).clocks b) (start * turn_ns)
-  behind_of c before None known of knows = absurd of
-  behind_of c before (Some h) known of knows = behind_now c before h known of.0 knows
-
-  behind_all : (came : List Came) → HomesFrom m switches from start ms came → KnowsClocks m switches clocks came → IsBehind m switches b start came
+  behind_all : (came : List Came) → HomesFrom m switches from start ms came → KnowsLately m switches clocks came → IsBehind m switches b start came
   behind_all [] since knows = tt
-  behind_all (c ∷ before) since knows = (
-    λ late. behind_of c before (noted m c.note (known_by m switches before)).homing refl (since.0 (omega (arith, late, low))).1 knows,
-    behind_all before since.1 knows.1,
-  )
+  behind_all (c ∷ before) since knows = (λ late. behind_now c before late (since.0 (omega (arith, late, low))).0 knows, behind_all before since.1 knows.1)
 
 -- the answer in a homing section of a board, of which a word told
 pub own_told : (m : Machine) (switches : List Switch) (pins : List (List Level)) (entries : List Entry) (b end axis ready : ℕ) (turns : List BoardTurn) (past : List Started) (s : Started) (later : List Started) (h : Homing) (tick turn : ℕ) → IsValidMachine m
@@ -100,7 +90,7 @@ pub own_told : (m : Machine) (switches : List Switch) (pins : List (List Level))
     → ((from : ℕ) → from + 254 ≡ s.start → SetNoClockFrom from t.past) → (stands_after (first_state (board_at m b) pins b entries) t.past).core.board.controller.state ≡ Running
     → (noted m t.came.note (known_by m switches t.before)).homing ≡ Some h → answer_in (length t.before) h.start (hears_all (noted m t.came.note (known_by m switches t.before)).clocks t.came.states h).group ≡ Some (Endstop tick) → h.start ≡ s.start
     → WasReported m switches b h.start (record { reason = 1; tick = tick; turn = turn }) (t.came ∷ t.before) → HearSoon m switches b s.start (t.came ∷ t.before) t.past
-    → (clocks : List Clocks) → AreKept (clocks_at clocks b) → board_tick (clock_of (board_at m b)) (s.start - 1) ≤ lines_tick (clocks_at clocks b) (s.start * turn_ns) → KnowsClocks m switches clocks (t.came ∷ t.before) → IsReadIn m switches pins b h.start axis t.before tick
+    → (clocks : List Clocks) → AreKept (clocks_at clocks b) → board_tick (clock_of (board_at m b)) (s.start - 1) ≤ lines_tick (clocks_at clocks b) (s.start * turn_ns) → KnowsLately m switches clocks (t.came ∷ t.before) → IsReadIn m switches pins b h.start axis t.before tick
 own_told m switches pins entries b end axis ready turns past s later h tick turn v row home small on t notes none runs known answer begin reported soon_heard clocks kept order knows =
     let run = t.run_is in
     let long = as_long m switches b t.before t.past run.both in
@@ -110,12 +100,13 @@ own_told m switches pins entries b end axis ready turns past s later h tick turn
     let from = s.start - 254 in
     let begins : from + 254 ≡ s.start = omega (arith, soon) in
     let w = word_answers m switches t.begin s.start t.members t.came t.before (t.goes_on, run.goes_on) t.begun (omega (arith, soon, far, at, long)) t.none t.homed in
+    let past_it = past_known m switches t.begin s.start t.members t.before run.goes_on t.begun (omega (arith, soon, far, at, long)) in
     let same : w.0 ≡ h = some_same w.0 h (sym w.2 ∙ known) in
     let members : members_of h.group ≡ t.members = ap (λ (z : Homing). members_of z.group) (sym same) ∙ w.4 in
     let since = homes_later m switches t.begin from s.start t.members t.before (omega (arith, soon, begins)) (homing_known m switches t.begin s.start t.members t.before run.goes_on t.begun) in
     let reads = reads_from m switches ready from axis t.members past s later row home t.before run.goes_on notes since in
     let behind : IsBehind m switches b s.start (t.came ∷ t.before) =
-    (λ late. behind_now m switches b from s.start t.members clocks (omega (arith, begins)) kept order t.came t.before h known begin knows, behind_all m switches b from s.start t.members clocks (omega (arith, begins)) kept order t.before since knows.1) in
+    (λ late. behind_now m switches b from s.start t.members clocks (omega (arith, begins)) kept order t.came t.before late past_it knows, behind_all m switches b from s.start t.members clocks (omega (arith, begins)) kept order t.before since knows.1) in
     let own_since : HomesFrom m switches from h.start (members_of h.group) t.before =
     subst (λ (n : ℕ). HomesFrom m switches from n (members_of h.group) t.before) (sym begin) (subst (λ (ms : List Member). HomesFrom m switches from s.start ms t.before) (sym members) since) in
     answered_own m switches pins entries b axis t.came t.before h t.past tick turn v run t.states

@@ -1,5 +1,5 @@
 -- An object id that has units in a section is that of a stepper of the board.
-use Rattle.std.proofs.Common.{◌≡◌, ◌≢◌, ℕ, suc, ◌<◌, List, [], ◌∷◌, All, take, length, ap, ◌∙◌, subst, arith, inl, inr}
+use Rattle.std.proofs.Common.{◌≡◌, ◌≢◌, ℕ, suc, ◌<◌, false, List, [], ◌∷◌, All, take, length, ap, ◌∙◌, subst, arith, inl, inr}
 use Rattle.std.proofs.lemmas.Bool.Decides.{leb_tells}
 use Rattle.std.proofs.lemmas.List.Elements.{All-cons, All-head, All-nil, All-tail}
 use Rattle.plan_types.specs.declared.machine.Machine.{Machine}
@@ -30,7 +30,7 @@ module _ (m : Machine) (v : IsValidMachine m) (t : Told) (b : ℕ) (os : List Or
     | inr p ↦
         let x = part_on m t.clocks s b in
         let none : x.plan oid ≡ [] = past (plans_on m t.clocks s.section.moves s.start b) oid (omega (arith, plans_few b m.steppers (section_plans m t.clocks s.section.moves s.start), p.1)) in
-        let steps = have_steps oid (clocks_at t.clocks b) _ (of_stepper oid (units_of x.releases)) (is.begun oid) some in
+        let steps = have_steps false oid (clocks_at t.clocks b) _ (of_stepper oid (units_of x.releases)) (is.begun oid) some in
         let count = is.whole oid ∙ ap length none in
         absurd (omega (arith, steps, count))
   ]

@@ -15,26 +15,25 @@ use Rattle.session_work.specs.declared.table.ReactorTurn.{ReactorTurn}
 use Rattle.session_run.specs.Boards.{came_in}
 use Rattle.host_reactor.specs.Runs.{Came}
 use Rattle.run_plans.specs.Planned.{Plans, Seen}
-use Rattle.homing_laws.specs.home_parts.Known.{lines_by}
 use Rattle.homing_laws.specs.missed_groups.Ticks.{IsSwitchTick}
 use Rattle.session_laws.specs.home_headline.Cuts.{TellsAnswer}
 
--- a turn's tick by the clock lines of an axis's board that hold in a homing section, of those that the planner heard
-abbrev pub tick_in : Machine → List Clocks → Started → ℕ → ℕ → ℕ
-tick_in m clocks x axis turn = lines_tick (lines_by (x.start + 17) (clocks_at clocks (axis_at m axis).board)) (turn * turn_ns)
+-- a turn's tick by the clock lines of an axis's board, of those that the planner heard
+abbrev pub tick_in : Machine → List Clocks → ℕ → ℕ → ℕ
+tick_in m clocks axis turn = lines_tick (clocks_at clocks (axis_at m axis).board) (turn * turn_ns)
 
 -- The tick at which the switch of a homing section's axis closes, by the levels of its pin in the scene: the section reads it from the tick of its start
 -- on, and this is the first one at which four readings in a row show it pressed.
 abbrev pub ClosesAt : Machine → Scene → List Clocks → Started → ℕ → ℕ → Type 0
 ClosesAt m s clocks x axis tick =
     let b = (axis_at m axis).board in
-    IsSwitchTick m (pins_of (board_at m b) b s.switches) b (axis_at m axis) (tick_in m clocks x axis x.start) tick
+    IsSwitchTick m (pins_of (board_at m b) b s.switches) b (axis_at m axis) (tick_in m clocks axis x.start) tick
 
 -- Each homing section of a text that the planner begun has its switch close before the tick of the turn behind its last planned step.
 abbrev pub AllClose : Machine → Scene → List ℕ → List MotionTurn → Type 0
 AllClose m s text planned =
     (p : Plans m (length m.boards) planned) (t : Told) → p.seen.text ≡ text → p.seen.told ≡ Some t → (past : List Started) (x : Started) (later : List Started) (axis : ℕ) → p.seen.begun ≡ past ++ x ∷ later → x.section.kind ≡ Home axis →
-    (tick : ℕ) × ClosesAt m s t.clocks x axis tick × (tick < tick_in m t.clocks x axis (x.last + 1))
+    (tick : ℕ) × ClosesAt m s t.clocks x axis tick × (tick < tick_in m t.clocks axis (x.last + 1))
 
 -- The section with this number, of those that were begun, homes, and its switch closes at no tick before that.
 pub record MissesSwitch (m : Machine) (s : Scene) (seen : Seen) (section : ℕ) : Type 0 where
@@ -47,7 +46,7 @@ pub record MissesSwitch (m : Machine) (s : Scene) (seen : Seen) (section : ℕ) 
   pub cut : seen.begun ≡ past ++ x ∷ later
   pub number : section ≡ length past
   pub home : x.section.kind ≡ Home axis
-  pub late : (tick : ℕ) → ClosesAt m s told.clocks x axis tick → tick_in m told.clocks x axis (x.last + 1) ≤ tick
+  pub late : (tick : ℕ) → ClosesAt m s told.clocks x axis tick → tick_in m told.clocks axis (x.last + 1) ≤ tick
 
 -- The section with this number homes, and its switch closes at this tick.
 pub record ClosesFirst (m : Machine) (s : Scene) (seen : Seen) (section tick : ℕ) : Type 0 where

@@ -1,5 +1,5 @@
 -- When no line of a board holds a command for long, in a whole run in which axes home.
-use Rattle.std.specs.Prelude.{◌≡◌, ◌⊎◌, ◌+◌, ◌<◌, ◌≤◌, ℕ, pos, List, [], ◌∷◌, ◌++◌, Some, length, take}
+use Rattle.std.specs.Prelude.{◌≡◌, ◌⊎◌, ◌+◌, ◌-◌, ◌<◌, ◌≤◌, ℕ, pos, List, [], ◌∷◌, ◌++◌, Some, length, take}
 use Rattle.plan_types.specs.declared.cause.Cause.{Cause}
 use Rattle.plan_types.specs.declared.cause.Cause.TheVariants as cause
 use Rattle.plan_types.specs.declared.machine.Machine.{Machine}
@@ -17,10 +17,12 @@ use Rattle.motion_work.specs.Told.{Told}
 use Rattle.session_work.specs.declared.table.MotionTurn.{MotionTurn}
 use Rattle.session_work.specs.declared.table.ReactorTurn.{ReactorTurn}
 use Rattle.board_world.specs.World.{start}
+use Rattle.run_laws.specs.Homes.{AreOut}
 use Rattle.run_laws.specs.Links.{ends_of, steps_of, turns_told}
 use Rattle.run_laws.specs.Timely.{AllTimely}
 use Rattle.run_laws.specs.Runs.{AreSpilled}
 use Rattle.run_parts.specs.Renewed.{ComeInTime}
+use Rattle.run_plans.specs.Homed.{runs_on}
 use Rattle.run_plans.specs.Planned.{Plans}
 use Rattle.run_boards.specs.Boards.{IsInWhole, behind, orders_of, states_of}
 use Rattle.session_laws.specs.run_headline.Timely.{link_of}
@@ -33,16 +35,18 @@ abbrev pub PlansAreNear : Machine → ℕ → List Clocks → List Started → T
 PlansAreNear m b clocks begun =
     ((board_at m b).drift ≡ pos 0) ⊎ ((until : ℕ) × PlansEndBefore m clocks until begun × ComeInTime (board_at m b).drift (clocks_at clocks b).first (clocks_at clocks b).held until)
 
--- A board in a whole run in which axes home holds nothing long: no unit that is due in the planner's turns is sent behind the turn in which
--- it is due; it takes no unit half a round of the 32-bit clock after its first tick, which is so where the scene has no entries, or no busy
--- stretch of its link has more than 10,000 spoiled turns; its clock lines are not too old; and it takes the set-up of each homing section in time, which is so where the scene has no entries.
+-- A board in a whole run in which axes home holds nothing long. Of the units that are due in the planner's turns, those of a section of moves
+-- that are sent behind the turn in which they are due are sent by four turns behind the section's end. The board takes no unit half a round of
+-- the 32-bit clock after its first tick, which is so where none is sent more than so many turns behind the turn in which it is due, 10,700 at
+-- most, and the scene has no entries, or no busy stretch of its link has more spoiled turns than are left of 10,700. Its clock lines are not too
+-- old. And it takes the set-up of each homing section in time, which is so where the scene has no entries.
 pub record HomesLittle (m : Machine) (s : Scene) (b : ℕ) (planned : List MotionTurn) (first : ReactorTurn) (rest : List ReactorTurn) (turns : ℕ) (t : Told) (begun : List Started)
     (w : IsInWhole m s.switches b (clock_of (board_at m b)) (link_of m s b) planned first rest) : Type 0 where
-  pub in_time : AreSpilled turns 0 (parts_on m t.clocks begun b)
-  pub few : (s.entries ≡ []) ⊎ (((k : ℕ) → spoiled (take k (ends_of (clock_of (board_at m b)) 0 (orders_of w.made) (link_of m s b) (stands_after (link_of m s b) (behind [] w.made))
-      (turns_told (clock_of (board_at m b)) 0 (orders_of w.made) (states_of w.made) (link_of m s b) (stands_after (link_of m s b) (behind [] w.made)) w.told))) ≤ 10_000) ⊎ AllTimely (start (board_at m b) (pins_of (board_at m b) b s.switches))
+  pub out : AreOut turns (runs_on m t.clocks begun b)
+  pub few : ((late : ℕ) × (late ≤ 10_700) × AreSpilled turns late (parts_on m t.clocks begun b) × ((s.entries ≡ []) ⊎ ((k : ℕ) → spoiled (take k (ends_of (clock_of (board_at m b)) 0 (orders_of w.made) (link_of m s b) (stands_after (link_of m s b) (behind [] w.made))
+      (turns_told (clock_of (board_at m b)) 0 (orders_of w.made) (states_of w.made) (link_of m s b) (stands_after (link_of m s b) (behind [] w.made)) w.told))) ≤ 10_700 - late))) ⊎ AllTimely (start (board_at m b) (pins_of (board_at m b) b s.switches))
       (steps_of (clock_of (board_at m b)) 0 (orders_of w.made) (link_of m s b) (stands_after (link_of m s b) (behind [] w.made))
-      (turns_told (clock_of (board_at m b)) 0 (orders_of w.made) (states_of w.made) (link_of m s b) (stands_after (link_of m s b) (behind [] w.made)) w.told)))
+      (turns_told (clock_of (board_at m b)) 0 (orders_of w.made) (states_of w.made) (link_of m s b) (stands_after (link_of m s b) (behind [] w.made)) w.told))
   pub near : PlansAreNear m b t.clocks begun
   pub set_up : (s.entries ≡ []) ⊎ TakeSetUps m (pins_of (board_at m b) b s.switches) s.entries b begun (behind [] w.made)
 
@@ -59,6 +63,14 @@ abbrev pub SendsAllInTime : Machine → List ℕ → List MotionTurn → Type 0
 SendsAllInTime m text planned =
     (p : Plans m (length m.boards) planned) (t : Told) (b : ℕ) → p.seen.text ≡ text → p.seen.told ≡ Some t → b < length m.boards →
     AreSpilled (length p.made) 0 (parts_on m t.clocks p.seen.begun b) × PlansAreNear m b t.clocks p.seen.begun
+
+-- So much suffices in a scene without entries: of those that are due in the planner's turns, the units of a section of moves that are sent behind
+-- the turn in which they are due are sent by four turns behind the section's end, and none is sent more than 10,700 turns behind it; and where a
+-- board's clock drifts, its clock lines come in time.
+abbrev pub SendsAllOut : Machine → List ℕ → List MotionTurn → Type 0
+SendsAllOut m text planned =
+    (p : Plans m (length m.boards) planned) (t : Told) (b : ℕ) → p.seen.text ≡ text → p.seen.told ≡ Some t → b < length m.boards →
+    AreOut (length p.made) (runs_on m t.clocks p.seen.begun b) × AreSpilled (length p.made) 10_700 (parts_on m t.clocks p.seen.begun b) × PlansAreNear m b t.clocks p.seen.begun
 
 -- Each board of a run of a text that ended for a cause holds nothing long, as far as its lines are shown: in all turns; or, where memory was
 -- wanted, in those before the last one, which has no lines, of the planner's turns that were heard by then.

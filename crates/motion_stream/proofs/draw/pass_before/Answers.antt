@@ -12,5 +12,5 @@ returns-clause-passed c = λ seen h. (
     let new = c.pass.new.course in
     let p = c.in_ok-batches.ensures.passed in
     let k = passed_kept m old new _ c.in_ok-batches.batches.items p in
-    before_passed m (record old { current = opens.Moves c.args.section }) (record new { current = opens.Moves c.args.section }) c.args.section seen old.next c.in_ok-batches.batches.items h.going h
+    before_passed m (record old { current = opens.Goes c.args.section c.args.homes }) (record new { current = opens.Goes c.args.section c.args.homes }) c.args.section c.args.homes seen old.next c.in_ok-batches.batches.items h.going h
     (record { source = k.source; read = k.read; connected = k.connected; lines = k.lines; place = k.place }) (ap (λ (x : Course). x.ready) p.others) (ap (λ (x : Course). x.start) p.others) (ap (λ (x : Course). x.next) p.others) refl c.requires.small c.requires.before p.ahead p.are (λ x. x) tt)

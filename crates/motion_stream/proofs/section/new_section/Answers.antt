@@ -16,5 +16,5 @@ pub returns-clause-on : goal.returns-clause-on
 returns-clause-on c =
     let q = c.new-queue in
     let n = c.in_ok-section.ensures in
-    new_on c.args.machine.now c.args.lines.now c.args.start c.in_ok-section.section q.result c.requires.machine c.requires.clocks c.requires.early c.requires.late c.requires.small (n.empty c.args.machine.now.scv [] q.ensures.empty) n.boards n.sets n.queue q.ensures.cruise
+    new_on c.args.machine.now c.args.lines.now c.args.start c.args.homes c.in_ok-section.section q.result c.requires.machine c.requires.clocks c.requires.early c.requires.late c.requires.small (n.empty c.args.machine.now.scv [] q.ensures.empty) n.boards n.sets n.queue q.ensures.cruise
     (q.ensures.from ∙ ap (λ x. x * 1_000_000) c.from-begin.ensures)

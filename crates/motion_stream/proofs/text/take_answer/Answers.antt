@@ -5,7 +5,7 @@ use Rattle.std.specs.Prelude.{true, ◌+◌}
 use Rattle.motion_stream.proofs.text.take_answer.Goals as goal
 
 pub returns-then-not-is_answered : goal.returns-then-not-is_answered
-returns-then-not-is_answered c = λ seen h. none_heard c.args.machine.now c.args.course.now seen c.args.word.now (sym c.if-not-is_answered.ensures) c.requires h
+returns-then-not-is_answered c = λ seen h. none_heard c.args.machine.now c.args.course.now seen c.args.word.now (sym c.if-not-is_answered.ensures) h
 
 pub returns : goal.returns
 returns c = λ seen h.

@@ -16,7 +16,7 @@ returns-clause-taken c = λ seen h.
     let old = c.args.course.now in
     let items = c.deref.ensures.value ∙ ap (λ v. v.items) c.replace-waiting.ensures.value in
     let waiting = subst (All (λ (x : BoardLine). WasHeard x.board x.line seen.lines)) (sym items) h.uptake.waiting in
-    let emptied = course_lined m old (record old.lines { waiting = c.replace-waiting.new.dest }) seen seen.lines refl (record { waiting = subst (All (λ (x : BoardLine). WasHeard x.board x.line seen.lines)) (sym (ap (λ v. v.items) c.replace-waiting.ensures.after ∙ c.new.ensures.items)) (All-nil (λ (x : BoardLine). WasHeard x.board x.line seen.lines)); homed = h.uptake.homed }) h in
+    let emptied = course_lined m old (record old.lines { waiting = c.replace-waiting.new.dest }) seen seen.lines refl refl (record { waiting = subst (All (λ (x : BoardLine). WasHeard x.board x.line seen.lines)) (sym (ap (λ v. v.items) c.replace-waiting.ensures.after ∙ c.new.ensures.items)) (All-nil (λ (x : BoardLine). WasHeard x.board x.line seen.lines)); homed = h.uptake.homed }) h in
     let t = c.in_ok-take_each.ensures.taken seen waiting emptied in
     let are : t.more ≡ c.take_each.new.news = sym (t.are ∙ ap (λ (x : List NoteNews). x ++ t.more) c.new-news.ensures) in (
       subst (AreFurther c.args.k) are t.further,

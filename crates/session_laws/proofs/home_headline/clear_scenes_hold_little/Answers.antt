@@ -1,5 +1,5 @@
-use Rattle.session_laws.proofs.home_headline.Clear.{clear_little}
+use Rattle.session_laws.proofs.home_headline.Clear.{out_little, time_out}
 use Rattle.session_laws.proofs.home_headline.clear_scenes_hold_little.Goals as goal
 
 pub returns : goal.returns
-returns c = clear_little
+returns c = record { little = out_little; out = time_out }

@@ -1,5 +1,0 @@
-use Rattle.std.proofs.Common.{◌<◌, ◌^◌, All, take}
-use Rattle.section_units.proofs.stepper.intervals_fit.Given as goal
-
-abbrev pub invariant-loop-one : goal.invariant-loop-one
-invariant-loop-one l = All (λ p. p.triple.interval < 2 ^ 32) (take l.one-index l.placed)

@@ -31,7 +31,7 @@ ghost use Rattle.run_plans.specs.Lines.{TellTurns, pulses_of};
 ghost use Rattle.run_plans.specs.Planned.{Plans};
 ghost use Rattle.homing_laws.specs.home_runs.Words.{AreToldIn};
 ghost use Rattle.homing_laws.specs.home_parts.Answers.{ArePastConnecting, IsPlannedBy, MayHome, TakeSetUps, TellNone, TellsIn};
-ghost use Rattle.homing_laws.specs.home_parts.Cuts.{PlansEndBefore, cuts_on};
+ghost use Rattle.homing_laws.specs.home_parts.Cuts.{AreOverBefore, cuts_on};
 ghost use Rattle.homing_laws.specs.home_parts.Known.{KnowsLately, StartInRange};
 ghost use Rattle.homing_laws.specs.home_parts.Movers.{HaveMovers};
 ghost use Rattle.homing_laws.specs.home_parts.Reports.{IsHomeStepper};
@@ -101,12 +101,12 @@ pub fn home_lines_fit()
 
 /// The law of a board's orders in a run in which axes home, of the units that are released in its turns: where the boards' controls are
 /// those of such a run, and no unit of moves that is due in the turns and released behind its due one is so more than four turns behind
-/// its section's end; where its clock lines are tracked from 260 turns before the first start on until the plans of all sections are over,
+/// its section's end; where its clock lines are tracked from 260 turns before the first start on until all sections are over (`AreOverBefore`),
 /// steppers are made by then, and the clocks are set of those that home, this is its part of a run. The board may have turns behind those that the planner made: nothing is released in them.
 pub fn begun_boards_home()
     ensures { (m : Machine) (ts : List MotionTurn) (p : Plans m (length m.boards) ts) (t : Told) (b ready until : ℕ) (own : ℕ → ℕ) (os : List Orders) → b < length m.boards → p.seen.told ≡ Some t →
         until ≤ length p.made → (length os ≤ until) ⊎ (length p.made ≤ until) → TookBatches b ts os → TookControlsIn (clocks_at t.clocks b) (cuts_on m t.clocks until p.seen.begun b) 0 os → AreTicks own →
-        (k : AreTracked own (clocks_at t.clocks b) ready) → ready + 260 ≤ t.first → PlansEndBefore m t.clocks k.until p.seen.begun → AreOut until (runs_on m t.clocks p.seen.begun b) →
+        (k : AreTracked own (clocks_at t.clocks b) ready) → ready + 260 ≤ t.first → AreOverBefore m t.clocks k.until p.seen.begun → AreOut until (runs_on m t.clocks p.seen.begun b) →
         ((oid : ℕ) → AreSet oid (cuts_on m t.clocks until p.seen.begun b) 0 os) →
         (ready ≤ length os → (oid : ℕ) → HasUnits oid (cuts_on m t.clocks until p.seen.begun b) ⊎ SetsAny oid os → MakesIn oid (take ready os)) →
         IsHomeRun own (clocks_at t.clocks b) (board_at m b).freq (board_at m b).slots ready (stops_of p.seen.begun) (cuts_on m t.clocks until p.seen.begun b) os }

@@ -14,7 +14,7 @@ use Rattle.plan_types.specs.declared.plan.ReadStop.{ReadStop}
 use Rattle.plan_types.specs.declared.plan.ReadStop.TheVariants as read
 use Rattle.plan_types.specs.declared.plan.Section.{Section}
 use Rattle.plan_types.specs.declared.plan.SectionKind.{SectionKind}
-use Rattle.plan_types.specs.declared.plan.SectionKind.TheVariants.{Home, Moves}
+use Rattle.plan_types.specs.declared.plan.SectionKind.TheVariants.{Moves}
 use Rattle.plan_types.specs.Lines.{Clocks}
 use Rattle.plan_types.specs.Machines.{IsValidMachine, stepper_at}
 use Rattle.plan_types.specs.Plan.{Fits}
@@ -27,7 +27,6 @@ use Rattle.gcode_program.specs.Programs.{program_end, program_sections}
 use Rattle.wire_scene.specs.declared.scene.Scene.{Scene}
 use Rattle.wire_scene.specs.declared.scene.Switch.{Switch}
 use Rattle.host_reactor.specs.Running.{text_end}
-use Rattle.motion_work.specs.Homes.{last_step}
 use Rattle.motion_work.specs.Seen.{AreStarted, IsPlanned, Started}
 use Rattle.session_lanes.specs.declared.near.LinkLog.{LinkLog}
 use Rattle.session_work.specs.declared.table.ReactorTurn.{ReactorTurn}
@@ -57,8 +56,8 @@ use Rattle.session_laws.proofs.home_headline.Cuts.{run_answers}
 use Rattle.session_laws.proofs.home_headline.Read.{run_reads}
 use Rattle.std.proofs.lemmas.Grind.{flat_map-append}
 use Rattle.plan_types.specs.Sections.{section_end, section_starts}
-use Rattle.run_plans.specs.Lines.{drifts_of, head_in, heads_of}
-use Rattle.session_laws.specs.run_headline.Further.{ShowsAll, TellFurther, TellsFurther}
+use Rattle.run_plans.specs.Lines.{head_in, heads_of}
+use Rattle.session_laws.specs.run_headline.Further.{ShowsAll, TellFurther}
 use Rattle.run_plans.specs.Planned.{Seen}
 use Rattle.session_laws.specs.run_lines.Due.{AreFirst, BoardsHave, HaveTheirLines, StandApart, begun_lines, due_lines}
 use Rattle.session_laws.proofs.run_lines.Further.{through_shows}
@@ -194,17 +193,6 @@ module _ (m : Machine) (seen : Seen) (text : List ℕ) (first : ReactorTurn) (re
       let moved = subst (λ (k : SectionKind). IsPlanned k m clocks x.x) kind planned in
       let end : x.x.end ≡ section_end m clocks (moves_of (sections_over m text) i) turn = moved.end ∙ ap (λ n. section_end m clocks x.x.section.moves n) x.start ∙ ap (λ z. section_end m clocks z turn) (sym x.moves) in
       omega (arith, o, end)
-
-  -- a homing section with its line has its last planned step where its plan has
-  part_last : (clocks : List Clocks) (ready : ℕ) → AreStarted m clocks ready seen.begun → (i turn axis : ℕ) → (e : section_turn i (gather (λ t. t.lines) (first ∷ rest)) ≡ Some turn) → kind_of (sections_over m text) i ≡ Home axis
-      → (part_of i turn 0 e).x.last ≡ last_step m clocks (moves_of (sections_over m text) i) turn
-  part_last clocks ready started i turn axis e home =
-      let x = part_of i turn 0 e in
-      let Apart : List Started → Type 0 = λ z. AreStarted m clocks ready z in
-      let planned = planned_at m clocks ready x.past x.x x.later (subst Apart x.cut started) in
-      let kind : x.x.section.kind ≡ Home axis = sym x.kind ∙ home in
-      let homed = subst (λ (k : SectionKind). IsPlanned k m clocks x.x) kind planned in
-      homed.last ∙ ap (λ n. last_step m clocks x.x.section.moves n) x.start ∙ ap (λ z. last_step m clocks z turn) (sym x.moves)
 
   -- the pulses of each stepper in each section fit its plan
   abbrev AllFit : List Clocks → Type 0
@@ -611,19 +599,15 @@ module _ (m : Machine) (switches : List Switch) (seen : Seen) (clocks : List Clo
         (through g).1 ∙ is ∙ ends_as (program_end m text).stop;
     apart = λ i turn e. homes_apart m seen clocks ready own first later h said rest shown_all (some_behind i turn said e);
     sound = λ i turn e. homes_sound m seen clocks ready own first later said rest (show_begun m seen clocks ready own first later h) shown_all (some_behind i turn said e);
-    last = length later;
+    last = length later + 271;
     further = λ i turn e. (told_further i turn e).further;
     first = λ i turn e. (told_further i turn e).first;
     named = λ i turn e. (told_further i turn e).named;
-    over = λ g i turn e kind. part_over m seen text first later spread h.of_text h.lines same clocks ready h.started (h.through (went g)).over i turn (ap (section_turn i) (whole g) ∙ e) kind;
-    homes = λ g i turn axis e kind b inside.
-        let shown_at = ap (section_turn i) (whole g) ∙ e in
-        let x = part_of m seen text first later spread h.of_text h.lines same i turn 0 shown_at in
-        let last = part_last m seen text first later spread h.of_text h.lines same clocks ready h.started i turn axis shown_at kind in
-        let Last : ℕ → Type 0 = λ n. TellsFurther b (clocks_at clocks b).held (n + 7) own (gather (λ t. t.lines) (first ∷ later)) in
-        let told : TellsFurther b (clocks_at clocks b).held (last_step m clocks (moves_of (sections_over m text) i) turn + 7) own (gather (λ t. t.lines) (first ∷ later)) =
-        subst Last last (h.homes (went g) x.past x.x x.later axis x.cut (sym x.kind ∙ kind) b inside) in
-        record { told = told.told; rest = told.rest; are = told.are; lines_are = ap (drifts_of b) (sym (whole g)) ∙ told.lines_are; later = λ z. told.later (let Shows : Cause → Type 0 = λ y. ShowsAll y in subst Shows (complete z).1 z) };
+    over = λ g i turn e kind. (
+        let over = part_over m seen text first later spread h.of_text h.lines same clocks ready h.started (h.through (went g)).over i turn (ap (section_turn i) (whole g) ∙ e) kind in omega (arith, over));
+    told = λ g short firsts.
+        let Follows : List ReportLine → Type 0 = λ z. FollowsPlanBy short m (sections_over m text) z in
+        subst Follows (whole g) (fits_follow m seen text first later spread h.of_text h.lines same short (h.told (went g) short firsts));
   }
     where
       both : heads_of (gather (λ t. t.lines) (first ∷ later)) ≡ heads_of said ++ heads_of rest
@@ -644,7 +628,7 @@ module _ (m : Machine) (switches : List Switch) (seen : Seen) (clocks : List Clo
       went : GoesThrough c → GoesThrough own
       went g = subst (λ (z : Cause). GoesThrough z) (through g).1 g
 
-      told_further : (i turn : ℕ) → section_turn i said ≡ Some turn → TellFurther m clocks (length later) c said
+      told_further : (i turn : ℕ) → section_turn i said ≡ Some turn → TellFurther m clocks (length later + 271) c said
       told_further i turn e = homes_further m seen clocks ready own c first later said rest (show_begun m seen clocks ready own first later h) shown_all (λ g. (let w = complete g in let Shows : Cause → Type 0 = λ z. ShowsAll z in let both : (rest ≡ []) × ShowsAll own = (w.0, subst Shows w.1 g) in both)) (some_behind i turn said e)
 
       whole : GoesThrough c → gather (λ t. t.lines) (first ∷ later) ≡ said
@@ -678,7 +662,7 @@ module _ (m : Machine) (seen : Seen) (clocks : List Clocks) (ready : ℕ) (own c
     cause = λ g.
         let is = (h.through (went g)).cause_is ∙ ap (λ z. text_end (program_end m z).stop) same in
         (begun_through g).1 ∙ is ∙ ends_as (program_end m text).stop;
-    last = length later;
+    last = length later + 271;
     further = λ i turn e. (told_further i turn e).further;
     first = λ i turn e. (told_further i turn e).first;
     named = λ i turn e. (told_further i turn e).named;
@@ -693,7 +677,7 @@ module _ (m : Machine) (seen : Seen) (clocks : List Clocks) (ready : ℕ) (own c
       went : GoesThrough c → GoesThrough own
       went g = subst (λ (z : Cause). GoesThrough z) (begun_through g).1 g
 
-      told_further : (i turn : ℕ) → section_turn i said ≡ Some turn → TellFurther m clocks (length later) c said
+      told_further : (i turn : ℕ) → section_turn i said ≡ Some turn → TellFurther m clocks (length later + 271) c said
       told_further i turn e = homes_further m seen clocks ready own c first later said rest h shown_all (λ g. (let w = complete g in let Shows : Cause → Type 0 = λ z. ShowsAll z in let both : (rest ≡ []) × ShowsAll own = (w.0, subst Shows w.1 g) in both)) (some_behind i turn said e)
 
       whole : GoesThrough c → gather (λ t. t.lines) (first ∷ later) ≡ said

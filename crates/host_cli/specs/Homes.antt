@@ -3,12 +3,12 @@ use Rattle.std.specs.Prelude.{◌≡◌, ℕ, ◌+◌, ◌<◌, List, ◌++◌, 
 use Rattle.gcode_program.specs.Programs.{program_end}
 use Rattle.plan_types.specs.declared.cause.Cause.{Cause}
 use Rattle.plan_types.specs.declared.machine.Machine.{Machine}
-use Rattle.plan_types.specs.declared.plan.SectionKind.TheVariants.{Home, Moves}
+use Rattle.plan_types.specs.declared.plan.SectionKind.TheVariants.{Moves}
 use Rattle.plan_types.specs.Lines.{Clocks}
 use Rattle.plan_types.specs.Sections.{clocks_at, section_end}
 use Rattle.report_text.specs.declared.line.ReportLine.{ReportLine}
 use Rattle.wire_scene.specs.declared.scene.Switch.{Switch}
-use Rattle.motion_work.specs.Homes.{last_step}
+use Rattle.section_feed.specs.Fewer.{AreFirstLines}
 use Rattle.motion_work.specs.Seen.{AreStarted, Started}
 use Rattle.session_laws.specs.run_ends.Ends.{GoesThrough}
 use Rattle.session_laws.specs.run_headline.Further.{AreNamed, BoardsFirst, TellsFurther}
@@ -54,15 +54,14 @@ pub record ShowsHomes (m : Machine) (switches : List Switch) (text : List ℕ) (
   pub apart : (i turn : ℕ) → section_turn i said ≡ Some turn → StandApart m clocks ready said
   pub sound : (i turn : ℕ) → section_turn i said ≡ Some turn → AreSound m clocks ready
   -- Further lines: where a section has its line, the further clock lines of each board that are told are the first ones of these, in
-  -- order, and no board has its line behind one; where the run shows all its lines the others hold from behind a turn: where it went
-  -- through, by this turn all sections ended, and from the seventh turn behind the last planned step of each that homes
+  -- order, and no board has its line behind one; where the run shows all its lines the others hold from behind a turn. Where it went
+  -- through, by this turn the plans of all sections of moves ended, and the pulses of each section fit its plan by the lines that are told as well
   pub last : ℕ
   pub further : (i turn : ℕ) → section_turn i said ≡ Some turn → (b : ℕ) → b < length m.boards → TellsFurther b (clocks_at clocks b).held last c said
   pub first : (i turn : ℕ) → section_turn i said ≡ Some turn → BoardsFirst said
   pub named : (i turn : ℕ) → section_turn i said ≡ Some turn → AreNamed m said
   pub over : GoesThrough c → (i turn : ℕ) → section_turn i said ≡ Some turn → kind_of (sections_over m text) i ≡ Moves → section_end m clocks (moves_of (sections_over m text) i) turn < last
-  pub homes : GoesThrough c → (i turn axis : ℕ) → section_turn i said ≡ Some turn → kind_of (sections_over m text) i ≡ Home axis → (b : ℕ) → b < length m.boards →
-      TellsFurther b (clocks_at clocks b).held (last_step m clocks (moves_of (sections_over m text) i) turn + 7) c said
+  pub told : GoesThrough c → (short : List Clocks) → ((b : ℕ) → b < length m.boards → AreFirstLines (clocks_at short b) (clocks_at clocks b) last) → FollowsPlanBy short m (sections_over m text) said
 
 -- What the lines of a run over links show of the sections of a text, of moves or homing, whatever its links hold: all of the above that is
 -- not of pulses and of cuts.

@@ -163,25 +163,24 @@ fn last_of(ran: &Ran) -> u64 {
     0
 }
 
-/// Whether a section of a text that homes has its last planned step in a turn, and a line of word 1,100 is taken up in another one alone,
+/// Whether a section of a text that homes has its last planned step in a turn, and a line of word 1,100 is taken up in turn 1,164 alone,
 /// where the section has its answer in turn 1,262.
-fn waits(alloc: Global, text: &str, last: u64, turn: u64, from: u128) -> Result<bool, AllocError> {
+fn goes_on(alloc: Global, text: &str, last: u64) -> Result<bool, AllocError> {
     let ran = run_by(alloc, SHORT, text, 4_096, &[1_262], &[(1_100, AHEAD)])?;
     let line = NoteNews::Line {
         board: 0,
         line: AHEAD,
-        from,
+        from: 1_441_000_000,
     };
-    Ok(last_of(&ran) == last && has_taken(alloc, &ran, (turn, line))?)
+    Ok(last_of(&ran) == last && has_taken(alloc, &ran, (1_164, line))?)
 }
 
-/// While an axis homes, from turn 1,000, in which its section is begun, until its answer, a line waits; it is taken up then, or as soon as
-/// it holds eight turns behind the last planned step, though that was cut off. The axes home over one and a half times their length, at
-/// 10 mm/s from turn 1,260 on; the last planned step is in the turn in which they are half a step short of the end, two milliseconds
-/// before it.
+/// A line is taken up while an axis homes, too: its section is begun in turn 1,000 and has its answer in turn 1,262. The axes home over one
+/// and a half times their length, at 10 mm/s from turn 1,260 on; the last planned step that is told stays in the turn in which they are
+/// half a step short of the end, two milliseconds before it, by the lines of the section's begin.
 #[test]
-fn lines_wait_while_an_axis_homes(rt: HostRuntime) -> Result<(), AllocError> {
-    assert!(rt; waits(rt.alloc(), "G28 X", 1_561, 1_292, 1_569_000_000)?);
-    assert!(rt; waits(rt.alloc(), "G28 Y", 1_411, 1_262, 1_539_000_000)?);
+fn a_line_is_taken_up_while_an_axis_homes(rt: HostRuntime) -> Result<(), AllocError> {
+    assert!(rt; goes_on(rt.alloc(), "G28 X", 1_561)?);
+    assert!(rt; goes_on(rt.alloc(), "G28 Y", 1_411)?);
     Ok(())
 }

@@ -1,5 +1,5 @@
 -- Sections that go on, by their kind.
-use Rattle.std.proofs.Common.{◌≡◌, ℕ, zero, suc, ◌+◌, ◌*◌, ◌<◌, ◌≤◌, Bool, true, false, not, List, [], ◌∷◌, ◌++◌, length, append-nil, refl, ap, sym, subst, ◌∙◌, arith, inl, inr}
+use Rattle.std.proofs.Common.{◌≡◌, ℕ, zero, suc, ◌+◌, ◌*◌, ◌<◌, ◌≤◌, Bool, true, false, not, List, [], ◌∷◌, ◌++◌, length, map, append-nil, refl, ap, sym, subst, ◌∙◌, arith, inl, inr}
 use Rattle.std.proofs.Math.Logic.{∥∥₁_elim, ∥∥₁_map, ∥∥₁_prop}
 use Rattle.std.proofs.lemmas.Grind.{merely}
 use Rattle.std.proofs.lemmas.Bool.{cases_lt}
@@ -16,7 +16,8 @@ use Rattle.plan_types.specs.declared.plan.SectionKind.{SectionKind}
 use Rattle.plan_types.specs.declared.plan.SectionKind.TheVariants.{Home, Moves}
 use Rattle.plan_types.specs.Lines.{Clocks}
 use Rattle.plan_types.specs.Clock.{turn_ns}
-use Rattle.plan_types.specs.Sections.{section_end}
+use Rattle.plan_types.specs.declared.plan.Line.{Line}
+use Rattle.plan_types.specs.Sections.{clocks_at, section_end}
 use Rattle.plan_types.specs.Speeds.{greatest_speeds}
 use Rattle.section_feed.proofs.Ends.{end-after}
 use Rattle.section_feed.specs.declared.section.SectionStream.{SectionStream}
@@ -26,7 +27,12 @@ use Rattle.section_feed.proofs.Opening.{section-begun, section-open}
 use Rattle.section_stream.specs.Looking.{IsFuture}
 use Rattle.step_feed.specs.Pacing.{Release}
 use Rattle.motion_work.specs.Homes.{last_step, moving_in}
-use Rattle.motion_work.specs.Seen.{IsHomed, IsPlanned, Started}
+use Rattle.motion_work.specs.Known.{lines_by}
+use Rattle.motion_work.specs.Seen.{IsHomed, IsPlanned, Started, lines_of}
+use Rattle.motion_work.proofs.Staying.{lines_by_added}
+use Rattle.section_feed.specs.Boards.{IsLasting, MayTake}
+use Rattle.section_feed.specs.Lined.{line_at}
+use Rattle.section_feed.proofs.Taken.{end-late}
 use Rattle.motion_work.specs.Told.{Told}
 use Rattle.motion_stream.specs.declared.course.Course.{Course}
 use Rattle.motion_stream.specs.Courses.{GoesAs, HomesOn, IsGoingOn, IsLaid}
@@ -63,45 +69,57 @@ pub continued_sooner : (m : Machine) (next later : ℕ) (g : Going) (x : Started
 continued_sooner m next later g x le c = record { section = c.section; moves = c.moves; start = c.start; ends = ends_sooner g.kind m next later x le c.ends; last = c.last; moving = c.moving; same = λ b j lt below. c.same b j lt (omega (arith, below, le)) }
 
 -- it goes on where a turn goes by
-pub goes_by : (kind : SectionKind) (m : Machine) (clocks : List Clocks) (next later homed more : ℕ) (g h : Going) → (homes_by kind ≡ false → (all : List Move) → IsFuture g.goes g.moves all → later + 1 ≤ section_end m clocks all g.start) → more ≡ homed
-    → h.goes ≡ g.goes → h.moves ≡ g.moves → h.start ≡ g.start → h.last ≡ g.last → h.moving ≡ g.moving → GoesAs kind m clocks next homed g → GoesAs kind m clocks later more h
-goes_by Moves m clocks next later homed more g h late same goes moves start last moving i = record {
+pub goes_by : (kind : SectionKind) (m : Machine) (clocks : List Clocks) (next later : ℕ) (g h : Going) → (homes_by kind ≡ false → (all : List Move) → IsFuture g.goes g.moves all → later + 1 ≤ section_end m clocks all g.start) → h.goes ≡ g.goes → h.moves ≡ g.moves
+    → h.start ≡ g.start → h.last ≡ g.last → h.moving ≡ g.moving → GoesAs kind m clocks next g → GoesAs kind m clocks later h
+goes_by Moves m clocks next later g h late goes moves start last moving i = record {
   late = λ all f. subst (λ n. later + 1 ≤ section_end m clocks all n) (sym start) (late refl all (subst (λ (ms : List Move). IsFuture g.goes ms all) moves (subst (λ b. IsFuture b h.moves all) goes f)));
   last = last ∙ i.last;
   moving = moving ∙ i.moving;
 }
-goes_by (Home axis) m clocks next later homed more g h late same goes moves start last moving i = record {
+goes_by (Home axis) m clocks next later g h late goes moves start last moving i = record {
   whole = goes ∙ i.whole;
-  last = last ∙ i.last ∙ ap (λ (ms : List Move). last_step m clocks ms g.start) (sym moves) ∙ ap (λ n. last_step m clocks h.moves n) (sym start);
+  last = last ∙ i.last ∙ ap (λ (ms : List Move). last_step m (map (lines_by (g.start + 17)) clocks) ms g.start) (sym moves) ∙ ap (λ n. last_step m (map (lines_by (n + 17)) clocks) h.moves n) (sym start);
+  soon = let l = i.soon in omega (arith, l, last);
   moving = moving ∙ i.moving ∙ ap (λ (ms : List Move). moving_in m ms) (sym moves);
-  low = let l = i.low in omega (arith, l, same, last);
 }
 
 -- where nothing of it changes
-pub goes_beside : (kind : SectionKind) (m : Machine) (clocks : List Clocks) (next later homed more : ℕ) (g : Going) → later ≡ next → more ≡ homed → GoesAs kind m clocks next homed g → GoesAs kind m clocks later more g
-goes_beside kind m clocks next later homed more g at same i = subst (λ n. GoesAs kind m clocks n more g) (sym at) (subst (λ n. GoesAs kind m clocks next n g) (sym same) i)
+pub goes_beside : (kind : SectionKind) (m : Machine) (clocks : List Clocks) (next later : ℕ) (g : Going) → later ≡ next → GoesAs kind m clocks next g → GoesAs kind m clocks later g
+goes_beside kind m clocks next later g at i = subst (λ n. GoesAs kind m clocks n g) (sym at) i
+
+-- where a board takes up a line that holds from a turn on, by which it has started long ago or may not end
+pub goes_lined : (kind : SectionKind) (m : Machine) (clocks : List Clocks) (next b turn : ℕ) (line : Line) (g : Going) → b < length clocks → IsLasting (clocks_at clocks b) → MayTake (clocks_at clocks b) turn line → g.start + 17 < turn → next + 1 < turn → GoesAs kind m clocks next g
+    → GoesAs kind m (line_at clocks b turn line) next g
+goes_lined Moves m clocks next b turn line g inside lasting may start soon i =
+    record { late = λ all f. end-late m clocks all g.start b turn (next + 1) line inside (omega (arith, start)) lasting may soon (i.late all f); last = i.last; moving = i.moving }
+goes_lined (Home axis) m clocks next b turn line g inside lasting may start soon i =
+    record { whole = i.whole; last = i.last ∙ ap (λ (cs : List Clocks). last_step m cs g.moves g.start) (sym (lines_by_added clocks b (g.start + 17) turn line inside start)); soon = i.soon; moving = i.moving }
 
 -- one that took more moves is of moves
-pub goes_longer : (kind : SectionKind) (m : Machine) (clocks : List Clocks) (next homed : ℕ) (g h : Going) → g.goes ≡ true → ((all : List Move) → IsFuture h.goes h.moves all → IsFuture g.goes g.moves all) → h.start ≡ g.start → h.last ≡ g.last → h.moving ≡ g.moving → GoesAs kind m clocks next homed g → GoesAs kind m clocks next homed h
-goes_longer Moves m clocks next homed g h on future start last moving i = record {
+pub goes_longer : (kind : SectionKind) (m : Machine) (clocks : List Clocks) (next : ℕ) (g h : Going) → g.goes ≡ true → ((all : List Move) → IsFuture h.goes h.moves all → IsFuture g.goes g.moves all) → h.start ≡ g.start → h.last ≡ g.last → h.moving ≡ g.moving → GoesAs kind m clocks next g → GoesAs kind m clocks next h
+goes_longer Moves m clocks next g h on future start last moving i = record {
   late = λ all f. subst (λ n. next + 1 ≤ section_end m clocks all n) (sym start) (i.late all (future all f));
   last = last ∙ i.last;
   moving = moving ∙ i.moving;
 }
-goes_longer (Home axis) m clocks next homed g h on future start last moving i = absurd (clash (sym on ∙ i.whole))
+goes_longer (Home axis) m clocks next g h on future start last moving i = absurd (clash (sym on ∙ i.whole))
 
 -- one that homes
-pub homes_on : (kind : SectionKind) (m : Machine) (clocks : List Clocks) (next homed : ℕ) (g : Going) → homes_by kind ≡ true → GoesAs kind m clocks next homed g → HomesOn m clocks homed g
-homes_on Moves m clocks next homed g e i = absurd (clash (sym e))
-homes_on (Home axis) m clocks next homed g e i = i
+pub homes_on : (kind : SectionKind) (m : Machine) (clocks : List Clocks) (next : ℕ) (g : Going) → homes_by kind ≡ true → GoesAs kind m clocks next g → HomesOn m clocks g
+homes_on Moves m clocks next g e i = absurd (clash (sym e))
+homes_on (Home axis) m clocks next g e i = i
 
 pub planned_home : (kind : SectionKind) (m : Machine) (clocks : List Clocks) (s : Started) → homes_by kind ≡ true → IsHomed m clocks s → IsPlanned kind m clocks s
 planned_home Moves m clocks s e h = absurd (clash (sym e))
 planned_home (Home axis) m clocks s e h = h
 
-pub laid_home : (kind : SectionKind) (m : Machine) (clocks : List Clocks) (low : ℕ) (s : Started) → homes_by kind ≡ true → IsLaid kind m clocks low s
-laid_home Moves m clocks low s e = absurd (clash (sym e))
-laid_home (Home axis) m clocks low s e = tt
+pub laid_home : (kind : SectionKind) (m : Machine) (clocks : List Clocks) (low : ℕ) (s : Started) → homes_by kind ≡ true → s.end + 268 ≤ low → IsLaid kind m clocks low s
+laid_home Moves m clocks low s e over = absurd (clash (sym e))
+laid_home (Home axis) m clocks low s e over = over
+
+pub lines_home : (kind : SectionKind) (end : ℕ) (clocks : List Clocks) → homes_by kind ≡ true → lines_of kind end clocks ≡ map (lines_by (end + 276)) clocks
+lines_home Moves end clocks e = absurd (clash (sym e))
+lines_home (Home axis) end clocks e = refl
 
 -- what was released on a board becomes the whole section
 pub can : (m : Machine) (s : SectionStream) (homes : Bool) (c : Course) (told : Option Told) (begun : List Started) (going : Option Going) (i : IsGoingOn m s homes c told begun going) (moves : List Move) → IsFuture i.g.goes i.g.moves moves → (b : ℕ) → b < length m.boards → ∥ CanComplete homes m i.t.clocks moves i.g.start b c.next (i.g.released b) ∥₁

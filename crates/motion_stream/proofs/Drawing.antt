@@ -14,6 +14,9 @@ use Rattle.section_feed.specs.declared.section.SectionStream.{SectionStream}
 use Rattle.section_feed.specs.Sections.{next_of}
 use Rattle.step_feed.specs.Pacing.{Release, batch_at}
 use Rattle.step_feed.specs.Units.{StepUnit}
+use Rattle.plan_types.specs.declared.plan.Held.{Held}
+use Rattle.plan_types.specs.Sections.{clocks_at}
+use Rattle.motion_work.specs.Known.{AreHeldBy}
 use Rattle.motion_work.specs.Begins.{done_news, listed}
 use Rattle.motion_work.specs.Feeds.{batches_at, units_at}
 use Rattle.motion_work.specs.Seen.{IsOpen, Started, ready_after}
@@ -26,10 +29,9 @@ use Rattle.motion_stream.specs.declared.course.BoardLines.{BoardLines}
 use Rattle.motion_stream.specs.declared.course.Course.{Course}
 use Rattle.motion_stream.specs.declared.course.Open.{Open}
 use Rattle.motion_stream.specs.declared.course.Open.TheVariants as opens
-use Rattle.motion_stream.proofs.Homed.{homed_later}
 use Rattle.motion_stream.proofs.Rowing.{row_first}
 use Rattle.motion_stream.proofs.Laid.{laid_later}
-use Rattle.motion_stream.specs.Courses.{AreAhead, AreHomedBy, IsCourseBy, IsCourseOf, IsEarly, IsGoing, IsGoingOn, IsIdle, IsLater, IsTold, IsUptake, row_at}
+use Rattle.motion_stream.specs.Courses.{AreAhead, IsCourseBy, IsCourseOf, IsEarly, IsGoing, IsGoingOn, IsIdle, IsLater, IsTold, IsUptake, row_at}
 use Rattle.motion_stream.specs.Rows.{batches_of, units_in}
 use Rattle.motion_stream.specs.Puts.{GoesOn}
 use Rattle.motion_stream.specs.Seen.{AreWhole, Going, Seen, count_of, items_read}
@@ -126,17 +128,44 @@ later_easy turn free ready None (items.End ∷ its) le lf = tt
 later_easy turn free ready (Some e) (items.End ∷ its) le lf = tt
 
 -- what waits to be taken up, where the lines are the same
-pub uptake_kept : (old new : BoardLines) (next later : ℕ) (begun more : List Started) (heard : List BoardLine) → new ≡ old → next ≤ later → (AreHomedBy old.homed later begun → AreHomedBy old.homed later more) → IsUptake old next begun heard → IsUptake new later more heard
-uptake_kept old new next later begun more heard same le homed u = subst (λ (x : BoardLines). IsUptake x later more heard) (sym same) (record { waiting = u.waiting; homed = homed (homed_later old.homed old.homed next later begun (omega arith) le u.homed) })
+pub uptake_kept : (old new : BoardLines) (free later : ℕ) (heard : List BoardLine) → new ≡ old → later ≡ free → IsUptake old free heard → IsUptake new later heard
+uptake_kept old new free later heard same at u = subst (λ n. IsUptake new n heard) (sym at) (subst (λ (x : BoardLines). IsUptake x free heard) (sym same) u)
+
+-- the lines that were taken up hold by later turns
+pub held_later : (a b : ℕ) (held : List Held) → a ≤ b → AreHeldBy a held → AreHeldBy b held
+held_later a b [] le h = tt
+held_later a b (x ∷ held) le h = ((let early = h.0 in omega (arith, early, le)), held_later a b held le h.1)
+
+-- where the next section does not start by turn k + 260, or has begun in the text
+pub fed_on : (m : Machine) (c : Course) (seen : Seen) (k : ℕ) → c.next ≡ k → IsFed c k → IsCourseOf m c seen → IsCourseBy m c seen (k + 260) (k + 261)
+fed_on m c seen k at fed h =
+    let few = h.few in
+    record {
+      machine = h.machine;
+      source = h.source;
+      read = h.read;
+      told = h.told;
+      next = h.next;
+      small = h.small;
+      place = h.place;
+      few = omega (arith, few, at);
+      going = h.going;
+      early = by c.current refl (subst (λ n. IsEarly c.current (n + 260) (n + 260) c) at h.early);
+      uptake = record { waiting = h.uptake.waiting; held = λ b lt. held_later (c.next + 260 + 16) (k + 261 + 16) (clocks_at c.lines.each.items b).held (omega (arith, at)) (h.uptake.held b lt) };
+    }
+  where
+    by : (o : Open) → c.current ≡ o → IsEarly o (k + 260) (k + 260) c → IsEarly o (k + 260) (k + 261) c
+    by opens.Nothing e early = λ on. later_fed k c.ready c.source.end c.source.items.items (fed e on) (early on)
+    by (opens.Goes s homes) e early = tt
 
 -- what was seen behind a turn
 abbrev pub behind : Seen → List Started → Option Going → Seen
 behind seen begun going = record { text = seen.text; ended = seen.ended; read = seen.read; told = seen.told; lines = seen.lines; next = seen.next + 1; begun = begun; going = going }
 
-pub course_on : (m : Machine) (old new : Course) (seen : Seen) (begun : List Started) (going : Option Going) (turn free : ℕ) → IsCourseOf m old seen → IsKept old new → new.next ≡ old.next + 1 → old.next < 2 ^ 42 → old.next + 260 ≤ turn
-    → (AreHomedBy old.lines.homed (seen.next + 1) seen.begun → AreHomedBy old.lines.homed (seen.next + 1) begun) → items_read begun going ≡ items_read seen.begun seen.going → IsTold m new seen.told begun going → count_of begun going ≡ count_of seen.begun seen.going → IsGoing m new.current new seen.told begun going → IsEarly new.current turn free new
+pub course_on : (m : Machine) (old new : Course) (seen : Seen) (begun : List Started) (going : Option Going) (turn free : ℕ) → IsCourseBy m old seen turn free → IsKept old new → new.next ≡ old.next + 1 → old.next < 2 ^ 42
+    → items_read begun going ≡ items_read seen.begun seen.going → IsTold m new seen.told begun going → count_of begun going ≡ count_of seen.begun seen.going → IsGoing m new.current new seen.told begun going → IsEarly new.current turn free new
     → IsCourseBy m new (behind seen begun going) turn free
-course_on m old new seen begun going turn free h kept next small turns homed same told count goes early =
+course_on m old new seen begun going turn free h kept next small same told count goes early =
     let place = h.few in
     let p = kept.place in
     record {
@@ -147,10 +176,10 @@ course_on m old new seen begun going turn free h kept next small turns homed sam
       next = next ∙ ap (λ n. n + 1) h.next;
       small = omega (arith, next, small);
       place = kept.place ∙ h.place ∙ sym count;
-      few = omega (arith, place, p, turns);
+      few = omega (arith, place, p);
       going = goes;
       early = early;
-      uptake = uptake_kept old.lines new.lines seen.next (seen.next + 1) seen.begun begun seen.lines kept.lines (omega arith) homed h.uptake;
+      uptake = uptake_kept old.lines new.lines free free seen.lines kept.lines refl h.uptake;
     }
 
 -- the same sections go on
@@ -158,10 +187,10 @@ pub same_go : (k : ℕ) (begun : List Started) (going : Option Going) → GoesOn
 same_go k begun going = record { more = []; are = sym (append-nil begun); moves = tt; goes = λ g e. inr (g, e, refl, refl) }
 
 -- no section goes on
-pub idle_passed : (m : Machine) (old new : Course) (seen : Seen) (k : ℕ) (batches : List Batch) (done : Option NoteNews) → IsCourseOf m old seen → old.current ≡ opens.Nothing → new.current ≡ opens.Nothing → IsKept old new → new.ready ≡ old.ready
+pub idle_passed : (m : Machine) (old new : Course) (seen : Seen) (k : ℕ) (batches : List Batch) (done : Option NoteNews) → IsCourseBy m old seen (k + 260) (k + 261) → old.current ≡ opens.Nothing → new.current ≡ opens.Nothing → IsKept old new → new.ready ≡ old.ready
     → new.goes ≡ (old.goes && not (nat_eq old.ready (k + 260))) → new.next ≡ old.next + 1 → k ≡ old.next → old.next < 2 ^ 42 → new.ahead.items ≡ drop 1 old.ahead.items → batches ≡ batches_of (length m.boards) old.next (slice_index_or old.ahead.items 0 []) []
-    → done ≡ done_news old.goes old.ready old.place k → IsFed old k → (next : Seen) × IsPassed m seen next k batches done × IsCourseBy m new next (k + 260) (k + 261)
-idle_passed m old new seen k batches done h nothing after kept ready goes next at small ahead are news fed =
+    → done ≡ done_news old.goes old.ready old.place k → (next : Seen) × IsPassed m seen next k batches done × IsCourseBy m new next (k + 260) (k + 261)
+idle_passed m old new seen k batches done h nothing after kept ready goes next at small ahead are news =
     let idle : IsIdle m old seen.begun seen.going = subst (λ o. IsGoing m o old seen.told seen.begun seen.going) nothing h.going in
     let none = idle.none in
     let same : k ≡ seen.next = at ∙ h.next in
@@ -170,8 +199,7 @@ idle_passed m old new seen k batches done h nothing after kept ready goes next a
     let place : old.place ≡ length seen.begun = h.place ∙ ap (count_of seen.begun) none in
     let all_is : (n : ℕ) (all : List Started) → AreWhole m seen.told n seen.begun seen.going all → all ≡ seen.begun = λ n all w. whole_none m seen.told n seen.begun all seen.going none w in
     let ahead_is : AreAhead m old.ahead.items k seen.begun = subst (λ n. AreAhead m old.ahead.items n seen.begun) (sym at) idle.ahead in
-    let early_old : old.connected ≡ true → IsLater (k + 260) (k + 260) old.ready old.source.end old.source.items.items =
-    subst (λ n. old.connected ≡ true → IsLater (n + 260) (n + 260) old.ready old.source.end old.source.items.items) (sym at) (subst (λ o. IsEarly o (old.next + 260) (old.next + 260) old) nothing h.early) in (
+    let early_old : old.connected ≡ true → IsLater (k + 260) (k + 261) old.ready old.source.end old.source.items.items = subst (λ o. IsEarly o (k + 260) (k + 261) old) nothing h.early in (
       behind seen seen.begun seen.going,
       record {
         text = refl;
@@ -187,7 +215,7 @@ idle_passed m old new seen k batches done h nothing after kept ready goes next a
             (λ b lt. ap (λ us. units_in (slice_index_or old.ahead.items 0 []) b ++ us) (no_units b) ∙ append-nil (units_in (slice_index_or old.ahead.items 0 []) b) ∙ front_units m old.ahead.items k b seen.begun ahead_is lt ∙ ap (λ x. units_at b k (boards_in_all x)) (sym (all_is (seen.next + 1) all w)));
         done_is = λ all w. ap listed news ∙ done_are old.goes k old.ready old.place seen.begun open_is last place ∙ ap (done_notes k 0) (sym (all_is (seen.next + 1) all w));
       },
-      course_on m old new seen seen.begun seen.going (k + 260) (k + 261) h kept next small (omega (arith, at)) (λ hs. hs) refl (told_kept m old new seen.told seen.begun seen.going kept ready (omega (arith, next)) h.told) refl
+      course_on m old new seen seen.begun seen.going (k + 260) (k + 261) h kept next small refl (told_kept m old new seen.told seen.begun seen.going kept ready (omega (arith, next)) h.told) refl
           (subst (λ o. IsGoing m o new seen.told seen.begun seen.going) (sym after) (record {
             none = none;
             goes = subst (λ n. IsOpen new.goes n seen.begun) (ap (λ n. n + 1) at ∙ sym next) (subst (λ g. IsOpen g (k + 1) seen.begun) (sym goes) (open_next old.goes k old.ready seen.begun open_is last));
@@ -195,7 +223,7 @@ idle_passed m old new seen k batches done h nothing after kept ready goes next a
           }))
           (subst (λ o. IsEarly o (k + 260) (k + 261) new) (sym after) (λ on.
           subst (λ s. IsLater (k + 260) (k + 261) new.ready s.end s.items.items) (sym kept.source) (subst (λ r. IsLater (k + 260) (k + 261) r old.source.end old.source.items.items) (sym ready)
-          (later_fed k old.ready old.source.end old.source.items.items (fed nothing (sym kept.connected ∙ on)) (early_old (sym kept.connected ∙ on)))))),
+          (early_old (sym kept.connected ∙ on))))),
     )
   where
     last_ready : (told : Option Told) → IsTold m old told seen.begun seen.going → (past : List Started) (s : Started) → seen.begun ≡ past ++ s ∷ [] → old.ready ≡ s.end + 260
@@ -228,11 +256,11 @@ kept_after a b c h k = record {
 }
 
 pub idle_by : (m : Machine) (old mid new : Course) (own : List (List StepUnit)) (seen : Seen) (k : ℕ) (batches : List Batch) (done : Option NoteNews) → HasPassed m mid new own batches → own ≡ [] → IsKept old mid → mid.ready ≡ old.ready → mid.goes ≡ (old.goes && not (nat_eq old.ready (k + 260))) → mid.current ≡ old.current
-    → mid.ahead ≡ old.ahead → mid.next ≡ old.next → old.current ≡ opens.Nothing → k ≡ old.next → old.next < 2 ^ 42 → done ≡ done_news old.goes old.ready old.place k → IsFed old k → IsCourseOf m old seen → (next : Seen) × IsPassed m seen next k batches done × IsCourseBy m new next (k + 260) (k + 261)
-idle_by m old mid new own seen k batches done p nil kept ready goes current ahead next nothing at small news fed h =
+    → mid.ahead ≡ old.ahead → mid.next ≡ old.next → old.current ≡ opens.Nothing → k ≡ old.next → old.next < 2 ^ 42 → done ≡ done_news old.goes old.ready old.place k → IsCourseBy m old seen (k + 260) (k + 261) → (next : Seen) × IsPassed m seen next k batches done × IsCourseBy m new next (k + 260) (k + 261)
+idle_by m old mid new own seen k batches done p nil kept ready goes current ahead next nothing at small news h =
     let e = p.others in
     idle_passed m old new seen k batches done h nothing (ap (λ (c : Course). c.current) e ∙ current ∙ nothing) (kept_after old mid new kept (passed_kept m mid new own batches p)) (ap (λ (c : Course). c.ready) e ∙ ready) (ap (λ (c : Course). c.goes) e ∙ goes) (ap (λ (c : Course). c.next) e ∙ ap (λ n. n + 1) next) at small
-    (p.ahead ∙ ap (λ a. drop 1 a.items) ahead) (p.are ∙ ap (λ n. batches_of (length m.boards) n (slice_index_or mid.ahead.items 0 []) own) next ∙ ap (λ a. batches_of (length m.boards) old.next (slice_index_or a.items 0 []) own) ahead ∙ ap (batches_of (length m.boards) old.next (slice_index_or old.ahead.items 0 [])) nil) news fed
+    (p.ahead ∙ ap (λ a. drop 1 a.items) ahead) (p.are ∙ ap (λ n. batches_of (length m.boards) n (slice_index_or mid.ahead.items 0 []) own) next ∙ ap (λ a. batches_of (length m.boards) old.next (slice_index_or a.items 0 []) own) ahead ∙ ap (batches_of (length m.boards) old.next (slice_index_or old.ahead.items 0 [])) nil) news
 
 -- what a machine does with what goes on
 pub advances_as : (m : Machine) (old new : Course) (o : Open) (k : ℕ) (batches : List Batch) (done : Option NoteNews) → old.current ≡ o → Advances m (record old { current = o }) k batches done new → Advances m old k batches done new

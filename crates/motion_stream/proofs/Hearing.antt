@@ -1,5 +1,5 @@
 -- What a machine takes: pieces of the text, and words.
-use Rattle.std.proofs.Common.{◌≡◌, ◌⊎◌, ℕ, ◌+◌, ◌<◌, ◌≤◌, ◌^◌, Bool, true, false, not, max, List, [], ◌∷◌, ◌++◌, append-nil, append_assoc, length, length-append, refl, ap, sym, subst, ◌∙◌, arith, inl, inr}
+use Rattle.std.proofs.Common.{◌≡◌, ◌⊎◌, ℕ, ◌+◌, ◌*◌, ◌<◌, ◌≤◌, ◌^◌, Bool, true, false, not, map, max, List, [], ◌∷◌, ◌++◌, append-nil, append_assoc, length, length-append, refl, ap, sym, subst, ◌∙◌, arith, inl, inr}
 use Rattle.std.proofs.Math.Logic.{∥∥₁_elim, ∥∥₁_map, ∥∥₁_prop}
 use Rattle.std.proofs.lemmas.Grind.{merely}
 use Rattle.std.proofs.lemmas.Bool.Decides.{leb_tells}
@@ -18,13 +18,23 @@ use Rattle.section_feed.specs.declared.section.SectionStream.{SectionStream}
 use Rattle.section_feed.specs.On.{CanComplete}
 use Rattle.section_feed.specs.Queues.{is_taking}
 use Rattle.section_feed.proofs.Following.{section-sent}
+use Rattle.section_feed.proofs.Soon.{section-soon}
+use Rattle.clock_line.proofs.Turns.{tick_over-mono}
+use Rattle.plan_types.specs.declared.plan.Held.{Held}
+use Rattle.plan_types.specs.Clock.{turn_ns}
+use Rattle.plan_types.specs.Lines.{Clocks, lines_tick}
+use Rattle.plan_types.specs.Machines.{board_at}
+use Rattle.plan_types.specs.Plan.{max_error}
+use Rattle.plan_types.specs.Sections.{clocks_at}
+use Rattle.motion_work.specs.Known.{AreHeldBy, lines_by}
+use Rattle.motion_work.proofs.Staying.{lines_by_all}
 use Rattle.section_feed.proofs.Telling.{batch-behind}
-use Rattle.section_units.specs.Plans.{AreSentOn}
+use Rattle.section_units.specs.Plans.{AreOnBoardsBy, AreSentOn}
 use Rattle.section_units.specs.Sections.{AreBefore}
 use Rattle.section_feed.specs.Rests.{AreAllRested}
 use Rattle.section_feed.specs.Sections.{boards_in, next_of, queue_of}
 use Rattle.section_stream.specs.Looking.{IsFuture}
-use Rattle.step_feed.specs.Pacing.{batch_at}
+use Rattle.step_feed.specs.Pacing.{Release, batch_at}
 use Rattle.motion_work.specs.Feeds.{units_at}
 use Rattle.motion_work.specs.Homes.{no_end}
 use Rattle.motion_work.specs.Seen.{AreAllSent, AreDone, AreStarted, IsOpen, Started, ready_after, waits}
@@ -40,15 +50,14 @@ use Rattle.motion_stream.specs.declared.course.Course.{Course}
 use Rattle.motion_stream.specs.declared.course.Open.{Open}
 use Rattle.motion_stream.specs.declared.course.Open.TheVariants as opens
 use Rattle.motion_stream.specs.declared.source.Source.{Source}
-use Rattle.motion_stream.proofs.ByKind.{all_of, answered_board, answered_items, can, goes_beside, goes_longer, homes_on, laid_home, planned_home, whole_moves}
+use Rattle.motion_stream.proofs.ByKind.{all_of, answered_board, answered_items, can, goes_beside, goes_longer, homes_on, laid_home, lines_home, planned_home, whole_moves}
 use Rattle.motion_stream.proofs.Laid.{laid_later, laid_more}
-use Rattle.motion_stream.specs.Courses.{AreLaid, AreAhead, AreHomedBy, HomesOn, IsConnected, IsCourseOf, IsEarly, IsGoing, IsGoingOn, IsIdle, IsLater, IsTold, IsUptake, row_at}
+use Rattle.motion_stream.specs.Courses.{AreLaid, AreAhead, HomesOn, IsConnected, IsCourseBy, IsCourseOf, IsEarly, IsGoing, IsGoingOn, IsIdle, IsLater, IsTold, IsUptake, row_at}
 use Rattle.motion_stream.specs.Gone.{HasHeardBy}
 use Rattle.motion_stream.specs.Motions.{IsLonger, IsMore, answered, begun_with, going_with, hears_answer, read_on, waits_by, with_answer, with_further, with_lines}
 use Rattle.motion_stream.specs.Seen.{Going, Seen, count_of, homes_by, items_read, sections_in}
 use Rattle.motion_stream.specs.Texts.{HasGrown, IsSourceOf, ended_after, text_after}
 use Rattle.motion_stream.proofs.Drawing.{boards_in_all, later_easy, units_snoc, uptake_kept}
-use Rattle.motion_stream.proofs.Homed.{homed_more}
 use Rattle.motion_stream.proofs.Opening.{source_on}
 
 clash : true ≡ false → ⊥
@@ -150,7 +159,7 @@ text_passed m old new seen bytes end b goes reads early h =
         few = omega (arith, few, p, n);
         going = goes h.going;
         early = early h.early;
-        uptake = uptake_kept old.lines new.lines seen.next seen.next seen.begun seen.begun seen.lines b.lines (omega arith) (λ hs. hs) h.uptake;
+        uptake = uptake_kept old.lines new.lines (old.next + 260) (new.next + 260) seen.lines b.lines (let e = b.next in omega (arith, e)) h.uptake;
       },
     )
 
@@ -207,7 +216,7 @@ going_beside m s homes old new told begun going b i =
       takes = i.takes;
       next = omega (arith, x, n);
       done = subst (λ y. AreDone y begun) (sym n) i.done;
-      goes_as = goes_beside i.g.kind m i.t.clocks old.next new.next old.lines.homed new.lines.homed i.g n (ap (λ l. l.homed) b.lines) i.goes_as;
+      goes_as = goes_beside i.g.kind m i.t.clocks old.next new.next i.g n i.goes_as;
       fresh = λ e. i.fresh (omega (arith, e, n));
       rested = λ e. i.rested (omega (arith, e, n));
       before = λ y. subst (λ z. AreBefore z (i.g.released y)) (sym n) (i.before y);
@@ -245,7 +254,7 @@ text_heard m old mid new s later homes seen bytes end b was now reads reader sto
             few = few;
             going = subst (λ o. IsGoing m o new seen.told seen.begun seen.going) (sym now) (subst (λ x. IsGoingOn m x homes new seen.told seen.begun seen.going) (sym same.0) (going_beside m s homes old new seen.told seen.begun seen.going b i));
             early = subst (λ o. IsEarly o (new.next + 260) (new.next + 260) new) (sym now) tt;
-            uptake = uptake_kept old.lines new.lines seen.next seen.next seen.begun seen.begun seen.lines b.lines (omega arith) (λ hs. hs) h.uptake;
+            uptake = uptake_kept old.lines new.lines (old.next + 260) (new.next + 260) seen.lines b.lines (let e = b.next in omega (arith, e)) h.uptake;
           },
         )
     by_taking true t taken i =
@@ -281,14 +290,14 @@ text_heard m old mid new s later homes seen bytes end b was now reads reader sto
               takes = taken.takes;
               next = omega (arith, x, n, y);
               done = subst (λ z. AreDone z seen.begun) (sym n) i.done;
-              goes_as = goes_beside g.kind m i.t.clocks old.next new.next old.lines.homed new.lines.homed g' n (ap (λ l. l.homed) b.lines) (goes_longer g.kind m i.t.clocks old.next old.lines.homed g g' on (longer_is g taken.more taken.ends on).moves refl refl refl i.goes_as);
+              goes_as = goes_beside g.kind m i.t.clocks old.next new.next g' n (goes_longer g.kind m i.t.clocks old.next g g' on (longer_is g taken.more taken.ends on).moves refl refl refl i.goes_as);
               fresh = λ e. i.fresh (omega (arith, e, n));
               rested = λ e. subst (λ (bs : List BoardStream). AreAllRested (next_of later + 250) bs) (sym taken.boards) (subst (λ z. AreAllRested (z + 250) (boards_in s)) (sym y) (i.rested (omega (arith, e, n))));
               before = λ z. subst (λ w. AreBefore w (g.released z)) (sym n) (i.before z);
               ahead = subst (λ a. AreAhead m a.items new.next seen.begun) (sym b.ahead) (subst (λ z. AreAhead m old.ahead.items z seen.begun) (sym b.next) i.ahead);
             });
             early = subst (λ o. IsEarly o (new.next + 260) (new.next + 260) new) (sym now) tt;
-            uptake = uptake_kept old.lines new.lines seen.next seen.next seen.begun seen.begun seen.lines b.lines (omega arith) (λ hs. hs) h.uptake;
+            uptake = uptake_kept old.lines new.lines (old.next + 260) (new.next + 260) seen.lines b.lines (let e = b.next in omega (arith, e)) h.uptake;
           },
         )
 
@@ -372,7 +381,7 @@ lines_told m old new seen w off told waiting ready on source read place goes cur
       early = any_early new.current (new.next + 260) new (omega (arith, ready, next));
       uptake = record {
         waiting = subst (λ (ls : List BoardLine). All (λ (x : BoardLine). WasHeard x.board x.line seen.lines) ls) (sym (ap (λ v. v.items) waiting)) h.uptake.waiting;
-        homed = subst (AreHomedBy new.lines.homed seen.next) (sym u.1) tt;
+        held = λ b lt. subst (λ (hs : List Held). AreHeldBy (new.next + 260 + 16) hs) (sym (are.1.alone b (let count = are.1.count in omega (arith, lt, count)))) tt;
       };
     }
 
@@ -400,6 +409,24 @@ none_heard m c seen w e h = subst (λ (o : Option Started). IsCourseOf m c (with
   by false f = refl
   by true f = unheard m c.current c seen.told seen.begun seen.going seen.next f h.going h.next
 
+-- what a section that homes has released ends before a line may hold that is taken up from the next turn on
+near_end : (m : Machine) (s : SectionStream) (old : Course) (seen : Seen) (i : IsGoingOn m s true old seen.told seen.begun seen.going) → i.g.start ≤ seen.next → old.next ≡ seen.next → (b : ℕ) → b < length m.boards
+    → All (λ (r : Release). r.unit.last + max_error (board_at m b).freq < lines_tick (clocks_at i.t.clocks b) ((seen.next + 270) * turn_ns)) (i.g.released b)
+near_end m s old seen i began at b lt =
+    let g = i.g in
+    let clocks = clocks_at i.t.clocks b in
+    let may = i.on.may_start b lt in
+    let begun = may.begun in
+    let its = i.next in
+    let now : next_of s ≡ seen.next = omega (arith, its, at, began) in
+    let soon = section-soon m i.t.clocks g.start true s g.moves g.released b i.on lt in
+    let freq : max_error clocks.first.freq ≡ max_error (board_at m b).freq = ap max_error (i.on.freq b lt) in
+    let apart = may.lasting.apart.turns (seen.next + 260) (omega (arith, begun, began)) in
+    let far : (seen.next + 260 + 6) * turn_ns ≤ (seen.next + 270) * turn_ns = omega arith in
+    let up = tick_over-mono clocks.first 0 clocks.held ((seen.next + 260 + 6) * turn_ns) ((seen.next + 270) * turn_ns) far in
+    let e = ap (λ n. lines_tick clocks ((n + 260) * turn_ns)) now in
+    λ k d l. (let one = soon k d l in omega (arith, one, e, freq, apart, up))
+
 -- the section that ends by an answer
 pub answer_told : (m : Machine) (s : SectionStream) (old new : Course) (seen : Seen) (i : IsGoingOn m s true old seen.told seen.begun seen.going) → i.g.start ≤ old.next → old.next ≤ 2 ^ 42 → new.current ≡ opens.Nothing → new.goes ≡ true → new.ready ≡ old.next + 260 → new.connected ≡ old.connected → new.lines ≡ old.lines
     → new.source ≡ old.source → new.read ≡ old.read → new.place ≡ old.place → new.ahead ≡ old.ahead → new.next ≡ old.next → IsCourseOf m old seen → IsCourseOf m new (with_ended seen (Some (answered m seen.next i.g)))
@@ -411,10 +438,9 @@ answer_told m s old new seen i began small nothing goes ready on lines source re
     let few = h.few in
     let p = place in
     let home : homes_by g.kind ≡ true = sym i.homes_is in
-    let homes = homes_on g.kind m i.t.clocks old.next old.lines.homed g home i.goes_as in
+    let homes = homes_on g.kind m i.t.clocks old.next g home i.goes_as in
     let st : g.start ≤ seen.next = omega (arith, began, same) in
     let tiny : seen.next < no_end = omega (arith, small, same) in
-    let low = homes.low in
     record {
       machine = h.machine;
       source = subst (λ z. IsSourceOf m z seen.text seen.ended (items_read begun None)) (sym source) (subst (λ (is : List Item). IsSourceOf m old.source seen.text seen.ended is) (ap (items_read seen.begun) i.is ∙ sym (answered_items seen.begun g x homes.whole refl)) h.source);
@@ -435,10 +461,10 @@ answer_told m s old new seen i began small nothing goes ready on lines source re
         };
       });
       early = subst (λ o. IsEarly o (new.next + 260) (new.next + 260) new) (sym nothing) (λ c. later_easy (new.next + 260) (new.next + 260) new.ready new.source.end new.source.items.items (omega (arith, ready, next)) (omega (arith, ready, next)));
-      uptake = uptake_kept old.lines new.lines seen.next seen.next seen.begun begun seen.lines lines (omega arith) (λ hs. homed_more old.lines.homed seen.next seen.begun x hs (inr (low, omega arith))) h.uptake;
+      uptake = uptake_kept old.lines new.lines (old.next + 260) (new.next + 260) seen.lines lines (omega (arith, next)) h.uptake;
     }
   where
-    told_by : (told : Option Told) → told ≡ Some i.t → HomesOn m i.t.clocks old.lines.homed i.g → homes_by i.g.kind ≡ true → i.g.start ≤ seen.next → seen.next < no_end → IsTold m old told seen.begun seen.going → IsTold m new told (seen.begun ++ answered m seen.next i.g ∷ []) None
+    told_by : (told : Option Told) → told ≡ Some i.t → HomesOn m i.t.clocks i.g → homes_by i.g.kind ≡ true → i.g.start ≤ seen.next → seen.next < no_end → IsTold m old told seen.begun seen.going → IsTold m new told (seen.begun ++ answered m seen.next i.g ∷ []) None
     told_by None e homes home st tiny c = absurd (none_some i.t e)
     told_by (Some u) e homes home st tiny d =
         let g = i.g in
@@ -450,6 +476,11 @@ answer_told m s old new seen i began small nothing goes ready on lines source re
         let start = i.start in
         let late = c.late in
         let future = whole_moves g.goes g.moves in
+        let held : map (lines_by (seen.next + 276)) t.clocks ≡ t.clocks =
+        lines_by_all t.clocks (seen.next + 276) (subst (λ (cs : List Clocks). (b : ℕ) → b < length cs → AreHeldBy (seen.next + 276) (clocks_at cs b).held) c.lines
+        (λ b lt. subst (λ n. AreHeldBy n (clocks_at old.lines.each.items b).held) (let e : old.next + 260 + 16 ≡ seen.next + 276 = omega (arith, at) in e) (h.uptake.held b lt))) in
+        let By : List Clocks → Type 0 = λ cs. (planned : List (List Release)) → AreOnBoardsBy true m cs g.moves g.start planned → AreOnBoardsBy true m (map (lines_by (seen.next + 276)) t.clocks) g.moves g.start planned in
+        let by_held : By t.clocks = subst By held (λ planned are. are) in
         subst (λ (z : Told). IsConnected m new z (seen.begun ++ x ∷ []) None) (sym (some_same u t e)) (record {
           connected = on ∙ c.connected;
           lines = ap (λ l. l.each.items) lines ∙ c.lines;
@@ -458,13 +489,23 @@ answer_told m s old new seen i began small nothing goes ready on lines source re
               (λ b lt. subst (λ n. ∥ CanComplete true m t.clocks g.moves g.start b n (g.released b) ∥₁) at (can m s true old seen.told seen.begun seen.going i g.moves future b lt)))
               (λ k. started_more m t.clocks t.first seen.begun x all (record {
                 start = start;
-                planned = planned_home g.kind m t.clocks x home (record { late = st; last = homes.last; moving = homes.moving; planned = k.planned; are = k.are; boards = inr (tiny, k.cut) });
+                planned = planned_home g.kind m t.clocks x home (record {
+                  late = st;
+                  last = homes.last;
+                  soon = homes.soon;
+                  moving = homes.moving;
+                  planned = k.planned;
+                  are = by_held k.planned k.are;
+                  boards = inr (tiny, k.cut);
+                  near = λ known b lt. subst (All (λ (r : Release). r.unit.last + max_error (board_at m b).freq < lines_tick (clocks_at t.clocks b) ((seen.next + 270) * turn_ns))) (sym (answered_board m seen.next g b lt)) (near_end m s old seen i st at b lt);
+                });
               })));
           sent = ∥∥₁_elim c.sent ∥∥₁_prop (λ all. ∥∥₁_map (all_of (λ b. AreSentOn m t.clocks g.moves g.start b (g.released b)) (length m.boards)
               (λ b lt. section-sent m t.clocks g.start true s g.moves g.moves g.released b i.on (subst (λ f. IsFuture f g.moves g.moves) (sym i.takes) future) lt))
-              (λ each. sent_more m t.clocks seen.begun x all (λ b lt. subst (AreSentOn m t.clocks g.moves g.start b) (sym (answered_board m seen.next g b lt)) (each b lt))));
+              (λ each. sent_more m t.clocks seen.begun x all (λ b lt. subst (λ (cs : List Clocks). AreSentOn m cs g.moves g.start b (slice_index_or x.boards b [])) (sym (lines_home g.kind seen.next t.clocks home ∙ held))
+              (subst (AreSentOn m t.clocks g.moves g.start b) (sym (answered_board m seen.next g b lt)) (each b lt)))));
           clocks = c.clocks;
-          laid = laid_more m t.clocks (new.next + 268) seen.begun x (laid_later m t.clocks (old.next + 268) (new.next + 268) seen.begun (omega (arith, next)) c.laid) (laid_home g.kind m t.clocks (new.next + 268) x home);
+          laid = laid_more m t.clocks (new.next + 268) seen.begun x (laid_later m t.clocks (old.next + 268) (new.next + 268) seen.begun (omega (arith, next)) c.laid) (laid_home g.kind m t.clocks (new.next + 268) x home (omega (arith, next, at)));
           first = c.first;
           late = omega (arith, r, start, late, st);
         })
@@ -498,9 +539,9 @@ told_lined : (m : Machine) (old : Course) (lines : BoardLines) (told : Option To
 told_lined m old lines None begun going e h = h
 told_lined m old lines (Some t) begun going e h = record { connected = h.connected; lines = ap (λ v. v.items) e ∙ h.lines; ready = h.ready; started = h.started; sent = h.sent; clocks = h.clocks; laid = h.laid; first = h.first; late = h.late }
 
-going_lined : (m : Machine) (o : Open) (old : Course) (lines : BoardLines) (told : Option Told) (begun : List Started) (going : Option Going) → lines.homed ≡ old.lines.homed → IsGoing m o old told begun going → IsGoing m o (record old { lines = lines }) told begun going
-going_lined m opens.Nothing old lines told begun going homed i = record { none = i.none; goes = i.goes; ahead = i.ahead }
-going_lined m (opens.Goes s homes) old lines told begun going homed i = record {
+going_lined : (m : Machine) (o : Open) (old : Course) (lines : BoardLines) (told : Option Told) (begun : List Started) (going : Option Going) → IsGoing m o old told begun going → IsGoing m o (record old { lines = lines }) told begun going
+going_lined m opens.Nothing old lines told begun going i = record { none = i.none; goes = i.goes; ahead = i.ahead }
+going_lined m (opens.Goes s homes) old lines told begun going i = record {
   g = i.g;
   is = i.is;
   homes_is = i.homes_is;
@@ -513,20 +554,20 @@ going_lined m (opens.Goes s homes) old lines told begun going homed i = record {
   takes = i.takes;
   next = i.next;
   done = i.done;
-  goes_as = goes_beside i.g.kind m i.t.clocks old.next old.next old.lines.homed lines.homed i.g refl homed i.goes_as;
+  goes_as = i.goes_as;
   fresh = i.fresh;
   rested = i.rested;
   before = i.before;
   ahead = i.ahead;
 }
 
-early_lined : (o : Open) (turn : ℕ) (old : Course) (lines : BoardLines) → IsEarly o turn turn old → IsEarly o turn turn (record old { lines = lines })
-early_lined opens.Nothing turn old lines e = e
-early_lined (opens.Goes s homes) turn old lines e = e
+early_lined : (o : Open) (turn free : ℕ) (old : Course) (lines : BoardLines) → IsEarly o turn free old → IsEarly o turn free (record old { lines = lines })
+early_lined opens.Nothing turn free old lines e = e
+early_lined (opens.Goes s homes) turn free old lines e = e
 
-pub course_lined : (m : Machine) (old : Course) (lines : BoardLines) (seen : Seen) (heard : List BoardLine) → lines.each ≡ old.lines.each → lines.homed ≡ old.lines.homed → IsUptake lines seen.next seen.begun heard → IsCourseOf m old seen
-    → IsCourseOf m (record old { lines = lines }) (record { text = seen.text; ended = seen.ended; read = seen.read; told = seen.told; lines = heard; next = seen.next; begun = seen.begun; going = seen.going })
-course_lined m old lines seen heard each homed uptake h = record {
+pub course_lined : (m : Machine) (old : Course) (lines : BoardLines) (seen : Seen) (turn free : ℕ) (heard : List BoardLine) → lines.each ≡ old.lines.each → IsUptake lines free heard → IsCourseBy m old seen turn free
+    → IsCourseBy m (record old { lines = lines }) (record { text = seen.text; ended = seen.ended; read = seen.read; told = seen.told; lines = heard; next = seen.next; begun = seen.begun; going = seen.going }) turn free
+course_lined m old lines seen turn free heard each uptake h = record {
   machine = h.machine;
   source = h.source;
   read = h.read;
@@ -535,8 +576,8 @@ course_lined m old lines seen heard each homed uptake h = record {
   small = h.small;
   place = h.place;
   few = h.few;
-  going = going_lined m old.current old lines seen.told seen.begun seen.going homed h.going;
-  early = early_lined old.current (old.next + 260) old lines h.early;
+  going = going_lined m old.current old lines seen.told seen.begun seen.going h.going;
+  early = early_lined old.current turn free old lines h.early;
   uptake = uptake;
 }
 
@@ -565,20 +606,23 @@ own_heard (l ∷ ls) =
 all_back : (heard more : List BoardLine) → AreKnown (heard ++ more) more
 all_back heard more = λ i d lt. heard_back _ _ heard more (own_heard more i d lt)
 
+-- one more line that was heard of
+pub also_heard : (m : Machine) (c : Course) (seen : Seen) (turn free : ℕ) (more : List BoardLine) → IsCourseBy m c seen turn free
+    → IsCourseBy m c (record { text = seen.text; ended = seen.ended; read = seen.read; told = seen.told; lines = seen.lines ++ more; next = seen.next; begun = seen.begun; going = seen.going }) turn free
+also_heard m c seen turn free more h = course_lined m c c.lines seen turn free (seen.lines ++ more) refl (record { waiting = all_front seen.lines more c.lines.waiting.items h.uptake.waiting; held = h.uptake.held }) h
+
 -- further lines that a word tells
-pub further_kept : (m : Machine) (old : Course) (lines : BoardLines) (seen : Seen) (w : WordMsg) → lines.each ≡ old.lines.each → lines.homed ≡ old.lines.homed → (kept : List BoardLine) → (kept ≡ old.lines.waiting.items) ⊎ (kept ≡ []) → lines.waiting.items ≡ kept ++ lines_in w.news → IsCourseOf m old seen → IsCourseOf m (record old { lines = lines }) (with_further seen w)
-further_kept m old lines seen w each homed kept some are h =
+pub further_kept : (m : Machine) (old : Course) (lines : BoardLines) (seen : Seen) (w : WordMsg) → lines.each ≡ old.lines.each → lines.waiting.items ≡ old.lines.waiting.items ++ lines_in w.news → IsCourseOf m old seen → IsCourseOf m (record old { lines = lines }) (with_further seen w)
+further_kept m old lines seen w each are h =
     let heard = seen.lines ++ lines_in w.news in
-    let known : AreKnown seen.lines kept = elim some [ inl e ↦ subst (AreKnown seen.lines) (sym e) h.uptake.waiting | inr e ↦ subst (AreKnown seen.lines) (sym e) (All-nil (λ (x : BoardLine). WasHeard x.board x.line seen.lines)) ] in
-    course_lined m old lines seen heard each homed (record {
-      waiting = subst (AreKnown heard) (sym are) (All-append (λ (x : BoardLine). WasHeard x.board x.line heard) kept (lines_in w.news) (all_front seen.lines (lines_in w.news) kept known) (all_back seen.lines (lines_in w.news)));
-      homed = subst (λ n. AreHomedBy n seen.next seen.begun) (sym homed) h.uptake.homed;
+    course_lined m old lines seen (old.next + 260) (old.next + 260) heard each (record {
+      waiting = subst (AreKnown heard) (sym are) (All-append (λ (x : BoardLine). WasHeard x.board x.line heard) old.lines.waiting.items (lines_in w.news) (all_front seen.lines (lines_in w.news) old.lines.waiting.items h.uptake.waiting) (all_back seen.lines (lines_in w.news)));
+      held = subst (λ (cs : List Clocks). (b : ℕ) → b < length cs → AreHeldBy (old.next + 260 + 16) (clocks_at cs b).held) (sym (ap (λ v. v.items) each)) h.uptake.held;
     }) h
 
--- one more line that was heard of
-pub also_heard : (m : Machine) (c : Course) (seen : Seen) (more : List BoardLine) → IsCourseOf m c seen
-    → IsCourseOf m c (record { text = seen.text; ended = seen.ended; read = seen.read; told = seen.told; lines = seen.lines ++ more; next = seen.next; begun = seen.begun; going = seen.going })
-also_heard m c seen more h = course_lined m c c.lines seen (seen.lines ++ more) refl refl (record { waiting = all_front seen.lines more c.lines.waiting.items h.uptake.waiting; homed = h.uptake.homed }) h
+-- none is kept
+pub further_none : (m : Machine) (c : Course) (seen : Seen) (w : WordMsg) → IsCourseOf m c seen → IsCourseOf m c (with_further seen w)
+further_none m c seen w h = also_heard m c seen (c.next + 260) (c.next + 260) (lines_in w.news) h
 
 pub last_heard : (heard : List BoardLine) (one : BoardLine) → WasHeard one.board one.line (heard ++ one ∷ [])
 last_heard heard one = heard_back one.board one.line heard (one ∷ []) (inl (refl, refl))

@@ -19,7 +19,7 @@ use Rattle.motion_work.specs.Puts.{ArePut, IsPut, Put, begun_notes}
 use Rattle.motion_work.specs.Seen.{Started}
 use Rattle.motion_work.specs.Told.{Told, heard, tells_homed}
 use Rattle.motion_work.specs.Turns.{done_notes}
-use Rattle.motion_work.proofs.Putting.{begun_stay, done_stay, out_more, over_more, put_more, same_on}
+use Rattle.motion_work.proofs.Putting.{begun_stay, done_stay, out_more, put_more, same_on}
 use Rattle.motion_stream.specs.Courses.{IsCourseOf, IsTold}
 use Rattle.motion_stream.specs.Motions.{Can, Hears, IsMore, IsPlannerOf, Makes, Planner, Reads, answered, begun_with, ended_in, going_with, hears_answer, read_on, with_lines, with_word}
 use Rattle.motion_stream.specs.Puts.{ArePutBy, IsBehind, IsNew, IsPutOf}
@@ -84,7 +84,6 @@ put_stays m text begun s k j p new lt h =
       out = elim h.out [ inl none ↦ inl none | inr all ↦ inr (out_more (length m.boards) j (length (program_sections m text)) begun s all) ];
       further = h.further;
       are_further = h.are_further;
-      over = elim h.over [ inl none ↦ inl none | inr all ↦ inr (over_more j begun s all (inr (inl (omega (arith, st, lt))))) ];
       news_are = h.news_are ∙ ap (λ x. x ++ (begun_notes j 0 begun ++ (h.read ++ h.further))) (done_stay j 0 begun s (λ e. omega (arith, e, late, st, lt)))
           ∙ ap (λ x. done_notes j 0 (begun ++ s ∷ []) ++ (x ++ (h.read ++ h.further))) (begun_stay j 0 begun s (λ e. omega (arith, e, st, lt)));
     }

@@ -14,7 +14,6 @@ pub mod Clearing
 pub mod Keeping
 pub mod Limits
 pub mod Uptaking
-pub mod Homed
 pub mod Laid
 pub mod ByKind
 pub mod Leaving

@@ -1,5 +1,5 @@
 -- A section that is begun.
-use Rattle.std.proofs.Common.{◌≡◌, ℕ, zero, suc, ◌+◌, ◌*◌, ◌<◌, ◌≤◌, ◌^◌, Bool, true, false, not, max, List, [], ◌∷◌, ◌++◌, length, append-nil, append_assoc, refl, ap, sym, subst, ◌∙◌, arith, inl, inr}
+use Rattle.std.proofs.Common.{◌≡◌, ℕ, zero, suc, ◌+◌, ◌*◌, ◌<◌, ◌≤◌, ◌^◌, Bool, true, false, not, max, List, [], ◌∷◌, ◌++◌, length, map, append-nil, append_assoc, refl, ap, sym, subst, ◌∙◌, arith, inl, inr}
 use Rattle.std.specs.Prelude.{◌-◌, ◌/◌, All, Option, Some, None}
 use Rattle.gcode_program.specs.declared.items.Item.{Item}
 use Rattle.gcode_program.specs.declared.items.Item.TheVariants as items
@@ -25,6 +25,9 @@ use Rattle.std.proofs.Math.Nat.{mul-le-mul_left}
 use Rattle.std.proofs.lemmas.List.Elements.{All-cons, All-head, All-nil}
 use Rattle.plan_types.specs.declared.plan.Line.{Line}
 use Rattle.plan_types.specs.Clock.{tick, tick_limit}
+use Rattle.motion_work.specs.Homes.{last_step}
+use Rattle.motion_work.specs.Known.{AreHeldBy, lines_by}
+use Rattle.motion_work.proofs.Staying.{lines_by_all}
 use Rattle.plan_types.specs.Machines.{IsValidMachine}
 use Rattle.plan_types.specs.Sections.{clocks_at, turns_of_move}
 use Rattle.plan_types.specs.Valid.{IsValidLine, IsValidMove}
@@ -48,7 +51,6 @@ use Rattle.motion_stream.proofs.ByKind.{starts_late}
 use Rattle.motion_stream.specs.Steps.{AreBegun, IsBegun, IsDue, IsNotDue}
 use Rattle.motion_stream.specs.Texts.{IsSourceOf}
 use Rattle.motion_stream.proofs.Sourcing.{waiting_good}
-use Rattle.motion_stream.proofs.Homed.{homed_later}
 
 clash : true ≡ false → ⊥
 clash p = cc
@@ -118,10 +120,10 @@ abbrev pub with_begun : Seen → List Started → Option Going → Seen
 with_begun seen begun going = record { text = seen.text; ended = seen.ended; read = seen.read; told = seen.told; lines = seen.lines; next = seen.next; begun = begun; going = going }
 
 -- what changes where a section is begun
-pub record IsOpened (old new : Course) (start homed : ℕ) : Type 0 where
+pub record IsOpened (old new : Course) (start : ℕ) : Type 0 where
   pub read : new.read ≡ old.read
   pub connected : new.connected ≡ old.connected
-  pub lines : new.lines ≡ record old.lines { homed = homed }
+  pub lines : new.lines ≡ old.lines
   pub place : new.place ≡ old.place + 1
   pub start_is : new.start ≡ start
   pub ahead : new.ahead ≡ old.ahead
@@ -152,13 +154,15 @@ section_source begun kind dwell start last moving more ends rest left is =
     ap (λ r. items_of (sections_in begun) ++ items.Begin kind dwell ∷ r) (is ∙ ap (λ e. (moves_in more ++ ending e) ++ left) (sym (not_not ends)))
     ∙ sym (append_assoc (items_of (sections_in begun)) (items.Begin kind dwell ∷ (moves_in more ++ ending (not (not ends)))) left)
 
-fresh_as : (kind : SectionKind) (m : Machine) (clocks : List Clocks) (next homed dwell start last moving : ℕ) (moves : List Move) (ends : Bool) → TellsAs kind m clocks start moves ends last moving → next + 1 ≤ start → last ≤ homed → GoesAs kind m clocks next homed (fresh kind dwell start moves ends last moving)
-fresh_as Moves m clocks next homed dwell start last moving moves ends tells soon low = record { late = λ all f. (let e = end_after m clocks all start in omega (arith, e, soon)); last = tells.0; moving = tells.1 }
-fresh_as (Home axis) m clocks next homed dwell start last moving moves ends tells soon low = record { whole = ap not tells.0; last = tells.1; moving = tells.2; low = low }
+fresh_as : (kind : SectionKind) (m : Machine) (clocks : List Clocks) (next dwell start last moving : ℕ) (moves : List Move) (ends : Bool) → TellsAs kind m clocks start moves ends last moving → next + 1 ≤ start → map (lines_by (start + 17)) clocks ≡ clocks
+    → GoesAs kind m clocks next (fresh kind dwell start moves ends last moving)
+fresh_as Moves m clocks next dwell start last moving moves ends tells soon held = record { late = λ all f. (let e = end_after m clocks all start in omega (arith, e, soon)); last = tells.0; moving = tells.1 }
+fresh_as (Home axis) m clocks next dwell start last moving moves ends tells soon held =
+    record { whole = ap not tells.0; last = tells.1 ∙ ap (λ (cs : List Clocks). last_step m cs moves start) (sym held); soon = tells.2; moving = tells.3 }
 
 pub section_begun : (m : Machine) (old new : Course) (seen : Seen) (k start dwell last moving : ℕ) (kind : SectionKind) (rest : List Item) (s : SectionStream) (homes : Bool) (n : NoteNews) → IsCourseBy m old seen (k + 260) (k + 261) → old.next ≡ k + 1 → k < 2 ^ 42
     → IsDueIn m old seen k start dwell kind rest → old.source.items.items ≡ items.Begin kind dwell ∷ rest → HasOpened m old.lines.each.items kind start rest new.source.items.items s last moving
-    → IsOpened old new start (max old.lines.homed last) → new.current ≡ opens.Goes s homes → homes ≡ homes_by kind → new.ready ≡ old.ready → n ≡ news.Start old.place kind start last moving
+    → IsOpened old new start → new.current ≡ opens.Goes s homes → homes ≡ homes_by kind → new.ready ≡ old.ready → n ≡ news.Start old.place kind start last moving
     → (next : Seen) × IsBegun m seen next k (Some n) × IsCourseOf m new next
 section_begun m old new seen k start dwell last moving kind rest s homes n h next small d its opened o current homes_is ready told =
     let t = d.t in
@@ -171,7 +175,8 @@ section_begun m old new seen k start dwell last moving kind rest s homes n h nex
     let few = h.few in
     let p' = o.place in
     let from = opened.next in
-    let homed = ap (λ (l : BoardLines). l.homed) o.lines in
+    let held : map (lines_by (start + 17)) t.clocks ≡ t.clocks =
+    lines_by_all t.clocks (start + 17) (subst (λ (cs : List Clocks). (b : ℕ) → b < length cs → AreHeldBy (start + 17) (clocks_at cs b).held) d.is.lines (λ b lt. subst (λ n. AreHeldBy n (clocks_at old.lines.each.items b).held) (let e : k + 261 + 16 ≡ start + 17 = omega (arith, exact) in e) (h.uptake.held b lt))) in
     let on : IsSectionOn m t.clocks start (homes_by kind) s opened.moves (λ b. []) = subst (λ c. IsSectionOn m c start (homes_by kind) s opened.moves (λ b. [])) d.is.lines opened.on in
     let tells : TellsAs kind m t.clocks start opened.moves opened.ends last moving = subst (λ c. TellsAs kind m c start opened.moves opened.ends last moving) d.is.lines opened.tells in (
       with_begun seen seen.begun (Some g),
@@ -218,17 +223,14 @@ section_begun m old new seen k start dwell last moving kind rest s homes n h nex
           takes = opened.takes;
           next = omega (arith, from, exact, n', next);
           done = subst (λ x. AreDone x seen.begun) (sym next ∙ sym n') d.over;
-          goes_as = fresh_as kind m t.clocks new.next new.lines.homed dwell start last moving opened.moves opened.ends tells (omega (arith, exact, n', next)) (omega (arith, homed));
+          goes_as = fresh_as kind m t.clocks new.next dwell start last moving opened.moves opened.ends tells (omega (arith, exact, n', next)) held;
           fresh = λ e b. refl;
           rested = λ e. absurd (omega (arith, e, exact, n', next));
           before = λ b. tt;
           ahead = subst (λ x. AreAhead m x.items new.next seen.begun) (sym o.ahead) (subst (λ x. AreAhead m old.ahead.items x seen.begun) (sym n') d.idle.ahead);
         });
         early = subst (λ x. IsEarly x (new.next + 260) (new.next + 260) new) (sym current) tt;
-        uptake = subst (λ (y : BoardLines). IsUptake y seen.next seen.begun seen.lines) (sym o.lines) (record {
-          waiting = h.uptake.waiting;
-          homed = homed_later old.lines.homed (max old.lines.homed last) seen.next seen.next seen.begun (omega arith) (omega arith) h.uptake.homed;
-        });
+        uptake = subst (λ n. IsUptake new.lines n seen.lines) (let e : k + 261 ≡ new.next + 260 = omega (arith, n', next) in e) (subst (λ (y : BoardLines). IsUptake y (k + 261) seen.lines) (sym o.lines) h.uptake);
       },
     )
   where
@@ -302,7 +304,7 @@ none_begun m c seen k next due h =
         few = omega (arith, few, next);
         going = h.going;
         early = subst (λ x. IsEarly c.current x x c) (let e : k + 261 ≡ c.next + 260 = omega (arith, next) in e) (still_early c.current c k due h.early);
-        uptake = h.uptake;
+        uptake = subst (λ n. IsUptake c.lines n seen.lines) (let e : k + 261 ≡ c.next + 260 = omega (arith, next) in e) h.uptake;
       },
     )
 

@@ -28,7 +28,7 @@ use Rattle.section_units.specs.Sections.{AreBefore}
 use Rattle.step_feed.specs.Pacing.{Release, at_turn, batch_at}
 use Rattle.step_feed.specs.Units.{StepUnit}
 use Rattle.motion_work.specs.Feeds.{units_at}
-use Rattle.motion_work.specs.Seen.{AreDone, IsOpen, IsPlanned, Started}
+use Rattle.motion_work.specs.Seen.{AreDone, IsOpen, IsPlanned, Started, lines_of}
 use Rattle.motion_work.specs.Told.{Told}
 use Rattle.motion_work.specs.Turns.{done_notes}
 use Rattle.motion_work.proofs.Turning.{done_later, end_after, other_done, ready_more, started_more}
@@ -36,7 +36,7 @@ use Rattle.motion_stream.specs.declared.course.Course.{Course}
 use Rattle.motion_stream.specs.declared.course.Open.TheVariants as opens
 use Rattle.motion_stream.proofs.Laid.{laid_later, laid_more}
 use Rattle.section_feed.proofs.Laid.{section-laid}
-use Rattle.motion_stream.specs.Courses.{AreAhead, IsConnected, IsCourseBy, IsCourseOf, IsEarly, IsGoing, IsGoingOn, IsLaid, GoesAs, MovesOn, IsTold, row_at}
+use Rattle.motion_stream.specs.Courses.{AreAhead, IsConnected, IsCourseBy, IsEarly, IsGoing, IsGoingOn, IsLaid, GoesAs, MovesOn, IsTold, row_at}
 use Rattle.motion_stream.specs.Gone.{HasEnded, HasGivenRows, released_in}
 use Rattle.motion_stream.specs.Rows.{AreJoined, batches_of, units_in}
 use Rattle.motion_stream.specs.Motions.{answered}
@@ -44,7 +44,6 @@ use Rattle.motion_stream.specs.Seen.{AreWhole, EndsBy, Going, IsContinued, Seen,
 use Rattle.motion_stream.proofs.ByKind.{all_of, answered_board, answered_items, continued_sooner, ends_late, ends_sooner, goes_by, moves_kind, whole_moves}
 use Rattle.motion_stream.specs.Steps.{IsPassed}
 use Rattle.motion_stream.proofs.Drawing.{IsKept, ahead_next, batches_are, behind, boards_in_all, course_on, front_units, later_easy, no_units, same_go, some_same, told_kept, units_snoc}
-use Rattle.motion_stream.proofs.Homed.{homed_more}
 use Rattle.motion_stream.proofs.Rowing.{no_row}
 use Rattle.motion_stream.proofs.Taking.{same_released, section_on}
 use Rattle.section_stream.specs.Steppers.{StepperKind}
@@ -80,7 +79,7 @@ not_done m k next begun g s done before is =
     sym (other_done k 0 begun s done (λ x. omega (arith, x, before, l)))
 
 -- a turn before the first one of a section
-pub before_passed : (m : Machine) (old new : Course) (s : SectionStream) (homes : Bool) (seen : Seen) (k : ℕ) (batches : List Batch) → IsGoingOn m s homes old seen.told seen.begun seen.going → IsCourseOf m old seen → IsKept old new → new.ready ≡ old.ready → new.start ≡ old.start → new.next ≡ old.next + 1
+pub before_passed : (m : Machine) (old new : Course) (s : SectionStream) (homes : Bool) (seen : Seen) (k : ℕ) (batches : List Batch) → IsGoingOn m s homes old seen.told seen.begun seen.going → IsCourseBy m old seen (k + 260) (k + 261) → IsKept old new → new.ready ≡ old.ready → new.start ≡ old.start → new.next ≡ old.next + 1
     → k ≡ old.next → old.next < 2 ^ 42 → old.next + 250 < old.start → new.ahead.items ≡ drop 1 old.ahead.items → batches ≡ batches_of (length m.boards) old.next (slice_index_or old.ahead.items 0 []) []
     → (IsGoingOn m s homes new seen.told seen.begun seen.going → IsGoing m new.current new seen.told seen.begun seen.going) → IsEarly new.current (k + 260) (k + 261) new
     → (next : Seen) × IsPassed m seen next k batches None × IsCourseBy m new next (k + 260) (k + 261)
@@ -115,7 +114,7 @@ before_passed m old new s homes seen k batches i h kept ready start next at smal
             let l = known (seen.next + 1) all w in
             not_done m k (seen.next + 1) seen.begun g l.s done (omega (arith, at, same)) l.is ∙ ap (done_notes k 0) (sym l.are);
       },
-      course_on m old new seen seen.begun seen.going (k + 260) (k + 261) h kept next small (omega (arith, at)) (λ hs. hs) refl (told_kept m old new seen.told seen.begun seen.going kept ready (omega (arith, next)) h.told) refl
+      course_on m old new seen seen.begun seen.going (k + 260) (k + 261) h kept next small refl (told_kept m old new seen.told seen.begun seen.going kept ready (omega (arith, next)) h.told) refl
           (goes (record {
             g = g;
             is = i.is;
@@ -129,7 +128,7 @@ before_passed m old new s homes seen k batches i h kept ready start next at smal
             takes = i.takes;
             next = omega (arith, its, next, far, begins);
             done = subst (λ n. AreDone n seen.begun) (sym next) (done_later old.next (old.next + 1) seen.begun (omega arith) i.done);
-            goes_as = goes_by g.kind m i.t.clocks old.next new.next old.lines.homed new.lines.homed g g (λ off all f. let e = end_after m i.t.clocks all g.start in omega (arith, e, next, far, begins)) (ap (λ l. l.homed) kept.lines) refl refl refl refl refl i.goes_as;
+            goes_as = goes_by g.kind m i.t.clocks old.next new.next g g (λ off all f. let e = end_after m i.t.clocks all g.start in omega (arith, e, next, far, begins)) refl refl refl refl refl i.goes_as;
             fresh = λ e. none;
             rested = λ e. absurd (omega (arith, e, next, far, begins));
             before = λ b. subst (AreBefore new.next) (sym (none b)) tt;
@@ -164,7 +163,7 @@ drawn_sooner m k next g own x at c = record {
 }
 
 -- a turn whose units a section gives, and behind which it goes on
-pub drawn_passed : (m : Machine) (old new : Course) (s later : SectionStream) (homes : Bool) (own : List (List StepUnit)) (seen : Seen) (k : ℕ) (batches : List Batch) → IsGoingOn m s homes old seen.told seen.begun seen.going → IsCourseOf m old seen → IsKept old new → new.ready ≡ old.ready → new.start ≡ old.start
+pub drawn_passed : (m : Machine) (old new : Course) (s later : SectionStream) (homes : Bool) (own : List (List StepUnit)) (seen : Seen) (k : ℕ) (batches : List Batch) → IsGoingOn m s homes old seen.told seen.begun seen.going → IsCourseBy m old seen (k + 260) (k + 261) → IsKept old new → new.ready ≡ old.ready → new.start ≡ old.start
     → new.next ≡ old.next + 1 → k ≡ old.next → old.next < 2 ^ 42 → old.start ≤ old.next + 250 → new.ahead.items ≡ drop 1 old.ahead.items → batches ≡ batches_of (length m.boards) old.next (slice_index_or old.ahead.items 0 []) own
     → HasDrawn s later k own → All (IsPackedTo (next_of later + 251)) (boards_in later) → (homes ≡ false → IsLeft later)
     → ((begun : List Started) (going : Option Going) → IsGoingOn m later homes new seen.told begun going → IsGoing m new.current new seen.told begun going) → IsEarly new.current (k + 260) (k + 261) new
@@ -206,7 +205,7 @@ drawn_passed m old new s later homes own seen k batches i h kept ready start nex
             let l = known all w in
             not_done m k (seen.next + 1) seen.begun g' l.s done (omega (arith, at, same)) l.is ∙ ap (done_notes k 0) (sym l.are);
       },
-      course_on m old new seen seen.begun (Some g') (k + 260) (k + 261) h kept next small (omega (arith, at)) (λ hs. hs) (ap (items_read seen.begun) (sym i.is)) (told_more seen.told h.told) (ap (count_of seen.begun) (sym i.is))
+      course_on m old new seen seen.begun (Some g') (k + 260) (k + 261) h kept next small (ap (items_read seen.begun) (sym i.is)) (told_more seen.told h.told) (ap (count_of seen.begun) (sym i.is))
           (goes seen.begun (Some g') (record {
             g = g';
             is = refl;
@@ -220,7 +219,7 @@ drawn_passed m old new s later homes own seen k batches i h kept ready start nex
             takes = takes;
             next = let n = drawn.next in omega (arith, n, next, at, near, begins);
             done = subst (λ n. AreDone n seen.begun) (sym next) (done_later old.next (old.next + 1) seen.begun (omega arith) i.done);
-            goes_as = goes_by g.kind m i.t.clocks old.next new.next old.lines.homed new.lines.homed g g' after (ap (λ l. l.homed) kept.lines) refl refl refl refl refl i.goes_as;
+            goes_as = goes_by g.kind m i.t.clocks old.next new.next g g' after refl refl refl refl refl i.goes_as;
             fresh = λ e. absurd (omega (arith, e, next, near, begins));
             rested = λ e. drawn.rested;
             before = λ b. subst (λ n. AreBefore n (more_released g k own b)) (let e : k + 1 ≡ new.next = omega (arith, at, next) in e) (before-more k (g.released b) (slice_index_or own b []) (before b));
@@ -278,7 +277,7 @@ closed_board : (m : Machine) (g : Going) (k : ℕ) (own : List (List StepUnit)) 
 closed_board m g k own rows end b lt = answered_board m end (going_all g k own rows) b lt
 
 -- a turn whose units a section gives, and behind which its end is known
-pub ended_passed : (m : Machine) (old new : Course) (s later last : SectionStream) (homes : Bool) (own : List (List StepUnit)) (rows : List (List (List StepUnit))) (end : ℕ) (seen : Seen) (k : ℕ) (batches : List Batch) → homes ≡ false → IsGoingOn m s homes old seen.told seen.begun seen.going → IsCourseOf m old seen → IsKept old new
+pub ended_passed : (m : Machine) (old new : Course) (s later last : SectionStream) (homes : Bool) (own : List (List StepUnit)) (rows : List (List (List StepUnit))) (end : ℕ) (seen : Seen) (k : ℕ) (batches : List Batch) → homes ≡ false → IsGoingOn m s homes old seen.told seen.begun seen.going → IsCourseBy m old seen (k + 260) (k + 261) → IsKept old new
     → new.next ≡ old.next + 1 → k ≡ old.next → old.next < 2 ^ 42 → batches ≡ batches_of (length m.boards) old.next (slice_index_or old.ahead.items 0 []) own → HasDrawn s later k own → (e : ℕ) × IsDrawn (queue_of later) × ArePast e (boards_in later) → HasGivenRows later last (k + 1) rows → HasEnded last end
     → new.ready ≡ end + 260 → new.goes ≡ true → new.current ≡ opens.Nothing → AreJoined (length m.boards) (drop 1 old.ahead.items) rows new.ahead.items
     → (next : Seen) × IsPassed m seen next k batches None × IsCourseBy m new next (k + 260) (k + 261)
@@ -294,7 +293,7 @@ ended_passed m old new s later last homes own rows end seen k batches off i h ke
     let before : (b : ℕ) → AreBefore k (g.released b) = λ b. subst (λ n. AreBefore n (g.released b)) (sym at) (i.before b) in
     let over : g.goes ≡ false = sym (given.takes ∙ drawn.takes ∙ i.takes) ∙ ended.drawn.over in
     let kind : g.kind ≡ Moves = moves_kind g.kind (sym i.homes_is ∙ off) in
-    let goes_as : MovesOn m t.clocks old.next g = subst (λ k. GoesAs k m t.clocks old.next old.lines.homed g) kind i.goes_as in
+    let goes_as : MovesOn m t.clocks old.next g = subst (λ k. GoesAs k m t.clocks old.next g) kind i.goes_as in
     let begins : IsSectionOn m t.clocks g.start false s g.moves g.released = subst (λ b. IsSectionOn m t.clocks g.start b s g.moves g.released) off i.on in
     let gives : IsSectionOn m t.clocks g.start false later g.moves (more_released g k own) = drawn.on m t.clocks g.start false g.moves g.released begins in
     let on : IsSectionOn m t.clocks g.start false last g.moves (all_released g k own rows) = given.on m t.clocks g.start false g.moves (more_released g k own) gives in
@@ -336,7 +335,7 @@ ended_passed m old new s later last homes own rows end seen k batches off i h ke
             ∙ sym (units_snoc seen.begun x b k) ∙ ap (λ ss. units_at b k (boards_in_all ss)) (sym w));
         done_is = λ all w. sym (ap (done_notes k 0) w ∙ other_done k 0 seen.begun x done (λ e. omega (arith, e, late)));
       },
-      course_on m old new seen begun None (k + 260) (k + 261) h kept next small (omega (arith, at)) (λ hs. homed_more old.lines.homed (seen.next + 1) seen.begun x hs (inl kind)) (answered_items seen.begun g x over refl ∙ ap (items_read seen.begun) (sym i.is)) (told_more seen.told i.told_is x refl end_is known kind goes_as gives on late starts ready)
+      course_on m old new seen begun None (k + 260) (k + 261) h kept next small (answered_items seen.begun g x over refl ∙ ap (items_read seen.begun) (sym i.is)) (told_more seen.told i.told_is x refl end_is known kind goes_as gives on late starts ready)
           (length-append seen.begun (x ∷ []) ∙ ap (count_of seen.begun) (sym i.is))
           (subst (λ o. IsGoing m o new seen.told begun None) (sym nothing) (record {
             none = refl;
@@ -380,7 +379,7 @@ ended_passed m old new s later last homes own rows end seen k batches off i h ke
           })));
       sent = ∥∥₁_elim c.sent ∥∥₁_prop (λ all. ∥∥₁_map (all_of (λ b. AreSentOn m i.t.clocks i.g.moves i.g.start b (all_released i.g k own rows b)) (length m.boards)
           (λ b lt. section-sent m i.t.clocks i.g.start false last i.g.moves i.g.moves (all_released i.g k own rows) b on (whole_moves (is_taking (queue_of last)) i.g.moves) lt)) (λ each. sent_more m i.t.clocks seen.begun (closed m i.g k own rows end) all
-          (λ b lt. subst (AreSentOn m i.t.clocks i.g.moves i.g.start b) (sym (closed_board m i.g k own rows end b lt)) (each b lt))));
+          (λ b lt. subst (λ z. AreSentOn m (lines_of z end i.t.clocks) i.g.moves i.g.start b (slice_index_or (closed m i.g k own rows end).boards b [])) (sym kind) (subst (AreSentOn m i.t.clocks i.g.moves i.g.start b) (sym (closed_board m i.g k own rows end b lt)) (each b lt)))));
       clocks = c.clocks;
       laid = laid_more m i.t.clocks (new.next + 268) seen.begun (closed m i.g k own rows end) (laid_later m i.t.clocks (old.next + 268) (new.next + 268) seen.begun (omega (arith, next)) c.laid) (
           let soon = i.soon in

@@ -25,20 +25,20 @@ use Rattle.motion_work.specs.Feeds.{batches_at, units_at}
 use Rattle.motion_work.specs.Puts.{IsPut, IsReadNews, begun_notes}
 use Rattle.motion_work.specs.declared.told.BoardLine.{BoardLine}
 use Rattle.motion_work.specs.Further.{AreFurther, WereHeard, told_on}
-use Rattle.motion_work.specs.Seen.{AreDone, AreMoves, AreOut, AreOver, IsOpen, Started}
+use Rattle.motion_work.specs.Seen.{AreDone, AreMoves, AreOut, IsOpen, Started}
 use Rattle.motion_work.specs.Turns.{done_notes, start_notes}
 use Rattle.motion_work.specs.Told.{Told}
-use Rattle.motion_work.proofs.Putting.{begun_before, begun_last, done_stay, over_more, same_on}
+use Rattle.motion_work.proofs.Putting.{begun_before, begun_last, done_stay, same_on}
 use Rattle.motion_stream.specs.declared.course.Course.{Course}
 use Rattle.motion_stream.specs.declared.course.Open.{Open}
 use Rattle.motion_stream.specs.declared.course.Open.TheVariants as opens
-use Rattle.motion_stream.specs.Courses.{IsCourseBy, IsCourseOf, IsEarly, IsGoing, IsIdle, IsTold, row_at}
+use Rattle.motion_stream.specs.Courses.{IsCourseBy, IsCourseOf, IsEarly, IsGoing, IsIdle, IsSoundBy, IsTold, row_at}
 use Rattle.motion_stream.specs.Motions.{AreEarly, Turns}
 use Rattle.motion_stream.specs.News.{HasPutAll, IsPlain, begins_in, read_news}
 use Rattle.motion_stream.specs.Puts.{AreGrown, GoesOn, HaveBegun, IsNew}
 use Rattle.motion_stream.specs.Seen.{AreWhole, Going, MayBe, Seen, count_of, items_read, sections_in}
 use Rattle.motion_stream.specs.Steps.{Advances, AreBegun, Begins, IsPassed}
-use Rattle.motion_stream.specs.Uptakes.{IsClosed, TakesUp, lined}
+use Rattle.motion_stream.specs.Uptakes.{TakesUp, lined}
 use Rattle.motion_stream.proofs.Drawing.{boards_in_all, units_snoc, whole_none}
 use Rattle.motion_stream.proofs.Opening.{linked}
 use Rattle.motion_stream.proofs.Rowing.{no_row}
@@ -155,8 +155,12 @@ batches_more m k before s new =
     same_on (λ b. B (units_at b k (boards_in_all before))) (λ b. B (units_at b k (boards_in_all (before ++ s ∷ [])))) 0 (length m.boards) (length m.boards) (omega arith)
     (λ b lt. ap B (sym (units_snoc before s b k ∙ ap (λ us. units_at b k (boards_in_all before) ++ us) (new.none b k lt (omega arith)) ∙ append-nil (units_at b k (boards_in_all before)))))
 
+-- what was seen before a turn
+pub by_next : (m : Machine) (c : Course) (k : ℕ) → c.next ≡ k → IsSoundBy m c k → IsSoundBy m c c.next
+by_next m c k at s = record { seen = s.seen; is = subst (λ n. IsCourseBy m c s.seen (n + 260) (n + 261)) (sym at) s.is }
+
 -- what was told of the boards stays
-pub early_on : (m : Machine) (old mid : Course) (seen next : Seen) (turn free : ℕ) → next.told ≡ seen.told → IsCourseOf m old seen → IsCourseBy m mid next turn free → AreEarly m old → AreEarly m mid
+pub early_on : (m : Machine) (old mid : Course) (seen next : Seen) (turn free : ℕ) → next.told ≡ seen.told → IsCourseBy m old seen turn free → IsCourseBy m mid next turn free → AreEarly m old → AreEarly m mid
 early_on m old mid seen next turn free same h k early on =
     let l = linked m mid next.told next.begun next.going on k.told in
     by seen.told h.told (sym same ∙ l.told_is) l.is.lines
@@ -191,12 +195,6 @@ whole_lined m ns None next begun all None w = w
 whole_lined m ns None next begun all (Some g) w = w
 whole_lined m ns (Some t) next begun all None w = w
 whole_lined m ns (Some t) next begun all (Some g) w = w
-
--- a section of moves that may follow changes nothing of those that home
-over_whole : (k : ℕ) (m : Machine) (told : Option Told) (next : ℕ) (begun all : List Started) (going : Option Going) → AreWhole m told next begun going all → AreOver k begun → ((g : Going) → going ≡ Some g → g.kind ≡ Moves) → AreOver k all
-over_whole k m told next begun all None w over moves = subst (AreOver k) (sym w) over
-over_whole k m None next begun all (Some g) w over moves = absurd w
-over_whole k m (Some t) next begun all (Some g) w over moves = subst (AreOver k) (sym w.1) (over_more k begun w.0 over (inl (ap (λ (x : Section). x.kind) w.2.section ∙ moves g refl)))
 
 none_left : {X : Type 0} (xs ys : List X) → xs ++ ys ≡ [] → (xs ≡ []) × (ys ≡ [])
 none_left [] ys e = (refl, e)
@@ -258,7 +256,7 @@ pub turned : (m : Machine) (old first mid begun new : Course) (k : ℕ) (further
 turned m old first mid begun new k further batches done start note read end known at plain_done plain_start plain_read takes passes begins new_is turn told seen h =
     let u = takes seen h in
     let from = lined seen further in
-    let a = passes from u.3 in
+    let a = passes from u.2 in
     let b = begins a.0 a.2 in
     let next = b.0 in
     let now : Seen = record { text = next.text; ended = next.ended; read = read; told = next.told; lines = next.lines; next = next.next; begun = next.begun; going = next.going } in
@@ -280,7 +278,7 @@ turned m old first mid begun new k further batches done start note read end know
         sections = both_go k seen.begun a.0.begun next.begun seen.going a.0.going next.going p.sections q.sections;
         grown = λ all w. grown_by all (q.grown all w) p;
       },
-      λ started whole all may. put_by all whole (q.grown all may.sections) p started u.0 u.2 (told_known m begun next whole all (begun.next + 260) (begun.next + 260) begun.read end (elim known [ inl e ↦ inl e | inr e ↦ inr e.0 ]) b.2 (record { text = may.text; sections = may.sections }))
+      λ started whole all may. put_by all whole (q.grown all may.sections) p started u.0 (told_known m begun next whole all (begun.next + 260) (begun.next + 260) begun.read end (elim known [ inl e ↦ inl e | inr e ↦ inr e.0 ]) b.2 (record { text = may.text; sections = may.sections }))
           (out_known m begun next whole all k (begun.next + 260) (begun.next + 260) begun.read end known b.2 (record { text = may.text; sections = may.sections }) behind),
       read_on m begun new next read new_is b.2,
     )
@@ -288,14 +286,12 @@ turned m old first mid begun new k further batches done start note read end know
     grown_by : {a : Seen} (all : List Started) → AreBegun m a k start all → IsPassed m (lined seen further) a k batches done → AreGrown m seen k all
     grown_by all g p = record { old = g.before; whole = whole_lined m further seen.told seen.next seen.begun g.before seen.going (p.whole g.before g.whole); are = elim g.are [ inl e ↦ inl e.0 | inr e ↦ inr (e.0, e.1, e.2.new) ] }
 
-    put_by : {a : Seen} (all : List Started) (whole : List ℕ) → AreBegun m a k start all → IsPassed m (lined seen further) a k batches done → HaveBegun m seen k → AreFurther k further → (further ≡ []) ⊎ IsClosed k seen
-        → IsReadNews m whole (listed (read_news begun.read end (begun.place + begins_in begun.source.items.items)))
+    put_by : {a : Seen} (all : List Started) (whole : List ℕ) → AreBegun m a k start all → IsPassed m (lined seen further) a k batches done → HaveBegun m seen k → AreFurther k further → IsReadNews m whole (listed (read_news begun.read end (begun.place + begins_in begun.source.items.items)))
         → (listed (read_news begun.read end (begun.place + begins_in begun.source.items.items)) ≡ []) ⊎ AreOut (length m.boards) k (length (program_sections m whole)) all → IsPut m whole all k (record { batches = batches; note = note })
-    put_by all whole g p started is_further home is_read out =
+    put_by all whole g p started is_further is_read out =
         let before = g.before in
         let was = whole_lined m further seen.told seen.next seen.begun before seen.going (p.whole before g.whole) in
         let early : All (λ s. s.start < k + 260) before = started before was in
-        let over : IsClosed k seen → AreOver k before = λ closed. over_whole k m seen.told seen.next seen.begun before seen.going was closed.begun closed.going in
         let r = listed (read_news begun.read end (begun.place + begins_in begun.source.items.items)) ++ further in
         let d = p.done_is before g.whole in
         let none : begun_notes k 0 before ≡ [] = begun_before k 0 before early in
@@ -308,7 +304,6 @@ turned m old first mid begun new k further batches done start note read end know
             out = out;
             further = further;
             are_further = is_further;
-            over = elim home [ inl nothing ↦ inl nothing | inr hs ↦ inr (subst (AreOver k) (sym e.0) (over hs)) ];
             news_are = told ∙ ap (λ x. x ++ (listed start ++ r)) d ∙ ap (λ x. done_notes k 0 before ++ (listed x ++ r)) e.1 ∙ ap (λ x. done_notes k 0 before ++ (x ++ r)) (sym none) ∙ ap (λ x. done_notes k 0 x ++ (begun_notes k 0 x ++ r)) (sym e.0);
           }
           | inr e ↦ (
@@ -326,7 +321,6 @@ turned m old first mid begun new k further batches done start note read end know
                 out = out;
                 further = further;
                 are_further = is_further;
-                over = elim home [ inl nothing ↦ inl nothing | inr hs ↦ inr (subst (AreOver k) (sym e.1) (over_more k before s (over hs) (inr (inl (omega (arith, st)))))) ];
                 news_are = told ∙ ap (λ x. x ++ (listed start ++ r)) (d ∙ done_stay k 0 before s (λ x. omega (arith, x, st, late))) ∙ ap (λ x. done_notes k 0 (before ++ s ∷ []) ++ (listed x ++ r)) e.2.told
                     ∙ ap (λ n. done_notes k 0 (before ++ s ∷ []) ++ ((news.Start n s.section.kind s.start s.last s.moving ∷ []) ++ r)) (sym size) ∙ ap (λ x. done_notes k 0 (before ++ s ∷ []) ++ (x ++ r)) (sym last) ∙ ap (λ x. done_notes k 0 x ++ (begun_notes k 0 x ++ r)) (sym e.1);
               })

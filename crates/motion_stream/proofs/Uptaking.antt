@@ -10,8 +10,9 @@ use Rattle.plan_types.specs.declared.machine.Machine.{Machine}
 use Rattle.plan_types.specs.declared.plan.Line.{Line}
 use Rattle.plan_types.specs.declared.plan.SectionKind.{SectionKind}
 use Rattle.plan_types.specs.declared.plan.SectionKind.TheVariants.{Home, Moves}
-use Rattle.plan_types.specs.Clock.{turn_ns}
-use Rattle.plan_types.specs.Lines.{Clocks}
+use Rattle.plan_types.specs.declared.plan.Held.{Held}
+use Rattle.plan_types.specs.Clock.{tick, turn_ns}
+use Rattle.plan_types.specs.Lines.{Clocks, lines_tick}
 use Rattle.plan_types.specs.Sections.{clocks_at, for_each_stepper, latest, stepper_end}
 use Rattle.plan_types.specs.Valid.{IsValidLine}
 use Rattle.clock_line.specs.Kept.{added}
@@ -29,24 +30,25 @@ use Rattle.section_feed.proofs.Lasts.{added-lasts, kept-lasting}
 use Rattle.section_feed.proofs.Lined.{section-lined}
 use Rattle.section_feed.proofs.Lining.{MayHold, may-hold}
 use Rattle.section_feed.proofs.Staying.{all-sent-stays, boards-stay, end-stays, here-line, other-line}
-use Rattle.section_feed.proofs.Taken.{end-late, steps-before}
+use Rattle.section_feed.proofs.Taken.{steps-before}
+use Rattle.section_units.specs.Plans.{AreSentOn}
 use Rattle.motion_work.specs.declared.told.BoardLine.{BoardLine}
 use Rattle.motion_work.specs.Further.{AreFurther, WasHeard, WereHeard, noted_lines, told_on}
-use Rattle.motion_work.specs.Seen.{AreAllSent, AreBoardClocks, AreDone, AreStarted, IsPlanned, IsSentOf, Started, ready_after}
+use Rattle.motion_work.specs.Seen.{AreAllSent, AreBoardClocks, AreDone, AreStarted, IsPlanned, Started, lines_of, ready_after}
 use Rattle.motion_work.specs.Told.{Told}
-use Rattle.motion_work.proofs.Staying.{homed_stays}
+use Rattle.motion_work.proofs.Staying.{homed_stays, lines_by_added}
+use Rattle.motion_work.specs.Known.{AreHeldBy}
 use Rattle.motion_stream.specs.declared.course.BoardLines.{BoardLines}
 use Rattle.motion_stream.specs.declared.course.Course.{Course}
 use Rattle.motion_stream.specs.declared.course.Open.{Open}
 use Rattle.motion_stream.specs.declared.course.Open.TheVariants as opens
-use Rattle.motion_stream.specs.Courses.{AreAhead, AreHomedBy, AreLaid, IsConnected, GoesAs, IsCourseOf, IsEarly, IsGoing, IsGoingOn, IsSound, IsTold, IsUptake, MovesOn}
+use Rattle.motion_stream.specs.Courses.{AreAhead, AreLaid, IsConnected, GoesAs, IsCourseBy, IsEarly, IsGoing, IsGoingOn, IsSoundBy, IsTold, IsUptake}
 use Rattle.motion_stream.specs.Motions.{AreEarly}
-use Rattle.motion_stream.specs.Seen.{Going, Seen, homes_by}
-use Rattle.motion_stream.proofs.ByKind.{moves_kind}
-use Rattle.motion_stream.specs.Uptakes.{AddsTo, HasTold, IsClosed, IsOpenTo, MayAdd, MayAddTo, TakesOne, lined}
+use Rattle.motion_stream.specs.Seen.{Seen}
+use Rattle.motion_stream.proofs.ByKind.{goes_beside, goes_lined}
+use Rattle.motion_stream.specs.Uptakes.{AddsTo, HasTold, MayAdd, MayAddTo, TakesOne, lined}
 use Rattle.motion_stream.proofs.Opening.{IsLinked, linked}
 use Rattle.motion_stream.proofs.Hearing.{also_heard, last_heard}
-use Rattle.motion_stream.proofs.Homed.{over_by}
 use Rattle.motion_stream.proofs.Laid.{EndBy, EndsBy, end_by, laid_stay}
 
 some_same : {X : Type 0} (x y : X) → Some x ≡ Some y → x ≡ y
@@ -92,9 +94,7 @@ one_stays Moves m clocks s b turn line inside lasting may low moved =
       moving = moved.moving;
       boards = boards-stay false m clocks ms s.start b turn line s.boards inside start lasting may before moved.boards;
     }
-one_stays (Home axis) m clocks s b turn line inside lasting may low homed =
-    let last = homed.last in
-    homed_stays m clocks s b turn line inside (omega (arith, last, low)) lasting may (steps-before m clocks s.section.moves s.start b turn (kept-lasting (clocks_at clocks b) lasting) (omega (arith, last, low))) homed
+one_stays (Home axis) m clocks s b turn line inside lasting may low homed = homed_stays m clocks s b turn line inside low homed
 
 begun_stay : (m : Machine) (clocks : List Clocks) (ready b turn : ℕ) (line : Line) (begun : List Started) → b < length clocks → IsLasting (clocks_at clocks b) → MayTake (clocks_at clocks b) turn line → EndBy m clocks turn begun → AreStarted m clocks ready begun → AreStarted m (line_at clocks b turn line) ready begun
 begun_stay m clocks ready b turn line [] inside lasting may ends all = tt
@@ -103,27 +103,22 @@ begun_stay m clocks ready b turn line (s ∷ begun) inside lasting may ends all 
   begun_stay m clocks (s.end + 260) b turn line begun inside lasting may ends.1 all.1,
 )
 
--- it starts before the turn, and its last step is before it
-ends_before : (kind : SectionKind) (m : Machine) (clocks : List Clocks) (turn : ℕ) (s : Started) → EndsBy kind m clocks turn s → IsPlanned kind m clocks s → (s.start < turn) × (latest (for_each_stepper m (stepper_end m clocks s.section.moves s.start)) < turn)
-ends_before Moves m clocks turn s low moved = low
-ends_before (Home axis) m clocks turn s low homed = (let last = homed.last in let start : s.start < turn = omega (arith, last, low) in start, let last = homed.last in omega (arith, last, low))
+one_sent : (kind : SectionKind) (m : Machine) (clocks : List Clocks) (s : Started) (b turn k : ℕ) (line : Line) → b < length clocks → IsLasting (clocks_at clocks b) → MayTake (clocks_at clocks b) turn line → EndsBy kind m clocks turn s
+    → AreSentOn m (lines_of kind s.end clocks) s.section.moves s.start k (slice_index_or s.boards k []) → AreSentOn m (lines_of kind s.end (line_at clocks b turn line)) s.section.moves s.start k (slice_index_or s.boards k [])
+one_sent Moves m clocks s b turn k line inside lasting may low sent =
+    let before = steps-before m clocks s.section.moves s.start b turn (kept-lasting (clocks_at clocks b) lasting) low.1 in
+    all-sent-stays m clocks s.section.moves s.start b turn k line _ inside low.0 lasting may before sent
+one_sent (Home axis) m clocks s b turn k line inside lasting may low sent = subst (λ (cs : List Clocks). AreSentOn m cs s.section.moves s.start k (slice_index_or s.boards k [])) (sym (lines_by_added clocks b (s.end + 276) turn line inside low)) sent
 
-one_sent : (kind : SectionKind) (m : Machine) (clocks : List Clocks) (s : Started) (b turn : ℕ) (line : Line) → b < length clocks → IsLasting (clocks_at clocks b) → MayTake (clocks_at clocks b) turn line → EndsBy kind m clocks turn s → IsPlanned kind m clocks s → IsSentOf m clocks s → IsSentOf m (line_at clocks b turn line) s
-one_sent kind m clocks s b turn line inside lasting may low planned sent =
-    let ms = s.section.moves in
-    let early = ends_before kind m clocks turn s low planned in
-    let before = steps-before m clocks ms s.start b turn (kept-lasting (clocks_at clocks b) lasting) early.1 in
-    λ k lt. all-sent-stays m clocks ms s.start b turn k line _ inside early.0 lasting may before (sent k lt)
-
-sent_stay : (m : Machine) (clocks : List Clocks) (ready b turn : ℕ) (line : Line) (begun : List Started) → b < length clocks → IsLasting (clocks_at clocks b) → MayTake (clocks_at clocks b) turn line → EndBy m clocks turn begun → AreStarted m clocks ready begun → AreAllSent m clocks begun → AreAllSent m (line_at clocks b turn line) begun
-sent_stay m clocks ready b turn line [] inside lasting may ends all sent = tt
-sent_stay m clocks ready b turn line (s ∷ begun) inside lasting may ends all sent = (
-  one_sent s.section.kind m clocks s b turn line inside lasting may ends.0 all.0.planned sent.0,
-  sent_stay m clocks (s.end + 260) b turn line begun inside lasting may ends.1 all.1 sent.1,
+sent_stay : (m : Machine) (clocks : List Clocks) (b turn : ℕ) (line : Line) (begun : List Started) → b < length clocks → IsLasting (clocks_at clocks b) → MayTake (clocks_at clocks b) turn line → EndBy m clocks turn begun → AreAllSent m clocks begun → AreAllSent m (line_at clocks b turn line) begun
+sent_stay m clocks b turn line [] inside lasting may ends sent = tt
+sent_stay m clocks b turn line (s ∷ begun) inside lasting may ends sent = (
+  λ k lt. one_sent s.section.kind m clocks s b turn k line inside lasting may ends.0 (sent.0 k lt),
+  sent_stay m clocks b turn line begun inside lasting may ends.1 sent.1,
 )
 
 -- what is known of connecting
-module _ (m : Machine) (old new : Course) (seen : Seen) (k b turn : ℕ) (line : Line) (h : IsCourseOf m old seen) (at : old.next ≡ k) (is : turn ≡ k + 277) (on : old.connected ≡ true) (lt : b < length m.boards)
+module _ (m : Machine) (old new : Course) (seen : Seen) (k b turn : ℕ) (line : Line) (h : IsCourseBy m old seen (k + 260) (k + 261)) (at : old.next ≡ k) (is : turn ≡ k + 277) (on : old.connected ≡ true) (lt : b < length m.boards)
     (early : AreEarly m old) (may : MayTake (clocks_at old.lines.each.items b) turn line) where
   abbrev l : IsLinked m old seen.told seen.begun seen.going
   l = linked m old seen.told seen.begun seen.going on h.told
@@ -150,25 +145,25 @@ module _ (m : Machine) (old new : Course) (seen : Seen) (k b turn : ℕ) (line :
   told_later board from same time =
       ap (told_on (news.Line board line from ∷ [])) l.told_is ∙ ap (λ n. told_on (news.Line n line from ∷ []) (Some t)) same ∙ ap (λ n. told_on (news.Line b line n ∷ []) (Some t)) time
 
-  ends : old.lines.homed ≤ old.next + 269 → EndBy m t.clocks turn seen.begun
-  ends low = end_by m t.clocks old.lines.homed seen.next (old.next + 268) turn seen.begun h.uptake.homed l.is.laid (omega (arith, low, at, is)) (omega (arith, at, is))
+  ends : EndBy m t.clocks turn seen.begun
+  ends = end_by m t.clocks (old.next + 268) turn seen.begun l.is.laid (omega (arith, at, is))
 
-  connected : old.lines.homed ≤ old.next + 269 → new.connected ≡ old.connected → new.lines.each.items ≡ line_at old.lines.each.items b turn line → new.ready ≡ old.ready → new.next ≡ old.next → IsConnected m new later seen.begun seen.going
-  connected low c each ready next = record {
+  connected : new.connected ≡ old.connected → new.lines.each.items ≡ line_at old.lines.each.items b turn line → new.ready ≡ old.ready → new.next ≡ old.next → IsConnected m new later seen.begun seen.going
+  connected c each ready next = record {
     connected = c ∙ l.is.connected;
     lines = each ∙ ap (λ (x : List Clocks). line_at x b turn line) lines_are;
     ready = λ none. ready ∙ l.is.ready none;
-    started = ∥∥₁_map l.is.started (λ all. begun_stay m t.clocks t.first b turn line seen.begun inside lasting may_take (ends low) all);
-    sent = ∥∥₁_elim l.is.started ∥∥₁_prop (λ all. ∥∥₁_map l.is.sent (sent_stay m t.clocks t.first b turn line seen.begun inside lasting may_take (ends low) all));
+    started = ∥∥₁_map l.is.started (λ all. begun_stay m t.clocks t.first b turn line seen.begun inside lasting may_take ends all);
+    sent = ∥∥₁_map l.is.sent (sent_stay m t.clocks b turn line seen.begun inside lasting may_take ends);
     clocks = clocks_more m t.clocks t.first b turn line l.is.clocks lt may_take;
-    laid = subst (λ n. AreLaid m (line_at t.clocks b turn line) (n + 268) seen.begun) (sym next) (laid_stay m t.clocks (old.next + 268) b turn line seen.begun inside lasting may_take (ends low) l.is.laid);
+    laid = subst (λ n. AreLaid m (line_at t.clocks b turn line) (n + 268) seen.begun) (sym next) (laid_stay m t.clocks (old.next + 268) b turn line seen.begun inside lasting may_take ends l.is.laid);
     first = l.is.first;
     late = l.is.late;
   }
 
   -- a section that goes on takes up the line
-  going_on : (s s' : SectionStream) (homes : Bool) (more : Option Told) → homes ≡ false → more ≡ Some later → IsGoingOn m s homes old seen.told seen.begun seen.going → HasLine b turn line s s' → new.start ≡ old.start → new.next ≡ old.next → new.ahead ≡ old.ahead → IsGoingOn m s' homes new more seen.begun seen.going
-  going_on s s' homes more off told i has start next ahead =
+  going_on : (s s' : SectionStream) (homes : Bool) (more : Option Told) → more ≡ Some later → IsGoingOn m s homes old seen.told seen.begun seen.going → HasLine b turn line s s' → new.start ≡ old.start → new.next ≡ old.next → new.ahead ≡ old.ahead → IsGoingOn m s' homes new more seen.begun seen.going
+  going_on s s' homes more told i has start next ahead =
       let g = i.g in
       let same : i.t ≡ t = (let e : Some i.t ≡ Some t = sym i.told_is ∙ l.told_is in cc) in
       let soon = i.soon in
@@ -176,8 +171,7 @@ module _ (m : Machine) (old new : Course) (seen : Seen) (k b turn : ℕ) (line :
       let e = next in
       let hn = has.next in
       let begun : g.start < turn = omega (arith, soon, at, is) in
-      let kind : g.kind ≡ Moves = moves_kind g.kind (sym i.homes_is ∙ off) in
-      let moves : MovesOn m t.clocks old.next g = subst (λ (z : Told). MovesOn m z.clocks old.next g) same (subst (λ k. GoesAs k m i.t.clocks old.next old.lines.homed g) kind i.goes_as) in
+      let goes : GoesAs g.kind m t.clocks old.next g = subst (λ (z : Told). GoesAs g.kind m z.clocks old.next g) same i.goes_as in
       record {
         g = g;
         is = i.is;
@@ -191,11 +185,7 @@ module _ (m : Machine) (old new : Course) (seen : Seen) (k b turn : ℕ) (line :
         takes = ap (λ (q : MoveQueue). is_taking q) has.queue ∙ i.takes;
         next = has.next ∙ n ∙ ap (λ z. max z (g.start - 250)) (sym next);
         done = subst (λ z. AreDone z seen.begun) (sym next) i.done;
-        goes_as = subst (λ k. GoesAs k m later.clocks new.next new.lines.homed g) (sym kind) (record {
-          late = λ all f. (let now = end-late m t.clocks all g.start b turn (old.next + 1) line inside begun lasting may_take (omega (arith, at, is)) (moves.late all f) in omega (arith, now, e));
-          last = moves.last;
-          moving = moves.moving;
-        });
+        goes_as = goes_beside g.kind m later.clocks old.next new.next g e (goes_lined g.kind m t.clocks old.next b turn line g inside lasting may_take (omega (arith, soon, at, is)) (omega (arith, at, is)) goes);
         fresh = λ far. i.fresh (omega (arith, far, e));
         rested = λ near.
             let old_rested = i.rested (omega (arith, near, e)) in
@@ -220,15 +210,31 @@ module _ (m : Machine) (old new : Course) (seen : Seen) (k b turn : ℕ) (line :
         behind = omega (arith, n, soon, at, is);
       }
 
-pub open_on : (c : Course) (o : Open) → IsOpenTo c o → (c.connected ≡ true) × (c.lines.homed ≤ c.next + 269)
-open_on c opens.Nothing h = (h.0, h.1)
-open_on c (opens.Goes s homes) h = (h.1, h.2)
+-- each board has lines
+pub each_long : (m : Machine) (c : Course) (seen : Seen) (turn free : ℕ) → IsCourseBy m c seen turn free → c.connected ≡ true → length c.lines.each.items ≡ length m.boards
+each_long m c seen turn free h on = let l = linked m c seen.told seen.begun seen.going on h.told in ap length l.is.lines ∙ l.is.clocks.count
+
+-- the lines of a board with one more hold by its turn
+held_more : (turn : ℕ) (held : List Held) (h : Held) → h.from ≤ turn * turn_ns → AreHeldBy turn held → AreHeldBy turn (held ++ h ∷ [])
+held_more turn [] h le all = (le, tt)
+held_more turn (x ∷ held) h le all = (all.0, held_more turn held h le all.1)
+
+all_held : (clocks : List Clocks) (b turn by : ℕ) (line : Line) → b < length clocks → turn ≤ by → ((a : ℕ) → a < length clocks → AreHeldBy by (clocks_at clocks a).held) → (a : ℕ) → a < length clocks → AreHeldBy by (clocks_at (line_at clocks b turn line) a).held
+all_held clocks b turn by line inside le all a lt = elim (cases_eq a b) as (λ _. AreHeldBy by (clocks_at (line_at clocks b turn line) a).held) [
+  | inl same ↦
+      let own = clocks_at clocks b in
+      let at : clocks_at (line_at clocks b turn line) a ≡ added own (turn * turn_ns) line = ap (clocks_at (line_at clocks b turn line)) same ∙ here-line clocks b turn line inside in
+      let one : Held = record { from = turn * turn_ns; line = line; most = lines_tick own (turn * turn_ns); start = tick line (turn * turn_ns); plan = tick own.first (turn * turn_ns) } in
+      let early : turn * turn_ns ≤ by * turn_ns = omega (arith, le) in
+      subst (λ (c : Clocks). AreHeldBy by c.held) (sym at) (held_more by own.held one early (all b inside))
+  | inr other ↦ subst (λ (c : Clocks). AreHeldBy by c.held) (sym (other-line clocks b a turn line other)) (all a lt)
+]
 
 -- a line that was heard of is taken up, and told
-pub line_taken : (m : Machine) (old : Course) (now : Open) (lines : BoardLines) (seen : Seen) (k b turn : ℕ) (line : Line) (before : List NoteNews) → IsCourseOf m old seen → old.next ≡ k → turn ≡ k + 277 → IsOpenTo old old.current → AreEarly m old → b < length m.boards
-    → MayTake (clocks_at old.lines.each.items b) turn line → AddsTo b turn line old.current now → lines.each.items ≡ line_at old.lines.each.items b turn line → lines.waiting ≡ old.lines.waiting → lines.homed ≡ old.lines.homed → WasHeard b line seen.lines
+pub line_taken : (m : Machine) (old : Course) (now : Open) (lines : BoardLines) (seen : Seen) (k b turn : ℕ) (line : Line) (before : List NoteNews) → IsCourseBy m old seen (k + 260) (k + 261) → old.next ≡ k → turn ≡ k + 277 → old.connected ≡ true → AreEarly m old → b < length m.boards
+    → MayTake (clocks_at old.lines.each.items b) turn line → AddsTo b turn line old.current now → lines.each.items ≡ line_at old.lines.each.items b turn line → lines.waiting ≡ old.lines.waiting → WasHeard b line seen.lines
     → HasTold m seen k before (before ++ news.Line b line (turn * turn_ns) ∷ []) (record old { current = now; lines = lines })
-line_taken m old now lines seen k b turn line before h at is op early lt may adds each waiting homed heard = by old.current refl h.going op adds h.early
+line_taken m old now lines seen k b turn line before h at is on early lt may adds each waiting heard = by old.current refl h.going adds h.early
   where
     new : Course
     new = record old { current = now; lines = lines }
@@ -236,19 +242,24 @@ line_taken m old now lines seen k b turn line before h at is op early lt may add
     more : List NoteNews
     more = news.Line b line (turn * turn_ns) ∷ []
 
-    uptake : IsUptake lines seen.next seen.begun seen.lines
-    uptake = record {
-      waiting = subst (λ (w : List BoardLine). All (λ (x : BoardLine). WasHeard x.board x.line seen.lines) w) (sym (ap (λ v. v.items) waiting)) h.uptake.waiting;
-      homed = subst (λ n. AreHomedBy n seen.next seen.begun) (sym homed) h.uptake.homed;
-    }
+    uptake : IsUptake lines (k + 261) seen.lines
+    uptake =
+        let long = each_long m old seen (k + 260) (k + 261) h on in
+        let All_held : List Clocks → Type 0 = λ cs. (a : ℕ) → a < length cs → AreHeldBy (k + 261 + 16) (clocks_at cs a).held in
+        record {
+          waiting = subst (λ (w : List BoardLine). All (λ (x : BoardLine). WasHeard x.board x.line seen.lines) w) (sym (ap (λ v. v.items) waiting)) h.uptake.waiting;
+          held = subst All_held (sym each) (λ a low. (
+              let size = length-set old.lines.each.items b (added (clocks_at old.lines.each.items b) (turn * turn_ns) line) in
+              all_held old.lines.each.items b turn (k + 261 + 16) line (omega (arith, long, lt)) (omega (arith, is)) h.uptake.held a (omega (arith, low, size))));
+        }
 
-    told_by : (on : old.connected ≡ true) → old.lines.homed ≤ old.next + 269 → IsTold m new (told_on more seen.told) seen.begun seen.going
-    told_by on low =
+    told_by : IsTold m new (told_on more seen.told) seen.begun seen.going
+    told_by =
         subst (λ (x : Option Told). IsTold m new x seen.begun seen.going) (sym (told_later m old new seen k b turn line h at is on lt early may b (turn * turn_ns) refl refl))
-        (connected m old new seen k b turn line h at is on lt early may low refl each refl refl)
+        (connected m old new seen k b turn line h at is on lt early may refl each refl refl)
 
-    made : (on : old.connected ≡ true) → old.lines.homed ≤ old.next + 269 → IsGoing m now new (told_on more seen.told) seen.begun seen.going → IsEarly now (old.next + 260) (old.next + 260) new → HasTold m seen k before (before ++ more) new
-    made on low goes soon = record {
+    made : IsGoing m now new (told_on more seen.told) seen.begun seen.going → IsEarly now (k + 260) (k + 261) new → HasTold m seen k before (before ++ more) new
+    made goes soon = record {
       more = more;
       are = refl;
       further = (ap (λ n. n * turn_ns) is, tt);
@@ -257,7 +268,7 @@ line_taken m old now lines seen k b turn line before h at is op early lt may add
         machine = h.machine;
         source = h.source;
         read = h.read;
-        told = told_by on low;
+        told = told_by;
         next = h.next;
         small = h.small;
         place = h.place;
@@ -268,50 +279,37 @@ line_taken m old now lines seen k b turn line before h at is op early lt may add
       };
     }
 
-    by : (o : Open) → old.current ≡ o → IsGoing m o old seen.told seen.begun seen.going → IsOpenTo old o → AddsTo b turn line o now → IsEarly o (old.next + 260) (old.next + 260) old → HasTold m seen k before (before ++ more) new
-    by opens.Nothing e i op a soon =
-        made op.0 op.1
+    by : (o : Open) → old.current ≡ o → IsGoing m o old seen.told seen.begun seen.going → AddsTo b turn line o now → IsEarly o (k + 260) (k + 261) old → HasTold m seen k before (before ++ more) new
+    by opens.Nothing e i a soon =
+        made
         (subst (λ (x : Open). IsGoing m x new (told_on more seen.told) seen.begun seen.going) (sym a) (record { none = i.none; goes = i.goes; ahead = i.ahead }))
-        (subst (λ (x : Open). IsEarly x (old.next + 260) (old.next + 260) new) (sym a) soon)
-    by (opens.Goes s homes) e i op a soon =
+        (subst (λ (x : Open). IsEarly x (k + 260) (k + 261) new) (sym a) soon)
+    by (opens.Goes s homes) e i a soon =
         let s' = a.0 in
-        made op.1 op.2
+        made
         (subst (λ (x : Open). IsGoing m x new (told_on more seen.told) seen.begun seen.going) (sym a.1)
-        (going_on m old new seen k b turn line h at is op.1 lt early may s s' homes (told_on more seen.told) op.0 (told_later m old new seen k b turn line h at is op.1 lt early may b (turn * turn_ns) refl refl) i a.2 refl refl refl))
-        (subst (λ (x : Open). IsEarly x (old.next + 260) (old.next + 260) new) (sym a.1) tt)
+        (going_on m old new seen k b turn line h at is on lt early may s s' homes (told_on more seen.told) (told_later m old new seen k b turn line h at is on lt early may b (turn * turn_ns) refl refl) i a.2 refl refl refl))
+        (subst (λ (x : Open). IsEarly x (k + 260) (k + 261) new) (sym a.1) tt)
 
 -- what may be asked of what goes on
-pub may_add_to : (m : Machine) (c : Course) (seen : Seen) (k b turn : ℕ) (line : Line) → IsCourseOf m c seen → c.next ≡ k → turn ≡ k + 277 → IsOpenTo c c.current → AreEarly m c → b < length m.boards → MayTake (clocks_at c.lines.each.items b) turn line → MayAddTo c.current b turn line
-may_add_to m c seen k b turn line h at is op early lt may = by c.current h.going op
+pub may_add_to : (m : Machine) (c : Course) (seen : Seen) (k b turn : ℕ) (line : Line) → IsCourseBy m c seen (k + 260) (k + 261) → c.next ≡ k → turn ≡ k + 277 → c.connected ≡ true → AreEarly m c → b < length m.boards → MayTake (clocks_at c.lines.each.items b) turn line → MayAddTo c.current b turn line
+may_add_to m c seen k b turn line h at is on early lt may = by c.current h.going
   where
-    by : (o : Open) → IsGoing m o c seen.told seen.begun seen.going → IsOpenTo c o → MayAddTo o b turn line
-    by opens.Nothing i op = tt
-    by (opens.Goes s homes) i op = may_add m c c seen k b turn line h at is op.1 lt early may s homes i
+    by : (o : Open) → IsGoing m o c seen.told seen.begun seen.going → MayAddTo o b turn line
+    by opens.Nothing i = tt
+    by (opens.Goes s homes) i = may_add m c c seen k b turn line h at is on lt early may s homes i
 
--- all sections that homed are over where lines may be taken up, and none homes
-pub open_over : (m : Machine) (c : Course) (seen : Seen) (k : ℕ) → IsCourseOf m c seen → c.next ≡ k → IsOpenTo c c.current → IsClosed k seen
-open_over m c seen k h at op = record {
-  begun = over_by c.lines.homed seen.next k seen.begun (sym h.next ∙ at) (let low = (open_on c c.current op).1 in omega (arith, low, at)) h.uptake.homed;
-  going = λ g e. by c.current h.going op g e;
-}
+-- where no line is taken up
+pub told_none : (m : Machine) (c : Course) (seen : Seen) (turn free : ℕ) → IsCourseBy m c seen turn free → IsCourseBy m c (lined seen []) turn free
+told_none m c seen turn free h = subst (λ (x : Option Told). IsCourseBy m c (record { text = seen.text; ended = seen.ended; read = seen.read; told = x; lines = seen.lines; next = seen.next; begun = seen.begun; going = seen.going }) turn free) (same seen.told) h
   where
-    none_some : (g : Going) → None ≡ Some g → ⊥
-    none_some g p = cc
-
-    by : (o : Open) → IsGoing m o c seen.told seen.begun seen.going → IsOpenTo c o → (g : Going) → seen.going ≡ Some g → g.kind ≡ Moves
-    by opens.Nothing i op g e = absurd (none_some g (sym i.none ∙ e))
-    by (opens.Goes s homes) i op g e = moves_kind g.kind (ap (λ (x : Going). homes_by x.kind) (some_same g i.g (sym e ∙ i.is)) ∙ sym i.homes_is ∙ op.0)
+    same : (o : Option Told) → o ≡ told_on [] o
+    same None = refl
+    same (Some t) = refl
 
 -- a line that is passed over
-pub line_passed : (m : Machine) (c : Course) (seen : Seen) (k : ℕ) (before : List NoteNews) → IsCourseOf m c seen → HasTold m seen k before before c
-line_passed m c seen k before h = record { more = []; are = sym (append-nil before); further = tt; heard = tt; is = told_none m c seen h }
-  where
-    told_none : (m : Machine) (c : Course) (seen : Seen) → IsCourseOf m c seen → IsCourseOf m c (lined seen [])
-    told_none m c seen h = subst (λ (x : Option Told). IsCourseOf m c (record { text = seen.text; ended = seen.ended; read = seen.read; told = x; lines = seen.lines; next = seen.next; begun = seen.begun; going = seen.going })) (same seen.told) h
-      where
-        same : (o : Option Told) → o ≡ told_on [] o
-        same None = refl
-        same (Some t) = refl
+pub line_passed : (m : Machine) (c : Course) (seen : Seen) (k : ℕ) (before : List NoteNews) → IsCourseBy m c seen (k + 260) (k + 261) → HasTold m seen k before before c
+line_passed m c seen k before h = record { more = []; are = sym (append-nil before); further = tt; heard = tt; is = told_none m c seen (k + 260) (k + 261) h }
 
 -- one line behind some others
 noted_both : (xs ys : List NoteNews) (clocks : List Clocks) → noted_lines (xs ++ ys) clocks ≡ noted_lines ys (noted_lines xs clocks)
@@ -341,7 +339,7 @@ heard_both heard (news.Read end sections ∷ xs) ys a b = heard_both heard xs ys
 
 pub both_told : (m : Machine) (seen : Seen) (k : ℕ) (one two three : List NoteNews) (c : Course) (a : (more : List NoteNews) × (two ≡ one ++ more) × AreFurther k more × WereHeard seen.lines more) → HasTold m (lined seen a.0) k two three c → HasTold m seen k one three c
 both_told m seen k one two three c a b =
-    let Of : Option Told → Type 0 = λ o. IsCourseOf m c (record { text = seen.text; ended = seen.ended; read = seen.read; told = o; lines = seen.lines; next = seen.next; begun = seen.begun; going = seen.going }) in
+    let Of : Option Told → Type 0 = λ o. IsCourseBy m c (record { text = seen.text; ended = seen.ended; read = seen.read; told = o; lines = seen.lines; next = seen.next; begun = seen.begun; going = seen.going }) (k + 260) (k + 261) in
     record {
       more = a.0 ++ b.more;
       are = b.are ∙ ap (λ x. x ++ b.more) a.1 ∙ append_assoc one a.0 b.more;
@@ -350,12 +348,8 @@ both_told m seen k one two three c a b =
       is = subst Of (sym (told_both a.0 b.more seen.told)) b.is;
     }
 
--- the lines of a board, as they are read
-pub each_long : (m : Machine) (c : Course) (seen : Seen) → IsCourseOf m c seen → c.connected ≡ true → length c.lines.each.items ≡ length m.boards
-each_long m c seen h on = let l = linked m c seen.told seen.begun seen.going on h.told in ap length l.is.lines ∙ l.is.clocks.count
-
-pub line_lasts : (m : Machine) (c : Course) (seen : Seen) (b : ℕ) → IsCourseOf m c seen → c.connected ≡ true → AreEarly m c → b < length m.boards → IsLasting (clocks_at c.lines.each.items b)
-line_lasts m c seen b h on early lt =
+pub line_lasts : (m : Machine) (c : Course) (seen : Seen) (turn free b : ℕ) → IsCourseBy m c seen turn free → c.connected ≡ true → AreEarly m c → b < length m.boards → IsLasting (clocks_at c.lines.each.items b)
+line_lasts m c seen turn free b h on early lt =
     let l = linked m c seen.told seen.begun seen.going on h.told in
     let At : List Clocks → Type 0 = λ x. (clocks_at x b).first.clock < 2 ^ 62 → IsLasting (clocks_at x b) in
     subst At (sym l.is.lines) (l.is.clocks.lasting b lt) (early on b lt)
@@ -372,19 +366,19 @@ early_more m old now lines b turn line inside each early = λ on a low.
     omega (arith, e, was)
 
 -- there is what a machine has seen that took a line up
-pub one_sound : (m : Machine) (old : Course) (k : ℕ) (one : BoardLine) (before after : List NoteNews) (new : Course) → IsSound m old → TakesOne m old k one before after new → IsSound m new
+pub one_sound : (m : Machine) (old : Course) (k : ℕ) (one : BoardLine) (before after : List NoteNews) (new : Course) → IsSoundBy m old k → TakesOne m old k one before after new → IsSoundBy m new k
 one_sound m old k one before after new s takes =
     let seen = s.seen in
     let more : Seen = record { text = seen.text; ended = seen.ended; read = seen.read; told = seen.told; lines = seen.lines ++ one ∷ []; next = seen.next; begun = seen.begun; going = seen.going } in
-    let t = takes more (last_heard seen.lines one) (also_heard m old seen (one ∷ []) s.is) in
+    let t = takes more (last_heard seen.lines one) (also_heard m old seen (k + 260) (k + 261) (one ∷ []) s.is) in
     record { seen = lined more t.more; is = t.is }
 
 -- the numbers of a line that is taken up
-pub board_held : (m : Machine) (c : Course) (seen : Seen) (k b turn : ℕ) (line : Line) (read now : Clocks) → IsCourseOf m c seen → c.connected ≡ true → AreEarly m c → b < length m.boards → read ≡ slice_index_or c.lines.each.items b read → now ≡ slice_index_or c.lines.each.items b now → turn ≡ k + 277
+pub board_held : (m : Machine) (c : Course) (seen : Seen) (k b turn : ℕ) (line : Line) (read now : Clocks) → IsCourseBy m c seen (k + 260) (k + 261) → c.connected ≡ true → AreEarly m c → b < length m.boards → read ≡ slice_index_or c.lines.each.items b read → now ≡ slice_index_or c.lines.each.items b now → turn ≡ k + 277
     → MayTake read (k + 277) line → MayHold now (turn * turn_ns) line
 board_held m c seen k b turn line read now h on early lt one two is may =
     let each = c.lines.each.items in
-    let long = each_long m c seen h on in
+    let long = each_long m c seen (k + 260) (k + 261) h on in
     let low : b < length each = omega (arith, long, lt) in
     let own : MayTake (clocks_at each b) (k + 277) line = subst (λ (x : Clocks). MayTake x (k + 277) line) (read_at each b read one low) may in
-    subst (λ (x : Clocks). MayHold x (turn * turn_ns) line) (sym (read_at each b now two low)) (subst (λ n. MayHold (clocks_at each b) (n * turn_ns) line) (sym is) (may-hold (clocks_at each b) (k + 277) line (line_lasts m c seen b h on early lt) own))
+    subst (λ (x : Clocks). MayHold x (turn * turn_ns) line) (sym (read_at each b now two low)) (subst (λ n. MayHold (clocks_at each b) (n * turn_ns) line) (sym is) (may-hold (clocks_at each b) (k + 277) line (line_lasts m c seen (k + 260) (k + 261) b h on early lt) own))

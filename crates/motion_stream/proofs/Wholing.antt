@@ -1,5 +1,5 @@
 -- Whole sections that the text of a machine may still have.
-use Rattle.std.proofs.Common.{◌≡◌, ℕ, ◌+◌, ◌^◌, ◌<◌, ◌≤◌, All, Bool, true, false, not, List, [], ◌∷◌, ◌++◌, get_or, length, append-nil, append_assoc, refl, ap, sym, subst, ◌∙◌, arith, inl}
+use Rattle.std.proofs.Common.{◌≡◌, ℕ, ◌+◌, ◌^◌, ◌<◌, ◌≤◌, All, Bool, true, false, not, List, [], ◌∷◌, ◌++◌, get_or, length, map, append-nil, append_assoc, refl, ap, sym, subst, ◌∙◌, arith, inl}
 use Rattle.std.proofs.Math.Logic.{∥∥₁_map}
 use Rattle.std.proofs.lemmas.Grind.{merely}
 use Rattle.std.proofs.lemmas.List.{map-append}
@@ -33,13 +33,17 @@ use Rattle.section_stream.specs.Looking.{IsFuture}
 use Rattle.step_feed.specs.Pacing.{Release}
 use Rattle.motion_work.specs.Homes.{last_step, moving_in, no_end}
 use Rattle.section_units.specs.Plans.{AreOnBoardsBy, AreSentToOn}
-use Rattle.motion_work.specs.Seen.{IsHomed, IsMoved, IsPlanned, Started}
+use Rattle.motion_work.specs.Seen.{IsHomed, IsMoved, IsPlanned, Started, lines_of as kind_lines}
+use Rattle.motion_work.specs.Known.{AreHeldBy, lines_by}
+use Rattle.motion_work.specs.Told.{Told}
 use Rattle.motion_work.proofs.Homing.{near_short}
+use Rattle.motion_work.proofs.Staying.{lines_by_all}
+use Rattle.motion_stream.proofs.Drawing.{held_later}
 use Rattle.motion_stream.specs.declared.course.Course.{Course}
 use Rattle.motion_stream.specs.declared.course.Open.{Open}
 use Rattle.motion_stream.specs.declared.course.Open.TheVariants as opens
 use Rattle.motion_stream.specs.declared.source.Source.{Source}
-use Rattle.motion_stream.specs.Courses.{GoesAs, IsGoing, IsGoingOn}
+use Rattle.motion_stream.specs.Courses.{GoesAs, IsCourseOf, IsGoing, IsGoingOn, IsTold}
 use Rattle.motion_stream.specs.Motions.{IsPlannerOf, Planner}
 use Rattle.motion_stream.specs.Seen.{AreWhole, EndsBy, Going, Seen, homes_by, items_read, moves_end, sections_in}
 use Rattle.motion_stream.proofs.ByKind.{can}
@@ -118,36 +122,42 @@ plan_end Moves m clocks moves start = section_end m clocks moves start
 plan_end (Home axis) m clocks moves start = no_end
 
 -- it is planned so, and may be so
-one_planned : (kind : SectionKind) (m : Machine) (clocks : List Clocks) (next homed : ℕ) (g : Going) (moves : List Move) (boards : List (List Release)) (x : Started) → x ≡ record { section = section_with g.kind moves g.dwell; start = g.start; end = plan_end kind m clocks moves g.start; last = g.last; moving = g.moving; boards = boards } → IsFuture g.goes g.moves moves
-    → GoesAs kind m clocks next homed g → (kind ≡ Moves → section_end m clocks moves g.start < no_end) → g.start < no_end → AreOnBoardsBy (homes_by kind) m clocks moves g.start boards → IsPlanned kind m clocks x
-one_planned Moves m clocks next homed g moves boards x e future i known start are =
+one_planned : (kind : SectionKind) (m : Machine) (clocks : List Clocks) (next : ℕ) (g : Going) (moves : List Move) (boards : List (List Release)) (x : Started) → x ≡ record { section = section_with g.kind moves g.dwell; start = g.start; end = plan_end kind m clocks moves g.start; last = g.last; moving = g.moving; boards = boards } → IsFuture g.goes g.moves moves
+    → GoesAs kind m clocks next g → (kind ≡ Moves → section_end m clocks moves g.start < no_end) → g.start < no_end → map (lines_by (no_end + 276)) clocks ≡ clocks → AreOnBoardsBy (homes_by kind) m clocks moves g.start boards → IsPlanned kind m clocks x
+one_planned Moves m clocks next g moves boards x e future i known start held are =
     subst (IsMoved m clocks) (sym e) (record { end = refl; known = known refl; last = i.last; moving = i.moving; boards = are })
-one_planned (Home axis) m clocks next homed g moves boards x e future i known start are =
+one_planned (Home axis) m clocks next g moves boards x e future i known start held are =
     let same : moves ≡ g.moves = subst (λ b. IsFuture b g.moves moves) i.whole future in
     subst (IsHomed m clocks) (sym e) (record {
       late = omega (arith, start);
-      last = i.last ∙ ap (λ (ms : List Move). last_step m clocks ms g.start) (sym same);
+      last = i.last ∙ ap (λ (ms : List Move). last_step m (map (lines_by (g.start + 17)) clocks) ms g.start) (sym same);
+      soon = i.soon;
       moving = i.moving ∙ ap (moving_in m) (sym same);
       planned = boards;
-      are = are;
+      are = subst (λ (cs : List Clocks). AreOnBoardsBy true m cs moves g.start boards) (sym held) are;
       boards = inl (refl, refl);
+      near = λ known. absurd (omega (arith, known));
     })
 
-one_ends : (kind : SectionKind) (m : Machine) (clocks : List Clocks) (next homed : ℕ) (g : Going) (moves : List Move) (x : Started) → x.section.moves ≡ moves → x.start ≡ g.start → x.end ≡ plan_end kind m clocks moves g.start → IsFuture g.goes g.moves moves → GoesAs kind m clocks next homed g → (kind ≡ Moves → section_end m clocks moves g.start < no_end) → g.start < no_end → next < no_end → EndsBy kind m next x
-one_ends Moves m clocks next homed g moves x ms st e future i known start small =
+one_ends : (kind : SectionKind) (m : Machine) (clocks : List Clocks) (next : ℕ) (g : Going) (moves : List Move) (x : Started) → x.section.moves ≡ moves → x.start ≡ g.start → x.end ≡ plan_end kind m clocks moves g.start → IsFuture g.goes g.moves moves → GoesAs kind m clocks next g → (kind ≡ Moves → section_end m clocks moves g.start < no_end) → g.start < no_end → next < no_end → EndsBy kind m next x
+one_ends Moves m clocks next g moves x ms st e future i known start small =
     let late = i.late moves future in
     let k = known refl in
     let over : moves_end m x.section.moves x.start ≤ x.end = (let a = ap (λ (y : List Move). moves_end m y x.start) ms in let b = ap (moves_end m moves) st in omega (arith, a, b, e)) in
     (over, omega (arith, late, e), omega (arith, k, e))
-one_ends (Home axis) m clocks next homed g moves x ms st e future i known start small = omega (arith, st, e, start, small)
+one_ends (Home axis) m clocks next g moves x ms st e future i known start small = omega (arith, st, e, start, small)
+
+open_lines : (kind : SectionKind) (m : Machine) (clocks : List Clocks) (moves : List Move) (start : ℕ) → map (lines_by (no_end + 276)) clocks ≡ clocks → kind_lines kind (plan_end kind m clocks moves start) clocks ≡ clocks
+open_lines Moves m clocks moves start held = refl
+open_lines (Home axis) m clocks moves start held = held
 
 unanswered : (kind : SectionKind) (m : Machine) (clocks : List Clocks) (moves : List Move) (start axis : ℕ) → kind ≡ Home axis → plan_end kind m clocks moves start ≡ no_end
 unanswered Moves m clocks moves start axis e = absurd cc
 unanswered (Home other) m clocks moves start axis e = refl
 
 -- there are such sections
-going_whole : (m : Machine) (c : Course) (s : SectionStream) (homes : Bool) (seen : Seen) (whole : List ℕ) (i : IsGoingOn m s homes c seen.told seen.begun seen.going) → c.next ≡ seen.next → c.next ≤ 2 ^ 42 → MayBecome seen.ended seen.text whole → IsFound seen.begun i.g (program_sections m whole) → ∥ ((all : List Started) × AreOf m seen whole all) ∥₁
-going_whole m c s homes seen whole i at small may f = ∥∥₁_map (told-whole homes m i.t.clocks f.moves i.g.start c.next i.g.released (can m s homes c seen.told seen.begun seen.going i f.moves f.future)) (λ w. made w.0 w.1) where
+going_whole : (m : Machine) (c : Course) (s : SectionStream) (homes : Bool) (seen : Seen) (whole : List ℕ) (i : IsGoingOn m s homes c seen.told seen.begun seen.going) → c.next ≡ seen.next → c.next ≤ 2 ^ 42 → map (lines_by (no_end + 276)) i.t.clocks ≡ i.t.clocks → MayBecome seen.ended seen.text whole → IsFound seen.begun i.g (program_sections m whole) → ∥ ((all : List Started) × AreOf m seen whole all) ∥₁
+going_whole m c s homes seen whole i at small held may f = ∥∥₁_map (told-whole homes m i.t.clocks f.moves i.g.start c.next i.g.released (can m s homes c seen.told seen.begun seen.going i f.moves f.future)) (λ w. made w.0 w.1) where
   made : (boards : List (List Release)) → IsToldBy homes m i.t.clocks f.moves i.g.start c.next i.g.released boards → (all : List Started) × AreOf m seen whole all
   made boards told =
       let g = i.g in
@@ -168,7 +178,7 @@ going_whole m c s homes seen whole i at small may f = ∥∥₁_map (told-whole 
                 section = refl;
                 moves = f.future;
                 start = refl;
-                ends = subst (λ n. EndsBy g.kind m n x) at (one_ends g.kind m t.clocks c.next c.lines.homed g f.moves x refl refl refl f.future i.goes_as known tiny (omega (arith, small)));
+                ends = subst (λ n. EndsBy g.kind m n x) at (one_ends g.kind m t.clocks c.next g f.moves x refl refl refl f.future i.goes_as known tiny (omega (arith, small)));
                 last = refl;
                 moving = refl;
                 same = λ b k lt below. told.same b k lt (omega (arith, below, at));
@@ -183,27 +193,41 @@ going_whole m c s homes seen whole i at small may f = ∥∥₁_map (told-whole 
             are = refl;
             t = t;
             told_is = i.told_is;
-            planned = one_planned g.kind m t.clocks c.next c.lines.homed g f.moves boards x refl f.future i.goes_as known tiny are;
+            planned = one_planned g.kind m t.clocks c.next g f.moves boards x refl f.future i.goes_as known tiny held are;
             unanswered = λ axis kind. unanswered g.kind m t.clocks f.moves g.start axis kind;
-            sent = λ b lt. subst (λ n. AreSentToOn m t.clocks f.moves g.start b n (get_or boards b [])) at (told.sent b lt);
+            sent = λ b lt. subst (λ (cs : List Clocks). AreSentToOn m cs f.moves g.start b seen.next (get_or boards b [])) (sym (open_lines g.kind m t.clocks f.moves g.start held)) (subst (λ n. AreSentToOn m t.clocks f.moves g.start b n (get_or boards b [])) at (told.sent b lt));
           };
         },
       )
 
-by_going : (m : Machine) (o : Open) (c : Course) (seen : Seen) (going : Option Going) (whole : List ℕ) → seen.going ≡ going → IsGoing m o c seen.told seen.begun seen.going → c.next ≡ seen.next → c.next ≤ 2 ^ 42 → MayBecome seen.ended seen.text whole → (rest : List Item) → items_of (program_sections m whole) ≡ items_read seen.begun seen.going ++ rest → ∥ ((all : List Started) × AreOf m seen whole all) ∥₁
-by_going m o c seen None whole e i at small may rest is =
+by_going : (m : Machine) (o : Open) (c : Course) (seen : Seen) (going : Option Going) (whole : List ℕ) → seen.going ≡ going → IsGoing m o c seen.told seen.begun seen.going → c.next ≡ seen.next → c.next ≤ 2 ^ 42 → ((t : Told) → seen.told ≡ Some t → map (lines_by (no_end + 276)) t.clocks ≡ t.clocks) → MayBecome seen.ended seen.text whole → (rest : List Item) → items_of (program_sections m whole) ≡ items_read seen.begun seen.going ++ rest → ∥ ((all : List Started) × AreOf m seen whole all) ∥₁
+by_going m o c seen None whole e i at small held may rest is =
     let f = told_front (sections_in seen.begun) (program_sections m whole) rest (is ∙ ap (λ g. items_read seen.begun g ++ rest) e) in
     merely (seen.begun, record { may = record { text = may; sections = subst (λ (g : Option Going). AreWhole m seen.told seen.next seen.begun g seen.begun) (sym e) refl }; others = f.0; sections = f.1; last = λ g h. absurd (none_some (sym e ∙ h)) })
   where
     none_some : {X : Type 0} {x : X} → None ≡ Some x → ⊥
     none_some p = cc
-by_going m opens.Nothing c seen (Some g) whole e i at small may rest is = absurd (none_some (sym i.none ∙ e)) where
+by_going m opens.Nothing c seen (Some g) whole e i at small held may rest is = absurd (none_some (sym i.none ∙ e)) where
   none_some : {X : Type 0} {x : X} → None ≡ Some x → ⊥
   none_some p = cc
-by_going m (opens.Goes s homes) c seen (Some g) whole e i at small may rest is =
-    going_whole m c s homes seen whole i at small may (found seen.begun i.g i.g.goes (program_sections m whole) rest refl (is ∙ ap (λ x. items_read seen.begun x ++ rest) i.is))
+by_going m (opens.Goes s homes) c seen (Some g) whole e i at small held may rest is =
+    going_whole m c s homes seen whole i at small (held i.t i.told_is) may (found seen.begun i.g i.g.goes (program_sections m whole) rest refl (is ∙ ap (λ x. items_read seen.begun x ++ rest) i.is))
+
+-- all lines that were taken up hold by the turn of a section's end that is not known
+all_taken : (m : Machine) (c : Course) (seen : Seen) (t : Told) → seen.told ≡ Some t → IsCourseOf m c seen → map (lines_by (no_end + 276)) t.clocks ≡ t.clocks
+all_taken m c seen t told h = by seen.told told h.told
+  where
+    by : (o : Option Told) → o ≡ Some t → IsTold m c o seen.begun seen.going → map (lines_by (no_end + 276)) t.clocks ≡ t.clocks
+    by None e i = absurd cc
+    by (Some u) e i =
+        let small = h.small in
+        let same : u ≡ t = cc in
+        let all : (b : ℕ) → b < length u.clocks → AreHeldBy (no_end + 276) (clocks_at u.clocks b).held =
+        subst (λ (cs : List Clocks). (b : ℕ) → b < length cs → AreHeldBy (no_end + 276) (clocks_at cs b).held) i.lines
+        (λ b lt. held_later (c.next + 260 + 16) (no_end + 276) (clocks_at c.lines.each.items b).held (omega (arith, small)) (h.uptake.held b lt)) in
+        subst (λ (z : Told). map (lines_by (no_end + 276)) z.clocks ≡ z.clocks) same (lines_by_all u.clocks (no_end + 276) all)
 
 pub are_there : (p : Planner) (seen : Seen) (whole : List ℕ) → IsPlannerOf p seen → MayBecome seen.ended seen.text whole → ∥ ((all : List Started) × AreOf p.machine seen whole all) ∥₁
 are_there p seen whole h may =
     let r = source_first p.machine p.course.source seen.text whole seen.ended (items_read seen.begun seen.going) h.source may in
-    by_going p.machine p.course.current p.course seen seen.going whole refl h.going h.next h.small may r.0 r.1
+    by_going p.machine p.course.current p.course seen seen.going whole refl h.going h.next h.small (λ t told. all_taken p.machine p.course seen t told h) may r.0 r.1

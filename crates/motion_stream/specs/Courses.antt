@@ -9,7 +9,7 @@ use Rattle.plan_types.specs.declared.plan.SectionKind.{SectionKind}
 use Rattle.plan_types.specs.declared.plan.SectionKind.TheVariants.{Home, Moves}
 use Rattle.plan_types.specs.Lines.{Clocks}
 use Rattle.plan_types.specs.Machines.{IsValidMachine}
-use Rattle.plan_types.specs.Sections.{for_each_stepper, latest, section_end, stepper_end}
+use Rattle.plan_types.specs.Sections.{clocks_at, for_each_stepper, latest, section_end, stepper_end}
 use Rattle.section_feed.specs.declared.section.SectionStream.{SectionStream}
 use Rattle.section_feed.specs.On.{IsSectionOn}
 use Rattle.section_feed.specs.Queues.{is_taking}
@@ -22,6 +22,7 @@ use Rattle.motion_work.specs.Feeds.{units_at}
 use Rattle.motion_work.specs.Homes.{last_step, moving_in}
 use Rattle.motion_work.specs.declared.told.BoardLine.{BoardLine}
 use Rattle.motion_work.specs.Further.{WasHeard}
+use Rattle.motion_work.specs.Known.{AreHeldBy, lines_by}
 use Rattle.motion_work.specs.Seen.{AreAllSent, AreBoardClocks, AreDone, AreStarted, IsOpen, Started, ready_after}
 use Rattle.motion_work.specs.Told.{Told}
 use Rattle.motion_stream.specs.declared.course.BoardLines.{BoardLines}
@@ -51,17 +52,18 @@ pub record MovesOn (m : Machine) (clocks : List Clocks) (next : ℕ) (g : Going)
   pub last : g.last ≡ 0
   pub moving : g.moving ≡ 0
 
--- A section that homes goes on: it has all its moves, its last step is planned in a turn that is known, and by another one or before.
-pub record HomesOn (m : Machine) (clocks : List Clocks) (homed : ℕ) (g : Going) : Type 0 where
+-- A section that homes goes on: it has all its moves, and it is known in which turn its last step is planned by the lines that were taken up when
+-- it was begun.
+pub record HomesOn (m : Machine) (clocks : List Clocks) (g : Going) : Type 0 where
   pub whole : g.goes ≡ false
-  pub last : g.last ≡ last_step m clocks g.moves g.start
+  pub last : g.last ≡ last_step m (map (lines_by (g.start + 17)) clocks) g.moves g.start
+  pub soon : g.last < 2 ^ 61
   pub moving : g.moving ≡ moving_in m g.moves
-  pub low : g.last ≤ homed
 
 -- so does one of a kind
-abbrev pub GoesAs : SectionKind → Machine → List Clocks → ℕ → ℕ → Going → Type 0
-GoesAs Moves m clocks next homed g = MovesOn m clocks next g
-GoesAs (Home axis) m clocks next homed g = HomesOn m clocks homed g
+abbrev pub GoesAs : SectionKind → Machine → List Clocks → ℕ → Going → Type 0
+GoesAs Moves m clocks next g = MovesOn m clocks next g
+GoesAs (Home axis) m clocks next g = HomesOn m clocks g
 
 -- A section goes on, whose stream has given what was released, and gives the next units in the next turn, or 250 turns before the
 -- section starts.
@@ -78,7 +80,7 @@ pub record IsGoingOn (m : Machine) (s : SectionStream) (homes : Bool) (c : Cours
   pub takes : is_taking (queue_of s) ≡ g.goes
   pub next : next_of s ≡ max c.next (g.start - 250)
   pub done : AreDone c.next begun
-  pub goes_as : GoesAs g.kind m t.clocks c.next c.lines.homed g
+  pub goes_as : GoesAs g.kind m t.clocks c.next g
   pub fresh : c.next + 250 ≤ g.start → (b : ℕ) → g.released b ≡ []
   pub rested : g.start < c.next + 250 → AreAllRested (next_of s + 250) (boards_in s)
   pub before : (b : ℕ) → AreBefore c.next (g.released b)
@@ -89,10 +91,11 @@ abbrev pub IsGoing : Machine → Open → Course → Option Told → List Starte
 IsGoing m opens.Nothing c told begun going = IsIdle m c begun going
 IsGoing m (opens.Goes s homes) c told begun going = IsGoingOn m s homes c told begun going
 
--- Of a section of moves the last planned step, and its start, are in a turn or an earlier one; and so of some sections.
+-- A section of moves starts in a turn or an earlier one, and so its last step is planned; one that homes ended 268 turns before it, or earlier. And
+-- so of some sections.
 abbrev pub IsLaid : SectionKind → Machine → List Clocks → ℕ → Started → Type 0
 IsLaid Moves m clocks low s = (s.start ≤ low) × (latest (for_each_stepper m (stepper_end m clocks s.section.moves s.start)) ≤ low)
-IsLaid (Home axis) m clocks low s = Unit {0}
+IsLaid (Home axis) m clocks low s = s.end + 268 ≤ low
 
 abbrev pub AreLaid : Machine → List Clocks → ℕ → List Started → Type 0
 AreLaid m clocks low [] = Unit {0}
@@ -127,15 +130,10 @@ abbrev pub IsEarly : Open → ℕ → ℕ → Course → Type 0
 IsEarly opens.Nothing turn free c = c.connected ≡ true → IsLater turn free c.ready c.source.end c.source.items.items
 IsEarly (opens.Goes s homes) turn free c = Unit {0}
 
--- Of each of some sections that homes the last planned step is in a turn or earlier, and it ended by the next turn.
-abbrev pub AreHomedBy : ℕ → ℕ → List Started → Type 0
-AreHomedBy homed next [] = Unit {0}
-AreHomedBy homed next (s ∷ begun) = ((s.section.kind ≡ Moves) ⊎ ((s.last ≤ homed) × (s.end ≤ next))) × AreHomedBy homed next begun
-
--- The further lines that wait were heard of; and it is known by which turn all steps of sections that homed are planned.
-pub record IsUptake (lines : BoardLines) (next : ℕ) (begun : List Started) (heard : List BoardLine) : Type 0 where
+-- The further lines that wait were heard of; and each that was taken up holds by 16 turns behind another.
+pub record IsUptake (lines : BoardLines) (free : ℕ) (heard : List BoardLine) : Type 0 where
   pub waiting : All (λ l. WasHeard l.board l.line heard) lines.waiting.items
-  pub homed : AreHomedBy lines.homed next begun
+  pub held : (b : ℕ) → b < length lines.each.items → AreHeldBy (free + 16) (clocks_at lines.each.items b).held
 
 -- a machine has seen this, and the next section that it begins starts in a turn or later
 pub record IsCourseBy (m : Machine) (c : Course) (seen : Seen) (turn free : ℕ) : Type 0 where
@@ -149,7 +147,7 @@ pub record IsCourseBy (m : Machine) (c : Course) (seen : Seen) (turn free : ℕ)
   pub few : c.place + 260 ≤ turn
   pub going : IsGoing m c.current c seen.told seen.begun seen.going
   pub early : IsEarly c.current turn free c
-  pub uptake : IsUptake c.lines seen.next seen.begun seen.lines
+  pub uptake : IsUptake c.lines free seen.lines
 
 -- a machine has seen this
 abbrev pub IsCourseOf : Machine → Course → Seen → Type 0
@@ -159,3 +157,8 @@ IsCourseOf m c seen = IsCourseBy m c seen (c.next + 260) (c.next + 260)
 pub record IsSound (m : Machine) (c : Course) : Type 0 where
   pub seen : Seen
   pub is : IsCourseOf m c seen
+
+-- so there is before turn k, where the lines were taken up that may be
+pub record IsSoundBy (m : Machine) (c : Course) (k : ℕ) : Type 0 where
+  pub seen : Seen
+  pub is : IsCourseBy m c seen (k + 260) (k + 261)

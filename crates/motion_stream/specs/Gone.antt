@@ -59,7 +59,7 @@ pub record MayOpen (m : Machine) (clocks : List Clocks) (start : ℕ) (waiting :
 -- of one that homes all moves are there, and it is known when its last step is planned and which steppers move in it
 abbrev pub TellsAs : SectionKind → Machine → List Clocks → ℕ → List Move → Bool → ℕ → ℕ → Type 0
 TellsAs Moves m clocks start moves ends last moving = (last ≡ 0) × (moving ≡ 0)
-TellsAs (Home axis) m clocks start moves ends last moving = (ends ≡ true) × (last ≡ last_step m clocks moves start) × (moving ≡ moving_in m moves)
+TellsAs (Home axis) m clocks start moves ends last moving = (ends ≡ true) × (last ≡ last_step m clocks moves start) × (last < 2 ^ 61) × (moving ≡ moving_in m moves)
 
 -- A section of a kind was opened that starts in a turn: of what waits it took moves, and maybe its end behind them.
 pub record HasOpened (m : Machine) (clocks : List Clocks) (kind : SectionKind) (start : ℕ) (waiting left : List Item) (s : SectionStream) (last moving : ℕ) : Type 0 where

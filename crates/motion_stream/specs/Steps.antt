@@ -45,7 +45,7 @@ pub record IsPassed (m : Machine) (old new : Seen) (k : ℕ) (batches : List Bat
 
 -- a machine lets turn k go by
 abbrev pub Advances : Machine → Course → ℕ → List Batch → Option NoteNews → Course → Type 0
-Advances m old k batches done new = (seen : Seen) → IsCourseOf m old seen → (next : Seen) × IsPassed m seen next k batches done × IsCourseBy m new next (k + 260) (k + 261)
+Advances m old k batches done new = (seen : Seen) → IsCourseBy m old seen (k + 260) (k + 261) → (next : Seen) × IsPassed m seen next k batches done × IsCourseBy m new next (k + 260) (k + 261)
 
 -- the next section has begun in the text, is of a kind, and starts in a turn, which is not behind another
 pub record IsDue (c : Course) (turn : ℕ) (kind : SectionKind) (start : ℕ) : Type 0 where

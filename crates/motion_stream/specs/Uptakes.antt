@@ -1,10 +1,9 @@
 -- How a motion machine takes up further clock lines of boards.
-use Rattle.std.specs.Prelude.{◌≡◌, ◌⊎◌, ℕ, ◌+◌, ◌<◌, ◌≤◌, All, true, false, List, [], ◌∷◌, ◌++◌, length, slice_index_or, Some}
+use Rattle.std.specs.Prelude.{◌≡◌, ◌⊎◌, ℕ, ◌+◌, ◌<◌, All, true, List, [], ◌∷◌, ◌++◌, length, slice_index_or, Some}
 use Rattle.msg_code.specs.declared.talk.NoteNews.{NoteNews}
 use Rattle.msg_code.specs.declared.talk.NoteNews.TheVariants as news
 use Rattle.plan_types.specs.declared.machine.Machine.{Machine}
 use Rattle.plan_types.specs.declared.plan.Line.{Line}
-use Rattle.plan_types.specs.declared.plan.SectionKind.TheVariants.{Moves}
 use Rattle.section_feed.specs.Boards.{MayTake}
 use Rattle.section_feed.specs.Going.{most_ahead}
 use Rattle.section_feed.specs.Lined.{HasLine}
@@ -13,19 +12,13 @@ use Rattle.section_feed.specs.Sets.{BoardSet}
 use Rattle.section_feed.specs.declared.section.SectionStream.{SectionStream}
 use Rattle.motion_work.specs.declared.told.BoardLine.{BoardLine}
 use Rattle.motion_work.specs.Further.{AreFurther, WasHeard, WereHeard, told_on}
-use Rattle.motion_work.specs.Seen.{AreOver}
 use Rattle.plan_types.specs.Lines.{Clocks}
 use Rattle.plan_types.specs.Sections.{clocks_at}
 use Rattle.motion_stream.specs.declared.course.Course.{Course}
 use Rattle.motion_stream.specs.declared.course.Open.{Open}
 use Rattle.motion_stream.specs.declared.course.Open.TheVariants as opens
-use Rattle.motion_stream.specs.Courses.{IsCourseOf}
-use Rattle.motion_stream.specs.Seen.{Going, Seen}
-
--- a machine may take up further lines: none homes, and those that did have their last planned steps soon
-abbrev pub IsOpenTo : Course → Open → Type 0
-IsOpenTo c opens.Nothing = (c.connected ≡ true) × (c.lines.homed ≤ c.next + 269)
-IsOpenTo c (opens.Goes s homes) = (homes ≡ false) × (c.connected ≡ true) × (c.lines.homed ≤ c.next + 269)
+use Rattle.motion_stream.specs.Courses.{IsCourseBy, IsCourseOf}
+use Rattle.motion_stream.specs.Seen.{Seen}
 
 -- a section that goes on may take up a line on a board, which holds from a turn on
 pub record MayAdd (s : SectionStream) (board turn : ℕ) (line : Line) : Type 0 where
@@ -52,14 +45,14 @@ pub record HasTold (m : Machine) (seen : Seen) (k : ℕ) (old new : List NoteNew
   pub are : new ≡ old ++ more
   pub further : AreFurther k more
   pub heard : WereHeard seen.lines more
-  pub is : IsCourseOf m c (lined seen more)
+  pub is : IsCourseBy m c (lined seen more) (k + 260) (k + 261)
 
 abbrev pub TakesOne : Machine → Course → ℕ → BoardLine → List NoteNews → List NoteNews → Course → Type 0
-TakesOne m c k one old new next = (seen : Seen) → WasHeard one.board one.line seen.lines → IsCourseOf m c seen → HasTold m seen k old new next
+TakesOne m c k one old new next = (seen : Seen) → WasHeard one.board one.line seen.lines → IsCourseBy m c seen (k + 260) (k + 261) → HasTold m seen k old new next
 
 -- so of some lines
 abbrev pub TakesEach : Machine → Course → ℕ → List BoardLine → List NoteNews → List NoteNews → Course → Type 0
-TakesEach m c k waiting old new next = (seen : Seen) → All (λ l. WasHeard l.board l.line seen.lines) waiting → IsCourseOf m c seen → HasTold m seen k old new next
+TakesEach m c k waiting old new next = (seen : Seen) → All (λ l. WasHeard l.board l.line seen.lines) waiting → IsCourseBy m c seen (k + 260) (k + 261) → HasTold m seen k old new next
 
 -- some news tell a further clock line of a board
 abbrev pub TellsOf : ℕ → List NoteNews → Type 0
@@ -77,17 +70,11 @@ pub record TakesMore (old new : List Clocks) (before told : List NoteNews) : Typ
   pub stay : (b : ℕ) → TellsOf b before → TellsOf b told
   pub same : (b : ℕ) → TellsOf b told ⊎ (clocks_at new b ≡ clocks_at old b)
 
--- A machine that may take up lines leaves none out: of each board of which a line waits that it may have in turn k, one is told.
+-- Once connecting ended a machine leaves none out: of each board of which a line waits that it may have in turn k, one is told.
 abbrev pub LeavesNone : Machine → Course → ℕ → List NoteNews → Type 0
-LeavesNone m c k told = IsOpenTo c c.current → All (IsNotLost m c.lines.each.items k told) c.lines.waiting.items
+LeavesNone m c k told = c.connected ≡ true → All (IsNotLost m c.lines.each.items k told) c.lines.waiting.items
 
--- A line that is told in turn k changes no step of a section that homes: none goes on that does, and those that ended are over.
-pub record IsClosed (k : ℕ) (seen : Seen) : Type 0 where
-  pub begun : AreOver k seen.begun
-  pub going : (g : Going) → seen.going ≡ Some g → g.kind ≡ Moves
-
--- A machine took up further clock lines before turn k, and this is the news of them: each was heard of, and holds from turn k + 277
--- on. It takes up none that may change a step of a section that homes.
+-- A machine took up further clock lines before turn k, and this is the news of them: each was heard of, and holds from turn k + 277 on.
 abbrev pub TakesUp : Machine → Course → ℕ → List NoteNews → Course → Type 0
 TakesUp m old k further new =
-    (seen : Seen) → IsCourseOf m old seen → AreFurther k further × WereHeard seen.lines further × ((further ≡ []) ⊎ IsClosed k seen) × IsCourseOf m new (lined seen further)
+    (seen : Seen) → IsCourseOf m old seen → AreFurther k further × WereHeard seen.lines further × IsCourseBy m new (lined seen further) (k + 260) (k + 261)

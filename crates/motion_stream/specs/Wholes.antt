@@ -7,7 +7,7 @@ use Rattle.plan_types.specs.declared.plan.SectionKind.TheVariants.{Home}
 use Rattle.section_units.specs.Plans.{AreSentToOn}
 use Rattle.motion_work.specs.Homes.{no_end}
 use Rattle.motion_work.specs.Puts.{ArePut, Put}
-use Rattle.motion_work.specs.Seen.{AreBoardClocks, AreSentBy, AreStarted, IsPlanned, Started, ready_after}
+use Rattle.motion_work.specs.Seen.{AreBoardClocks, AreSentBy, AreStarted, IsPlanned, Started, lines_of, ready_after}
 use Rattle.motion_work.specs.Told.{Told}
 use Rattle.motion_stream.specs.Seen.{Going, MayBe, Seen, sections_in}
 
@@ -25,7 +25,7 @@ pub record IsWholeLast (m : Machine) (seen : Seen) (all : List Started) : Type 0
   pub told_is : seen.told ≡ Some t
   pub planned : IsPlanned s.section.kind m t.clocks s
   pub unanswered : HasNoAnswer s
-  pub sent : (b : ℕ) → b < length m.boards → AreSentToOn m t.clocks s.section.moves s.start b seen.next (slice_index_or s.boards b [])
+  pub sent : (b : ℕ) → b < length m.boards → AreSentToOn m (lines_of s.section.kind s.end t.clocks) s.section.moves s.start b seen.next (slice_index_or s.boards b [])
 
 -- whole sections that what was seen may become, which are the first ones of a whole text; where one goes on, it has all its units
 pub record AreOf (m : Machine) (seen : Seen) (whole : List ℕ) (all : List Started) : Type 0 where

@@ -179,8 +179,6 @@ fn begin_section(
         section,
         homes: homes_by(due.kind),
     };
-    // No line may change the plan of a section that homes any more.
-    course.lines.homed = course.lines.homed.max(last);
     course.start = due.start;
     course.place += 1;
     Ok(news)

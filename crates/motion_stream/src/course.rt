@@ -44,13 +44,11 @@ pub enum Open {
     Goes { section: SectionStream, homes: bool },
 }
 
-/// The clock lines of each board; the further ones that words told and that are not taken up yet, the last that was told first; and
-/// the turn of the last planned step of all sections that homed.
+/// The clock lines of each board; and the further ones that words told since the last turn.
 #[derive(Drop)]
 pub struct BoardLines {
     pub each: Vec<Lines>,
     pub waiting: Vec<BoardLine>,
-    pub homed: u64,
 }
 
 /// Where a motion machine is: in the text; whether it was told how that was read; whether connecting ended, and the boards' clock
@@ -84,7 +82,6 @@ pub fn new_course(alloc: Global, machine: &Machine) -> Course
         lines: BoardLines {
             each: Vec::new(alloc),
             waiting: Vec::new(alloc),
-            homed: 0,
         },
         ready: FIRST_START,
         start: FIRST_START,

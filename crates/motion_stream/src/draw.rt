@@ -5,9 +5,9 @@ ghost use Rattle.section_feed.specs.AllBoards.{ArePast};
 ghost use Rattle.section_feed.specs.Queues.{IsDrawn};
 ghost use Rattle.section_feed.specs.Sections.{IsLeft, boards_in, next_of, queue_of};
 ghost use Rattle.motion_stream.specs.declared.course.Open.TheVariants as opens;
-ghost use Rattle.motion_stream.specs.Courses.{IsSound};
+ghost use Rattle.motion_stream.specs.Courses.{IsSoundBy};
 ghost use Rattle.motion_stream.specs.News.{IsPlain};
-ghost use Rattle.motion_stream.specs.Steps.{Advances, HasPassed, IsFed};
+ghost use Rattle.motion_stream.specs.Steps.{Advances, HasPassed};
 ghost use Rattle.motion_work.specs.Feeds.{AreOfTurn};
 
 use crate::OutOfMemory;
@@ -59,7 +59,6 @@ fn goes_on(goes: bool, ready: u64, k: u64) -> bool
 /// A turn in which no section goes on whose end is not known.
 fn pass_idle(alloc: Global, machine: &Machine, course: &mut Course) -> Result<Passed, OutOfMemory>
     requires idle { course.old.current ≡ opens.Nothing }
-    requires fed { IsFed course.old course.old.next }
     requires small { course.old.next < 2 ^ 42 }
     ensures passed { IfOk result (λ p. Advances machine.now course.old course.old.next p.batches.items p.done course.new) }
     ensures turn { IfOk result (λ p. AreOfTurn course.old.next (length machine.now.boards) p.batches.items) }
@@ -148,9 +147,8 @@ fn advance_open(
     machine: &Machine,
     course: &mut Course,
 ) -> Result<Passed, OutOfMemory>
-    requires sound { IsSound machine.now course.old }
+    requires sound { IsSoundBy machine.now course.old course.old.next }
     requires small { course.old.next < 2 ^ 42 }
-    requires fed { IsFed course.old course.old.next }
     ensures passed { IfOk result (λ p. Advances machine.now course.old course.old.next p.batches.items p.done course.new) }
     ensures turn { IfOk result (λ p. AreOfTurn course.old.next (length machine.now.boards) p.batches.items) }
     ensures plain { IfOk result (λ p. IsPlain p.done) }
@@ -169,9 +167,8 @@ fn advance_open(
 
 /// Goes on to the next turn: what is put in this one, but which section is begun.
 pub fn advance(alloc: Global, machine: &Machine, course: &mut Course) -> Result<Passed, OutOfMemory>
-    requires sound { IsSound machine.now course.old }
+    requires sound { IsSoundBy machine.now course.old course.old.next }
     requires small { course.old.next < 2 ^ 42 }
-    requires fed { IsFed course.old course.old.next }
     ensures passed { IfOk result (λ p. Advances machine.now course.old course.old.next p.batches.items p.done course.new) }
     ensures turn { IfOk result (λ p. AreOfTurn course.old.next (length machine.now.boards) p.batches.items) }
     ensures plain { IfOk result (λ p. IsPlain p.done) }

@@ -1,6 +1,6 @@
 //! What a motion machine takes: the text, piece by piece, and words.
 
-ghost use Rattle.std.specs.Prelude.{◌≡◌, ◌⊎◌, ◌≤◌, [], ◌+◌, ◌^◌, ◌&&◌, ℕ, All, OnOk, Option, true};
+ghost use Rattle.std.specs.Prelude.{◌≡◌, ◌≤◌, ◌+◌, ◌^◌, ◌&&◌, ℕ, All, OnOk, Option, true};
 ghost use Rattle.motion_stream.specs.Courses.{IsCourseOf, IsSound};
 ghost use Rattle.gcode_program.specs.Items.{IsGood};
 ghost use Rattle.section_feed.specs.Queues.{count_in, is_taking};
@@ -102,24 +102,14 @@ fn take_answer(machine: &Machine, course: &mut Course, word: &WordMsg)
     course.ready = course.next + BETWEEN;
 }
 
-/// So many lines wait at most before more come.
-const MOST_WAITING: usize = 1_024;
-
-/// Drops the lines that wait where they are many: each board tells another one every second, and the later told holds.
-fn drop_old(waiting: &mut Vec<BoardLine>)
-    ensures { (waiting.new.items ≡ waiting.old.items) ⊎ (waiting.new.items ≡ []) }
-{
-    if waiting.len() >= MOST_WAITING {
-        waiting.clear();
-    }
-}
-
-/// Keeps the further clock lines that a word tells, until they are taken up.
+/// Keeps the further clock lines that a word tells until they are taken up in the next turn. None is told before connecting ended.
 fn keep_lines(machine: &Machine, course: &mut Course, word: &WordMsg) -> Result<(), OutOfMemory>
     ensures { OnOk result ((seen : Seen) → IsCourseOf machine.now course.old seen → IsCourseOf machine.now course.new (with_further seen word.now)) }
 {
     let _ = machine;
-    drop_old(&mut course.lines.waiting);
+    if !course.connected {
+        return Ok(());
+    }
     add_lines(word.news.as_slice(), &mut course.lines.waiting)?;
     Ok(())
 }

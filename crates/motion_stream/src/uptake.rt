@@ -1,10 +1,10 @@
 //! Further clock lines of the boards, that are taken up as the planner goes on.
 
 ghost use Rattle.std.specs.Prelude.{◌≡◌, ℕ, ◌+◌, ◌<◌, ◌≤◌, ◌^◌, All, IfOk, OnOk, true};
-ghost use Rattle.motion_stream.specs.Courses.{IsSound};
+ghost use Rattle.motion_stream.specs.Courses.{IsSound, IsSoundBy};
 ghost use Rattle.motion_stream.specs.Motions.{AreEarly};
 ghost use Rattle.motion_stream.specs.Steps.{IsFed};
-ghost use Rattle.motion_stream.specs.Uptakes.{AddsTo, IsNotLost, IsOpenTo, LeavesNone, MayAddTo, TakesEach, TakesMore, TakesOne, TakesUp};
+ghost use Rattle.motion_stream.specs.Uptakes.{AddsTo, IsNotLost, LeavesNone, MayAddTo, TakesEach, TakesMore, TakesOne, TakesUp};
 
 use crate::OutOfMemory;
 use crate::course::{Course, Open, TURN_NS};
@@ -17,25 +17,6 @@ use std::mem;
 
 /// A line that is taken up before turn k holds from this many turns later on: no step from there on is packed yet.
 const LINE_LEAD: u64 = 277;
-
-/// The last planned step of every section that homes is at most so many turns behind turn k: eight turns before the line holds.
-const HOMED_BY: u64 = LINE_LEAD - 8;
-
-/// Whether further lines may be taken up: connecting ended, none homes, and the steps of those that did are planned before such a line
-/// may hold. So are those of a section of moves whose end is known, since they are packed.
-fn is_open_to(course: &Course) -> bool
-    requires { course.now.next < 2 ^ 42 }
-    ensures open { result ≡ true → IsOpenTo course.now course.now.current }
-    ensures closed { IsOpenTo course.now course.now.current → result ≡ true }
-{
-    if !course.connected || course.lines.homed > course.next + HOMED_BY {
-        return false;
-    }
-    match &course.current {
-        Open::Nothing => true,
-        Open::Goes { homes, .. } => !*homes,
-    }
-}
 
 /// Lets a line hold on a board from a turn on in the section that goes on, if one does.
 fn add_to(current: &mut Open, board: usize, turn: u64, line: Line) -> Result<(), OutOfMemory>
@@ -61,19 +42,18 @@ fn take_one(
     one: &BoardLine,
     news: &mut Listed<NoteNews>,
 ) -> Result<(), OutOfMemory>
-    requires sound { IsSound machine.now course.old }
-    requires open { IsOpenTo course.old course.old.current }
+    requires sound { IsSoundBy machine.now course.old k }
+    requires on { course.old.connected ≡ true }
     requires next { course.old.next ≡ k }
     requires small { k < 2 ^ 42 }
     requires early { AreEarly machine.now course.old }
     ensures taken { OnOk result (TakesOne machine.now course.old k one.now news.old news.new course.new) }
     ensures told { OnOk result (IsNotLost machine.now course.old.lines.each.items k news.new one.now) }
     ensures more { OnOk result (TakesMore course.old.lines.each.items course.new.lines.each.items news.old news.new) }
-    ensures sound { OnOk result (IsSound machine.now course.new) }
-    ensures open { OnOk result (IsOpenTo course.new course.new.current) }
+    ensures sound { OnOk result (IsSoundBy machine.now course.new k) }
+    ensures on { course.new.connected ≡ course.old.connected }
     ensures next { course.new.next ≡ course.old.next }
     ensures early { OnOk result (AreEarly machine.now course.new) }
-    ensures fed { OnOk result (IsFed course.old k → IsFed course.new k) }
 {
     let board = usize::from(one.board);
     let turn = k + LINE_LEAD;
@@ -99,18 +79,17 @@ fn take_each(
     waiting: &[BoardLine],
     news: &mut Listed<NoteNews>,
 ) -> Result<(), OutOfMemory>
-    requires sound { IsSound machine.now course.old }
-    requires open { IsOpenTo course.old course.old.current }
+    requires sound { IsSoundBy machine.now course.old k }
+    requires on { course.old.connected ≡ true }
     requires next { course.old.next ≡ k }
     requires small { k < 2 ^ 42 }
     requires early { AreEarly machine.now course.old }
     ensures taken { OnOk result (TakesEach machine.now course.old k waiting.now news.old news.new course.new) }
     ensures told { OnOk result (All (IsNotLost machine.now course.old.lines.each.items k news.new) waiting.now) }
     ensures more { OnOk result (TakesMore course.old.lines.each.items course.new.lines.each.items news.old news.new) }
-    ensures sound { OnOk result (IsSound machine.now course.new) }
+    ensures sound { OnOk result (IsSoundBy machine.now course.new k) }
     ensures next { course.new.next ≡ course.old.next }
     ensures early { OnOk result (AreEarly machine.now course.new) }
-    ensures fed { OnOk result (IsFed course.old k → IsFed course.new k) }
 {
     match waiting {
         [] => {}
@@ -133,15 +112,15 @@ pub fn take_up(
     requires next { course.old.next ≡ k }
     requires small { k < 2 ^ 42 }
     requires early { AreEarly machine.now course.old }
+    requires fed { IsFed course.old k }
     ensures taken { IfOk result (λ news. TakesUp machine.now course.old k news course.new) }
     ensures none { IfOk result (λ news. LeavesNone machine.now course.old k news) }
-    ensures sound { OnOk result (IsSound machine.now course.new) }
+    ensures sound { OnOk result (IsSoundBy machine.now course.new k) }
     ensures next { course.new.next ≡ course.old.next }
     ensures early { OnOk result (AreEarly machine.now course.new) }
-    ensures fed { OnOk result (IsFed course.old k → IsFed course.new k) }
 {
     let mut news = Listed::new(alloc);
-    if course.lines.waiting.is_empty() || !is_open_to(course) {
+    if course.lines.waiting.is_empty() || !course.connected {
         return Ok(news);
     }
     let waiting = mem::replace(&mut course.lines.waiting, Vec::new(alloc));

@@ -6,3 +6,4 @@ pub mod Boardwise
 pub mod Homing
 pub mod Sending
 pub mod Staying
+pub mod Following

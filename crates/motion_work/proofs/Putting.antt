@@ -7,7 +7,7 @@ use Rattle.msg_code.specs.declared.talk.NoteNews.TheVariants as news
 use Rattle.plan_types.specs.declared.machine.Machine.{Machine}
 use Rattle.plan_types.specs.Lines.{Clocks}
 use Rattle.motion_work.specs.Puts.{ArePut, IsPut, Put, begun_notes}
-use Rattle.motion_work.specs.Seen.{AreOut, AreOver, AreStarted, IsOver, IsStarted, Started, ready_after}
+use Rattle.motion_work.specs.Seen.{AreOut, AreStarted, IsStarted, Started, ready_after}
 use Rattle.motion_work.specs.Turns.{done_notes, start_notes}
 
 pub same_on : {X : Type 0} (f g : ℕ → X) (i n top : ℕ) → i + n ≤ top → ((b : ℕ) → b < top → f b ≡ g b) → map f (range_with_len i n) ≡ map g (range_with_len i n)
@@ -51,10 +51,6 @@ begun_last k i (b ∷ begun) s h e =
 pub started_last : (m : Machine) (clocks : List Clocks) (ready : ℕ) (begun : List Started) (s : Started) → AreStarted m clocks ready (begun ++ s ∷ []) → IsStarted m clocks (ready_after ready begun) s
 started_last m clocks ready [] s h = h.0
 started_last m clocks ready (b ∷ begun) s h = started_last m clocks (b.end + 260) begun s h.1
-
-pub over_more : (k : ℕ) (begun : List Started) (s : Started) → AreOver k begun → IsOver k s → AreOver k (begun ++ s ∷ [])
-over_more k [] s h one = (one, tt)
-over_more k (x ∷ begun) s h one = (h.0, over_more k begun s h.1 one)
 
 pub out_more : (boards k n : ℕ) (begun : List Started) (s : Started) → AreOut boards k n begun → AreOut boards k n (begun ++ s ∷ [])
 out_more boards k zero begun s h = tt

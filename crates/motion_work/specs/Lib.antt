@@ -1,4 +1,5 @@
 pub mod Homes
+pub mod Known
 pub mod Feeds
 pub mod Told
 pub mod Seen

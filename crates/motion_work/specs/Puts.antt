@@ -8,7 +8,7 @@ use Rattle.msg_code.specs.declared.unit.Batch.{Batch}
 use Rattle.plan_types.specs.declared.machine.Machine.{Machine}
 use Rattle.motion_work.specs.Feeds.{batches_at}
 use Rattle.motion_work.specs.Further.{AreFurther}
-use Rattle.motion_work.specs.Seen.{AreOut, AreOver, Started}
+use Rattle.motion_work.specs.Seen.{AreOut, Started}
 use Rattle.motion_work.specs.Turns.{done_notes}
 
 -- the batches of a turn, one for each board, and its note
@@ -28,8 +28,7 @@ IsReadNews m text told =
 
 -- What was put in turn k, told by the text and all sections: each board's batch has what the sections release in that turn, and the
 -- note tells the sections that end in it and those that are begun in it, maybe how the text was read, once all its sections
--- ended and none of their units waits, and behind all else the further clock lines of boards that were taken up, of which there are none that
--- may change a step of a section that homes.
+-- ended and none of their units waits, and behind all else the further clock lines of boards that were taken up.
 pub record IsPut (m : Machine) (text : List ℕ) (begun : List Started) (k : ℕ) (p : Put) : Type 0 where
   pub batches_are : p.batches ≡ batches_at (length m.boards) k (map (λ s. s.boards) begun)
   pub turn : p.note.turn ≡ k
@@ -38,7 +37,6 @@ pub record IsPut (m : Machine) (text : List ℕ) (begun : List Started) (k : ℕ
   pub out : (read ≡ []) ⊎ AreOut (length m.boards) k (length (program_sections m text)) begun
   pub further : List NoteNews
   pub are_further : AreFurther k further
-  pub over : (further ≡ []) ⊎ AreOver k begun
   pub news_are : p.note.news ≡ done_notes k 0 begun ++ (begun_notes k 0 begun ++ (read ++ further))
 
 -- what was put in some turns one behind the other, from turn k on

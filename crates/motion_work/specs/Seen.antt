@@ -1,17 +1,19 @@
 -- What a motion machine has seen and begun.
-use Rattle.std.specs.Prelude.{◌≡◌, ◌⊎◌, ℕ, zero, suc, ◌+◌, ◌*◌, ◌^◌, ◌<◌, ◌≤◌, ◌==◌, Bool, true, false, List, [], ◌∷◌, ◌++◌, length, slice_index_or}
+use Rattle.std.specs.Prelude.{◌≡◌, ◌⊎◌, ℕ, zero, suc, ◌+◌, ◌*◌, ◌^◌, ◌<◌, ◌≤◌, ◌==◌, Bool, true, false, All, List, [], ◌∷◌, ◌++◌, length, map, slice_index_or}
 use Rattle.plan_types.specs.declared.machine.Machine.{Machine}
 use Rattle.plan_types.specs.declared.plan.Section.{Section}
 use Rattle.plan_types.specs.declared.plan.SectionKind.{SectionKind}
 use Rattle.plan_types.specs.declared.plan.SectionKind.TheVariants.{Moves, Home}
 use Rattle.plan_types.specs.Clock.{turn_ns}
-use Rattle.plan_types.specs.Lines.{Clocks}
+use Rattle.plan_types.specs.Lines.{Clocks, lines_tick}
 use Rattle.plan_types.specs.Machines.{board_at}
+use Rattle.plan_types.specs.Plan.{max_error}
 use Rattle.plan_types.specs.Sections.{clocks_at, section_end}
 use Rattle.plan_types.specs.Valid.{IsValidLine}
 use Rattle.section_feed.specs.Boards.{IsLasting}
 use Rattle.section_units.specs.Sections.{BoardSection}
 use Rattle.step_feed.specs.Pacing.{Release, batch_at}
+use Rattle.motion_work.specs.Known.{lines_by}
 use Rattle.motion_work.specs.Homes.{all_before, last_step, moving_in, no_end}
 use Rattle.section_units.specs.Merged.{section_of}
 use Rattle.section_units.specs.Plans.{AreOnBoards, AreOnBoardsBy, AreSentOn, AreSentToOn, plans_on}
@@ -39,14 +41,19 @@ pub record IsMoved (m : Machine) (clocks : List Clocks) (s : Started) : Type 0 w
   pub moving : s.moving ≡ 0
   pub boards : AreOnBoards m clocks s.section.moves s.start s.boards
 
--- a homing section has the units of its plan, of which none sets a clock; where its end is known, those that are released before it
+-- A homing section: the turn of its last step is that of its plan by the lines that hold by 17 turns behind its start, which are those that
+-- were taken up when it was begun. Its units are those of its plan by the lines that hold by 276 turns behind its end, which are those that were
+-- taken up by then, and none of them sets a clock; where its end is known, they are those that are released before it, and end seven turns before
+-- another line may hold, or earlier.
 pub record IsHomed (m : Machine) (clocks : List Clocks) (s : Started) : Type 0 where
   pub late : s.start ≤ s.end
-  pub last : s.last ≡ last_step m clocks s.section.moves s.start
+  pub last : s.last ≡ last_step m (map (lines_by (s.start + 17)) clocks) s.section.moves s.start
+  pub soon : s.last < 2 ^ 61
   pub moving : s.moving ≡ moving_in m s.section.moves
   pub planned : List (List Release)
-  pub are : AreOnBoardsBy true m clocks s.section.moves s.start planned
+  pub are : AreOnBoardsBy true m (map (lines_by (s.end + 276)) clocks) s.section.moves s.start planned
   pub boards : ((s.end ≡ no_end) × (s.boards ≡ planned)) ⊎ ((s.end < no_end) × (s.boards ≡ all_before s.end planned))
+  pub near : s.end < no_end → (b : ℕ) → b < length m.boards → All (λ r. r.unit.last + max_error (board_at m b).freq < lines_tick (clocks_at clocks b) ((s.end + 270) * turn_ns)) (slice_index_or s.boards b [])
 
 -- a section of a kind is planned
 abbrev pub IsPlanned : SectionKind → Machine → List Clocks → Started → Type 0
@@ -78,16 +85,6 @@ AreDone next (s ∷ ss) = s.end < next × AreDone next ss
 abbrev pub IsOpen : Bool → ℕ → List Started → Type 0
 IsOpen false next begun = AreDone next begun
 IsOpen true next begun = (past : List Started) × (s : Started) × (begun ≡ past ++ s ∷ []) × AreDone next past × (next ≤ s.end) × (s.start ≤ s.end)
-
--- In a section a line changes no step that a note of turn k tells, and that holds from 277 turns later on: it is one of moves; or it
--- homes, and is not begun before turn k, or ended by then, with its last planned step eight turns before the line's turn or earlier.
-abbrev pub IsOver : ℕ → Started → Type 0
-IsOver k s = (s.section.kind ≡ Moves) ⊎ ((k + 260 ≤ s.start) ⊎ ((s.end ≤ k) × (s.last ≤ k + 269)))
-
--- so it is in all of some sections
-abbrev pub AreOver : ℕ → List Started → Type 0
-AreOver k [] = Unit {0}
-AreOver k (s ∷ begun) = IsOver k s × AreOver k begun
 
 -- a section ended by turn k, and none of its units on so many boards is released behind it
 abbrev pub IsOut : ℕ → ℕ → Started → Type 0
@@ -124,9 +121,14 @@ abbrev pub AreMoves : List Started → Type 0
 AreMoves [] = Unit {0}
 AreMoves (s ∷ begun) = (s.section.kind ≡ Moves) × AreMoves begun
 
+-- The clock lines by which a section is planned that ends in a turn: where it homes those that hold by 276 turns behind it.
+abbrev pub lines_of : SectionKind → ℕ → List Clocks → List Clocks
+lines_of Moves end clocks = clocks
+lines_of (Home axis) end clocks = map (lines_by (end + 276)) clocks
+
 -- the units of a section on each board are such as that is sent: in order, with triples that cover as many steps as one can
 abbrev pub IsSentOf : Machine → List Clocks → Started → Type 0
-IsSentOf m clocks s = (b : ℕ) → b < length m.boards → AreSentOn m clocks s.section.moves s.start b (slice_index_or s.boards b [])
+IsSentOf m clocks s = (b : ℕ) → b < length m.boards → AreSentOn m (lines_of s.section.kind s.end clocks) s.section.moves s.start b (slice_index_or s.boards b [])
 
 -- so they are in all of some sections
 abbrev pub AreAllSent : Machine → List Clocks → List Started → Type 0
@@ -137,4 +139,4 @@ AreAllSent m clocks (s ∷ begun) = IsSentOf m clocks s × AreAllSent m clocks b
 abbrev pub AreSentBy : Machine → List Clocks → ℕ → List Started → Type 0
 AreSentBy m clocks next [] = Unit {0}
 AreSentBy m clocks next (s ∷ begun) =
-    ((b : ℕ) → b < length m.boards → AreSentToOn m clocks s.section.moves s.start b next (slice_index_or s.boards b [])) × AreSentBy m clocks next begun
+    ((b : ℕ) → b < length m.boards → AreSentToOn m (lines_of s.section.kind s.end clocks) s.section.moves s.start b next (slice_index_or s.boards b [])) × AreSentBy m clocks next begun

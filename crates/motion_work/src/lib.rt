@@ -9,6 +9,6 @@ mod laws;
 mod told;
 
 pub use homes::{NO_END, home_end, moving_in, says_homed};
-pub use laws::{boards_have_sections, homed_sections_stay};
+pub use laws::{boards_have_sections, homed_sections_follow_plans};
 pub use std::alloc::AllocError as OutOfMemory;
 pub use told::{BoardLine, add_lines, first_start, told_of};

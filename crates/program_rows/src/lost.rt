@@ -1,4 +1,5 @@
-//! Steps that could be lost: many at once behind a section's end, and those behind clock lines that a board takes up.
+//! Steps that could be lost: many at once behind a section's end, and those behind clock lines that a board takes up, in moves and
+//! while an axis homes.
 
 use crate::files::{X_DISTANCE, files, run};
 use crate::shown::{pulses, tells};
@@ -15,15 +16,8 @@ use std::thread::Threads;
 /// as the first and the last ones.
 type Kept<'a> = (&'a str, &'a str, u64, [(u64, u64); 2], [&'a str; 2]);
 
-/// Runs a text where those answers are delayed.
-fn play<R: Threads + Wait + Sync>(
-    rt: &R,
-    alloc: Global,
-    more: &str,
-    text: &str,
-    delay: u64,
-    out: &mut MemSink,
-) -> Result<Ended, AllocError> {
+/// The scene in which those answers are delayed.
+fn delayed(alloc: Global, delay: u64) -> Result<String, AllocError> {
     let mut scene = String::new(alloc);
     if delay > 0 {
         for number in 34..42_u32 {
@@ -31,6 +25,18 @@ fn play<R: Threads + Wait + Sync>(
             scene.push_str(line.as_str())?;
         }
     }
+    Ok(scene)
+}
+
+/// Runs a text in a scene.
+fn play<R: Threads + Wait + Sync>(
+    rt: &R,
+    alloc: Global,
+    more: &str,
+    text: &str,
+    scene: &str,
+    out: &mut MemSink,
+) -> Result<Ended, AllocError> {
     let mut read = files(alloc, X_DISTANCE, more, text)?;
     read.add("s.scene", scene.as_bytes())?;
     run(
@@ -135,7 +141,8 @@ fn is_kept<R: Threads + Wait + Sync>(
 ) -> Result<bool, AllocError> {
     let (more, text, delay, [x, y], lines) = *row;
     let mut out = MemSink::new(alloc, Vec::new(alloc));
-    play(rt, alloc, more, text, delay, &mut out)?;
+    let scene = delayed(alloc, delay)?;
+    play(rt, alloc, more, text, scene.as_str(), &mut out)?;
     let report = out.bytes();
     Ok(
         makes(alloc, report, "stepper_x", x)?
@@ -161,6 +168,104 @@ fn first_lost<R: Threads + Wait + Sync>(
 #[test]
 fn steps_behind_further_lines(rt: HostRuntime) -> Result<(), Fail> {
     assert_eq!(rt; first_lost(&rt, rt.alloc(), &KEPT)?, None);
+    Ok(())
+}
+
+/// A run in which x homes for 49 seconds on a board that drifts, and moves a millimetre behind that: lines behind those of the configuration,
+/// how many pulses x makes and the planned tick of the last one, the board's ticks in a second, and the report's other lines, as the
+/// first and the last ones, but for those that tell its clock while x homes.
+type Homed<'a> = (&'a str, (u64, u64), u64, [&'a str; 2]);
+
+const FAST_HOME: &str = "[simulation]
+start_homed: False
+[simulated_mcu]
+drift_ppm: 200
+[stepper_x]
+position_max: 500
+";
+
+const SLOW_HOME: &str = "[simulation]
+start_homed: False
+[simulated_mcu]
+drift_ppm: -200
+[stepper_x]
+position_max: 500
+";
+
+const HOMED: [Homed<'static>; 2] = [
+    (
+        FAST_HOME,
+        (39_063, 805_796_672),
+        16_003_200,
+        [
+            "machine cartesian boards 1 steppers 4
+board mcu freq 16000000 turn 1260 tick 20160108
+line mcu turn 1000 tick 16003200 from 1342000000
+section 0 turn 1260 home x
+",
+            "cut 0 mcu PC0 800000828 1
+line mcu turn 50000 tick 800160000 from 50342000000
+section 1 turn 50251 move
+lines 2 passed 0
+end 0 done
+",
+        ],
+    ),
+    (
+        SLOW_HOME,
+        (39_079, 805_796_672),
+        15_996_800,
+        [
+            "machine cartesian boards 1 steppers 4
+board mcu freq 16000000 turn 1260 tick 20159891
+line mcu turn 1000 tick 15996800 from 1342000000
+section 0 turn 1260 home x
+",
+            "line mcu turn 50000 tick 799840000 from 50278000000
+cut 0 mcu PC0 800002211 1
+section 1 turn 50271 move
+lines 2 passed 0
+end 0 done
+",
+        ],
+    ),
+];
+
+/// The lines that tell the clock of a board each second while x homes, which hold 277 turns behind the turn in which they are told.
+fn told_while_homing(alloc: Global, head: &str, ticks: u64) -> Result<String, AllocError> {
+    let mut lines = String::from_str(alloc, head)?;
+    for second in 2..50_u64 {
+        let tick = second.wrapping_mul(ticks);
+        let line = format!(in alloc;
+            "line mcu turn {second}000 tick {tick} from {second}278000000\n"
+        )?;
+        lines.push_str(line.as_str())?;
+    }
+    Ok(lines)
+}
+
+/// Whether a run makes all its pulses and tells these lines.
+fn is_homed<R: Threads + Wait + Sync>(
+    rt: &R,
+    alloc: Global,
+    row: &Homed<'_>,
+) -> Result<bool, AllocError> {
+    let (more, x, ticks, [head, tail]) = *row;
+    let lines = told_while_homing(alloc, head, ticks)?;
+    let mut out = MemSink::new(alloc, Vec::new(alloc));
+    let scene = "switch mcu PC0 800000000 1\n";
+    play(rt, alloc, more, "G28 X\nG1 X1 F600\n", scene, &mut out)?;
+    Ok(
+        makes(alloc, out.bytes(), "stepper_x", x)?
+            && tells(alloc, out.bytes(), [lines.as_str(), tail])?,
+    )
+}
+
+#[test]
+fn steps_of_a_long_homing(rt: HostRuntime) -> Result<(), Fail> {
+    for row in &HOMED {
+        assert!(rt; is_homed(&rt, rt.alloc(), row)?);
+    }
     Ok(())
 }
 
@@ -191,7 +296,7 @@ fn is_behind_slots(first: u64) -> bool {
 /// next one is sent 255 turns later than it could be, and no turn was spoiled.
 fn comes_late<R: Threads + Wait + Sync>(rt: &R, alloc: Global) -> Result<bool, AllocError> {
     let mut out = MemSink::new(alloc, Vec::new(alloc));
-    let ended = play(rt, alloc, BURST, "G1 X0.01 F60000\n", 0, &mut out)?;
+    let ended = play(rt, alloc, BURST, "G1 X0.01 F60000\n", "", &mut out)?;
     let (made, _, last) = pulses(alloc, out.bytes(), "stepper_x")?;
     let Cause::Late {
         board: 0,

@@ -24,7 +24,8 @@ use Rattle.log_laws.specs.Follows.{in_order}
 use Rattle.log_laws.proofs.Standing.{onto}
 use Rattle.report_laws.specs.Further.{AllMayStand, further_told}
 use Rattle.report_laws.specs.Logged.{logged}
-use Rattle.report_laws.specs.Retold.{AreFirstLines, HaveLines, HoldBehind, HoldFrom, all_retold, retold}
+use Rattle.section_feed.specs.Fewer.{AreFirstLines, HoldBehind}
+use Rattle.report_laws.specs.Retold.{HaveLines, HoldFrom, all_retold, retold}
 use Rattle.report_laws.specs.Through.{AreHeads}
 use Rattle.report_laws.proofs.Fewer.{kept-first}
 use Rattle.report_laws.proofs.Retelling.{AreTold, one-of, retold-at, retold-kept, tick-retold}

@@ -31,18 +31,6 @@ pub record HaveLines (m : Machine) (clocks : List Clocks) (turn : ℕ) : Type 0 
   pub before : (b : ℕ) → b < length m.boards → (clocks_at clocks b).first.at ≤ turn * turn_ns
   pub soon : turn < 2 ^ 62
 
--- further lines hold from behind the beginning of a turn on
-abbrev pub HoldBehind : ℕ → List Held → Type 0
-HoldBehind turn [] = Unit {0}
-HoldBehind turn (h ∷ held) = (turn * turn_ns < h.from) × HoldBehind turn held
-
--- the lines of a board are the first ones of others, which hold from behind the beginning of a turn on
-pub record AreFirstLines (short long : Clocks) (turn : ℕ) : Type 0 where
-  pub first : short.first ≡ long.first
-  pub rest : List Held
-  pub are : long.held ≡ short.held ++ rest
-  pub behind : HoldBehind turn rest
-
 -- the plan of a section by some clock lines is that by others
 pub record PlanAlike (m : Machine) (clocks others : List Clocks) (moves : List Move) (turn : ℕ) : Type 0 where
   pub freq : (s : ℕ) → (clocks_at clocks (stepper_at m s).board).first.freq ≡ (clocks_at others (stepper_at m s).board).first.freq

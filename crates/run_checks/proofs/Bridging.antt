@@ -21,7 +21,7 @@ use Rattle.log_check.specs.Behind.{pulses}
 use Rattle.log_check.specs.Faults.{have_room}
 use Rattle.log_laws.specs.Follows.{in_order}
 use Rattle.report_laws.specs.Retold.{HaveLines, PlansAlike, all_retold, retold}
-use Rattle.run_checks.specs.Stands.{AreBehind, BeginSection, StandInOrder}
+use Rattle.run_checks.specs.Stands.{AreBehind, BeginSection, IsPlannedAlike, StandInOrder}
 use Rattle.report_laws.specs.Through.{AreHeads, told}
 use Rattle.report_laws.specs.Within.{AreWithin, GoWithin, TellAllWithin, TellsWithin, has_cut, ready_behind}
 use Rattle.report_laws.proofs.Retelling.{alike}
@@ -166,12 +166,19 @@ cut-lines homes (report.End c ∷ lines) behind = absurd behind
 abbrev pub IsCutOrNot : List Section → Bool → ℕ → List ReportLine → Type 0
 IsCutOrNot sections cut j lines = ((cut ≡ false) × (cuts_in j lines ≡ [])) ⊎ ((cut ≡ true) × IsOneCut j (cuts_in j lines) × ((axis : ℕ) × (kind_of sections j ≡ Home axis)))
 
+-- a section is planned alike whose cut lines and pulses are the same
+alike-same : (m : Machine) (short clocks : List Clocks) (sections : List Section) (said body : List ReportLine) (j turn : ℕ) → cuts_in j said ≡ cuts_in j body → ((s : ℕ) → pulses_in j s said ≡ pulses_in j s body) → IsPlannedAlike m short clocks sections said j turn
+    → IsPlannedAlike m short clocks sections body j turn
+alike-same m short clocks sections said body j turn cuts pulses_are (inl same) = inl same
+alike-same m short clocks sections said body j turn cuts pulses_are (inr one) =
+    inr (λ e. one.0 (cuts ∙ e), λ s inside. subst (λ (ps : List Pulse). Fits (clocks_at short (stepper_at m s).board).first.freq (base_tick m short turn s) ps (plan_by short m sections j turn s)) (pulses_are s) (one.1 s inside))
+
 -- what is asked of the lines from a section on, of which some are cut
 pub record Follow (m : Machine) (sections : List Section) (clocks short : List Clocks) (cut : ℕ → Bool) (ready i : ℕ) (body : List ReportLine) : Type 0 where
   pub fits : (j turn s : ℕ) → i ≤ j → section_turn j body ≡ Some turn → s < length m.steppers → Fits (clocks_at clocks (stepper_at m s).board).first.freq (base_tick m clocks turn s) (pulses_in j s body) (plan_by clocks m sections j turn s)
   pub whole : (j turn s : ℕ) → i ≤ j → section_turn j body ≡ Some turn → cut j ≡ false → s < length m.steppers → length (pulses_in j s body) ≡ length (plan_by clocks m sections j turn s)
   pub rooms : (j turn : ℕ) → i ≤ j → section_turn j body ≡ Some turn → have_room (all_retold ready short) (length (moves_of sections j)) turn ≡ true
-  pub alike : (j turn : ℕ) → i ≤ j → section_turn j body ≡ Some turn → PlansAlike m short clocks (moves_of sections j) turn
+  pub alike : (j turn : ℕ) → i ≤ j → section_turn j body ≡ Some turn → IsPlannedAlike m short clocks sections body j turn
   pub cuts : (j turn : ℕ) → i ≤ j → section_turn j body ≡ Some turn → IsCutOrNot sections (cut j) j body
 
 -- sections from a number on have these lines: the first may start in a turn or later, and each later one behind the one before
@@ -206,7 +213,7 @@ follow-later m sections clocks short cuts homes ready i turn kind lines rest fol
       fits = λ j t s low shows inside. subst (λ (ps : List Pulse). Fits (clocks_at clocks (stepper_at m s).board).first.freq (base_tick m clocks t s) ps (plan_by clocks m sections j t s)) (pulses_are j s low) (follow.fits j t s (omega (arith, low)) (turns j low ∙ shows) inside);
       whole = λ j t s low shows uncut inside. sym (ap length (pulses_are j s low)) ∙ follow.whole j t s (omega (arith, low)) (turns j low ∙ shows) uncut inside;
       rooms = λ j t low shows. follow.rooms j t (omega (arith, low)) (turns j low ∙ shows);
-      alike = λ j t low shows. follow.alike j t (omega (arith, low)) (turns j low ∙ shows);
+      alike = λ j t low shows. alike-same m short clocks sections here rest j t (cuts_are j low) (λ s. pulses_are j s low) (follow.alike j t (omega (arith, low)) (turns j low ∙ shows));
       cuts = λ j t low shows. elim (follow.cuts j t (omega (arith, low)) (turns j low ∙ shows)) [
         | inl e ↦ inl (e.0, sym (cuts_are j low) ∙ e.1)
         | inr e ↦ inr (e.0, (e.1.0, e.1.1, e.1.2, e.1.3, sym (cuts_are j low) ∙ e.1.4), e.2)
@@ -224,8 +231,18 @@ same-moves sections past secs s i are at =
 -- one section
 record IsTold (m : Machine) (sections : List Section) (clocks short : List Clocks) (ready i turn : ℕ) (s : Section) (cut : Bool) (block : List ReportLine) : Type 0 where
   tells : TellsWithin m (all_retold ready short) s i turn block
-  end : section_end m (all_retold ready short) s.moves turn ≡ section_end m clocks s.moves turn
+  next : ready_behind cut turn (section_end m (all_retold ready short) s.moves turn) ≡ ready_behind cut turn (section_end m clocks s.moves turn)
   cut_is : has_cut block ≡ cut
+
+-- pulses that fit a plan fit one that is the same
+pub fits-same : (ps : List Pulse) {f g b c : ℕ} {xs ys : List Planned} → f ≡ g → b ≡ c → xs ≡ ys → Fits g c ps ys → Fits f b ps xs
+fits-same ps {f} {g} {b} {c} {xs} {ys} freq base steps fit =
+    subst (λ (n : ℕ). Fits n b ps xs) (sym freq) (subst (λ (n : ℕ). Fits g n ps xs) (sym base) (subst (λ (zs : List Planned). Fits g c ps zs) (sym steps) fit))
+
+-- behind a section that is cut the next one starts no sooner, whenever its plan ends
+behind-cut : (cut : Bool) (turn end other : ℕ) → cut ≡ true → ready_behind cut turn end ≡ ready_behind cut turn other
+behind-cut true turn end other cut = refl
+behind-cut false turn end other cut = absurd (let f : false ≡ true = cut in cc)
 
 tell-one : (m : Machine) (sections past secs : List Section) (clocks short : List Clocks) (cuts : ℕ → Bool) (homes : Bool) (ready i turn : ℕ) (s : Section) (kind : SectionKind) (lines rest : List ReportLine) → IsValidMachine m → HaveLines m short ready → sections ≡ past ++ s ∷ secs → i ≡ length past → ready ≤ turn
     → Follow m sections clocks short cuts ready i (report.Section i turn kind ∷ lines) → IsCut homes lines rest → IsTold m sections clocks short ready i turn s (cuts i) (lines_before lines)
@@ -237,33 +254,49 @@ tell-one m sections past secs clocks short cuts homes ready i turn s kind lines 
     let moves = same-moves sections past secs s i are at in
     let kind_is = same-kind-of sections past secs s i are at in
     let told_same = alike m short s.moves ready turn valid one order in
-    let same = subst (λ (ms : List Move). PlansAlike m short clocks ms turn) moves (follow.alike i turn (omega arith) shows) in
     let cuts_are : cuts_in i here ≡ cuts_of block = ap (λ (z : List ReportLine). cuts_of (lines_before z)) (is-here (i == i) lines (lines_behind i lines) self) in
     let found : AreWithin i block × (has_cut block ≡ cuts i) × (cuts i ≡ true → (axis : ℕ) × (s.kind ≡ Home axis)) = elim (follow.cuts i turn (omega arith) shows) [
       | inl e ↦ let w = within-none i block cut.loose (sym cuts_are ∙ e.1) in (w.0, w.1 ∙ sym e.0, λ yes. absurd (let f : false ≡ true = sym e.0 ∙ yes in cc))
       | inr e ↦ let w = within-one i block cut.loose (e.1.0, e.1.1, e.1.2, e.1.3, sym cuts_are ∙ e.1.4) in (w.0, w.1 ∙ sym e.0, λ yes. (e.2.0, sym kind_is ∙ e.2.1))
     ] in
     let pulses_are : (q : ℕ) → pulses_in i q here ≡ told q block = λ q. is-here (i == i) (pulses_before q lines) (pulses_in i q lines) self ∙ ap (pulses_before q) cut.are ∙ before-told q i block rest found.0 cut.begins in
-    record {
-      tells = record {
-        are = found.0;
-        homes = λ yes. found.2 (sym found.1 ∙ yes);
-        fits = λ q inside.
-            let freq = (clocks_at clocks (stepper_at m q).board).first.freq in
-            let base = base_tick m clocks turn q in
-            let one_fits = follow.fits i turn q (omega arith) shows inside in
-            let two = subst (λ (ps : List Pulse). Fits freq base ps (plan_by clocks m sections i turn q)) (pulses_are q) one_fits in
-            let three = subst (λ (ms : List Move). Fits freq base (told q block) (stepper_plan m clocks ms turn q)) moves two in
-            let four = subst (λ (plan : List Planned). Fits freq base (told q block) plan) (sym (told_same.steps q ∙ same.steps q inside)) three in
-            let five = subst (λ (b : ℕ). Fits freq b (told q block) (stepper_plan m (all_retold ready short) s.moves turn q)) (sym (told_same.base q ∙ same.base q inside)) four in
-            subst (λ (f : ℕ). Fits f (base_tick m (all_retold ready short) turn q) (told q block) (stepper_plan m (all_retold ready short) s.moves turn q)) (sym (told_same.freq q ∙ same.freq q inside)) five;
-        whole = λ uncut q inside.
-            sym (ap length (pulses_are q)) ∙ (follow.whole i turn q (omega arith) shows (sym found.1 ∙ uncut) inside ∙ (ap (λ (ms : List Move). length (stepper_plan m clocks ms turn q)) moves ∙ ap length (sym (told_same.steps q ∙ same.steps q inside))));
-        room = ap (λ (ms : List Move). have_room (all_retold ready short) (length ms) turn) (sym moves) ∙ follow.rooms i turn (omega arith) shows;
-      };
-      end = told_same.end ∙ same.end;
-      cut_is = found.1;
-    }
+    let fits_by : (cs : List Clocks) (q : ℕ) → Fits (clocks_at cs (stepper_at m q).board).first.freq (base_tick m cs turn q) (pulses_in i q here) (plan_by cs m sections i turn q)
+    → Fits (clocks_at cs (stepper_at m q).board).first.freq (base_tick m cs turn q) (told q block) (stepper_plan m cs s.moves turn q) = λ cs q fit.
+    let freq = (clocks_at cs (stepper_at m q).board).first.freq in
+    let base = base_tick m cs turn q in
+    subst (λ (ms : List Move). Fits freq base (told q block) (stepper_plan m cs ms turn q)) moves (subst (λ (ps : List Pulse). Fits freq base ps (plan_by cs m sections i turn q)) (pulses_are q) fit) in
+    let homes : has_cut block ≡ true → (axis : ℕ) × (s.kind ≡ Home axis) = λ yes. found.2 (sym found.1 ∙ yes) in
+    let room : have_room (all_retold ready short) (length s.moves) turn ≡ true = ap (λ (ms : List Move). have_room (all_retold ready short) (length ms) turn) (sym moves) ∙ follow.rooms i turn (omega arith) shows in
+    elim (follow.alike i turn (omega arith) shows) [
+      | inl by_moves ↦
+          let same = subst (λ (ms : List Move). PlansAlike m short clocks ms turn) moves by_moves in
+          record {
+            tells = record {
+              are = found.0;
+              homes = homes;
+              fits = λ q inside.
+                  fits-same (told q block) (told_same.freq q ∙ same.freq q inside) (told_same.base q ∙ same.base q inside) (told_same.steps q ∙ same.steps q inside) (fits_by clocks q (follow.fits i turn q (omega arith) shows inside));
+              whole = λ uncut q inside.
+                  sym (ap length (pulses_are q)) ∙ (follow.whole i turn q (omega arith) shows (sym found.1 ∙ uncut) inside ∙ (ap (λ (ms : List Move). length (stepper_plan m clocks ms turn q)) moves ∙ ap length (sym (told_same.steps q ∙ same.steps q inside))));
+              room = room;
+            };
+            next = ap (ready_behind (cuts i) turn) (told_same.end ∙ same.end);
+            cut_is = found.1;
+          }
+      | inr own ↦
+          let yes : cuts i ≡ true = elim (follow.cuts i turn (omega arith) shows) [ inl e ↦ absurd (own.0 e.1) | inr e ↦ e.0 ] in
+          record {
+            tells = record {
+              are = found.0;
+              homes = homes;
+              fits = λ q inside. fits-same (told q block) (told_same.freq q) (told_same.base q) (told_same.steps q) (fits_by short q (own.1 q inside));
+              whole = λ uncut q inside. absurd (let f : true ≡ false = sym yes ∙ sym found.1 ∙ uncut in cc);
+              room = room;
+            };
+            next = behind-cut (cuts i) turn (section_end m (all_retold ready short) s.moves turn) (section_end m clocks s.moves turn) yes;
+            cut_is = found.1;
+          }
+    ]
 
 -- the first line of some, where it begins a section
 section-line : (i t : ℕ) (k : SectionKind) (l : ReportLine) (j u : ℕ) (h : SectionKind) → l ≡ report.Section i t k → l ≡ report.Section j u h → (j ≡ i) × (u ≡ t) × (h ≡ k)
@@ -293,13 +326,12 @@ tell-all m sections clocks short cuts homes ready valid one (s ∷ secs) past i 
     let end = section_end m clocks s.moves turn in
     let after = section_end-after m clocks s.moves turn in
     let far = ready-low (cuts i) turn end after in
-    let ends = tell.end in
     let long = length-append past (s ∷ []) in
     let Due : List ReportLine → Type 0 = λ hs. AreDue m clocks cuts (ready_behind (cuts i) turn end) (i + 1) secs hs in
     let later = tell-all m sections clocks short cuts homes ready valid one secs (past ++ s ∷ []) (i + 1) (ready_behind (cuts i) turn end) rest (are ∙ sym (append_assoc past (s ∷ []) secs)) (omega (arith, at, long)) (omega (arith, low, far)) cut.begins cut.behind (subst Due cut.shown due.3)
     (follow-later m sections clocks short cuts homes ready i turn s.kind lines rest follow' cut) in
     let By_cut : Bool → Type 0 = λ b. TellAllWithin m (all_retold ready short) (i + 1) (ready_behind b turn (section_end m (all_retold ready short) s.moves turn)) secs rest in
-    (turn, block, rest, is ∙ ap (λ (x : List ReportLine). report.Section i turn s.kind ∷ x) cut.are, late, tell.tells, subst By_cut (sym tell.cut_is) (subst (λ (e : ℕ). TellAllWithin m (all_retold ready short) (i + 1) (ready_behind (cuts i) turn e) secs rest) (sym ends) later))
+    (turn, block, rest, is ∙ ap (λ (x : List ReportLine). report.Section i turn s.kind ∷ x) cut.are, late, tell.tells, subst By_cut (sym tell.cut_is) (subst (λ (n : ℕ). TellAllWithin m (all_retold ready short) (i + 1) n secs rest) (sym tell.next) later))
 tell-all m sections clocks short cuts homes ready valid one secs past i soon (report.Pulse board stepper tick up ∷ lines) are at order begins behind due follow = absurd begins
 tell-all m sections clocks short cuts homes ready valid one secs past i soon (report.Machine corexy boards steppers ∷ lines) are at order begins behind due follow = absurd begins
 tell-all m sections clocks short cuts homes ready valid one secs past i soon (report.Board board freq turn tick ∷ lines) are at order begins behind due follow = absurd begins
@@ -388,7 +420,7 @@ go-within homes m sections clocks cuts ready said valid follows complete cut due
       fits = λ j turn s low e inside. subst (λ (ps : List Pulse). Fits (clocks_at clocks (stepper_at m s).board).first.freq (base_tick m clocks turn s) ps (plan_by clocks m sections j turn s)) (pulses_are j s) (follows j turn s (turns j ∙ e) inside);
       whole = λ j turn s low e uncut inside. sym (ap length (pulses_are j s)) ∙ complete j turn s (turns j ∙ e) uncut inside;
       rooms = λ j turn low e. stands.rooms j turn (turns j ∙ e);
-      alike = λ j turn low e. stands.alike j turn (turns j ∙ e);
+      alike = λ j turn low e. alike-same m short clocks sections said stands.body j turn (cuts_are j) (pulses_are j) (stands.alike j turn (turns j ∙ e));
       cuts = λ j turn low e. elim (cut j turn (turns j ∙ e)) [
         | inl c ↦ inl (c.0, sym (cuts_are j) ∙ c.1)
         | inr c ↦ inr (c.0, (c.1.0, c.1.1, c.1.2, c.1.3, sym (cuts_are j) ∙ c.1.4), c.2)

@@ -7,6 +7,7 @@ use Rattle.std.proofs.lemmas.List.{length-map}
 use Rattle.plan_types.specs.declared.cause.Cause.{Cause}
 use Rattle.plan_types.specs.declared.cause.Cause.TheVariants as cause
 use Rattle.plan_types.specs.declared.machine.Machine.{Machine}
+use Rattle.plan_types.specs.declared.plan.Held.{Held}
 use Rattle.plan_types.specs.declared.plan.Section.{Section}
 use Rattle.plan_types.specs.declared.plan.SectionKind.{SectionKind}
 use Rattle.plan_types.specs.declared.plan.SectionKind.TheVariants.{Home, Moves}
@@ -17,7 +18,6 @@ use Rattle.gcode_state.specs.declared.state.Action.TheVariants as actions
 use Rattle.gcode_program.specs.Cuts.{homes}
 use Rattle.gcode_program.specs.Programs.{outcome_of}
 use Rattle.gcode_program.proofs.Homing.{axis_valid}
-use Rattle.motion_work.specs.Homes.{last_step}
 use Rattle.motion_work.specs.Seen.{AreStarted, IsPlanned, Started}
 use Rattle.report_text.specs.declared.line.ReportLine.{ReportLine}
 use Rattle.report_text.specs.declared.line.ReportLine.TheVariants as report
@@ -26,7 +26,6 @@ use Rattle.log_check.specs.Faults.{is_home}
 use Rattle.report_laws.specs.Further.{further_told}
 use Rattle.report_laws.specs.Logged.{IsCauseOn, IsKind, logged}
 use Rattle.report_laws.specs.Names.{HasNames}
-use Rattle.report_laws.specs.Retold.{PlansAlike}
 use Rattle.report_laws.specs.Through.{AreHeads}
 use Rattle.report_laws.specs.Within.{ready_behind}
 use Rattle.report_laws.proofs.Fewer.{fewer}
@@ -44,14 +43,15 @@ use Rattle.host_cli.specs.Checks.{check_cause}
 use Rattle.host_cli.specs.Cuts.{cuts_in, lines_before, scene_line}
 use Rattle.host_cli.specs.Headline.{kind_of, moves_of}
 use Rattle.host_cli.specs.Homes.{ShowsHomes}
-use Rattle.host_cli.specs.Promises.{IsCompleteOfMovesBy, sections_over}
+use Rattle.host_cli.specs.Promises.{FollowsPlanBy, IsCompleteOfMovesBy, sections_over}
 use Rattle.host_cli.specs.Shown.{begins, lines_behind, section_turn, sections_shown}
+use Rattle.run_checks.specs.Stands.{IsPlannedAlike}
 use Rattle.run_checks.proofs.Bridging.{AreDue, IsCutOrNot}
 use Rattle.run_checks.proofs.Checking.{cut-checks}
 use Rattle.run_checks.proofs.Ends.{section_end-after}
 use Rattle.run_checks.proofs.Limits.{AreSmall, HaveLongCuts}
-use Rattle.run_checks.proofs.Low.{AreNumbered, Facts, IsDue, all_turns, keep_by, numbered_begun, shorts_of, shown_turn, turn_low}
-use Rattle.run_checks.proofs.Shorts.{first_told, told_timed}
+use Rattle.run_checks.proofs.Low.{AreNumbered, Facts, IsDue, keep_by, numbered_begun, shorts_of, shown_turn, turn_low}
+use Rattle.run_checks.proofs.Shorts.{told_timed}
 use Rattle.run_checks.proofs.Standing.{AreAllKinds, apart_heads, first_shown, shown_kinds, stands}
 
 -- the sections of a text do what a log may tell
@@ -190,6 +190,11 @@ long_cuts (report.Cut i board pin tick from ∷ lines) long = (long.0, long.1, l
 long_cuts (report.Section i turn kind ∷ lines) long = long_cuts lines long
 long_cuts (x ∷ lines) long = long_cuts lines long
 
+-- a section that homes has a cut line
+some_cut : (sections : List Section) (homing : Bool) (j : ℕ) (said : List ReportLine) → IsCutOrNot sections homing j said → homing ≡ true → cuts_in j said ≢ []
+some_cut sections homing j said (inl e) homes none = absurd (let f : false ≡ true = sym e.0 ∙ homes in cc)
+some_cut sections homing j said (inr e) homes none = absurd (let f : [] ≡ report.Cut j e.1.0 e.1.1 e.1.2 e.1.3 ∷ [] = sym none ∙ e.1.4 in cc)
+
 module _ (m : Machine) (switches : List Switch) (text : List ℕ) (c : Cause) (said : List ReportLine) (valid : IsValidMachine m) (some : sections_over m text ≢ []) (shows : ShowsHomes m switches text c said) (through : GoesThrough c) (low : AreLow said) (told : AreTold true m said) (long : HaveLongCuts said) where
   of_text : map (λ x. x.section) shows.begun ≡ sections_over m text
   of_text = (shows.all through).0
@@ -265,7 +270,6 @@ module _ (m : Machine) (switches : List Switch) (text : List ℕ) (c : Cause) (s
 
   facts : Facts true m (sections_over m text) shows.clocks shows.ready c said
   facts = record {
-    prefix = shows.prefix;
     due = due_at;
     numbered = let Numbered : List ReportLine → Type 0 = λ z. AreNumbered 0 z in subst Numbered (sym shown) (numbered_begun 0 shows.begun);
     apart = shows.apart 0 first.0 first.1;
@@ -288,31 +292,33 @@ module _ (m : Machine) (switches : List Switch) (text : List ℕ) (c : Cause) (s
   unfolding facts
   short = shorts_of true m (sections_over m text) shows.clocks shows.ready c said facts
 
-  -- by what is told each section is planned as it was: the others hold from behind the end of one of moves, and from behind the planned
-  -- steps of one that homes
-  same_plan : (j turn : ℕ) → section_turn j said ≡ Some turn → PlansAlike m short.short shows.clocks (moves_of (sections_over m text) j) turn
+  -- the pulses of each section fit its plan by what is told
+  follows : FollowsPlanBy short.short m (sections_over m text) said
   unfolding facts
-  same_plan j turn e = by (kind_of (sections_over m text) j) refl
+  follows = shows.told through short.short (λ b h. short-lines m shows.clocks short.short (further_told (map logged said)) shows.last b (short.each b h))
+
+  -- by what is told each section of moves is planned as it was: the others hold from behind its end. One that homes is cut.
+  alike : (j turn : ℕ) → section_turn j said ≡ Some turn → IsPlannedAlike m short.short shows.clocks (sections_over m text) said j turn
+  unfolding facts
+  alike j turn e = by (kind_of (sections_over m text) j) refl
     where
-      by : (k : SectionKind) → kind_of (sections_over m text) j ≡ k → PlansAlike m short.short shows.clocks (moves_of (sections_over m text) j) turn
+      by : (k : SectionKind) → kind_of (sections_over m text) j ≡ k → IsPlannedAlike m short.short shows.clocks (sections_over m text) said j turn
       by Moves is =
           let over = shows.over through j turn e is in
           let after = section_end-after m shows.clocks (moves_of (sections_over m text) j) turn in
-          fewer m short.short shows.clocks (moves_of (sections_over m text) j) turn shows.last valid (shows.sound 0 first.0 first.1).kept (λ b h. short-lines m shows.clocks short.short (further_told (map logged said)) shows.last b (short.each b h)) (omega (arith, over, after)) (omega (arith, over))
-      by (Home axis) is =
-          let last = last_step m shows.clocks (moves_of (sections_over m text) j) turn + 7 in
-          fewer m short.short shows.clocks (moves_of (sections_over m text) j) turn last valid (shows.sound 0 first.0 first.1).kept
-          (λ b h. first_told m shows.clocks short.short said c shows.last last b (short.each b h) (all_turns true m (sections_over m text) shows.clocks shows.ready c said facts b h) (through_shows c through) (shows.homes through j turn axis e is b h)) (omega arith) (omega arith)
+          inl
+          (fewer m short.short shows.clocks (moves_of (sections_over m text) j) turn shows.last valid (shows.sound 0 first.0 first.1).kept (λ b h. short-lines m shows.clocks short.short (further_told (map logged said)) shows.last b (short.each b h)) (omega (arith, over, after)) (omega (arith, over)))
+      by (Home axis) is = inr (some_cut (sections_over m text) (homes_at (sections_over m text) j) j said (cut_or_not j turn e) (ap is_home is), λ s lt. follows j turn s e lt)
 
   pub home-checks : HasNames m → IsCompleteOfMovesBy shows.clocks m (sections_over m text) said → IsCauseOn m c → check_cause m text (report_text m (said ++ report.End c ∷ [])) ≡ cause.Done
   unfolding facts short
   home-checks names whole on =
       let f = facts in
-      let limits = keep_by true m text shows.clocks shows.ready c said valid f low same_plan in
+      let limits = keep_by true m text shows.clocks shows.ready c said valid f low follows in
       let Kinds : List ReportLine → Type 0 = λ z. AreAllKinds z in
       let Have : List Section → Type 0 = λ z. HaveKinds z in
       let kinds_are = shown_kinds said (subst Kinds (sym shown) (begun_kinds 0 shows.begun (subst Have (sym of_text) kinds))) in
-      let order = stands true m shows.clocks shows.ready shows.last (sections_over m text) said valid kinds_are f.apart heads f.sound f.boards told short limits same_plan in
+      let order = stands true m shows.clocks shows.ready shows.last (sections_over m text) said valid kinds_are f.apart heads f.sound f.boards told short limits alike in
       let Due : List Section → Type 0 = λ z. AreDue m shows.clocks (homes_at (sections_over m text)) shows.ready 0 z (begun_lines 0 shows.begun) in
       let Shown : List ReportLine → Type 0 = λ z. AreDue m shows.clocks (homes_at (sections_over m text)) shows.ready 0 (sections_over m text) z in
       let due = subst Due of_text (begun_due m shows.clocks shows.begun shows.begun [] (sections_over m text) shows.ready shows.ready 0 refl refl of_text (omega arith) shows.started) in

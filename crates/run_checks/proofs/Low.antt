@@ -47,11 +47,11 @@ use Rattle.session_laws.specs.home_headline.Cuts.{cuts_of}
 use Rattle.host_cli.specs.Cuts.{cuts_in, lines_before}
 use Rattle.host_cli.specs.Shown.{lines_behind, pulses_before, pulses_in, section_turn, sections_shown}
 use Rattle.run_checks.proofs.Ends.{section_end-after}
-use Rattle.run_checks.proofs.Bridging.{is-first, is-here, is-later}
+use Rattle.run_checks.proofs.Bridging.{fits-same, is-first, is-here, is-later}
 use Rattle.run_checks.specs.Stands.{StandInOrder}
-use Rattle.run_checks.proofs.Further.{EachFurther, HaveTurns, IsLongFurther}
+use Rattle.run_checks.proofs.Further.{EachFurther, IsLongFurther}
 use Rattle.run_checks.proofs.Limits.{AreSmall, KeepLimits}
-use Rattle.run_checks.proofs.Shorts.{longs, rooms_at, shorts, steps_at, told_timed, turns_all}
+use Rattle.run_checks.proofs.Shorts.{longs, rooms_at, shorts, steps_at, told_timed}
 use Rattle.run_checks.proofs.Standing.{AreAllKinds, apart_heads, due_moves, shown_kinds, some_pulse, some_shown, stands, told_before, told_behind, uncut_told}
 
 -- so a section that is shown starts before the last turn in which one may
@@ -237,7 +237,6 @@ small homes m n (report.End c ∷ lines) shown told low long names timed = absur
 
 -- what the lines of a run show that shows all of them
 pub record Facts (homes : Bool) (m : Machine) (sections : List Section) (clocks : List Clocks) (ready : ℕ) (c : Cause) (said : List ReportLine) : Type 0 where
-  pub prefix : FollowsPlanBy clocks m sections said
   pub due : (j turn : ℕ) → section_turn j said ≡ Some turn → IsDue ready 0 j (length sections) turn
   pub numbered : AreNumbered 0 (sections_shown said)
   pub apart : StandApart m clocks ready said
@@ -259,17 +258,14 @@ pub record Facts (homes : Bool) (m : Machine) (sections : List Section) (clocks 
 abbrev pub shorts_of : (homes : Bool) (m : Machine) (sections : List Section) (clocks : List Clocks) (ready : ℕ) (c : Cause) (said : List ReportLine) (f : Facts homes m sections clocks ready c said) → AreShownShort m clocks ready f.last f.apart.head said
 shorts_of homes m sections clocks ready c said f = shorts m clocks ready f.last c f.apart.head (report.Section 0 f.apart.turn f.apart.kind ∷ f.apart.body) said f.apart.are f.heads f.apart.told f.apart.rest f.sound f.names f.timed f.soon f.first f.full f.further
 
-pub all_turns : (homes : Bool) (m : Machine) (sections : List Section) (clocks : List Clocks) (ready : ℕ) (c : Cause) (said : List ReportLine) (f : Facts homes m sections clocks ready c said) → (b : ℕ) → b < length m.boards → HaveTurns (clocks_at clocks b).held
-all_turns homes m sections clocks ready c said f = turns_all m clocks ready f.last c f.apart.head (report.Section 0 f.apart.turn f.apart.kind ∷ f.apart.body) said f.apart.are f.heads f.apart.told f.apart.rest f.sound f.names f.timed f.soon f.first f.full f.further
-
 -- the planned steps of a section have ticks of 64 bits
 less_than : (top : ℕ) (xs : List Planned) → All (λ q. q.tick ≤ top - 1) xs → 0 < top → All (λ q. q.tick < top) xs
 less_than top xs all some = λ k d lt. let h = all k d lt in omega (arith, h, some)
 
 pub keep_by : (homes : Bool) (m : Machine) (text : List ℕ) (clocks : List Clocks) (ready : ℕ) (c : Cause) (said : List ReportLine) → IsValidMachine m → (f : Facts homes m (sections_over m text) clocks ready c said) → (low : AreLow said)
-    → ((j turn : ℕ) → section_turn j said ≡ Some turn → PlansAlike m (shorts_of homes m (sections_over m text) clocks ready c said f).short clocks (moves_of (sections_over m text) j) turn)
+    → FollowsPlanBy (shorts_of homes m (sections_over m text) clocks ready c said f).short m (sections_over m text) said
     → KeepLimits m (shorts_of homes m (sections_over m text) clocks ready c said f).short ready (sections_over m text) said
-keep_by homes m text clocks ready c said valid shows low same_plan =
+keep_by homes m text clocks ready c said valid shows low follows =
     record { small = small homes m 0 said shows.numbered shows.own low (longs m clocks ready shows.last c shows.apart.head (report.Section 0 shows.apart.turn shows.apart.kind ∷ shows.apart.body) said shows.apart.are shows.heads shows.apart.told shows.apart.rest shows.sound shows.names shows.timed shows.soon shows.first shows.full shows.further) shows.names timed; rooms = rooms }
   where
     can : ArePlannable (sections_over m text)
@@ -283,7 +279,7 @@ keep_by homes m text clocks ready c said valid shows low same_plan =
         let d = shows.due j turn e in
         rooms_at m clocks ready shows.last c shows.apart.head (report.Section 0 shows.apart.turn shows.apart.kind ∷ shows.apart.body) said shows.apart.are shows.heads shows.apart.told shows.apart.rest shows.sound shows.names shows.timed shows.soon shows.first shows.full shows.further low (length (moves_of (sections_over m text) j)) turn d.late (turn_low j turn said low e) (few_of (sections_over m text) j can.few)
 
-    steps : (j turn s : ℕ) → section_turn j said ≡ Some turn → s < length m.steppers → All (λ q. q.tick < 2 ^ 64) (stepper_plan m clocks (moves_of (sections_over m text) j) turn s)
+    steps : (j turn s : ℕ) → section_turn j said ≡ Some turn → s < length m.steppers → All (λ q. q.tick < 2 ^ 64) (stepper_plan m short.short (moves_of (sections_over m text) j) turn s)
     steps j turn s e lt =
         let d = shows.due j turn e in
         let there : j < length (sections_over m text) = (let h = d.inside in omega (arith, h)) in
@@ -291,8 +287,8 @@ keep_by homes m text clocks ready c said valid shows low same_plan =
         let late = d.late in
         let made = steps_at m clocks ready shows.last c shows.apart.head (report.Section 0 shows.apart.turn shows.apart.kind ∷ shows.apart.body) said shows.apart.are shows.heads shows.apart.told shows.apart.rest shows.sound shows.names shows.timed shows.soon shows.first shows.full shows.further low moves turn s valid late (turn_low j turn said low e)
         (near_short moves (can.valid j no_section there) (can.near j no_section there)) (few_of (sections_over m text) j can.few) lt in
-        let is : stepper_plan m (all_retold ready short.short) moves turn s ≡ stepper_plan m clocks moves turn s = (alike m short.short moves ready turn valid short.have late).steps s ∙ (same_plan j turn e).steps s lt in
-        less_than (2 ^ 64) (stepper_plan m clocks moves turn s) (subst (λ (xs : List Planned). All (λ q. q.tick ≤ 2 ^ 64 - 1) xs) is made) (omega arith)
+        let is : stepper_plan m (all_retold ready short.short) moves turn s ≡ stepper_plan m short.short moves turn s = (alike m short.short moves ready turn valid short.have late).steps s in
+        less_than (2 ^ 64) (stepper_plan m short.short moves turn s) (subst (λ (xs : List Planned). All (λ q. q.tick ≤ 2 ^ 64 - 1) xs) is made) (omega arith)
 
     timed : AreTimed m 0 said
     timed = record {
@@ -301,7 +297,7 @@ keep_by homes m text clocks ready c said valid shows low same_plan =
           let none = ap (pulses_before s) apart.are ∙ before_none s apart.turn apart.kind apart.head apart.body (apart.still s lt) in
           subst HaveTicks (sym none) tt;
       inside = λ j turn s low_j e lt.
-          fit_ticks (clocks_at clocks (stepper_at m s).board).first.freq (base_tick m clocks turn s) (pulses_in j s said) (plan_by clocks m (sections_over m text) j turn s) (shows.prefix j turn s e lt) (steps j turn s e lt);
+          fit_ticks (clocks_at short.short (stepper_at m s).board).first.freq (base_tick m short.short turn s) (pulses_in j s said) (plan_by short.short m (sections_over m text) j turn s) (follows j turn s e lt) (steps j turn s e lt);
       cut = shows.cut;
       cuts = λ j turn low_j e. shows.cuts j turn e;
     }
@@ -322,7 +318,6 @@ shown_stands m text c said valid moves some shows through low =
     let Numbered : List ReportLine → Type 0 = λ z. AreNumbered 0 z in
     let Small : List ReportLine → Type 0 = λ z. AreSmall m z in
     let facts : Facts false m sections shows.clocks shows.ready c said = record {
-      prefix = shows.prefix;
       due = λ j turn e. due m shows.clocks shows.ready 0 shows.ready sections j turn (omega arith) (sym (ap (section_turn j) shown) ∙ shown_turn j said ∙ e);
       numbered = subst Numbered (sym shown) (numbered_lines 0 (section_starts m shows.clocks shows.ready sections) sections);
       apart = apart;
@@ -345,5 +340,6 @@ shown_stands m text c said valid moves some shows through low =
     let over = shows.over through j turn e in
     let after = section_end-after m shows.clocks (moves_of sections j) turn in
     fewer m short.short shows.clocks (moves_of sections j) turn shows.last valid sound.kept (λ b h. short-lines m shows.clocks short.short (further_told (map logged said)) shows.last b (short.each b h)) (omega (arith, over, after)) (omega (arith, over)) in
+    let follows : FollowsPlanBy short.short m sections said = λ j turn s e lt. let same = same_plan j turn e in fits-same (pulses_in j s said) (same.freq s lt) (same.base s lt) (same.steps s lt) (shows.prefix j turn s e lt) in
     let kinds = shown_kinds said (subst AreAllKinds (sym shown) (due_moves 0 (section_starts m shows.clocks shows.ready sections) sections moves)) in
-    stands false m shows.clocks shows.ready shows.last sections said valid kinds apart heads sound boards told short (keep_by false m text shows.clocks shows.ready c said valid facts low same_plan) same_plan
+    stands false m shows.clocks shows.ready shows.last sections said valid kinds apart heads sound boards told short (keep_by false m text shows.clocks shows.ready c said valid facts low follows) (λ j turn e. inl (same_plan j turn e))

@@ -15,7 +15,7 @@ use Rattle.plan_types.specs.Lines.{AreHeld, Clocks, IsFit, last_from, lines_tick
 use Rattle.plan_types.specs.Machines.{IsValidMachine, board_at, stepper_at}
 use Rattle.plan_types.specs.Sections.{clocks_at, segment_of, stepper_plan, timed_moves}
 use Rattle.plan_types.specs.Speeds.{greatest_speeds}
-use Rattle.clock_line.specs.Kept.{AreKept, clocks_of}
+use Rattle.clock_line.specs.Kept.{AreKept}
 use Rattle.section_plan.specs.Runs.{IsShortMove, move_ns}
 use Rattle.section_stream.proofs.Speeds.{joined-at, length-greatest}
 use Rattle.section_feed.specs.Boards.{IsLasting}
@@ -31,16 +31,16 @@ use Rattle.log_check.specs.Faults.{have_room}
 use Rattle.log_laws.specs.Follows.{in_order}
 use Rattle.report_laws.specs.Further.{further_told}
 use Rattle.report_laws.specs.Logged.{logged}
-use Rattle.report_laws.specs.Retold.{AreFirstLines, HaveLines, all_retold, retold}
+use Rattle.report_laws.specs.Retold.{HaveLines, all_retold, retold}
 use Rattle.report_laws.specs.Retold as retelling
 use Rattle.report_laws.specs.Through.{AreHeads}
 use Rattle.report_laws.proofs.Retelling.{retold-at}
 use Rattle.report_laws.proofs.Roomy.{AllSlow, IsSlow, all-roomy, board-far, lines-slow, roomy, tick-far}
-use Rattle.report_laws.proofs.Shortening.{AreShort, AreShownShort, IsShown, short-lines, shown-short}
-use Rattle.report_laws.proofs.Telling.{AllSmall, alone, held_told, keeps-low, of_board}
+use Rattle.report_laws.proofs.Shortening.{AreShownShort, IsShown, shown-short}
+use Rattle.report_laws.proofs.Telling.{AllSmall, alone, held_told, keeps-low}
 use Rattle.run_parts.specs.Renewed.{NoneBefore}
 use Rattle.session_laws.specs.run_ends.Boards.{boards_of, lines_at}
-use Rattle.session_laws.specs.run_headline.Further.{AreNamed, BoardsFirst, HoldBehind, ShowsAll, TellsFurther}
+use Rattle.session_laws.specs.run_headline.Further.{AreNamed, BoardsFirst, ShowsAll, TellsFurther}
 use Rattle.session_laws.specs.run_headline.Timely.{AreSound}
 use Rattle.session_laws.specs.run_lines.Due.{BoardsHave}
 use Rattle.session_laws.specs.run_limits.Limits.{AreLow, greatest_tick, start_limit}
@@ -218,38 +218,9 @@ early_slow first b (h ∷ held) high early low =
       early_slow first b held high early.3 low.1,
     )
 
-hold_same : (turn : ℕ) (held : List Held) → HoldBehind turn held → retelling.HoldBehind turn held
-hold_same turn [] hold = tt
-hold_same turn (h ∷ held) hold = (hold.0, hold_same turn held hold.1)
-
 from_same : (turn : ℕ) (held : List Held) → NoneBefore turn held → retelling.HoldFrom turn held
 from_same turn [] none = tt
 from_same turn (h ∷ held) none = none
-
--- where the further lines of a board that are left untold hold from behind another turn, the told ones are its first lines up to then
-held_length : (b : ℕ) (held : List Held) → length (held_told b held) ≡ length held
-held_length b [] = refl
-held_length b (h ∷ held) = ap suc (held_length b held)
-
-turns_first : (told rest : List Held) → HaveTurns (told ++ rest) → HaveTurns told
-turns_first [] rest turns = tt
-turns_first (h ∷ told) rest turns = (turns.0, turns_first told rest turns.1)
-
-same_rest : (xs ys us vs : List Held) → xs ++ ys ≡ us ++ vs → length xs ≡ length us → ys ≡ vs
-same_rest [] ys [] vs e n = e
-same_rest [] ys (u ∷ us) vs e n = absurd (omega (arith, n))
-same_rest (x ∷ xs) ys [] vs e n = absurd (omega (arith, n))
-same_rest (x ∷ xs) ys (u ∷ us) vs e n = (let f : x ∷ (xs ++ ys) ≡ u ∷ (us ++ vs) = e in let tails : xs ++ ys ≡ us ++ vs = cc in same_rest xs ys us vs tails (omega (arith, n)))
-
-pub first_told : (m : Machine) (all short : List Clocks) (said : List ReportLine) (c : Cause) (last turn b : ℕ) → AreShort m all short (further_told (map logged said)) last b → HaveTurns (clocks_at all b).held → ShowsAll c → TellsFurther b (clocks_at all b).held turn c said
-    → AreFirstLines (clocks_at short b) (clocks_at all b) turn
-first_told m all short said c last turn b s turns full f =
-    let firsts = short-lines m all short (further_told (map logged said)) last b s in
-    let own = turns_first f.told f.rest (subst HaveTurns f.are turns) in
-    let one : held_told b s.shown.told ≡ held_told b f.told = sym s.shown.told_is ∙ told_furthers b f.told said own f.lines_are in
-    let count : length (clocks_at short b).held ≡ length f.told = ap (λ (x : Clocks). length x.held) s.is ∙ sym (held_length b s.shown.told) ∙ ap length one ∙ held_length b f.told in
-    let same : firsts.rest ≡ f.rest = same_rest (clocks_at short b).held firsts.rest f.told f.rest (sym firsts.are ∙ f.are) count in
-    record { first = firsts.first; rest = firsts.rest; are = firsts.are; behind = subst (λ (x : List Held). retelling.HoldBehind turn x) (sym same) (hold_same turn f.rest (f.later full)) }
 
 -- lines of a board that are no faster than its clock may be
 record IsSlowAt (lines : List Clocks) (ready b : ℕ) : Type 0 where
@@ -279,7 +250,7 @@ module _ (m : Machine) (all : List Clocks) (ready last : ℕ) (c : Cause) (head 
         rest = f.rest;
         are = f.are;
         told_is = told_furthers b f.told said (early_turns (clocks_at all b).first f.told (early b h)) f.lines_are;
-        behind = hold_same last f.rest (f.later full);
+        behind = f.later full;
       }
 
   have : HaveLines m all ready
@@ -291,9 +262,6 @@ module _ (m : Machine) (all : List Clocks) (ready last : ℕ) (c : Cause) (head 
   shorts =
       shown-short m all ready last head body said have (λ b h. small_from (clocks_at all b) [] (clocks_at all b).held (lasting b h) (sound.kept b h) refl) are heads
       (none_boards body body_none) (boards_before said first) (clocks_told m all ready [] all 0 head sound.clocks_are refl refl heads head_told (list_ticks all [] all ready (length m.boards) refl sound.clocks_are.count timed soon)) shown (named m said names)
-
-  pub turns_all : (b : ℕ) → b < length m.boards → HaveTurns (clocks_at all b).held
-  turns_all b h = early_turns (clocks_at all b).first (clocks_at all b).held (early_from (clocks_at all b) [] (clocks_at all b).held (lasting b h) (sound.kept b h) refl)
 
   -- the numbers of the further lines have 64 bits
   pub longs : EachFurther IsLongFurther (further_told (map logged said))

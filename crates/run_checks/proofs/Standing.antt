@@ -16,7 +16,6 @@ use Rattle.report_text.specs.declared.line.ReportLine.{ReportLine}
 use Rattle.report_text.specs.declared.line.ReportLine.TheVariants as report
 use Rattle.board_asking.specs.Connecting.{turn_tick}
 use Rattle.report_laws.specs.Logged.{AreOfRun, IsKind}
-use Rattle.report_laws.specs.Retold.{PlansAlike}
 use Rattle.report_laws.specs.Through.{AreHeads}
 use Rattle.report_laws.proofs.Shortening.{AreShownShort}
 use Rattle.run_plans.specs.Lines.{heads_of, pulses_of}
@@ -25,12 +24,11 @@ use Rattle.session_laws.specs.run_headline.Told.{AreTold}
 use Rattle.session_laws.specs.run_headline.Timely.{AreOfMoves, AreSound}
 use Rattle.session_laws.specs.run_lines.Due.{BoardsHave, StandApart}
 use Rattle.host_cli.specs.Body.{section_lines}
-use Rattle.host_cli.specs.Headline.{moves_of}
 use Rattle.host_cli.specs.Promises.{sections_by}
 use Rattle.session_laws.specs.home_headline.Cuts.{cuts_of}
 use Rattle.host_cli.specs.Cuts.{lines_before}
 use Rattle.host_cli.specs.Shown.{begins, lines_behind, section_turn, sections_shown}
-use Rattle.run_checks.specs.Stands.{AreBehind, StandInOrder}
+use Rattle.run_checks.specs.Stands.{AreBehind, IsPlannedAlike, StandInOrder}
 use Rattle.run_checks.proofs.Limits.{AreSmall, KeepLimits}
 use Rattle.run_checks.proofs.Shorts.{here_at}
 
@@ -181,7 +179,7 @@ apart_heads homes m all ready said apart uncut told =
 
 -- so all lines stand in order
 pub stands : (homes : Bool) (m : Machine) (all : List Clocks) (ready last : ℕ) (sections : List Section) (said : List ReportLine) → IsValidMachine m → AreAllKinds said → (apart : StandApart m all ready said) → AreHeads 0 apart.head → AreSound m all ready → BoardsHave all ready said
-    → AreTold homes m said → (shorts : AreShownShort m all ready last apart.head said) → KeepLimits m shorts.short ready sections said → ((i turn : ℕ) → section_turn i said ≡ Some turn → PlansAlike m shorts.short all (moves_of sections i) turn) → StandInOrder homes m all ready sections said
+    → AreTold homes m said → (shorts : AreShownShort m all ready last apart.head said) → KeepLimits m shorts.short ready sections said → ((i turn : ℕ) → section_turn i said ≡ Some turn → IsPlannedAlike m shorts.short all sections said i turn) → StandInOrder homes m all ready sections said
 stands homes m all ready last sections said valid kinds apart heads sound boards told shorts limits alike =
     let from = report.Section 0 apart.turn apart.kind ∷ apart.body in
     let parts = told_parts homes m apart.head from (subst (AreTold homes m) apart.are told) in

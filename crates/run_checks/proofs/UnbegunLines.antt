@@ -31,7 +31,7 @@ module _ (m : Machine) (v : IsValidMachine m) (s : Scene) (ts : List MotionTurn)
   told_lines t e =
       let r = ready m v s ts p t first rest end e f.ahead f.words_left f.turns f.words in
       let told = told_boards m v s ts p end c first rest f t e in
-      let tells = told_further m v s ts p end c first rest f t e in
+      let tells = told_further m v s ts p end c first rest f t e (length (rest ++ end ∷ [])) (omega arith) in
       let lines = λ (z : List ReactorTurn). gather (λ (x : ReactorTurn). x.lines) z in
       let cut = ap boards_of (ap lines told.are ∙ gather_both told.past told.later) ∙ flat_map-append board_in (lines told.past) (lines told.later) ∙ ap (λ z. boards_of (lines told.past) ++ z) told.rest ∙ append-nil (boards_of (lines told.past)) ∙ told.lines in
       let start : t.first ≡ first_start (length (came_from [] r.past)) = r.first_is in

@@ -11,7 +11,6 @@ use Rattle.plan_types.specs.declared.plan.SectionKind.TheVariants.{Moves, Home}
 use Rattle.plan_types.specs.Lines.{Clocks}
 use Rattle.plan_types.specs.Machines.{board_at}
 use Rattle.plan_types.specs.Sections.{clocks_at, section_end}
-use Rattle.section_units.specs.Plans.{plans_on}
 use Rattle.section_units.specs.Sections.{AreBefore}
 use Rattle.step_feed.specs.Pacing.{Release, batch_at}
 use Rattle.link_work.specs.Turn.{Orders}
@@ -23,13 +22,15 @@ use Rattle.motion_work.specs.Homes.{no_end}
 use Rattle.motion_work.specs.Seen.{AreStarted, IsHomed, IsPlanned, Started, part_on}
 use Rattle.motion_work.specs.Told.{Told}
 use Rattle.motion_work.proofs.Boardwise.{moved_is}
-use Rattle.motion_work.proofs.Turning.{end_after, planned_late}
+use Rattle.motion_work.proofs.Turning.{planned_late}
 use Rattle.session_work.specs.declared.table.MotionTurn.{MotionTurn}
 use Rattle.session_work.specs.Rows.{gather, item}
 use Rattle.run_plans.specs.Given.{TookBatches}
 use Rattle.run_plans.specs.Homed.{AreOutInTime, ArePlannedBefore, TookControlsIn, is_home, is_set_in, run_on, runs_on, stops_of}
 use Rattle.run_plans.specs.Planned.{Plans}
-use Rattle.run_plans.proofs.Cutting.{homed_front, homing_cut}
+use Rattle.motion_work.proofs.Following.{homed_before, homed_front}
+use Rattle.run_plans.proofs.Cutting.{homing_cut}
+use Rattle.run_plans.proofs.Lasting.{AreLasting, lines_last}
 use Rattle.run_plans.proofs.Running.{started_in}
 use Rattle.run_plans.proofs.Giving.{AreGiven, units_given}
 use Rattle.run_laws.proofs.HomeRuns.{before_least}
@@ -101,21 +102,19 @@ stops_ahead m clocks ready turn (s ∷ begun) h f =
     ahead_one (is_home s.section.kind) s.start s.end turn (stops_of begun turn) (planned_late s.section.kind m clocks s h.0.planned) (stops_ahead m clocks (s.end + 260) turn begun h.1) f
 
 -- a section
-homed_is : (m : Machine) (clocks : List Clocks) (b until : ℕ) (stops : ℕ → Option ℕ) (s : Started) → IsHomed m clocks s → b < length m.boards → section_end m clocks s.section.moves s.start < until
+homed_is : (m : Machine) (clocks : List Clocks) (b until : ℕ) (stops : ℕ → Option ℕ) (s : Started) → IsHomed m clocks s → b < length m.boards → AreLasting clocks b → section_end m clocks s.section.moves s.start < until
     → section_end m clocks s.section.moves s.start + 6 < no_end → AreBefore (section_end m clocks s.section.moves s.start + 6) (part_on m clocks s b).releases → StopsBy true stops s.start s.end
     → IsHomingIn (clocks_at clocks b) (board_at m b).freq (board_at m b).slots until stops (part_on m clocks s b)
-homed_is m clocks b until stops s h small limit long out stop =
+homed_is m clocks b until stops s h small lines limit long out stop =
     let planned = section_end m clocks s.section.moves s.start in
-    let rs = slice_index_or h.planned b [] in
-    let cut = slice_index_or s.boards b [] in
-    let f = homed_front m clocks b s h small in
-    let before : AreBefore s.end cut = elim f.2 [ inl none ↦ before_least (planned + 6) s.end cut (omega (arith, long, none)) out | inr own ↦ own ] in
-    homing_cut (clocks_at clocks b) (board_at m b).freq (board_at m b).slots until s.start planned s.end (plans_on m clocks s.section.moves s.start b) rs cut stops (h.are.each b small) f.0 f.1 before (end_after m clocks s.section.moves s.start) limit stop
+    let own = slice_index_or s.boards b [] in
+    let before : AreBefore s.end own = elim (homed_before m clocks s b small h) [ inl none ↦ before_least (planned + 6) s.end own (omega (arith, long, none)) out | inr ends ↦ ends ] in
+    homing_cut m clocks s.section.moves b until s.start s.end own stops lines.kept (homed_front m clocks s b lines.kept lines.soon lines.inside small h) before limit stop
 
-one_is : (kind : SectionKind) (m : Machine) (clocks : List Clocks) (b until : ℕ) (stops : ℕ → Option ℕ) (s : Started) → IsPlanned kind m clocks s → b < length m.boards → section_end m clocks s.section.moves s.start < until
+one_is : (kind : SectionKind) (m : Machine) (clocks : List Clocks) (b until : ℕ) (stops : ℕ → Option ℕ) (s : Started) → IsPlanned kind m clocks s → b < length m.boards → AreLasting clocks b → section_end m clocks s.section.moves s.start < until
     → section_end m clocks s.section.moves s.start + 6 < no_end → AreBefore (section_end m clocks s.section.moves s.start + 6) (part_on m clocks s b).releases → StopsBy (is_home kind) stops s.start s.end
     → IsSectionBy (is_home kind) (clocks_at clocks b) (board_at m b).freq (board_at m b).slots until stops (part_on m clocks s b)
-one_is Moves m clocks b until stops s h small limit long out stop =
+one_is Moves m clocks b until stops s h small lines limit long out stop =
     let end = h.end in
     record {
       is = moved_is m clocks s b h small;
@@ -123,22 +122,22 @@ one_is Moves m clocks b until stops s h small limit long out stop =
       released = before_least (section_end m clocks s.section.moves s.start + 6) (s.end + 6) (part_on m clocks s b).releases (omega (arith, end)) out;
       goes_on = stop;
     }
-one_is (Home axis) m clocks b until stops s h small limit long out stop = homed_is m clocks b until stops s h small limit long out stop
+one_is (Home axis) m clocks b until stops s h small lines limit long out stop = homed_is m clocks b until stops s h small lines limit long out stop
 
 -- the sections
-sections_by : (m : Machine) (clocks : List Clocks) (b until ready : ℕ) (all past rest : List Started) → all ≡ past ++ rest → AreLong ready past → AreStarted m clocks ready rest → b < length m.boards
+sections_by : (m : Machine) (clocks : List Clocks) (b until ready : ℕ) (all past rest : List Started) → all ≡ past ++ rest → AreLong ready past → AreStarted m clocks ready rest → b < length m.boards → AreLasting clocks b
     → ArePlannedBefore m clocks until rest → AreOutInTime m clocks b rest
     → All (λ s. IsSectionBy s.homes (clocks_at clocks b) (board_at m b).freq (board_at m b).slots until (stops_of all) s.section) (runs_on m clocks rest b)
-sections_by m clocks b until ready all past [] cut long h small limits outs =
+sections_by m clocks b until ready all past [] cut long h small lines limits outs =
     All-nil (λ (s : RunSection). IsSectionBy s.homes (clocks_at clocks b) (board_at m b).freq (board_at m b).slots until (stops_of all) s.section)
-sections_by m clocks b until ready all past (s ∷ rest) cut long h small limits outs =
+sections_by m clocks b until ready all past (s ∷ rest) cut long h small lines limits outs =
     let P : RunSection → Type 0 = λ x. IsSectionBy x.homes (clocks_at clocks b) (board_at m b).freq (board_at m b).slots until (stops_of all) x.section in
     let Stops : List Started → Type 0 = λ x. StopsBy (is_home s.section.kind) (stops_of x) s.start s.end in
     let start = h.0.start in
     let late = planned_late s.section.kind m clocks s h.0.planned in
     let stop = subst Stops (sym cut) (stops_by m clocks (is_home s.section.kind) ready past s rest refl long (omega (arith, start)) h.1) in
-    All-cons P (run_on m clocks b s) (runs_on m clocks rest b) (one_is s.section.kind m clocks b until (stops_of all) s h.0.planned small limits.0 limits.1 outs.0 stop)
-    (sections_by m clocks b until (s.end + 260) all (past ++ s ∷ []) rest (cut ∙ sym (append_assoc past (s ∷ []) rest)) (long_more ready past s (s.end + 260) long (omega (arith, start, late)) (omega (arith, late))) h.1 small limits.2 outs.1)
+    All-cons P (run_on m clocks b s) (runs_on m clocks rest b) (one_is s.section.kind m clocks b until (stops_of all) s h.0.planned small lines limits.0 limits.1 outs.0 stop)
+    (sections_by m clocks b until (s.end + 260) all (past ++ s ∷ []) rest (cut ∙ sym (append_assoc past (s ∷ []) rest)) (long_more ready past s (s.end + 260) long (omega (arith, start, late)) (omega (arith, late))) h.1 small lines limits.2 outs.1)
 
 pub in_turn : (m : Machine) (clocks : List Clocks) (b e from : ℕ) (begun : List Started) → e + 260 ≤ from → AreStarted m clocks from begun → AreInTurn e (runs_on m clocks begun b)
 in_turn m clocks b e from [] far h = tt
@@ -166,7 +165,7 @@ pub home_sections : (m : Machine) (ts : List MotionTurn) (p : Plans m (length m.
     → AreOutInTime m t.clocks b p.seen.begun
     → All (λ s. IsSectionBy s.homes (clocks_at t.clocks b) (board_at m b).freq (board_at m b).slots until (stops_of p.seen.begun) s.section) (runs_on m t.clocks p.seen.begun b)
 home_sections m ts p t b until small told limits outs =
-    sections_by m t.clocks b until t.first p.seen.begun [] p.seen.begun refl tt (started_in m ts p t told) small limits outs
+    sections_by m t.clocks b until t.first p.seen.begun [] p.seen.begun refl tt (started_in m ts p t told) small (lines_last m (length m.boards) ts p t b told small) limits outs
 
 pub home_run : (m : Machine) (ts : List MotionTurn) (p : Plans m (length m.boards) ts) (t : Told) (b ready : ℕ) (own : ℕ → ℕ) (os : List Orders) → b < length m.boards → p.seen.told ≡ Some t → length os ≤ length p.made
     → TookBatches b ts os → TookControlsIn (clocks_at t.clocks b) (runs_on m t.clocks p.seen.begun b) 0 os → (k : AreTracked own (clocks_at t.clocks b) ready) → ready + 260 ≤ t.first

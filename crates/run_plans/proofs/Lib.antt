@@ -12,6 +12,7 @@ pub mod Sitting
 pub mod Fitting
 pub mod Counting
 pub mod Reporting
+pub mod Lasting
 pub mod Cutting
 pub mod Homed
 pub mod Lining

@@ -1,5 +1,6 @@
 -- A board's part of a run, from what the planner put.
 use Rattle.std.proofs.Common.{◌≡◌, ◌≢◌, ℕ, ◌+◌, ◌<◌, ◌≤◌, List, [], ◌∷◌, ◌++◌, length, map, take, All, Some, subst}
+use Rattle.std.specs.Prelude.{slice_index_or}
 use Rattle.plan_types.specs.declared.machine.Machine.{Machine}
 use Rattle.std.proofs.lemmas.List.{length-map}
 use Rattle.std.proofs.lemmas.List.Elements.{All-cons, All-nil}
@@ -7,12 +8,13 @@ use Rattle.plan_types.specs.Lines.{Clocks}
 use Rattle.plan_types.specs.Machines.{board_at}
 use Rattle.plan_types.specs.Sections.{clocks_at}
 use Rattle.section_units.specs.Sections.{IsSection, of_stepper}
+use Rattle.section_units.specs.Plans.{AreSentToOn}
 use Rattle.section_units.specs.Sent.{AreSentTo}
 use Rattle.step_feed.specs.Pacing.{units_of}
 use Rattle.link_work.specs.Turn.{Orders}
 use Rattle.run_laws.specs.Parts.{AreOrdersOf, AreTracked, IsRun, MakesIn}
 use Rattle.motion_work.specs.Boards.{parts_on}
-use Rattle.motion_work.specs.Seen.{AreMoves, AreSentBy, AreStarted, Started, part_on}
+use Rattle.motion_work.specs.Seen.{AreMoves, AreSentBy, AreStarted, Started, lines_of, part_on}
 use Rattle.motion_stream.specs.Wholes.{AreSentIn}
 use Rattle.motion_work.specs.Told.{Told}
 use Rattle.motion_work.proofs.Boardwise as boardwise
@@ -35,19 +37,20 @@ pub sections_are : (m : Machine) (ts : List MotionTurn) (p : Plans m (length m.b
     → All (IsSection (clocks_at t.clocks b) (board_at m b).freq (board_at m b).slots) (parts_on m t.clocks p.seen.begun b)
 sections_are m ts p t b small told moves = boardwise.sections_are m t.clocks t.first p.seen.begun b (started_in m ts p t told) moves small
 
--- what is sent of its sections in the planner's turns
-sent_on : (m : Machine) (clocks : List Clocks) (next b : ℕ) (begun : List Started) → b < length m.boards → AreSentBy m clocks next begun → All (AreSentTo (clocks_at clocks b) (board_at m b).freq next) (parts_on m clocks begun b)
-sent_on m clocks next b [] small h = All-nil (AreSentTo (clocks_at clocks b) (board_at m b).freq next)
-sent_on m clocks next b (s ∷ begun) small h =
-    let one = h.0 b small in
+-- what boards are sent of the sections in the planner's turns
+pub all_sent : (m : Machine) (n : ℕ) (ts : List MotionTurn) (p : Plans m n ts) (t : Told) → p.seen.told ≡ Some t → AreSentBy m t.clocks (length p.made) p.seen.begun
+all_sent m n ts p t told =
+    let here : AreSentBy m t.clocks (length (puts_of p.made)) p.seen.begun = subst (λ o. AreSentIn m o (length (puts_of p.made)) p.seen.begun) told p.sent in
+    subst (λ k. AreSentBy m t.clocks k p.seen.begun) (length-map p.made put_of) here
+
+-- where none homes, a board is sent them by all its clock lines
+pub sent_on : (m : Machine) (clocks : List Clocks) (next b : ℕ) (begun : List Started) → b < length m.boards → AreMoves begun → AreSentBy m clocks next begun → All (AreSentTo (clocks_at clocks b) (board_at m b).freq next) (parts_on m clocks begun b)
+sent_on m clocks next b [] small moves h = All-nil (AreSentTo (clocks_at clocks b) (board_at m b).freq next)
+sent_on m clocks next b (s ∷ begun) small moves h =
+    let one = subst (λ kind. AreSentToOn m (lines_of kind s.end clocks) s.section.moves s.start b next (slice_index_or s.boards b [])) moves.0 (h.0 b small) in
     All-cons (AreSentTo (clocks_at clocks b) (board_at m b).freq next) (part_on m clocks s b) (parts_on m clocks begun b)
     (record { sent = one.sent; later = one.later; are = one.are; behind = one.behind; is = record { in_order = one.is.in_order; longest = one.is.longest } })
-    (sent_on m clocks next b begun small h.1)
-
-pub all_sent : (m : Machine) (ts : List MotionTurn) (p : Plans m (length m.boards) ts) (t : Told) (b : ℕ) → b < length m.boards → p.seen.told ≡ Some t → All (AreSentTo (clocks_at t.clocks b) (board_at m b).freq (length p.made)) (parts_on m t.clocks p.seen.begun b)
-all_sent m ts p t b small told =
-    let here : AreSentBy m t.clocks (length (puts_of p.made)) p.seen.begun = subst (λ o. AreSentIn m o (length (puts_of p.made)) p.seen.begun) told p.sent in
-    subst (λ n. All (AreSentTo (clocks_at t.clocks b) (board_at m b).freq n) (parts_on m t.clocks p.seen.begun b)) (length-map p.made put_of) (sent_on m t.clocks (length (puts_of p.made)) b p.seen.begun small here)
+    (sent_on m clocks next b begun small moves.1 h.1)
 
 pub run_is : (m : Machine) (ts : List MotionTurn) (p : Plans m (length m.boards) ts) (t : Told) (b ready : ℕ) (own : ℕ → ℕ) (os : List Orders) → b < length m.boards → p.seen.told ≡ Some t → AreMoves p.seen.begun → length os ≤ length p.made
     → TookBatches b ts os → TookControls os → (k : AreTracked own (clocks_at t.clocks b) ready) → ready + 260 ≤ t.first → EndBefore k.until (parts_on m t.clocks p.seen.begun b)

@@ -6,7 +6,6 @@ ghost use Rattle.plan_types.specs.Machines.{board_at, stepper_at};
 ghost use Rattle.plan_types.specs.Sections.{base_tick, clocks_at, stepper_plan};
 ghost use Rattle.step_feed.specs.Pacing.{units_of};
 ghost use Rattle.section_units.specs.Sections.{AreReleased, IsSection, of_stepper};
-ghost use Rattle.section_units.specs.Sent.{AreSentTo};
 ghost use Rattle.link_work.specs.Turn.{Orders};
 ghost use Rattle.run_laws.specs.Parts.{AreOrdersOf, AreTracked, IsRun, MakesIn};
 ghost use Rattle.motion_work.specs.Boards.{parts_on};
@@ -24,7 +23,7 @@ ghost use Rattle.run_plans.specs.Boards.{IsReport, IsStepperOn, lines_between, t
 ghost use Rattle.run_plans.specs.Lines.{AreLinesOf, TellTurns, TookNotes, pulses_of};
 ghost use Rattle.run_laws.specs.Boards.{AreEnded, IsWindow, NextStart, OnBoard};
 ghost use Rattle.msg_code.specs.declared.talk.State.{State};
-ghost use Rattle.motion_work.specs.Seen.{AreMoves, Started};
+ghost use Rattle.motion_work.specs.Seen.{AreMoves, AreSentBy, Started};
 ghost use Rattle.plan_types.specs.Plan.{Fits};
 ghost use Rattle.wire_scene.specs.declared.scene.Entry.{Entry};
 ghost use Rattle.run_plans.specs.Planned.{AreRead, Plans, nothing_read, planning};
@@ -41,16 +40,15 @@ pub fn planners_put_sections()
 
 /// The law of a board's orders: where a board took the batches that a planner put for it, and controls of a run of moves, its
 /// orders are those of its sections, which are sections as `section_units` defines them where none homes, and of which it is sent what is
-/// put in the planner's turns, in order and with triples that cover as many steps as one can; and where then its clock lines are
-/// tracked from 260 turns before the first start until its sections are over, and steppers with units are made by then, this
-/// is its part of a run.
+/// put in the planner's turns, in order and with triples that cover as many steps of the plan as one can, of a section that homes of its
+/// plan by the clock lines that were taken up by its end; and where then its clock lines are tracked from 260 turns before the first start
+/// until its sections are over, and steppers with units are made by then, this is its part of a run.
 pub fn planned_boards_run()
     ensures orders { (m : Machine) (ts : List MotionTurn) (p : Plans m (length m.boards) ts) (t : Told) (b : ℕ) (os : List Orders) → b < length m.boards →
         length os ≤ length p.made → TookBatches b ts os → TookControls os → AreOrdersOf (parts_on m t.clocks p.seen.begun b) 0 os }
     ensures sections { (m : Machine) (ts : List MotionTurn) (p : Plans m (length m.boards) ts) (t : Told) (b : ℕ) → b < length m.boards → p.seen.told ≡ Some t → AreMoves p.seen.begun →
         All (IsSection (clocks_at t.clocks b) (board_at m b).freq (board_at m b).slots) (parts_on m t.clocks p.seen.begun b) }
-    ensures sent { (m : Machine) (ts : List MotionTurn) (p : Plans m (length m.boards) ts) (t : Told) (b : ℕ) → b < length m.boards → p.seen.told ≡ Some t →
-        All (AreSentTo (clocks_at t.clocks b) (board_at m b).freq (length p.made)) (parts_on m t.clocks p.seen.begun b) }
+    ensures sent { (m : Machine) (n : ℕ) (ts : List MotionTurn) (p : Plans m n ts) (t : Told) → p.seen.told ≡ Some t → AreSentBy m t.clocks (length p.made) p.seen.begun }
     ensures run { (m : Machine) (ts : List MotionTurn) (p : Plans m (length m.boards) ts) (t : Told) (b ready : ℕ) (own : ℕ → ℕ) (os : List Orders) → b < length m.boards →
         p.seen.told ≡ Some t → AreMoves p.seen.begun → length os ≤ length p.made → TookBatches b ts os → TookControls os → (k : AreTracked own (clocks_at t.clocks b) ready) → ready + 260 ≤ t.first →
         EndBefore k.until (parts_on m t.clocks p.seen.begun b) →

@@ -51,7 +51,8 @@ use Rattle.section_feed.proofs.Lasts.{kept-lasting}
 use Rattle.section_feed.proofs.Orders.{of-append}
 use Rattle.section_feed.proofs.Sectioning.{at-mapped}
 
-none-front : (xs ys : List StepUnit) → xs ++ ys ≡ [] → xs ≡ []
+-- of no units none are the first ones
+pub none-front : (xs ys : List StepUnit) → xs ++ ys ≡ [] → xs ≡ []
 none-front [] ys e = refl
 none-front (x ∷ xs) ys e = absurd (clash e)
   where

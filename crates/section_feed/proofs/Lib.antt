@@ -22,5 +22,7 @@ pub mod Laid
 pub mod Leaving
 pub mod Lined
 pub mod Staying
+pub mod Soon
+pub mod Fewer
 pub mod Taken
 pub mod Telling

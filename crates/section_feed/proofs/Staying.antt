@@ -82,6 +82,15 @@ here-line clocks b turn line inside = get_or-set_same clocks b (added (clocks_at
 pub other-line : (clocks : List Clocks) (b k turn : ℕ) (line : Line) → (k ≡ b → ⊥) → clocks_at (line_at clocks b turn line) k ≡ clocks_at clocks k
 other-line clocks b k turn line other = get_or-set_other clocks b k (added (clocks_at clocks b) (turn * turn_ns) line) _ other
 
+-- before the turn from which on the line holds their ticks stay
+pub tick-line : (clocks : List Clocks) (b k turn time : ℕ) (line : Line) → b < length clocks → time < turn * turn_ns → lines_tick (clocks_at (line_at clocks b turn line) k) time ≡ lines_tick (clocks_at clocks k) time
+tick-line clocks b k turn time line inside before =
+    let new = line_at clocks b turn line in
+    elim (cases_eq k b) as (λ _. lines_tick (clocks_at new k) time ≡ lines_tick (clocks_at clocks k) time) [
+      | inl same ↦ ap (λ n. lines_tick (clocks_at new n) time) same ∙ ap (λ (c : Clocks). lines_tick c time) (here-line clocks b turn line inside) ∙ added-before (clocks_at clocks b) (turn * turn_ns) line time before ∙ ap (λ n. lines_tick (clocks_at clocks n) time) (sym same)
+      | inr other ↦ ap (λ (c : Clocks). lines_tick c time) (other-line clocks b k turn line other)
+    ]
+
 stepper-same : (m : Machine) (clocks : List Clocks) (moves : List Move) (start b turn s : ℕ) (line : Line) → b < length clocks → start < turn → AreKept (clocks_at clocks b) → s < length m.steppers → ArePlannedBefore m clocks moves start b turn → stepper_plan m (line_at clocks b turn line) moves start s ≡ stepper_plan m clocks moves start s
 unfolding plan-by
 stepper-same m clocks moves start b turn s line inside before ok there all =
@@ -107,7 +116,7 @@ stepper-end-same m clocks moves start b turn s line inside before ok may there a
       | inr other ↦ one ∙ ap (λ (c : Clocks). last_turn c plan) (other-line clocks b board turn line other)
     ]
 
-map-on : {A : Type 0} (f g : ℕ → A) (a n : ℕ) → ((i : ℕ) → a ≤ i → i < a + n → f i ≡ g i) → map f (range_with_len a n) ≡ map g (range_with_len a n)
+pub map-on : {A : Type 0} (f g : ℕ → A) (a n : ℕ) → ((i : ℕ) → a ≤ i → i < a + n → f i ≡ g i) → map f (range_with_len a n) ≡ map g (range_with_len a n)
 map-on f g a zero same = refl
 map-on f g a (suc n) same = ap (λ x. x ∷ map f (range_with_len (a + 1) n)) (same a (omega arith) (omega arith)) ∙ ap (λ xs. g a ∷ xs) (map-on f g (a + 1) n (λ i low high. same i (omega (arith, low)) (omega (arith, high))))
 
@@ -274,7 +283,7 @@ section-stays homing clocks turn line freq slots s before ok may plan i =
     }
 
 -- the plans of the board's steppers are before the turn
-plan-before : (m : Machine) (clocks : List Clocks) (moves : List Move) (start b turn oid : ℕ) → ArePlannedBefore m clocks moves start b turn → All (λ (q : Planned). q.tick < lines_tick (clocks_at clocks b) (turn * turn_ns)) (plan_at (plans_on m clocks moves start b) oid)
+pub plan-before : (m : Machine) (clocks : List Clocks) (moves : List Move) (start b turn oid : ℕ) → ArePlannedBefore m clocks moves start b turn → All (λ (q : Planned). q.tick < lines_tick (clocks_at clocks b) (turn * turn_ns)) (plan_at (plans_on m clocks moves start b) oid)
 plan-before m clocks moves start b turn oid all =
     let bound = lines_tick (clocks_at clocks b) (turn * turn_ns) in
     let P : List Planned → Type 0 = λ steps. All (λ (q : Planned). q.tick < bound) steps in

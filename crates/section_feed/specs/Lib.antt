@@ -18,3 +18,4 @@ pub mod On
 pub mod Rested
 pub mod Rests
 pub mod Lined
+pub mod Fewer

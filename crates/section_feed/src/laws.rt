@@ -5,11 +5,13 @@ ghost use Rattle.plan_types.specs.declared.plan.Move.{Move};
 ghost use Rattle.plan_types.specs.declared.plan.Line.{Line};
 ghost use Rattle.plan_types.specs.Clock.{turn_ns};
 ghost use Rattle.plan_types.specs.Valid.{IsValidLine};
-ghost use Rattle.clock_line.specs.Kept.{added};
+ghost use Rattle.clock_line.specs.Kept.{AreKept, added};
 ghost use Rattle.plan_types.specs.declared.machine.Machine.{Machine};
 ghost use Rattle.plan_types.specs.Lines.{Clocks, lines_tick};
-ghost use Rattle.plan_types.specs.Machines.{IsValidMachine};
-ghost use Rattle.plan_types.specs.Sections.{clocks_at, end_time, for_each_stepper, latest, section_end, stepper_end};
+ghost use Rattle.plan_types.specs.declared.plan.Pulse.{Pulse};
+ghost use Rattle.plan_types.specs.Machines.{IsValidMachine, board_at, stepper_at};
+ghost use Rattle.plan_types.specs.Plan.{Fits, max_error};
+ghost use Rattle.plan_types.specs.Sections.{base_tick, clocks_at, end_time, for_each_stepper, latest, section_end, stepper_end, stepper_plan};
 ghost use Rattle.plan_types.specs.Speeds.{greatest_speeds};
 ghost use Rattle.step_feed.specs.Pacing.{Release, at_turn, batch_at};
 ghost use Rattle.step_feed.specs.Units.{StepUnit};
@@ -28,6 +30,7 @@ ghost use Rattle.section_feed.specs.Queues.{IsDrawn, begin_in, cruise_in, drawn_
 ghost use Rattle.section_feed.specs.Rests.{AreAllRested};
 ghost use Rattle.section_feed.specs.Sections.{IsLeft, IsSectionOf, boards_in, boards_of, next_of, queue_of, sets_of};
 ghost use Rattle.section_feed.specs.Sets.{BoardSet};
+ghost use Rattle.section_feed.specs.Fewer.{AreFirstLines, PlansAgree};
 ghost use Rattle.section_feed.specs.Wholes.{IsReleased, IsSetTo, sent_plan};
 
 /// The law of released units: those of a board are the first ones of the section's, whatever moves are pushed later.
@@ -131,4 +134,25 @@ pub fn plans_stay()
         ArePlannedBefore m clocks moves start b turn }
     ensures late { (m : Machine) (clocks : List Clocks) (moves : List Move) (start b turn j : ℕ) (line : Line) → b < length clocks → start < turn → IsLasting (clocks_at clocks b) → MayTake (clocks_at clocks b) turn line → j < turn →
         j ≤ section_end m clocks moves start → j ≤ section_end m (line_at clocks b turn line) moves start }
+{}
+
+/// The law of released units: what a section has released ends before the turn up to which its boards may be packed.
+pub fn units_end_soon()
+    ensures { (m : Machine) (clocks : List Clocks) (turn : ℕ) (homing : Bool) (s : SectionStream) (moves : List Move) (released : ℕ → List Release) (b : ℕ) → IsSectionOn m clocks turn homing s moves released → b < length m.boards →
+        All (λ r. r.unit.last < lines_tick (clocks_at clocks b) ((next_of s + most_ahead) * turn_ns)) (released b) }
+{}
+
+/// The law of fewer lines: by the first ones of a board's clock lines, of which the others hold from behind a turn on, a stepper's steps are planned
+/// as by all, as far as they are before that turn. So what fits the plan by the ones and is before it by more than a step may be early, fits that by
+/// the others; and units of a section that end so are the first ones of its plan by all lines where they are by fewer.
+pub fn fewer_lines_plan_alike()
+    ensures plans { (m : Machine) (short long : List Clocks) (moves : List Move) (start turn s : ℕ) → AreKept (clocks_at long (stepper_at m s).board) → AreFirstLines (clocks_at short (stepper_at m s).board) (clocks_at long (stepper_at m s).board) turn → start ≤ turn →
+        PlansAgree m short long moves start s (lines_tick (clocks_at long (stepper_at m s).board) (turn * turn_ns)) }
+    ensures fits { (m : Machine) (short long : List Clocks) (moves : List Move) (start s bound : ℕ) (ps : List Pulse) → PlansAgree m short long moves start s bound →
+        All (λ p. p.tick + max_error (clocks_at long (stepper_at m s).board).first.freq < bound) ps →
+        Fits (clocks_at long (stepper_at m s).board).first.freq (base_tick m long start s) ps (stepper_plan m long moves start s) →
+        Fits (clocks_at short (stepper_at m s).board).first.freq (base_tick m short start s) ps (stepper_plan m short moves start s) }
+    ensures front { (homing : Bool) (m : Machine) (short long : List Clocks) (moves : List Move) (start turn b : ℕ) (rs : List Release) → AreKept (clocks_at long b) → AreFirstLines (clocks_at short b) (clocks_at long b) turn → start ≤ turn →
+        All (λ r. r.unit.last + max_error (board_at m b).freq < lines_tick (clocks_at long b) (turn * turn_ns)) rs →
+        IsFrontOnBy homing m short moves start b rs → IsFrontOnBy homing m long moves start b rs }
 {}

@@ -11,8 +11,9 @@ mod take;
 
 pub use board::BoardStream;
 pub use laws::{
-    lines_last, lines_may_be_added, open_sections_are_told_whole, sections_are_laid,
-    sections_can_be_completed, sections_end, sections_follow_plans, sections_stay,
+    fewer_lines_plan_alike, lines_last, lines_may_be_added, open_sections_are_told_whole,
+    plans_stay, sections_are_laid, sections_can_be_completed, sections_end, sections_follow_plans,
+    sections_stay, units_end_soon,
 };
 pub use queue::MoveQueue;
 pub use section::SectionStream;

@@ -8,6 +8,7 @@ pub mod Unasked
 pub mod Uncut
 pub mod Board
 pub mod Ranges
+pub mod Soon
 pub mod Following
 pub mod Reported
 pub mod Cuts

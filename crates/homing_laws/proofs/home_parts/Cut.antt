@@ -1,10 +1,11 @@
 -- A board's part of a run in which axes home, as far as its units are released.
 use Rattle.std.proofs.Common.{◌≡◌, ◌⊎◌, ℕ, zero, suc, true, false, ◌+◌, ◌*◌, ◌<◌, ◌≤◌, List, [], ◌∷◌, ◌++◌, All, length, map, take, Option, Some, refl, ap, sym, ◌∙◌, subst, arith, append_assoc, inl, inr}
-use Rattle.std.specs.Prelude.{slice_index_or}
+use Rattle.std.specs.Prelude.{◌-◌, ◌/◌, min, slice_index_or}
 use Rattle.std.specs.List.{flat_map, range_with_len}
 use Rattle.std.proofs.lemmas.Bool.Decides.{eqb_tells, leb_tells}
 use Rattle.std.proofs.lemmas.List.{length-map}
-use Rattle.std.proofs.lemmas.List.Elements.{All-cons, All-nil, All-take}
+use Rattle.std.proofs.lemmas.Bool.{cases_lt}
+use Rattle.std.proofs.lemmas.List.Elements.{All-cons, All-head, All-nil, All-tail, All-take}
 use Rattle.plan_types.specs.declared.machine.Machine.{Machine}
 use Rattle.plan_types.specs.declared.plan.Planned.{Planned}
 use Rattle.plan_types.specs.declared.plan.Pulse.{Pulse}
@@ -13,14 +14,14 @@ use Rattle.plan_types.specs.declared.plan.SectionKind.TheVariants.{Moves, Home}
 use Rattle.plan_types.specs.Clock.{turn_ns}
 use Rattle.plan_types.specs.Lines.{Clocks, lines_tick}
 use Rattle.plan_types.specs.Machines.{board_at}
-use Rattle.plan_types.specs.Plan.{AreSpaced, Fits}
+use Rattle.plan_types.specs.Plan.{AreSpaced, Fits, max_error}
 use Rattle.plan_types.specs.Sections.{clocks_at, section_end}
 use Rattle.clock_line.proofs.Turns.{turn-below}
 use Rattle.msg_code.specs.declared.unit.Batch.{Batch}
 use Rattle.step_feed.specs.Pacing.{Release, batch_at, units_of}
 use Rattle.section_units.specs.Fronts.{IsSectionFront}
 use Rattle.section_units.specs.Merged.{plan_at, section_of}
-use Rattle.section_units.specs.Plans.{plans_on}
+use Rattle.section_units.specs.Plans.{IsFrontOnBy, plans_on}
 use Rattle.section_units.specs.Sections.{AreBefore, BoardSection, IsSection, base_of, of_stepper, section_steps, steps_said}
 use Rattle.section_units.proofs.Fronting.{section_front, section_whole}
 use Rattle.link_work.specs.Turn.{Orders}
@@ -47,11 +48,14 @@ use Rattle.run_plans.specs.Given.{TookBatches}
 use Rattle.run_plans.specs.Homed.{TookControlsIn, is_home, runs_on, stops_of}
 use Rattle.run_plans.specs.Planned.{AreBare, Plans, put_of, puts_of}
 use Rattle.motion_work.proofs.Sending.{cut_before, cut_front}
-use Rattle.run_plans.proofs.Cutting.{homed_before, homed_front, homing_cut}
+use Rattle.motion_work.proofs.Following.{homed_before, homed_front}
+use Rattle.run_plans.proofs.Cutting.{cut_first, homing_cut}
 use Rattle.run_plans.proofs.Giving.{units_given}
 use Rattle.run_plans.proofs.Homed.{AreLong, StopsBy, in_turn, long_more, run_units, stops_ahead, stops_by}
+use Rattle.run_plans.proofs.Lasting.{AreLasting, lines_last}
 use Rattle.run_plans.proofs.Running.{started_in}
-use Rattle.homing_laws.specs.home_parts.Cuts.{PlansEndBefore, cut_on, cut_section, cuts_on}
+use Rattle.section_feed.proofs.Fewer.{IsLastEarly, IsPulseEarly, begun-pulses, of-all}
+use Rattle.homing_laws.specs.home_parts.Cuts.{AreOverBefore, cut_on, cut_section, cuts_on, over_in}
 
 -- of a plan the steps that pulses are made for
 fits_take : (freq before : ℕ) (ps : List Pulse) (plan : List Planned) → Fits freq before ps plan → Fits freq before ps (take (length ps) plan) × (length ps ≡ length (take (length ps) plan))
@@ -173,45 +177,110 @@ homing_steps clocks freq slots until stops start end plans rs h =
       stop = h.stop;
     }
 
-homed_in : (m : Machine) (clocks : List Clocks) (b until turn : ℕ) (stops : ℕ → Option ℕ) (s : Started) → IsHomed m clocks s → b < length m.boards → section_end m clocks s.section.moves s.start < until → turn ≤ no_end → StopsBy true stops s.start s.end
-    → IsHomingIn (clocks_at clocks b) (board_at m b).freq (board_at m b).slots until stops (cut_section turn (part_on m clocks s b))
-homed_in m clocks b until turn stops s h small limit few stop =
+-- what holds of some releases, holds of those before a turn
+pub before_all : (P : Release → Type 0) (turn : ℕ) (rs : List Release) → All P rs → All P (before_turn turn rs)
+before_all P turn [] all = All-nil P
+before_all P turn (r ∷ rs) all =
+    let rest = before_all P turn rs (All-tail P r rs all) in
+    elim (leb_tells (suc r.turn) turn) [ inl p ↦ rw p.0 (All-cons P r (before_turn turn rs) (All-head P r rs all) rest) | inr p ↦ rw p.0 rest ]
+
+window_early : (e before planned step x : ℕ) → planned - min e ((planned - before) / 2) ≤ step → step + e < x → planned < x
+window_early e before planned step x window soon = omega (arith, window, soon)
+
+-- the steps of a plan for which pulses are made are before a tick where these are, by as much as a step may be early
+taken_early : (freq bound before : ℕ) (ps : List Pulse) (plan : List Planned) → Fits freq before ps plan → All (IsPulseEarly (max_error freq) bound) ps → All (λ (q : Planned). q.tick < bound) (take (length ps) plan)
+taken_early freq bound before [] plan f early = All-nil (λ (q : Planned). q.tick < bound)
+taken_early freq bound before (p ∷ ps) [] f early = absurd f
+taken_early freq bound before (p ∷ ps) (q ∷ plan) f early =
+    let P : Planned → Type 0 = λ x. x.tick < bound in
+    let soon : p.tick + max_error freq < bound = All-head (IsPulseEarly (max_error freq) bound) p ps early in
+    All-cons P q (take (length ps) plan) (window_early (max_error freq) before q.tick p.tick bound f.0.not_early soon) (taken_early freq bound q.tick ps plan f.1 (All-tail (IsPulseEarly (max_error freq) bound) p ps early))
+
+-- one whose end is known, before its plan's end
+homing_near : (m : Machine) (clocks : List Clocks) (b until : ℕ) (stops : ℕ → Option ℕ) (s : Started) (cut : List Release) → b < length m.boards → s.start ≤ s.end → s.end + 269 < until
+    → All (λ r. r.unit.last + max_error (board_at m b).freq < lines_tick (clocks_at clocks b) ((s.end + 270) * turn_ns)) cut → IsFrontOnBy true m clocks s.section.moves s.start b cut → AreBefore s.end cut → StopsBy true stops s.start s.end
+    → IsHomingIn (clocks_at clocks b) (board_at m b).freq (board_at m b).slots until stops (record { start = s.start; end = s.end; plan = λ oid. take (length (steps_said oid false (of_stepper oid (units_of cut)))) (plan_at (plans_on m clocks s.section.moves s.start b) oid); releases = cut })
+homing_near m clocks b until stops s cut small order limit near f before stop =
     let line = clocks_at clocks b in
     let freq = (board_at m b).freq in
-    let slots = (board_at m b).slots in
-    let planned = section_end m clocks s.section.moves s.start in
+    let base = lines_tick line (s.start * turn_ns) in
+    let said = λ (oid : ℕ). steps_said oid false (of_stepper oid (units_of cut)) in
     let plans = plans_on m clocks s.section.moves s.start b in
+    let bound = lines_tick line ((s.end + 270) * turn_ns) in
+    let six : s.end + 269 + 1 ≡ s.end + 270 = omega arith in
+    record {
+      spaced = λ oid. spaced_take (length (said oid)) base (plan_at plans oid) (f.spaced oid);
+      last = s.end + 269;
+      order = omega (arith, order);
+      limit = limit;
+      within = λ oid. subst (λ n. All (λ (q : Planned). q.tick < lines_tick line (n * turn_ns)) (take (length (said oid)) (plan_at plans oid))) (sym six)
+          (taken_early freq bound base (said oid) (plan_at plans oid) (f.fits oid) (begun-pulses true line base (max_error freq) bound oid (of_stepper oid (units_of cut)) (f.begun oid) (of-all (IsLastEarly (max_error freq) bound) oid cut near)));
+      begun = f.begun;
+      fits = λ oid. (fits_take freq base (said oid) (plan_at plans oid) (f.fits oid)).0;
+      from = f.from;
+      exact = f.exact;
+      paced = f.paced;
+      released = before;
+      stop = stop;
+    }
+
+homed_in : (axis : ℕ) (m : Machine) (clocks : List Clocks) (b until turn : ℕ) (stops : ℕ → Option ℕ) (s : Started) → IsHomed m clocks s → b < length m.boards → AreLasting clocks b → over_in (Home axis) m clocks s < until → turn ≤ no_end
+    → StopsBy true stops s.start s.end → IsHomingIn (clocks_at clocks b) (board_at m b).freq (board_at m b).slots until stops (cut_section turn (part_on m clocks s b))
+homed_in axis m clocks b until turn stops s h small lines limit few stop =
+    let moves = s.section.moves in
     let own = slice_index_or s.boards b [] in
     let cut = before_turn turn own in
-    let f = homed_before m clocks b turn s h small in
-    let before : AreBefore s.end cut = elim (homed_front m clocks b s h small).2 [ inl none ↦ before_least turn s.end cut (omega (arith, few, none)) (cut_before turn own) | inr b ↦ before_both s.end turn own b ] in
-    homing_steps line freq slots until stops s.start s.end plans cut (homing_cut line freq slots until s.start planned s.end plans (slice_index_or h.planned b []) cut stops (h.are.each b small) f.0 f.1 before (end_after m clocks s.section.moves s.start) limit stop)
+    let f = cut_first m clocks moves b turn s.start own (homed_front m clocks s b lines.kept lines.soon lines.inside small h) in
+    let before : AreBefore s.end cut = elim (homed_before m clocks s b small h) [ inl none ↦ before_least turn s.end cut (omega (arith, few, none)) (cut_before turn own) | inr ends ↦ before_both s.end turn own ends ] in
+    let planned = section_end m clocks moves s.start in
+    let Is : Type 0 = IsHomingIn (clocks_at clocks b) (board_at m b).freq (board_at m b).slots until stops (cut_section turn (part_on m clocks s b)) in
+    let by_plan : planned < until → Is =
+    λ soon. homing_steps (clocks_at clocks b) (board_at m b).freq (board_at m b).slots until stops s.start s.end (plans_on m clocks moves s.start b) cut (homing_cut m clocks moves b until s.start s.end cut stops lines.kept f before soon stop) in
+    elim (leb_tells (suc s.end) no_end) as (λ _. Is) [
+      | inr never ↦ by_plan (rw never.0 at limit)
+      | inl known ↦
+          let soon : min (s.end + 269) planned < until = rw known.0 at limit in
+          elim (cases_lt planned (s.end + 269)) as (λ _. Is) [
+            | inl less ↦ by_plan (omega (arith, soon, less))
+            | inr over ↦ (
+                let ended = known.1 in
+                homing_near m clocks b until stops s cut small h.late (omega (arith, soon, over))
+                (before_all (λ r. r.unit.last + max_error (board_at m b).freq < lines_tick (clocks_at clocks b) ((s.end + 270) * turn_ns)) turn own (h.near (omega (arith, ended)) b small)) f before stop)
+          ]
+    ]
 
-one_in : (kind : SectionKind) (m : Machine) (own : ℕ → ℕ) (clocks : List Clocks) (b ready turn turns : ℕ) (stops : ℕ → Option ℕ) (s : Started) → AreTicks own → (k : AreTracked own (clocks_at clocks b) ready) → IsPlanned kind m clocks s → b < length m.boards
-    → ready + 260 ≤ s.start → section_end m clocks s.section.moves s.start < k.until → (is_home kind ≡ false → AreOutBy turns s.end (part_on m clocks s b).releases) → turn ≤ turns → turn ≤ no_end → StopsBy (is_home kind) stops s.start s.end
+-- none is over before it starts
+pub over_late : (kind : SectionKind) (m : Machine) (clocks : List Clocks) (s : Started) → s.start ≤ s.end → s.start ≤ over_in kind m clocks s
+over_late Moves m clocks s order = end_after m clocks s.section.moves s.start
+over_late (Home axis) m clocks s order =
+    let after = end_after m clocks s.section.moves s.start in
+    elim (leb_tells (suc s.end) no_end) as (λ _. s.start ≤ over_in (Home axis) m clocks s) [ inl p ↦ rw p.0 (omega (arith, after, order)) | inr p ↦ rw p.0 after ]
+
+one_in : (kind : SectionKind) (m : Machine) (own : ℕ → ℕ) (clocks : List Clocks) (b ready turn turns : ℕ) (stops : ℕ → Option ℕ) (s : Started) → AreTicks own → (k : AreTracked own (clocks_at clocks b) ready) → IsPlanned kind m clocks s → b < length m.boards → AreLasting clocks b
+    → ready + 260 ≤ s.start → over_in kind m clocks s < k.until → (is_home kind ≡ false → AreOutBy turns s.end (part_on m clocks s b).releases) → turn ≤ turns → turn ≤ no_end → StopsBy (is_home kind) stops s.start s.end
     → IsSectionBy (is_home kind) (clocks_at clocks b) (board_at m b).freq (board_at m b).slots k.until stops (cut_section turn (part_on m clocks s b))
-one_in Moves m own clocks b ready turn turns stops s ticks k h small after limit outs low few stop =
+one_in Moves m own clocks b ready turn turns stops s ticks k h small lines after limit outs low few stop =
     let end = h.end in
     let order = end_after m clocks s.section.moves s.start in
     moves_in own (clocks_at clocks b) (board_at m b).freq (board_at m b).slots ready turn turns stops (part_on m clocks s b) ticks k (moved_is m clocks s b h small) after (omega (arith, end, order)) (omega (arith, end, limit)) (outs refl) low stop
-one_in (Home axis) m own clocks b ready turn turns stops s ticks k h small after limit outs low few stop = homed_in m clocks b k.until turn stops s h small limit few stop
+one_in (Home axis) m own clocks b ready turn turns stops s ticks k h small lines after limit outs low few stop = homed_in axis m clocks b k.until turn stops s h small lines limit few stop
 
 -- the sections
 sections_in : (m : Machine) (own : ℕ → ℕ) (clocks : List Clocks) (b ready at turn turns : ℕ) (all past rest : List Started) → AreTicks own → (k : AreTracked own (clocks_at clocks b) ready) → all ≡ past ++ rest → AreLong at past → ready + 260 ≤ at
-    → AreStarted m clocks at rest → b < length m.boards → PlansEndBefore m clocks k.until rest → AreOut turns (runs_on m clocks rest b) → turn ≤ turns → turn ≤ no_end
+    → AreStarted m clocks at rest → b < length m.boards → AreLasting clocks b → AreOverBefore m clocks k.until rest → AreOut turns (runs_on m clocks rest b) → turn ≤ turns → turn ≤ no_end
     → All (λ s. IsSectionBy s.homes (clocks_at clocks b) (board_at m b).freq (board_at m b).slots k.until (stops_of all) s.section) (cuts_on m clocks turn rest b)
-sections_in m own clocks b ready at turn turns all past [] ticks k cut long after h small limits outs low few =
+sections_in m own clocks b ready at turn turns all past [] ticks k cut long after h small lines limits outs low few =
     All-nil (λ (s : RunSection). IsSectionBy s.homes (clocks_at clocks b) (board_at m b).freq (board_at m b).slots k.until (stops_of all) s.section)
-sections_in m own clocks b ready at turn turns all past (s ∷ rest) ticks k cut long after h small limits outs low few =
+sections_in m own clocks b ready at turn turns all past (s ∷ rest) ticks k cut long after h small lines limits outs low few =
     let P : RunSection → Type 0 = λ x. IsSectionBy x.homes (clocks_at clocks b) (board_at m b).freq (board_at m b).slots k.until (stops_of all) x.section in
     let Stops : List Started → Type 0 = λ x. StopsBy (is_home s.section.kind) (stops_of x) s.start s.end in
     let start = h.0.start in
     let late = planned_late s.section.kind m clocks s h.0.planned in
     let stop = subst Stops (sym cut) (stops_by m clocks (is_home s.section.kind) at past s rest refl long (omega (arith, start)) h.1) in
     All-cons P (cut_on m clocks turn b s) (cuts_on m clocks turn rest b)
-    (one_in s.section.kind m own clocks b ready turn turns (stops_of all) s ticks k h.0.planned small (omega (arith, start, after)) limits.0 outs.0 low few stop)
+    (one_in s.section.kind m own clocks b ready turn turns (stops_of all) s ticks k h.0.planned small lines (omega (arith, start, after)) limits.0 outs.0 low few stop)
     (sections_in m own clocks b ready (s.end + 260) turn turns all (past ++ s ∷ []) rest ticks k (cut ∙ sym (append_assoc past (s ∷ []) rest)) (long_more at past s (s.end + 260) long (omega (arith, start, late)) (omega (arith, late)))
-    (omega (arith, start, late, after)) h.1 small limits.1 outs.1 low few)
+    (omega (arith, start, late, after)) h.1 small lines limits.1 outs.1 low few)
 
 cut_turn : (m : Machine) (clocks : List Clocks) (turn b e : ℕ) (begun : List Started) → AreInTurn e (runs_on m clocks begun b) → AreInTurn e (cuts_on m clocks turn begun b)
 cut_turn m clocks turn b e [] h = tt
@@ -291,7 +360,7 @@ cut_orders m text clocks begun turn b k (t ∷ made) bare (o ∷ os) rest small 
 
 pub home_run : (m : Machine) (ts : List MotionTurn) (p : Plans m (length m.boards) ts) (t : Told) (b ready until : ℕ) (own : ℕ → ℕ) (os : List Orders) → b < length m.boards → p.seen.told ≡ Some t → until ≤ length p.made
     → (length os ≤ until) ⊎ (length p.made ≤ until) → TookBatches b ts os → TookControlsIn (clocks_at t.clocks b) (cuts_on m t.clocks until p.seen.begun b) 0 os → AreTicks own → (k : AreTracked own (clocks_at t.clocks b) ready)
-    → ready + 260 ≤ t.first → PlansEndBefore m t.clocks k.until p.seen.begun → AreOut until (runs_on m t.clocks p.seen.begun b) → ((oid : ℕ) → AreSet oid (cuts_on m t.clocks until p.seen.begun b) 0 os)
+    → ready + 260 ≤ t.first → AreOverBefore m t.clocks k.until p.seen.begun → AreOut until (runs_on m t.clocks p.seen.begun b) → ((oid : ℕ) → AreSet oid (cuts_on m t.clocks until p.seen.begun b) 0 os)
     → (ready ≤ length os → (oid : ℕ) → HasUnits oid (cuts_on m t.clocks until p.seen.begun b) ⊎ SetsAny oid os → MakesIn oid (take ready os))
     → IsHomeRun own (clocks_at t.clocks b) (board_at m b).freq (board_at m b).slots ready (stops_of p.seen.begun) (cuts_on m t.clocks until p.seen.begun b) os
 home_run m ts p t b ready until own os small told low far took controls ticks k early limits outs set made =
@@ -302,7 +371,7 @@ home_run m ts p t b ready until own os small told low far took controls ticks k 
     let At : List MotionTurn → Type 0 = λ x. map (λ (o : Orders). o.batch) os ++ took.0 ≡ gather (λ (y : MotionTurn). item b y.batches) x in
     record {
       tracked = k;
-      sections = sections_in m own t.clocks b ready t.first until until p.seen.begun [] p.seen.begun ticks k refl tt early begun small limits outs (omega arith) (omega (arith, low, size, most));
+      sections = sections_in m own t.clocks b ready t.first until until p.seen.begun [] p.seen.begun ticks k refl tt early begun small (lines_last m (length m.boards) ts p t b told small) limits outs (omega arith) (omega (arith, low, size, most));
       row = cut_turn m t.clocks until b ready p.seen.begun (in_turn m t.clocks b ready t.first p.seen.begun early begun);
       orders = cut_orders m p.seen.text t.clocks p.seen.begun until b 0 p.made p.bare os took.0 small p.put p.are_bare (omega (arith, low)) far_all (subst At p.are took.1) controls;
       set = set;

@@ -9,7 +9,7 @@ use Rattle.plan_types.specs.Lines.{AreHeld, Clocks, lines_tick, tick_over}
 use Rattle.plan_types.specs.Sections.{clocks_at}
 use Rattle.clock_line.specs.Kept.{AreKept}
 use Rattle.clock_line.proofs.Holding.{passed}
-use Rattle.homing_laws.specs.home_parts.Known.{held_by, lines_by}
+use Rattle.motion_work.specs.Known.{held_by, lines_by}
 
 -- those of a board of a number
 pub clocks_by : (turn : ℕ) (clocks : List Clocks) (b : ℕ) → clocks_at (map (lines_by turn) clocks) b ≡ lines_by turn (clocks_at clocks b)

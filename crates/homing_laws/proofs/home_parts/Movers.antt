@@ -1,19 +1,21 @@
 -- The steppers that have units in a homing section move in it.
-use Rattle.std.proofs.Common.{◌≡◌, ◌≢◌, ℕ, zero, suc, ◌+◌, ◌<◌, ◌≤◌, Bool, true, false, List, [], ◌∷◌, ◌++◌, length, take, append_assoc, Some, refl, ap, sym, ◌∙◌, subst, arith, inl, inr}
+use Rattle.std.proofs.Common.{◌≡◌, ◌≢◌, ℕ, zero, suc, ◌+◌, ◌*◌, ◌<◌, ◌≤◌, Bool, true, false, List, [], ◌∷◌, ◌++◌, length, take, append_assoc, Some, refl, ap, sym, ◌∙◌, subst, arith, inl, inr}
 use Rattle.std.specs.Prelude.{slice_index_or}
 use Rattle.std.proofs.lemmas.Bool.Decides.{leb_tells}
 use Rattle.plan_types.specs.declared.machine.Machine.{Machine}
 use Rattle.plan_types.specs.declared.plan.Move.{Move}
 use Rattle.plan_types.specs.declared.plan.Planned.{Planned}
-use Rattle.plan_types.specs.Lines.{Clocks}
-use Rattle.plan_types.specs.Machines.{IsValidMachine, axis_at, stepper_at}
+use Rattle.plan_types.specs.declared.plan.Pulse.{Pulse}
+use Rattle.plan_types.specs.Clock.{turn_ns}
+use Rattle.plan_types.specs.Lines.{Clocks, lines_tick}
+use Rattle.plan_types.specs.Machines.{IsValidMachine, axis_at, board_at, stepper_at}
+use Rattle.plan_types.specs.Plan.{Fits}
 use Rattle.plan_types.specs.Sections.{clocks_at, section_plans, stepper_plan}
 use Rattle.section_units.specs.Merged.{plan_at}
 use Rattle.section_units.specs.Plans.{plans_on}
 use Rattle.section_units.specs.Sections.{AreBegunBy, of_stepper, steps_said}
 use Rattle.section_units.specs.Units.{as_sent}
-use Rattle.section_units.proofs.Fronting.{of_front}
-use Rattle.step_feed.specs.Pacing.{Release, units_of}
+use Rattle.step_feed.specs.Pacing.{units_of}
 use Rattle.step_feed.specs.Units.{StepUnit}
 use Rattle.trigger_group.specs.Group.{bits}
 use Rattle.axis_homing.specs.Homing.{moving_on}
@@ -23,8 +25,10 @@ use Rattle.motion_work.specs.Seen.{AreStarted, IsHomed, Started}
 use Rattle.motion_work.specs.Told.{Told}
 use Rattle.session_work.specs.declared.table.MotionTurn.{MotionTurn}
 use Rattle.run_plans.specs.Planned.{Plans}
-use Rattle.run_plans.proofs.Cutting.{homed_before, homed_of}
+use Rattle.motion_work.proofs.Following.{homed_front}
+use Rattle.run_plans.proofs.Cutting.{cut_first, homed_of}
 use Rattle.run_plans.proofs.Fitting.{plan_is}
+use Rattle.run_plans.proofs.Lasting.{AreLasting, lines_last}
 use Rattle.run_plans.proofs.Placing.{count_is, count_on}
 use Rattle.run_plans.proofs.Running.{started_in}
 use Rattle.run_plans.proofs.Sitting.{have_steps, past, place_on, plans_few}
@@ -38,10 +42,6 @@ pub none_left : (us vs : List StepUnit) → us ++ vs ≡ [] → us ≡ []
 none_left [] vs e = refl
 none_left (u ∷ us) vs e = absurd (let f : u ∷ (us ++ vs) ≡ [] = e in cc)
 
-none_front : (oid : ℕ) (rs cut rest : List Release) → rs ≡ cut ++ rest → of_stepper oid (units_of rs) ≡ [] → of_stepper oid (units_of cut) ≡ []
-none_front oid rs cut rest same none =
-    none_left (of_stepper oid (units_of cut)) (of_stepper oid (units_of rest)) (sym (of_front oid cut rest) ∙ ap (λ x. of_stepper oid (units_of x)) (sym same) ∙ none)
-
 -- one that has units has a plan
 pub no_units : (homing : Bool) (oid : ℕ) (clocks : Clocks) (base : ℕ) (us : List StepUnit) → AreBegunBy homing clocks base us → length (steps_said oid false us) ≡ 0 → us ≡ []
 no_units homing oid clocks base [] a e = refl
@@ -50,13 +50,20 @@ no_units homing oid clocks base (u ∷ us) a e = absurd (let some = have_steps h
     none : (u : StepUnit) (us : List StepUnit) → u ∷ us ≡ [] → ⊥
     none u us f = cc
 
-has_plan : (m : Machine) (clocks : List Clocks) (b until oid : ℕ) (s : Started) (h : IsHomed m clocks s) → b < length m.boards → of_stepper oid (units_of (before_turn until (slice_index_or s.boards b []))) ≢ []
+none_fit : (freq base : ℕ) (ps : List Pulse) → Fits freq base ps [] → length ps ≡ 0
+none_fit freq base [] fits = refl
+none_fit freq base (p ∷ ps) fits = absurd fits
+
+has_plan : (m : Machine) (clocks : List Clocks) (b until oid : ℕ) (s : Started) (h : IsHomed m clocks s) → b < length m.boards → AreLasting clocks b → of_stepper oid (units_of (before_turn until (slice_index_or s.boards b []))) ≢ []
     → plan_at (plans_on m clocks s.section.moves s.start b) oid ≢ []
-has_plan m clocks b until oid s h small some none =
-    let all = h.are.each b small in
-    let rs = slice_index_or h.planned b [] in
-    let f = homed_before m clocks b until s h small in
-    some (none_front oid rs (before_turn until (slice_index_or s.boards b [])) f.0 f.1 (no_units true oid (clocks_at clocks b) _ (of_stepper oid (units_of rs)) (all.begun oid) (all.whole oid ∙ ap length none)))
+has_plan m clocks b until oid s h small lines some none =
+    let line = clocks_at clocks b in
+    let freq = (board_at m b).freq in
+    let own = slice_index_or s.boards b [] in
+    let us = of_stepper oid (units_of (before_turn until own)) in
+    let f = cut_first m clocks s.section.moves b until s.start own (homed_front m clocks s b lines.kept lines.soon lines.inside small h) in
+    let base = lines_tick line (s.start * turn_ns) in
+    some (no_units true oid line base us (f.begun oid) (none_fit freq base (steps_said oid false us) (subst (Fits freq base (steps_said oid false us)) none (f.fits oid))))
 
 moving_is : (corexy : Bool) (one : Move) (drive : ℕ) → (one_moving corexy one drive ≡ 0 → ⊥) → one_moving corexy one drive ≡ 1
 moving_is corexy one drive n = by (one_moving corexy one drive) (moving_bit corexy one drive) n
@@ -65,10 +72,10 @@ moving_is corexy one drive n = by (one_moving corexy one drive) (moving_bit core
     by zero low f = absurd (f refl)
     by (suc k) low f = omega (arith, low)
 
-mover : (m : Machine) (v : IsValidMachine m) (clocks : List Clocks) (b until axis oid : ℕ) (s : Started) (one : Move) (h : IsHomed m clocks s) → b < length m.boards → s.section.moves ≡ one ∷ []
+mover : (m : Machine) (v : IsValidMachine m) (clocks : List Clocks) (b until axis oid : ℕ) (s : Started) (one : Move) (h : IsHomed m clocks s) → b < length m.boards → AreLasting clocks b → s.section.moves ≡ one ∷ []
     → of_stepper oid (units_of (before_turn until (slice_index_or s.boards b []))) ≢ [] → IsMover m b s axis oid
-mover m v clocks b until axis oid s one h small moves some =
-    let plan = has_plan m clocks b until oid s h small some in
+mover m v clocks b until axis oid s one h small lines moves some =
+    let plan = has_plan m clocks b until oid s h small lines some in
     let plans = section_plans m clocks s.section.moves s.start in
     elim (leb_tells (suc oid) (count_on b m.steppers)) [
       | inr p ↦ absurd (plan (past (plans_on m clocks s.section.moves s.start b) oid (let few = plans_few b m.steppers plans in let far = p.1 in omega (arith, few, far))))
@@ -91,15 +98,15 @@ mover m v clocks b until axis oid s one h small moves some =
           record { stepper = j; there = there; on = at.2; oid_is = own; moves = moves_from m (axis_at m axis) b s.moving j 0 m.boards (omega arith) (omega (arith, small)) among }
     ]
 
-movers_from : (m : Machine) (v : IsValidMachine m) (ts : List MotionTurn) (p : Plans m (length m.boards) ts) (clocks : List Clocks) (b until ready : ℕ) → b < length m.boards → (xs rest : List Started) → p.seen.begun ≡ xs ++ rest → AreStarted m clocks ready rest
+movers_from : (m : Machine) (v : IsValidMachine m) (ts : List MotionTurn) (p : Plans m (length m.boards) ts) (clocks : List Clocks) (b until ready : ℕ) → b < length m.boards → AreLasting clocks b → (xs rest : List Started) → p.seen.begun ≡ xs ++ rest → AreStarted m clocks ready rest
     → HaveMovers m clocks until b rest
-movers_from m v ts p clocks b until ready small xs [] cut h = tt
-movers_from m v ts p clocks b until ready small xs (s ∷ rest) cut h = (
+movers_from m v ts p clocks b until ready small lines xs [] cut h = tt
+movers_from m v ts p clocks b until ready small lines xs (s ∷ rest) cut h = (
   λ axis oid home some.
       let one = one_move m p.seen.text p.seen.begun xs s rest p.of_text.0 axis p.of_text.1 cut home in
-      mover m v clocks b until axis oid s one.0 (homed_of m clocks s s.section.kind axis home h.0.planned) small one.1 some,
-  movers_from m v ts p clocks b until (s.end + 260) small (xs ++ s ∷ []) rest (cut ∙ sym (append_assoc xs (s ∷ []) rest)) h.1,
+      mover m v clocks b until axis oid s one.0 (homed_of m clocks s s.section.kind axis home h.0.planned) small lines one.1 some,
+  movers_from m v ts p clocks b until (s.end + 260) small lines (xs ++ s ∷ []) rest (cut ∙ sym (append_assoc xs (s ∷ []) rest)) h.1,
 )
 
 pub all_movers : (m : Machine) (ts : List MotionTurn) (p : Plans m (length m.boards) ts) (t : Told) (b until : ℕ) → IsValidMachine m → p.seen.told ≡ Some t → b < length m.boards → HaveMovers m t.clocks until b p.seen.begun
-all_movers m ts p t b until v told small = movers_from m v ts p t.clocks b until t.first small [] p.seen.begun refl (started_in m ts p t told)
+all_movers m ts p t b until v told small = movers_from m v ts p t.clocks b until t.first small (lines_last m (length m.boards) ts p t b told small) [] p.seen.begun refl (started_in m ts p t told)

@@ -1,12 +1,14 @@
 -- The sections of a board as far as their units are released before a turn.
-use Rattle.std.specs.Prelude.{ℕ, ◌<◌, false, List, [], ◌∷◌, length, map, take}
+use Rattle.std.specs.Prelude.{ℕ, ◌+◌, ◌<◌, false, List, [], ◌∷◌, length, map, min, nat_lt, take, if◌then◌else◌}
 use Rattle.plan_types.specs.declared.machine.Machine.{Machine}
+use Rattle.plan_types.specs.declared.plan.SectionKind.{SectionKind}
+use Rattle.plan_types.specs.declared.plan.SectionKind.TheVariants.{Home, Moves}
 use Rattle.plan_types.specs.Lines.{Clocks}
 use Rattle.plan_types.specs.Sections.{section_end}
 use Rattle.section_units.specs.Sections.{BoardSection, of_stepper, steps_said}
 use Rattle.step_feed.specs.Pacing.{units_of}
 use Rattle.run_laws.specs.Homes.{RunSection}
-use Rattle.motion_work.specs.Homes.{before_turn}
+use Rattle.motion_work.specs.Homes.{before_turn, no_end}
 use Rattle.motion_work.specs.Seen.{Started}
 use Rattle.run_plans.specs.Homed.{run_on}
 
@@ -27,7 +29,13 @@ cut_on m clocks turn b s = record { section = cut_section turn (run_on m clocks 
 abbrev pub cuts_on : Machine → List Clocks → ℕ → List Started → ℕ → List RunSection
 cuts_on m clocks turn begun b = map (cut_on m clocks turn b) begun
 
--- the plans of these sections end before a turn
-abbrev pub PlansEndBefore : Machine → List Clocks → ℕ → List Started → Type 0
-PlansEndBefore m clocks until [] = Unit {0}
-PlansEndBefore m clocks until (s ∷ begun) = (section_end m clocks s.section.moves s.start < until) × PlansEndBefore m clocks until begun
+-- The turn by which the steps of a section's units are over: that in which its plan ends; and of one that homes and whose end is known, 269 turns
+-- behind this one, where that is sooner.
+abbrev pub over_in : SectionKind → Machine → List Clocks → Started → ℕ
+over_in Moves m clocks s = section_end m clocks s.section.moves s.start
+over_in (Home axis) m clocks s = if nat_lt s.end no_end then min (s.end + 269) (section_end m clocks s.section.moves s.start) else section_end m clocks s.section.moves s.start
+
+-- so it is before a turn in all of some sections
+abbrev pub AreOverBefore : Machine → List Clocks → ℕ → List Started → Type 0
+AreOverBefore m clocks until [] = Unit {0}
+AreOverBefore m clocks until (s ∷ begun) = (over_in s.section.kind m clocks s < until) × AreOverBefore m clocks until begun

@@ -1,23 +1,14 @@
 -- What the reactor knows of the clock lines while the planner's sections go on.
-use Rattle.std.specs.Prelude.{◌≡◌, ℕ, ◌+◌, ◌<◌, ◌*◌, ◌^◌, List, [], ◌∷◌, length, map, nat_lt, if◌then◌else◌}
+use Rattle.std.specs.Prelude.{◌≡◌, ◌+◌, ◌<◌, ◌*◌, ◌^◌, List, [], ◌∷◌, length, map}
 use Rattle.plan_types.specs.declared.machine.Machine.{Machine}
-use Rattle.plan_types.specs.declared.plan.Held.{Held}
 use Rattle.plan_types.specs.Clock.{turn_ns}
 use Rattle.plan_types.specs.Lines.{Clocks, lines_tick}
 use Rattle.wire_scene.specs.declared.scene.Switch.{Switch}
 use Rattle.host_reactor.specs.declared.ordered.Phase.TheVariants.{Connecting}
 use Rattle.host_reactor.specs.Notes.{noted}
 use Rattle.host_reactor.specs.Runs.{Came, known_by}
+use Rattle.motion_work.specs.Known.{lines_by}
 use Rattle.motion_work.specs.Seen.{Started}
-
--- of some further clock lines of a board those that hold by the beginning of a turn
-abbrev pub held_by : ℕ → List Held → List Held
-held_by turn [] = []
-held_by turn (h ∷ held) = if nat_lt (turn * turn_ns) h.from then held_by turn held else h ∷ held_by turn held
-
--- the clock lines of a board that hold by then
-abbrev pub lines_by : ℕ → Clocks → Clocks
-lines_by turn clocks = record { first = clocks.first; held = held_by turn clocks.held }
 
 -- In each turn behind connecting the reactor knows just the boards' clock lines that hold by 276 turns behind it: those that the planner's notes told
 -- so far, which hold 277 turns behind the planner's turn, one turn before.

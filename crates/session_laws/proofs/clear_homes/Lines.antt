@@ -10,7 +10,8 @@ use Rattle.wire_scene.specs.declared.scene.Switch.{Switch}
 use Rattle.host_reactor.specs.Notes.{noted}
 use Rattle.host_reactor.specs.Runs.{Came, known_by}
 use Rattle.run_laws.specs.Parts.{AreTracked}
-use Rattle.homing_laws.specs.home_parts.Known.{KnowsLately, lines_by}
+use Rattle.homing_laws.specs.home_parts.Known.{KnowsLately}
+use Rattle.motion_work.specs.Known.{lines_by}
 use Rattle.homing_laws.proofs.home_parts.Held.{clocks_by, kept_by, tick_known}
 use Rattle.homing_laws.specs.clear_groups.Sections.{KnowsLines}
 

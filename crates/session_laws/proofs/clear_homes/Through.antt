@@ -92,7 +92,8 @@ use Rattle.session_laws.specs.home_headline.Little.{HomesLittle, SendsAllInTime}
 use Rattle.session_laws.proofs.home_headline.Board.{here}
 use Rattle.session_laws.proofs.home_headline.Clear.{clear_little}
 use Rattle.session_laws.proofs.home_headline.Planned.{all_notes}
-use Rattle.session_laws.specs.clear_homes.Sends.{SendsAllSoon}
+use Rattle.run_parts.specs.Renewed.{ComeInTime}
+use Rattle.session_laws.specs.clear_homes.Sends.{AreDueBefore, SendsAllSoon}
 use Rattle.session_laws.proofs.clear_homes.Boards.{on}
 use Rattle.session_laws.proofs.clear_homes.Expired.{expired_of, missed_of}
 use Rattle.session_laws.proofs.clear_homes.Punctual.{RunsLed, cuts_led, soon_not_late}
@@ -117,7 +118,7 @@ pub soon_all : (m : Machine) (text : List ℕ) (ts : List MotionTurn) → SendsA
 soon_all m text ts sends = λ p t b same told low.
     elim (sends p t b same told low) [
       | inl x ↦ (x.1, inl x.0)
-      | inr x ↦ (spilled (length p.made) (parts_on m t.clocks p.seen.begun b) x.0, inr x.1)
+      | inr x ↦ (spilled (length p.made) (parts_on m t.clocks p.seen.begun b) x.0, inr (x.1.0, x.1.1, x.1.3))
     ]
 
 -- where all clocks are exact, units that are sent in time are sent soon
@@ -137,6 +138,13 @@ GoesOr c = GoesThrough c ⊎ ((section : ℕ) × (c ≡ cause.NoSwitch section))
 
 module _ (m : Machine) (v : IsValidMachine m) (s : Scene) (ts : List MotionTurn) (p : Plans m (length m.boards) ts) (end : ReactorTurn) (c : Cause) (clear : s.entries ≡ [])
     (goes : (line : ℕ) → (program_end m p.seen.text).stop ≡ read.Stop line → ⊥) (sends : SendsAllSoon m p.seen.text ts) where
+  -- the clock lines of a board come in time for the last steps that were told
+  due : (t : Told) → p.seen.told ≡ Some t → (b : ℕ) → b < length m.boards → ((board_at m b).drift ≡ pos 0) ⊎ ((until : ℕ) × AreDueBefore until p.seen.begun × ComeInTime (board_at m b).drift (clocks_at t.clocks b).first (clocks_at t.clocks b).held until)
+  due t told b low = elim (sends p t b refl told low) as (λ _. ((board_at m b).drift ≡ pos 0) ⊎ ((until : ℕ) × AreDueBefore until p.seen.begun × ComeInTime (board_at m b).drift (clocks_at t.clocks b).first (clocks_at t.clocks b).held until)) [
+    | inl x ↦ inl x.0
+    | inr x ↦ inr (x.1.0, x.1.2, x.1.3)
+  ]
+
   -- a run of one turn
   module _ (f : Facts m s ts [] end c) (own : IsOwn c) where
     phase_alone : (noted m end.note f.known).phase ≡ Connecting
@@ -438,7 +446,7 @@ module _ (m : Machine) (v : IsValidMachine m) (s : Scene) (ts : List MotionTurn)
             in_none begun.0 begun.1 begun.2 p.seen.begun (not_told m v s ts p end c none) begun.4
         by (Some t) some =
             let is = expired_of Now.clocks (length All_came) board turn end.states Now.homing e in
-            never_expired m v s ts p t first rest end c some f long (little t some) clear not_stopping (have 0 v.boards_some) (λ b low. in_time b low) notes is.0 is.1 board turn is.2
+            never_expired m v s ts p t first rest end c some f long (little t some) clear not_stopping (have 0 v.boards_some) (λ b low. in_time b low) notes (due t some) is.0 is.1 board turn is.2
 
     -- where one answers that no switch closed, none did in time
     missed_so : (section : ℕ) → (homing_turn Now.clocks (length All_came) end.states Now.homing).end ≡ Some (cause.NoSwitch section) → MissesSwitch m s p.seen section
@@ -455,7 +463,7 @@ module _ (m : Machine) (v : IsValidMachine m) (s : Scene) (ts : List MotionTurn)
                 → WasBegun p.seen.begun (Some h) → MissesSwitch m s p.seen section
             by_told None told h is answers number was = absurd (in_none was.0 was.1 was.2 p.seen.begun (not_told m v s ts p end c told) was.4)
             by_told (Some t) told h is answers number was =
-                let late = never_missed m v s ts p t first rest end c told f long (little t told) clear not_stopping (have 0 v.boards_some) (λ b low. in_time b low) notes h is answers in
+                let late = never_missed m v s ts p t first rest end c told f long (little t told) clear not_stopping (have 0 v.boards_some) (λ b low. in_time b low) notes (due t told) h is answers in
                 let Late : ℕ → ℕ → ℕ → Type 0 = λ axis start last. (tick : ℕ) → IsSwitchTick m (pins_of (board_at m (axis_at m axis).board) (axis_at m axis).board s.switches) (axis_at m axis).board (axis_at m axis)
                 (lines_tick (clocks_at t.clocks (axis_at m axis).board) (start * turn_ns)) tick → lines_tick (clocks_at t.clocks (axis_at m axis).board) ((last + 1) * turn_ns) ≤ tick in
                 let at_last : Late h.axis h.start was.1.last = subst (λ (n : ℕ). Late h.axis h.start n) was.10 late in
@@ -506,7 +514,7 @@ module _ (m : Machine) (v : IsValidMachine m) (s : Scene) (ts : List MotionTurn)
           subst (λ (n : ℕ). HearSoon m s.switches (axis_at m h.axis).board n (y ∷ before) turns) (sym was.6)
           (soon p (axis_at m h.axis).board refl low (f.boards (axis_at m h.axis).board first rest low refl) was.0 was.1 was.2 was.3 was.4 was.5 (ap (λ (n : ℕ). (axis_at m n).board) (sym was.9))
           (came_in end ∷ ahead) y before later turns (came_snoc (came_in first ∷ []) rest end ∙ at_end) made (sym ends) (long_so ∙ sym ends))) in
-          let closes = closes_first m v s ts p t first rest end c told f long (little t told) clear not_stopping (have 0 v.boards_some) (λ b low. in_time b low) notes (came_in end ∷ ahead) y before at_end h x.known hear x.tick x.answer in
+          let closes = closes_first m v s ts p t first rest end c told f long (little t told) clear not_stopping (have 0 v.boards_some) (λ b low. in_time b low) notes (due t told) (came_in end ∷ ahead) y before at_end h x.known hear x.tick x.answer in
           let At : ℕ → ℕ → Type 0 = λ axis start. IsSwitchTick m (pins_of (board_at m (axis_at m axis).board) (axis_at m axis).board s.switches) (axis_at m axis).board (axis_at m axis)
           (lines_tick (clocks_at t.clocks (axis_at m axis).board) (start * turn_ns)) x.tick in
           let at_start : At h.axis was.1.start = subst (λ (n : ℕ). At h.axis n) was.6 closes in

@@ -1,5 +1,5 @@
 -- A whole run in which axes home, in a scene without entries, is a clear run of all boards, and so none of its homing groups answers of an expiry.
-use Rattle.std.proofs.Common.{◌≡◌, ◌⊎◌, ℕ, ◌+◌, ◌*◌, ◌<◌, ◌≤◌, List, [], ◌∷◌, ◌++◌, length, map, Some, refl, ap, sym, ◌∙◌, subst, arith, inl, inr, length-append}
+use Rattle.std.proofs.Common.{◌≡◌, ◌⊎◌, ℕ, ◌+◌, ◌*◌, ◌<◌, ◌≤◌, List, [], ◌∷◌, ◌++◌, length, map, Some, pos, refl, ap, sym, ◌∙◌, subst, arith, inl, inr, length-append}
 use Rattle.std.proofs.Props.{props}
 use Rattle.std.proofs.lemmas.Bool.Decides.{leb_tells}
 use Rattle.plan_types.specs.declared.cause.Cause.{Cause}
@@ -38,7 +38,7 @@ use Rattle.session_laws.proofs.run_headline.Going.{Lasts, lasts}
 use Rattle.session_laws.proofs.run_headline.Showing.{Facts, came_long}
 use Rattle.homing_laws.specs.home_plans.Notes.{CameNotes, WasBegun}
 use Rattle.homing_laws.specs.home_parts.Cuts.{cuts_on}
-use Rattle.homing_laws.specs.home_parts.Known.{lines_by}
+use Rattle.motion_work.specs.Known.{lines_by}
 use Rattle.homing_laws.proofs.home_parts.Limits.{turns_fit}
 use Rattle.session_laws.specs.home_headline.Little.{HomesLittle}
 use Rattle.session_laws.proofs.home_headline.Clocks.{end_knows}
@@ -62,8 +62,11 @@ use Rattle.session_laws.proofs.home_wholes.Axes.{axis_low}
 use Rattle.session_laws.proofs.run_headline.Joining.{of_sections}
 use Rattle.gcode_program.specs.Programs.{outcome_of}
 use Rattle.homing_laws.proofs.clear_groups.Joined.{join, tracked_later}
+use Rattle.run_parts.specs.Renewed.{ComeInTime}
+use Rattle.session_laws.specs.clear_homes.Sends.{AreDueBefore}
+use Rattle.session_laws.proofs.home_headline.Board.{lines_to}
 use Rattle.session_laws.proofs.clear_homes.Boards as boards
-use Rattle.session_laws.proofs.clear_homes.Bounds.{all_soon, ends_low, last_in}
+use Rattle.session_laws.proofs.clear_homes.Bounds.{all_soon, last_in, lasts_by, lasts_low}
 use Rattle.session_laws.proofs.clear_homes.Lines.{lines_known, tracked_by}
 use Rattle.session_laws.proofs.clear_homes.Opened.{begin_well}
 use Rattle.session_laws.proofs.clear_homes.Running.{all_none, end_none}
@@ -121,7 +124,8 @@ module _ (m : Machine) (v : IsValidMachine m) (s : Scene) (ts : List MotionTurn)
     (long : length (rest ++ end ∷ []) ≤ length p.made)
     (little : (b : ℕ) → b < length m.boards → (w : IsInWhole m s.switches b (clock_of (board_at m b)) (link_of m s b) ts first (rest ++ end ∷ [])) → HomesLittle m s b ts first (rest ++ end ∷ []) (length p.made) t p.seen.begun w)
     (clear : s.entries ≡ []) (stop : (line : ℕ) → (known_by m s.switches (came_from [] (first ∷ rest))).phase ≡ Stopping line → ⊥) (have : HaveStates m (came_in end ∷ came_from [] (first ∷ rest)))
-    (in_time : (b : ℕ) → b < length m.boards → (state : State) (n : ShutNews) → item b end.states ≡ state ∷ [] → state.shut ≡ Some n → n.reason ≡ 1 → ⊥) (notes : TookNotes (map (λ d. d.note) p.made) (first ∷ (rest ++ end ∷ []))) where
+    (in_time : (b : ℕ) → b < length m.boards → (state : State) (n : ShutNews) → item b end.states ≡ state ∷ [] → state.shut ≡ Some n → n.reason ≡ 1 → ⊥) (notes : TookNotes (map (λ d. d.note) p.made) (first ∷ (rest ++ end ∷ [])))
+    (due : (b : ℕ) → b < length m.boards → ((board_at m b).drift ≡ pos 0) ⊎ ((until : ℕ) × AreDueBefore until p.seen.begun × ComeInTime (board_at m b).drift (clocks_at t.clocks b).first (clocks_at t.clocks b).held until)) where
   abbrev Came_all : List Came
   Came_all = came_from [] (first ∷ rest)
 
@@ -186,18 +190,17 @@ module _ (m : Machine) (v : IsValidMachine m) (s : Scene) (ts : List MotionTurn)
   tracked : (past : List Started) (x : Started) (later : List Started) (axis : ℕ) → p.seen.begun ≡ past ++ x ∷ later → x.section.kind ≡ Home axis
       → (x.start ≤ x.last) × ((b : ℕ) → b < length m.boards → IsTracked m b (Lines x.start b) (From + 1) x.last)
   tracked past x later axis cut home =
-      let sound = boards.sound m v s ts p t first rest end c told f long little in
-      let row = boards.row m v s ts p t first rest end c told f long little in
-      let clock = boards.clock m v s ts p t first rest end c told f long little in
-      let both = last_in m v ts p t told sound.clocks_are row clock past x later axis cut home in
-      let soon = all_soon m v ts p t told sound.clocks_are row clock in
+      let both = last_in m ts p t told past x later axis cut home in
+      let soon = all_soon m ts p t told in
       let last = both.1 in (
         both.0,
         λ b h. (
             let own : ℕ → ℕ = λ n. board_tick (clock_of (board_at m b)) n in
-            let l = boards.lines m v s ts p t first rest end c told f long little b h in
-            let low = ends_low m t.clocks l.tracked.until p.seen.begun l.over in
-            let late = tracked_later own (clocks_at t.clocks b) From (From + 1) (omega arith) l.tracked in
+            let Near : Type 0 = ((board_at m b).drift ≡ pos 0) ⊎ ((until : ℕ) × (lasts_by p.seen.begun ≤ until) × ComeInTime (board_at m b).drift (clocks_at t.clocks b).first (clocks_at t.clocks b).held until) in
+            let near = elim (due b h) as (λ _. Near) [ inl exact ↦ inl exact | inr come ↦ inr (come.0, lasts_low come.0 p.seen.begun come.1, come.2) ] in
+            let l = lines_to m v s ts p t first rest end told b (lasts_by p.seen.begun) (Whole b h) Turn h near in
+            let low = l.1 in
+            let late = tracked_later own (clocks_at t.clocks b) From (From + 1) (omega arith) l.0 in
             let same = late.1 in
             let y = tracked_by own (clocks_at t.clocks b) (From + 1) x.last late.0 (omega (arith, low, same, last)) in
             let is = y.1 in

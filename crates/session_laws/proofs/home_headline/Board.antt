@@ -1,5 +1,5 @@
 -- Each board of a whole run in which axes home, as the law of its lines asks for it.
-use Rattle.std.proofs.Common.{◌≡◌, ℕ, ◌+◌, ◌-◌, ◌*◌, ◌<◌, ◌≤◌, ◌⊎◌, List, [], ◌∷◌, ◌++◌, All, map, take, length, Some, ap, sym, ◌∙◌, subst, arith, inl, inr, length-append}
+use Rattle.std.proofs.Common.{◌≡◌, ℕ, ◌+◌, ◌-◌, ◌*◌, ◌<◌, ◌≤◌, ◌⊎◌, List, [], ◌∷◌, ◌++◌, All, map, take, length, Some, ap, sym, ◌∙◌, subst, arith, inl, inr, length-append, pos}
 use Rattle.std.proofs.lemmas.List.Elements.{All-cons, All-nil}
 use Rattle.plan_types.specs.declared.clock.BoardClock.{BoardClock}
 use Rattle.plan_types.specs.declared.machine.Machine.{Machine}
@@ -43,7 +43,7 @@ use Rattle.run_laws.proofs.Calm.{calm_links}
 use Rattle.run_laws.proofs.HomeTimes.{home_timely}
 use Rattle.run_laws.proofs.Linking.{valid_ticks}
 use Rattle.run_laws.proofs.Released.{out_before, spilled_before}
-use Rattle.run_parts.specs.Renewed.{AreSampled, NoneBefore}
+use Rattle.run_parts.specs.Renewed.{ComeInTime, AreSampled, NoneBefore}
 use Rattle.run_parts.proofs.Followed.{lines_in_time}
 use Rattle.run_boards.specs.Boards.{IsInWhole, behind, orders_of, states_of}
 use Rattle.run_plans.specs.Given.{TookBatches}
@@ -60,7 +60,7 @@ use Rattle.homing_laws.proofs.home_runs.Homed.{home_board}
 use Rattle.homing_laws.specs.home_plans.Notes.{AreInARow}
 use Rattle.homing_laws.proofs.home_plans.Noting.{begun_row}
 use Rattle.homing_laws.specs.home_parts.Answers.{ArePastConnecting, IsPlannedBy, MayHome, TakeSetUps}
-use Rattle.homing_laws.specs.home_parts.Cuts.{PlansEndBefore, cut_on, cuts_on}
+use Rattle.homing_laws.specs.home_parts.Cuts.{AreOverBefore, cut_on, cuts_on, over_in}
 use Rattle.homing_laws.specs.home_parts.Known.{KnowsLately, StartInRange}
 use Rattle.homing_laws.proofs.home_parts.Controls.{hold_all, took_all}
 use Rattle.homing_laws.proofs.home_parts.Cut.{cuts_spilled, home_run}
@@ -83,28 +83,28 @@ late_all m clocks until b ready at (s ∷ begun) early row =
     let order = row.1 in
     All-cons (λ (x : RunSection). ready + 260 ≤ x.section.start) (cut_on m clocks until b s) (cuts_on m clocks until begun b) (omega (arith, early, start)) (late_all m clocks until b ready (s.end + 260) begun (omega (arith, early, start, order)) row.2)
 
--- a turn behind the ends of all plans
+-- a turn behind those in which they all are over
 abbrev Total : Machine → List Clocks → List Started → ℕ
 Total m clocks [] = 0
-Total m clocks (s ∷ begun) = section_end m clocks s.section.moves s.start + 1 + Total m clocks begun
+Total m clocks (s ∷ begun) = over_in s.section.kind m clocks s + 1 + Total m clocks begun
 
-plans_before : (m : Machine) (clocks : List Clocks) (begun : List Started) (n : ℕ) → PlansEndBefore m clocks (n + Total m clocks begun) begun
+plans_before : (m : Machine) (clocks : List Clocks) (begun : List Started) (n : ℕ) → AreOverBefore m clocks (n + Total m clocks begun) begun
 plans_before m clocks [] n = tt
 plans_before m clocks (s ∷ begun) n =
-    let end = section_end m clocks s.section.moves s.start in
+    let end = over_in s.section.kind m clocks s in
     let e : n + (end + 1) + Total m clocks begun ≡ n + (end + 1 + Total m clocks begun) = omega arith in
-    (omega arith, subst (λ (k : ℕ). PlansEndBefore m clocks k begun) e (plans_before m clocks begun (n + (end + 1))))
+    (omega arith, subst (λ (k : ℕ). AreOverBefore m clocks k begun) e (plans_before m clocks begun (n + (end + 1))))
 
 pub record Followed (m : Machine) (b : ℕ) (clocks : List Clocks) (ready : ℕ) (begun : List Started) : Type 0 where
   pub tracked : AreTracked (board_tick (clock_of (board_at m b))) (clocks_at clocks b) ready
-  pub over : PlansEndBefore m clocks tracked.until begun
+  pub over : AreOverBefore m clocks tracked.until begun
 
 followed : (m : Machine) (b : ℕ) (turns : List BoardTurn) (ready : ℕ) (clocks : List Clocks) (begun : List Started) → IsSampled (clock_of (board_at m b)) turns (clocks_at clocks b).first → (clocks_at clocks b).first.at ≤ ready * turn_ns → AreKept (clocks_at clocks b)
     → AreSampled (clock_of (board_at m b)) turns (clocks_at clocks b).held → NoneBefore ready (clocks_at clocks b).held → IsValidFreq (board_at m b).freq → ppm_size (board_at m b).drift ≤ 200 → PlansAreNear m b clocks begun → Followed m b clocks ready begun
 followed m b turns ready clocks begun first early kept sampled none freq drift near =
     let clock = clock_of (board_at m b) in
     let own = clocks_at clocks b in
-    let Until : ℕ → Type 0 = λ n. PlansEndBefore m clocks n begun in
+    let Until : ℕ → Type 0 = λ n. AreOverBefore m clocks n begun in
     elim near [
       | inl exact ↦
           let y = lines_in_time clock turns own ready (0 + Total m clocks begun) freq kept first sampled early none (inl exact) in
@@ -113,6 +113,14 @@ followed m b turns ready clocks begun first early kept sampled none freq drift n
           let y = lines_in_time clock turns own ready come.0 freq kept first sampled early none (inr (drift, come.2)) in
           record { tracked = y.0; over = subst Until (sym y.1) come.1 }
     ]
+
+-- a board's clock lines track it up to a turn, where they come in time up to it or a later one
+tracked_to : (m : Machine) (b : ℕ) (turns : List BoardTurn) (ready low : ℕ) (clocks : Clocks) → IsSampled (clock_of (board_at m b)) turns clocks.first → clocks.first.at ≤ ready * turn_ns → AreKept clocks → AreSampled (clock_of (board_at m b)) turns clocks.held → NoneBefore ready clocks.held
+    → IsValidFreq (board_at m b).freq → ppm_size (board_at m b).drift ≤ 200 → ((board_at m b).drift ≡ pos 0) ⊎ ((until : ℕ) × (low ≤ until) × ComeInTime (board_at m b).drift clocks.first clocks.held until) → (k : AreTracked (board_tick (clock_of (board_at m b))) clocks ready) × (low ≤ k.until)
+tracked_to m b turns ready low clocks first early kept sampled none freq drift near = elim near [
+  | inl exact ↦ (let y = lines_in_time (clock_of (board_at m b)) turns clocks ready low freq kept first sampled early none (inl exact) in (y.0, let is = y.1 in omega (arith, is)))
+  | inr come ↦ (let y = lines_in_time (clock_of (board_at m b)) turns clocks ready come.0 freq kept first sampled early none (inr (drift, come.2)) in (y.0, let is = y.1 in let most = come.1 in omega (arith, is, most)))
+]
 
 -- a board in turns that its link told of, where few of them were spoiled
 module _ (m : Machine) (v : IsValidMachine m) (s : Scene) (b ready until : ℕ) (ts : List MotionTurn) (p : Plans m (length m.boards) ts) (t : Told) (turns : List BoardTurn) (states : List State) (end : LinkState) (small : b < length m.boards)
@@ -183,6 +191,14 @@ module _ (m : Machine) (v : IsValidMachine m) (s : Scene) (ts : List MotionTurn)
       let valid = valid_at m.boards b h v.boards in
       let own = lined m v s ts p t first rest end told b r w h in
       followed m b (behind [] w.made) (length (came_from [] r.past)) t.clocks p.seen.begun own.line.sampled own.line.early own.kept own.sampled own.none valid.freq (drift_few (board_at m b).drift valid.drift_low valid.drift_high) near
+
+  pub lines_to : (b low : ℕ) (w : IsInWhole m s.switches b (clock_of (board_at m b)) (link_of m s b) ts first (rest ++ end ∷ [])) (r : Ready m v s ts p t first rest end told) → b < length m.boards
+      → ((board_at m b).drift ≡ pos 0) ⊎ ((until : ℕ) × (low ≤ until) × ComeInTime (board_at m b).drift (clocks_at t.clocks b).first (clocks_at t.clocks b).held until)
+      → (k : AreTracked (board_tick (clock_of (board_at m b))) (clocks_at t.clocks b) (length (came_from [] r.past))) × (low ≤ k.until)
+  lines_to b low w r h near =
+      let valid = valid_at m.boards b h v.boards in
+      let own = lined m v s ts p t first rest end told b r w h in
+      tracked_to m b (behind [] w.made) (length (came_from [] r.past)) low (clocks_at t.clocks b) own.line.sampled own.line.early own.kept own.sampled own.none valid.freq (drift_few (board_at m b).drift valid.drift_low valid.drift_high) near
 
   -- what a board was sent in a run in which axes home, of the sections as far as their units are released before a turn, and that it took the
   -- set-ups of those that home in time

@@ -42,7 +42,8 @@ use Rattle.session_laws.proofs.run_headline.Further.{EachHeld, none_asked, noted
 use Rattle.session_laws.proofs.run_headline.Facts.{came_long, turns_cut}
 use Rattle.session_laws.proofs.run_headline.Words.{Connected, line_is, news_in}
 use Rattle.homing_laws.specs.home_parts.Answers.{ArePastConnecting}
-use Rattle.homing_laws.specs.home_parts.Known.{KnowsLately, lines_by}
+use Rattle.homing_laws.specs.home_parts.Known.{KnowsLately}
+use Rattle.motion_work.specs.Known.{lines_by}
 use Rattle.session_laws.proofs.home_headline.Noted.{IsNotedIn, WereNoted, all_in, each_more, lines_cut, noted_next, put_in}
 use Rattle.session_laws.proofs.home_headline.Planned.{all_on}
 
@@ -203,7 +204,7 @@ module _ (m : Machine) (switches : List Switch) (text : List ℕ) (begun : List 
 
   -- The lines that were told hold by 276 turns behind a turn, and those that later notes tell hold later.
   one_knows : (k : ℕ) (before : List Came) (r : ReactorTurn) (d : MotionTurn) (ms : List MotionTurn) (clocks : List Clocks) → length before ≡ suc k → r.note ≡ Some d.note → ArePut m text begun k (puts_of (d ∷ ms)) → MayNote (news_in (d ∷ ms)) clocks
-      → all ≡ noted_lines (news_in (d ∷ ms)) clocks → IsOn m switches clocks before → WereNoted begun k clocks → (noted m r.note (known_by m switches before)).clocks ≡ map (lines_by (length before + 276)) all
+      → all ≡ noted_lines (news_in (d ∷ ms)) clocks → IsOn m switches clocks before → WereNoted k clocks → (noted m r.note (known_by m switches before)).clocks ≡ map (lines_by (length before + 276)) all
   one_knows k before r d ms clocks at note put may is on were =
       let next = noted_lines d.note.news clocks in
       let same : news_of r.note ≡ d.note.news = ap news_of note in
@@ -211,9 +212,9 @@ module _ (m : Machine) (switches : List Switch) (text : List ℕ) (begun : List 
       let now : (noted m r.note (known_by m switches before)).clocks ≡ next = noted_clocks m r.note (known_by m switches before) clocks on.clocks_are may_here ∙ ap (λ (ns : List NoteNews). noted_lines ns clocks) same in
       let Old : Line → ℕ → Type 0 = λ line from. from ≤ (length before + 276) * turn_ns in
       let New : ℕ → Line → ℕ → Type 0 = λ board line from. (length before + 276) * turn_ns < from in
-      let told = noted_next begun k d.note.news clocks (put_in m text begun k (put_of d) put.0) were in
-      let early = λ (b : ℕ) (low : b < length next). each_more (λ line from. IsNotedIn begun 0 (k + 1) from) Old (clocks_at next b).held (λ line from x. (let by_now = x.2 in let from_is = x.3 in omega (arith, from_is, by_now, at))) (told b low) in
-      let late = told_more (λ board line from. IsNotedIn begun (k + 1) (k + 1 + length ms) from) New (news_in ms) (λ board line from x. (let far = x.1 in let from_is = x.3 in omega (arith, from_is, far, at))) (all_in m text begun (k + 1) ms put.1) in
+      let told = noted_next k d.note.news clocks (put_in m text begun k (put_of d) put.0) were in
+      let early = λ (b : ℕ) (low : b < length next). each_more (λ line from. IsNotedIn 0 (k + 1) from) Old (clocks_at next b).held (λ line from x. (let by_now = x.2 in let from_is = x.3 in omega (arith, from_is, by_now, at))) (told b low) in
+      let late = told_more (λ board line from. IsNotedIn (k + 1) (k + 1 + length ms) from) New (news_in ms) (λ board line from x. (let far = x.1 in let from_is = x.3 in omega (arith, from_is, far, at))) (all_in m text begun (k + 1) ms put.1) in
       now ∙ lines_cut (length before + 276) (news_in ms) next early late ∙ ap (map (lines_by (length before + 276))) (sym (is ∙ noted_append d.note.news (news_in ms) clocks))
 
   -- the lines behind a turn
@@ -225,24 +226,24 @@ module _ (m : Machine) (switches : List Switch) (text : List ℕ) (begun : List 
       subst (λ (ns : List NoteNews). IsOn m switches (noted_lines ns clocks) (came_in r ∷ before)) same (on_next m switches clocks (came_in r) before g may_here on)
 
   on_from : (k : ℕ) (before : List Came) (rs : List ReactorTurn) (ms : List MotionTurn) (clocks : List Clocks) → length before ≡ suc k → AreReactorTurns m switches before rs → TookEach (map (λ (t : MotionTurn). t.note) ms) rs → ArePut m text begun k (puts_of ms)
-      → MayNote (news_in ms) clocks → all ≡ noted_lines (news_in ms) clocks → IsOn m switches clocks before → WereNoted begun k clocks → Knows before → Knows (came_from before rs)
+      → MayNote (news_in ms) clocks → all ≡ noted_lines (news_in ms) clocks → IsOn m switches clocks before → WereNoted k clocks → Knows before → Knows (came_from before rs)
   on_from k before [] ms clocks at turns took put may is on were knows = knows
   on_from k before (r ∷ rs) [] clocks at turns took put may is on were knows = absurd took
   on_from k before (r ∷ rs) (d ∷ ms) clocks at turns took put may is on were knows =
       on_from (k + 1) (came_in r ∷ before) rs ms (noted_lines d.note.news clocks) (omega (arith, at)) turns.1 took.1 put.1 (may_both d.note.news (news_in ms) clocks may).1 (is ∙ noted_append d.note.news (news_in ms) clocks)
-      (one_on before r d ms clocks took.0 turns.0.goes_on may on) (noted_next begun k d.note.news clocks (put_in m text begun k (put_of d) put.0) were)
+      (one_on before r d ms clocks took.0 turns.0.goes_on may on) (noted_next k d.note.news clocks (put_in m text begun k (put_of d) put.0) were)
       (((λ past. one_knows k before r d ms clocks at took.0 put may is on were), knows.0), ((λ far. on.past), knows.1))
 
   -- the turn behind these
   end_from : (k : ℕ) (before : List Came) (rs : List ReactorTurn) (end : ReactorTurn) (ms : List MotionTurn) (clocks : List Clocks) → length before ≡ suc k → AreReactorTurns m switches before rs → TookEach (map (λ (t : MotionTurn). t.note) ms) (rs ++ end ∷ [])
-      → ArePut m text begun k (puts_of ms) → MayNote (news_in ms) clocks → all ≡ noted_lines (news_in ms) clocks → IsOn m switches clocks before → WereNoted begun k clocks
+      → ArePut m text begun k (puts_of ms) → MayNote (news_in ms) clocks → all ≡ noted_lines (news_in ms) clocks → IsOn m switches clocks before → WereNoted k clocks
       → ((known_by m switches (came_from before rs)).phase ≡ Connecting → ⊥) × ((noted m end.note (known_by m switches (came_from before rs))).clocks ≡ map (lines_by (length (came_from before rs) + 276)) all)
   end_from k before [] end [] clocks at turns took put may is on were = absurd took
   end_from k before [] end (d ∷ ms) clocks at turns took put may is on were = (on.past, one_knows k before end d ms clocks at took.0 put may is on were)
   end_from k before (r ∷ rs) end [] clocks at turns took put may is on were = absurd took
   end_from k before (r ∷ rs) end (d ∷ ms) clocks at turns took put may is on were =
       end_from (k + 1) (came_in r ∷ before) rs end ms (noted_lines d.note.news clocks) (omega (arith, at)) turns.1 took.1 put.1 (may_both d.note.news (news_in ms) clocks may).1 (is ∙ noted_append d.note.news (news_in ms) clocks)
-      (one_on before r d ms clocks took.0 turns.0.goes_on may on) (noted_next begun k d.note.news clocks (put_in m text begun k (put_of d) put.0) were)
+      (one_on before r d ms clocks took.0 turns.0.goes_on may on) (noted_next k d.note.news clocks (put_in m text begun k (put_of d) put.0) were)
 
 lines_clocks : (ls : List Line) → clocks_of ls ≡ map one_line ls
 lines_clocks [] = refl
@@ -284,7 +285,7 @@ took_later (d ∷ hp) ms (x ∷ past) turn later e t =
     let Each : List ReactorTurn → Type 0 = λ z. TookEach (map (λ (y : MotionTurn). y.note) (d ∷ hp ++ ms)) z in
     took_behind (d ∷ hp) ms (past ++ turn ∷ []) later (let size = length-append past (turn ∷ []) in omega (arith, e, size)) (subst Each (sym (append_assoc past (turn ∷ []) later)) t.1)
 
-pub put_behind : (m : Machine) (text : List ℕ) (begun : List Started) (k : ℕ) (hp ms : List MotionTurn) → ArePut m text begun k (puts_of (hp ++ ms)) → ArePut m text begun (k + length hp) (puts_of ms)
+put_behind : (m : Machine) (text : List ℕ) (begun : List Started) (k : ℕ) (hp ms : List MotionTurn) → ArePut m text begun k (puts_of (hp ++ ms)) → ArePut m text begun (k + length hp) (puts_of ms)
 put_behind m text begun k [] ms p = let e : k ≡ k + 0 = omega arith in subst (λ (n : ℕ). ArePut m text begun n (puts_of ms)) e p
 put_behind m text begun k (d ∷ hp) ms p =
     let e : k + 1 + length hp ≡ k + length (d ∷ hp) = omega arith in
@@ -326,11 +327,11 @@ module _ (m : Machine) (v : IsValidMachine m) (s : Scene) (ts : List MotionTurn)
       let h = r.heard in
       may_note (news_in Notes_from) h.clocks (first_follows (news_in Notes_from) h.clocks t.clocks h.on alone (λ b low. sound.may b (omega (arith, low, count))))
 
-  were : WereNoted p.seen.begun (length Before) r.heard.clocks
+  were : WereNoted (length Before) r.heard.clocks
   were = λ b low. (
       let one = alone b low in
       let none : [] ≡ (clocks_at r.heard.clocks b).held = ap (λ (c : Clocks). c.held) (sym one.1) in
-      subst (EachHeld (λ line from. IsNotedIn p.seen.begun 0 (length Before) from)) none tt)
+      subst (EachHeld (λ line from. IsNotedIn 0 (length Before) from)) none tt)
 
   on : IsOn m s.switches r.heard.clocks (came_in r.turn ∷ Before)
   on = connects_on m s.switches (came_in r.turn) Before r.heard.clocks parts.1.0.goes_on r.is

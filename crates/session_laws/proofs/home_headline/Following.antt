@@ -13,6 +13,7 @@ use Rattle.io_core.specs.declared.traits.Files.{Ghosts as Files}
 use Rattle.io_core.specs.declared.traits.Sink.{Ghosts as Sink}
 use Rattle.wire_scene.specs.declared.scene.Scene.{Scene}
 use Rattle.host_reactor.specs.Reactor.{Run}
+use Rattle.motion_work.specs.Seen.{AreStarted, Started}
 use Rattle.motion_work.specs.Told.{Told}
 use Rattle.session_lanes.specs.declared.near.Told as near
 use Rattle.session_work.specs.declared.table.MotionTurn.{MotionTurn}
@@ -39,11 +40,14 @@ use Rattle.homing_laws.specs.home_parts.Answers.{MayHome}
 use Rattle.homing_laws.specs.home_parts.Known.{StartInRange}
 use Rattle.homing_laws.specs.home_parts.Reports.{IsHomeStepper}
 use Rattle.homing_laws.proofs.home_parts.Lines.{home_fits, home_none}
+use Rattle.homing_laws.proofs.home_parts.Told.{row_from}
 use Rattle.session_laws.specs.home_headline.Follow.{FollowHomes}
 use Rattle.session_laws.specs.home_headline.Little.{HomesLittle}
 use Rattle.session_laws.proofs.home_headline.Board.{Followed, boarded_by, here_by, lines_of}
 use Rattle.session_laws.proofs.home_headline.Ranges.{may_all, own_small, range_all, starts_soon}
 use Rattle.session_laws.proofs.home_headline.Sections.{all_lines, few}
+use Rattle.session_laws.proofs.home_headline.Soon.{home_early}
+use Rattle.session_laws.proofs.home_headline.Uncut.{planned_at}
 
 pub front_each : (notes : List Note) (xs ys : List ReactorTurn) → TookEach notes (xs ++ ys) → TookEach notes xs
 front_each notes [] ys h = tt
@@ -100,7 +104,7 @@ module _ (m : Machine) (v : IsValidMachine m) (s : Scene) (ts : List MotionTurn)
       range_all m t.clocks (board_tick (clock_of (board_at m b))) (clocks_at t.clocks b) (length (came_from [] turn.past)) t.first p.seen.begun l.tracked (own b h) (omega (arith, early)) row l.over (starts_soon m (length m.boards) ts p)
 
   formed : MayHome m p.seen.begun
-  formed = let late = sound.late in may_all m v ts p t told sound.clocks_are (omega (arith, late)) row (starts_soon m (length m.boards) ts p) (λ b h. first_in_range m v s ts p t first rest end told b turn h)
+  formed = may_all m v ts p t told
 
   on_stepper : (place : ℕ) (h : place < length m.steppers)
       → IsHomeStepper m t.clocks p.seen.begun (rest ++ end ∷ []) s.entries (length (came_from [] turn.past)) (length p.made) (length (rest ++ end ∷ [])) place
@@ -129,6 +133,17 @@ module _ (m : Machine) (v : IsValidMachine m) (s : Scene) (ts : List MotionTurn)
         lines = tells;
         fit = λ past x later from to place cut h w.
             home_fits m v t.clocks p.seen.begun (rest ++ end ∷ []) s.entries from_ready (length p.made) n from to place (here_by m v s ts p t first rest end told (length p.made) (stepper_at m place).board (whole (stepper_at m place).board (v.steppers place h).board)) past x later tells.1 cut (on_stepper place h) w;
+        early = λ past x later from to place cut h w known.
+            let b = (stepper_at m place).board in
+            let small = (v.steppers place h).board in
+            let Started_in : List Started → Type 0 = λ ss. AreStarted m t.clocks t.first ss in
+            let Row : List Started → Type 0 = λ ss. AreInARow t.first ss in
+            let order = row_from t.first past x later (subst Row cut row) in
+            let late = order.0 in
+            let ends = order.1 in
+            let before = sound.clocks_are.before b small in
+            home_early m v t.clocks p.seen.begun (rest ++ end ∷ []) s.entries from_ready (length p.made) n from to place (here_by m v s ts p t first rest end told (length p.made) b (whole b small)) past x later tells.1 cut (on_stepper place h) w
+            (planned_at m t.clocks t.first past x later (subst Started_in cut (started_in m ts p t told))) known (sound.clocks_are.lasting b small (first_in_range m v s ts p t first rest end told b turn small)) (sound.clocks_are.freq b small) (omega (arith, before, late, ends));
         between = λ past later from to place cut h order within ended next.
             home_none m v t.clocks p.seen.begun (rest ++ end ∷ []) s.entries from_ready (length p.made) n from to place (here_by m v s ts p t first rest end told (length p.made) (stepper_at m place).board (whole (stepper_at m place).board (v.steppers place h).board)) past later tells.1 cut (on_stepper place h) order within ended next;
       }

@@ -1,5 +1,5 @@
 -- Which lines stand in the report of a whole run in which axes home.
-use Rattle.std.proofs.Common.{◌≡◌, ◌≢◌, ℕ, List, [], ◌∷◌, ◌++◌, length, subst}
+use Rattle.std.proofs.Common.{◌≡◌, ◌≢◌, ℕ, ◌+◌, List, [], ◌∷◌, ◌++◌, length, subst}
 use Rattle.plan_types.specs.declared.cause.Cause.{Cause}
 use Rattle.plan_types.specs.declared.machine.Machine.{Machine}
 use Rattle.plan_types.specs.Lines.{Clocks}
@@ -45,7 +45,7 @@ pub homes_sound : (m : Machine) (seen : Seen) (clocks : List Clocks) (ready : �
 homes_sound m seen clocks ready c first rest said more h are some = h.sound (some_first m clocks ready seen.begun (first ∷ rest) said more h.late h.started h.lines are some)
 
 pub homes_further : (m : Machine) (seen : Seen) (clocks : List Clocks) (ready : ℕ) (own c : Cause) (first : ReactorTurn) (rest : List ReactorTurn) (said more : List ReportLine) → ShowBegun m seen clocks ready own first rest
-    → gather (λ t. t.lines) (first ∷ rest) ≡ said ++ more → (ShowsAll c → (more ≡ []) × ShowsAll own) → heads_of said ≢ [] → TellFurther m clocks (length rest) c said
+    → gather (λ t. t.lines) (first ∷ rest) ≡ said ++ more → (ShowsAll c → (more ≡ []) × ShowsAll own) → heads_of said ≢ [] → TellFurther m clocks (length rest + 271) c said
 homes_further m seen clocks ready own c first rest said more h are whole some =
-    further_front m clocks (length rest) own c said more whole
-    (subst (TellFurther m clocks (length rest) own) are (h.further (some_first m clocks ready seen.begun (first ∷ rest) said more h.late h.started h.lines are some)))
+    further_front m clocks (length rest + 271) own c said more whole
+    (subst (TellFurther m clocks (length rest + 271) own) are (h.further (some_first m clocks ready seen.begun (first ∷ rest) said more h.late h.started h.lines are some)))

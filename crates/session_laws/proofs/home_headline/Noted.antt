@@ -1,11 +1,10 @@
--- The further lines that notes tell, and the sections that home by then.
-use Rattle.std.proofs.Common.{◌≡◌, ◌⊎◌, ℕ, suc, zero, ◌+◌, ◌*◌, ◌<◌, ◌≤◌, List, [], ◌∷◌, ◌++◌, length, map, refl, ap, sym, ◌∙◌, subst, arith, inl, inr, append-nil}
+-- The further lines that notes tell, with the turns from which on they hold.
+use Rattle.std.proofs.Common.{◌≡◌, ℕ, suc, zero, ◌+◌, ◌*◌, ◌<◌, ◌≤◌, List, [], ◌∷◌, ◌++◌, length, map, refl, ap, sym, ◌∙◌, subst, arith, inl, inr, append-nil}
 use Rattle.std.proofs.lemmas.Bool.Decides.{leb_tells}
 use Rattle.std.proofs.lemmas.List.{length-map}
 use Rattle.plan_types.specs.declared.machine.Machine.{Machine}
 use Rattle.plan_types.specs.declared.plan.Held.{Held}
 use Rattle.plan_types.specs.declared.plan.Line.{Line}
-use Rattle.plan_types.specs.declared.plan.SectionKind.TheVariants.{Home, Moves}
 use Rattle.plan_types.specs.Clock.{turn_ns}
 use Rattle.plan_types.specs.Lines.{Clocks}
 use Rattle.plan_types.specs.Sections.{clocks_at}
@@ -13,65 +12,46 @@ use Rattle.msg_code.specs.declared.talk.NoteNews.{NoteNews}
 use Rattle.msg_code.specs.declared.talk.NoteNews.TheVariants as news
 use Rattle.motion_work.specs.Further.{AreFurther, noted_lines}
 use Rattle.motion_work.specs.Puts.{ArePut, IsPut, Put, begun_notes}
-use Rattle.motion_work.specs.Seen.{AreOver, IsOver, Started}
+use Rattle.motion_work.specs.Seen.{Started}
 use Rattle.motion_work.specs.Turns.{done_notes}
 use Rattle.session_work.specs.declared.table.MotionTurn.{MotionTurn}
 use Rattle.run_plans.specs.Planned.{put_of, puts_of}
 use Rattle.session_laws.proofs.run_headline.Further.{EachHeld, EachTold, noted_grown, noted_long, told_both, told_more}
 use Rattle.session_laws.proofs.run_headline.Noting.{none_begun, none_done, none_read}
 use Rattle.session_laws.proofs.run_headline.Words.{news_in}
-use Rattle.homing_laws.specs.home_parts.Known.{held_by, lines_by}
+use Rattle.motion_work.specs.Known.{held_by, lines_by}
 use Rattle.homing_laws.proofs.home_parts.Held.{clocks_by}
 
--- From a turn on a further line holds that a note of some turns tells, and there all sections are of moves or over.
-abbrev pub IsNotedIn : List Started → ℕ → ℕ → ℕ → Type 0
-IsNotedIn begun low high from = (j : ℕ) × (low ≤ j) × (j < high) × (from ≡ (j + 277) * turn_ns) × AreOver j begun
+-- From a turn on a further line holds that a note of some turns tells.
+abbrev pub IsNotedIn : ℕ → ℕ → ℕ → Type 0
+IsNotedIn low high from = (j : ℕ) × (low ≤ j) × (j < high) × (from ≡ (j + 277) * turn_ns)
 
-noted_wide : (begun : List Started) (low high least most from : ℕ) → least ≤ low → high ≤ most → IsNotedIn begun low high from → IsNotedIn begun least most from
-noted_wide begun low high least most from below above x = (let a = x.1 in let c = x.2 in (x.0, omega (arith, below, a), omega (arith, above, c), x.3, x.4))
+noted_wide : (low high least most from : ℕ) → least ≤ low → high ≤ most → IsNotedIn low high from → IsNotedIn least most from
+noted_wide low high least most from below above x = (let a = x.1 in let c = x.2 in (x.0, omega (arith, below, a), omega (arith, above, c), x.3))
 
-further_in : (begun : List Started) (k : ℕ) (ns : List NoteNews) → AreFurther k ns → AreOver k begun → EachTold (λ board line from. IsNotedIn begun k (k + 1) from) ns
-further_in begun k [] a over = tt
-further_in begun k (news.Line board line from ∷ ns) a over = ((k, omega arith, omega arith, a.0, over), further_in begun k ns a.1 over)
-further_in begun k (news.Start section kind turn last moving ∷ ns) a over = absurd a
-further_in begun k (news.Done section turn ∷ ns) a over = absurd a
-further_in begun k (news.Read end sections ∷ ns) a over = absurd a
+further_in : (k : ℕ) (ns : List NoteNews) → AreFurther k ns → EachTold (λ board line from. IsNotedIn k (k + 1) from) ns
+further_in k [] a = tt
+further_in k (news.Line board line from ∷ ns) a = ((k, omega arith, omega arith, a.0), further_in k ns a.1)
+further_in k (news.Start section kind turn last moving ∷ ns) a = absurd a
+further_in k (news.Done section turn ∷ ns) a = absurd a
+further_in k (news.Read end sections ∷ ns) a = absurd a
 
-pub put_in : (m : Machine) (text : List ℕ) (begun : List Started) (k : ℕ) (p : Put) → IsPut m text begun k p → EachTold (λ board line from. IsNotedIn begun k (k + 1) from) p.note.news
+pub put_in : (m : Machine) (text : List ℕ) (begun : List Started) (k : ℕ) (p : Put) → IsPut m text begun k p → EachTold (λ board line from. IsNotedIn k (k + 1) from) p.note.news
 put_in m text begun k p is =
-    let In : ℕ → Line → ℕ → Type 0 = λ board line from. IsNotedIn begun k (k + 1) from in
-    let lines : EachTold In is.further = elim is.over [
-      | inl none ↦ subst (EachTold In) (sym none) tt
-      | inr over ↦ further_in begun k is.further is.are_further over
-    ] in
+    let In : ℕ → Line → ℕ → Type 0 = λ board line from. IsNotedIn k (k + 1) from in
     subst (EachTold In) (sym is.news_are)
     (told_both In (done_notes k 0 begun) (begun_notes k 0 begun ++ (is.read ++ is.further)) (none_done In k 0 begun)
-    (told_both In (begun_notes k 0 begun) (is.read ++ is.further) (none_begun In k 0 begun) (told_both In is.read is.further (none_read In m text is.read is.is_read) lines)))
+    (told_both In (begun_notes k 0 begun) (is.read ++ is.further) (none_begun In k 0 begun) (told_both In is.read is.further (none_read In m text is.read is.is_read) (further_in k is.further is.are_further))))
 
 -- the lines that the notes of turns tell
-pub all_in : (m : Machine) (text : List ℕ) (begun : List Started) (k : ℕ) (ms : List MotionTurn) → ArePut m text begun k (puts_of ms) → EachTold (λ board line from. IsNotedIn begun k (k + length ms) from) (news_in ms)
+pub all_in : (m : Machine) (text : List ℕ) (begun : List Started) (k : ℕ) (ms : List MotionTurn) → ArePut m text begun k (puts_of ms) → EachTold (λ board line from. IsNotedIn k (k + length ms) from) (news_in ms)
 all_in m text begun k [] put = tt
 all_in m text begun k (d ∷ ms) put =
-    let In : ℕ → Line → ℕ → Type 0 = λ board line from. IsNotedIn begun k (k + length (d ∷ ms)) from in
+    let In : ℕ → Line → ℕ → Type 0 = λ board line from. IsNotedIn k (k + length (d ∷ ms)) from in
     told_both In d.note.news (news_in ms)
-    (told_more (λ board line from. IsNotedIn begun k (k + 1) from) In d.note.news (λ board line from x. noted_wide begun k (k + 1) k (k + length (d ∷ ms)) from (omega arith) (omega arith) x) (put_in m text begun k (put_of d) put.0))
-    (told_more (λ board line from. IsNotedIn begun (k + 1) (k + 1 + length ms) from) In (news_in ms)
-    (λ board line from x. noted_wide begun (k + 1) (k + 1 + length ms) k (k + length (d ∷ ms)) from (omega arith) (omega arith) x) (all_in m text begun (k + 1) ms put.1))
-
-over_at : (k : ℕ) (xs : List Started) (s : Started) (later : List Started) → AreOver k (xs ++ s ∷ later) → IsOver k s
-over_at k [] s later h = h.0
-over_at k (x ∷ xs) s later h = over_at k xs s later h.1
-
-moves_not : (axis : ℕ) (s : Started) → s.section.kind ≡ Home axis → s.section.kind ≡ Moves → ⊥
-moves_not axis s home moves = (let e : Home axis ≡ Moves = sym home ∙ moves in cc)
-
--- a homing section is not begun by then, or it is over
-pub home_over : (begun : List Started) (low high from : ℕ) (xs : List Started) (s : Started) (later : List Started) (axis : ℕ) → IsNotedIn begun low high from → begun ≡ xs ++ s ∷ later → s.section.kind ≡ Home axis
-    → (j : ℕ) × (low ≤ j) × (j < high) × (from ≡ (j + 277) * turn_ns) × ((j + 260 ≤ s.start) ⊎ ((s.end ≤ j) × (s.last ≤ j + 269)))
-home_over begun low high from xs s later axis x cut home = elim (over_at x.0 xs s later (subst (AreOver x.0) cut x.4)) [
-  | inl moves ↦ absurd (moves_not axis s home moves)
-  | inr over ↦ (x.0, x.1, x.2, x.3, over)
-]
+    (told_more (λ board line from. IsNotedIn k (k + 1) from) In d.note.news (λ board line from x. noted_wide k (k + 1) k (k + length (d ∷ ms)) from (omega arith) (omega arith) x) (put_in m text begun k (put_of d) put.0))
+    (told_more (λ board line from. IsNotedIn (k + 1) (k + 1 + length ms) from) In (news_in ms)
+    (λ board line from x. noted_wide (k + 1) (k + 1 + length ms) k (k + length (d ∷ ms)) from (omega arith) (omega arith) x) (all_in m text begun (k + 1) ms put.1))
 
 -- the lines of boards that hold by the beginning of a turn, where the others are told by some news
 all_by : (n : ℕ) (held : List Held) → EachHeld (λ line from. from ≤ n * turn_ns) held → held_by n held ≡ held
@@ -115,8 +95,8 @@ lines_cut n ns clocks early late =
     same_clocks old (lines_by n (clocks_at all b)) (sym g.first) (sym held) ∙ sym (clocks_by n all b))
 
 -- the further lines of each board so far were told by notes of turns before one
-abbrev pub WereNoted : List Started → ℕ → List Clocks → Type 0
-WereNoted begun k clocks = (b : ℕ) → b < length clocks → EachHeld (λ line from. IsNotedIn begun 0 k from) (clocks_at clocks b).held
+abbrev pub WereNoted : ℕ → List Clocks → Type 0
+WereNoted k clocks = (b : ℕ) → b < length clocks → EachHeld (λ line from. IsNotedIn 0 k from) (clocks_at clocks b).held
 
 pub each_more : (P Q : Line → ℕ → Type 0) (held : List Held) → ((line : Line) (from : ℕ) → P line from → Q line from) → EachHeld P held → EachHeld Q held
 each_more P Q [] f a = tt
@@ -126,13 +106,13 @@ each_both : (P : Line → ℕ → Type 0) (xs ys : List Held) → EachHeld P xs 
 each_both P [] ys a b = b
 each_both P (x ∷ xs) ys a b = (a.0, each_both P xs ys a.1 b)
 
-pub noted_next : (begun : List Started) (k : ℕ) (ns : List NoteNews) (clocks : List Clocks) → EachTold (λ board line from. IsNotedIn begun k (k + 1) from) ns → WereNoted begun k clocks → WereNoted begun (k + 1) (noted_lines ns clocks)
-noted_next begun k ns clocks told were = λ b low.
+pub noted_next : (k : ℕ) (ns : List NoteNews) (clocks : List Clocks) → EachTold (λ board line from. IsNotedIn k (k + 1) from) ns → WereNoted k clocks → WereNoted (k + 1) (noted_lines ns clocks)
+noted_next k ns clocks told were = λ b low.
     let long = noted_long ns clocks in
     let inside : b < length clocks = omega (arith, low, long) in
-    let Old : Line → ℕ → Type 0 = λ line from. IsNotedIn begun 0 k from in
-    let New : Line → ℕ → Type 0 = λ line from. IsNotedIn begun 0 (k + 1) from in
-    let g = noted_grown (λ board line from. IsNotedIn begun k (k + 1) from) ns clocks b inside told in
-    let more = each_more (λ line from. IsNotedIn begun k (k + 1) from) New g.more (λ line from x. noted_wide begun k (k + 1) 0 (k + 1) from (omega arith) (omega arith) x) g.each in
-    let old = each_more Old New (clocks_at clocks b).held (λ line from x. noted_wide begun 0 k 0 (k + 1) from (omega arith) (omega arith) x) (were b inside) in
+    let Old : Line → ℕ → Type 0 = λ line from. IsNotedIn 0 k from in
+    let New : Line → ℕ → Type 0 = λ line from. IsNotedIn 0 (k + 1) from in
+    let g = noted_grown (λ board line from. IsNotedIn k (k + 1) from) ns clocks b inside told in
+    let more = each_more (λ line from. IsNotedIn k (k + 1) from) New g.more (λ line from x. noted_wide k (k + 1) 0 (k + 1) from (omega arith) (omega arith) x) g.each in
+    let old = each_more Old New (clocks_at clocks b).held (λ line from x. noted_wide 0 k 0 (k + 1) from (omega arith) (omega arith) x) (were b inside) in
     subst (EachHeld New) (sym g.held) (each_both New (clocks_at clocks b).held g.more old more)

@@ -1,8 +1,7 @@
 -- The ticks at which sections start are in range, and the groups of those that home may be formed.
-use Rattle.std.proofs.Common.{◌≡◌, ℕ, suc, ◌+◌, ◌*◌, ◌^◌, ◌<◌, ◌≤◌, ℤ, pos, negsuc, ◌≤ℤ◌, true, List, [], ◌∷◌, ◌++◌, All, length, map, append_assoc, Some, refl, ap, sym, ◌∙◌, subst, arith, inl, inr}
+use Rattle.std.proofs.Common.{◌≡◌, ℕ, suc, ◌+◌, ◌*◌, ◌^◌, ◌<◌, ◌≤◌, ℤ, pos, negsuc, ◌≤ℤ◌, true, List, [], ◌∷◌, ◌++◌, All, length, map, Some, refl, subst, arith, inl, inr}
 use Rattle.std.proofs.lemmas.Bool.Decides.{leb_tells}
 use Rattle.std.proofs.lemmas.Int.{ints}
-use Rattle.std.proofs.lemmas.List.{map-append}
 use Rattle.std.proofs.lemmas.List.Elements.{All-head, All-tail}
 use Rattle.std.proofs.Math.Nat.{mul-le-mul_left}
 use Rattle.gcode_program.specs.Held.{IsNear}
@@ -29,12 +28,13 @@ use Rattle.motion_stream.proofs.Wholing.{at_place}
 use Rattle.motion_stream.proofs.Taking.{may_start}
 use Rattle.session_work.specs.declared.table.MotionTurn.{MotionTurn}
 use Rattle.run_laws.specs.Parts.{AreTracked}
-use Rattle.run_plans.specs.Planned.{Plans}
+use Rattle.run_plans.specs.Planned.{AreKnown, Plans}
 use Rattle.run_plans.proofs.Cutting.{homed_of}
 use Rattle.run_plans.proofs.Running.{started_in}
 use Rattle.homing_laws.specs.home_plans.Notes.{AreInARow}
 use Rattle.homing_laws.specs.home_parts.Answers.{MayHome}
-use Rattle.homing_laws.specs.home_parts.Cuts.{PlansEndBefore}
+use Rattle.homing_laws.specs.home_parts.Cuts.{AreOverBefore}
+use Rattle.homing_laws.proofs.home_parts.Cut.{over_late}
 use Rattle.homing_laws.specs.home_parts.Known.{StartInRange}
 use Rattle.homing_laws.proofs.home_parts.Bits.{movers_few}
 
@@ -54,7 +54,7 @@ pub own_small : (d : BoardDef) → IsValidBoard d → (k : ℕ) → k < 2 ^ 42 +
 own_small d v k soon = own_low d.start d.freq k d.drift v.start v.freq.high v.drift_high soon
 
 -- the ticks of the starts
-pub range_all : (m : Machine) (all : List Clocks) (own : ℕ → ℕ) (clocks : Clocks) (ready at : ℕ) (begun : List Started) → (k : AreTracked own clocks ready) → ((j : ℕ) → j < 2 ^ 42 + 300 → own j < 2 ^ 62) → ready ≤ at → AreInARow at begun → PlansEndBefore m all k.until begun
+pub range_all : (m : Machine) (all : List Clocks) (own : ℕ → ℕ) (clocks : Clocks) (ready at : ℕ) (begun : List Started) → (k : AreTracked own clocks ready) → ((j : ℕ) → j < 2 ^ 42 + 300 → own j < 2 ^ 62) → ready ≤ at → AreInARow at begun → AreOverBefore m all k.until begun
     → All (λ s. s.start < 2 ^ 42 + 260) begun → StartInRange clocks begun
 range_all m all own clocks ready at [] k small early row ends soon = tt
 range_all m all own clocks ready at (s ∷ begun) k small early row ends soon =
@@ -62,7 +62,7 @@ range_all m all own clocks ready at (s ∷ begun) k small early row ends soon =
     let start = row.0 in
     let order = row.1 in
     let end = ends.0 in
-    let after = end_after m all s.section.moves s.start in
+    let after = over_late s.section.kind m all s order in
     let here = All-head P s begun soon in
     let low = k.ahead s.start (omega (arith, early, start)) (omega (arith, end, after)) in
     let most = small (s.start + 4) (omega (arith, here)) in
@@ -81,44 +81,24 @@ may_true ms start last a b c d = elim (leb_tells 254 start) [
   ]
 ]
 
--- a section of a text ends soon
-pub section_soon : (m : Machine) (v : IsValidMachine m) (text : List ℕ) (clocks : List Clocks) (first start : ℕ) (xs ys : List Section) (one : Section) → program_sections m text ≡ xs ++ one ∷ ys → AreBoardClocks m clocks first → first ≤ start → start < 2 ^ 42 + 260
-    → ((b : ℕ) → b < length m.boards → (clocks_at clocks b).first.clock < 2 ^ 62) → section_end m clocks one.moves start ≤ 2 ^ 58
-section_soon m v text clocks first start xs ys one split are late soon clock =
-    let plan = sections_plannable m text v in
-    let few = at_place (λ (y : Section). length y.moves ≤ 2_000_000) xs one ys (subst (λ (z : List Section). All (λ (y : Section). length y.moves ≤ 2_000_000) z) split plan.few) in
-    let good = at_place (λ (y : Section). All IsValidMove y.moves) xs one ys (subst (λ (z : List Section). All (λ (y : Section). All IsValidMove y.moves) z) split plan.valid) in
-    let near = at_place (λ (y : Section). All IsNear y.moves) xs one ys (subst (λ (z : List Section). All (λ (y : Section). All IsNear y.moves) z) split plan.near) in
-    let later : AreBoardClocks m clocks start = record { count = are.count; valid = are.valid; lasting = are.lasting; freq = are.freq; before = λ b lt. (let x = are.before b lt in omega (arith, x, late)) } in
-    section_known m clocks one.moves start v (λ b lt. may_start m clocks start b later clock (omega (arith, soon)) lt) (near_short one.moves good near) few
-
-one_may : (m : Machine) (v : IsValidMachine m) (clocks : List Clocks) (s : Started) (axis : ℕ) → IsHomed m clocks s → 254 ≤ s.start → s.start < 2 ^ 43 → section_end m clocks s.section.moves s.start ≤ 2 ^ 58
-    → may_be (map unseen (members_from m (axis_at m axis) s.moving 0 m.boards)) s.start s.last ≡ true
-one_may m v clocks s axis h early small soon =
+one_may : (m : Machine) (v : IsValidMachine m) (clocks : List Clocks) (s : Started) (axis : ℕ) → IsHomed m clocks s → 254 ≤ s.start → may_be (map unseen (members_from m (axis_at m axis) s.moving 0 m.boards)) s.start s.last ≡ true
+one_may m v clocks s axis h early =
     let last = h.last in
+    let soon = h.soon in
     let steppers = movers_few m (axis_at m axis) s.moving in
     let most = v.steppers_few in
-    may_true (map unseen (members_from m (axis_at m axis) s.moving 0 m.boards)) s.start s.last early (omega (arith, last)) (omega (arith, last, soon, small)) (omega (arith, steppers, most))
+    may_true (map unseen (members_from m (axis_at m axis) s.moving 0 m.boards)) s.start s.last early (omega (arith, last)) (omega (arith, soon)) (omega (arith, steppers, most))
 
-may_from : (m : Machine) (v : IsValidMachine m) (text : List ℕ) (clocks : List Clocks) (first at : ℕ) (all xs rest : List Started) (others : List Section) → program_sections m text ≡ map (λ x. x.section) all ++ others → all ≡ xs ++ rest → AreBoardClocks m clocks first → 254 ≤ first → first ≤ at
-    → AreStarted m clocks at rest → AreInARow at rest → All (λ s. s.start < 2 ^ 42 + 260) rest → ((b : ℕ) → b < length m.boards → (clocks_at clocks b).first.clock < 2 ^ 62) → MayHome m rest
-may_from m v text clocks first at all xs [] others split cut are low late h row soon clock = tt
-may_from m v text clocks first at all xs (s ∷ rest) others split cut are low late h row soon clock =
-    let P : Started → Type 0 = λ x. x.start < 2 ^ 42 + 260 in
-    let start = row.0 in
-    let order = row.1 in
-    let here = All-head P s rest soon in
-    let Of : Started → Section = λ x. x.section in
-    let parts : program_sections m text ≡ map Of xs ++ s.section ∷ (map Of rest ++ others) =
-    split ∙ ap (λ z. map Of z ++ others) cut ∙ ap (λ z. z ++ others) (map-append Of xs (s ∷ rest)) ∙ append_assoc (map Of xs) (s.section ∷ map Of rest) others in
-    let ends = section_soon m v text clocks first s.start (map Of xs) (map Of rest ++ others) s.section parts are (omega (arith, late, start)) here clock in (
-      λ axis home. one_may m v clocks s axis (homed_of m clocks s s.section.kind axis home h.0.planned) (omega (arith, low, late, start)) (omega (arith, here)) ends,
-      may_from m v text clocks first (s.end + 260) all (xs ++ s ∷ []) rest others split (cut ∙ sym (append_assoc xs (s ∷ []) rest)) are low (omega (arith, late, start, order)) h.1 row.2 (All-tail P s rest soon) clock,
+may_from : (m : Machine) (v : IsValidMachine m) (clocks : List Clocks) (at : ℕ) (begun : List Started) → 254 ≤ at → AreStarted m clocks at begun → MayHome m begun
+may_from m v clocks at [] late h = tt
+may_from m v clocks at (s ∷ begun) late h =
+    let start = h.0.start in (
+      λ axis home. one_may m v clocks s axis (homed_of m clocks s s.section.kind axis home h.0.planned) (omega (arith, late, start)),
+      may_from m v clocks (s.end + 260) begun (omega arith) h.1,
     )
 
-pub may_all : (m : Machine) (v : IsValidMachine m) (ts : List MotionTurn) (p : Plans m (length m.boards) ts) (t : Told) → p.seen.told ≡ Some t → AreBoardClocks m t.clocks t.first → 254 ≤ t.first → AreInARow t.first p.seen.begun → All (λ s. s.start < 2 ^ 42 + 260) p.seen.begun
-    → ((b : ℕ) → b < length m.boards → (clocks_at t.clocks b).first.clock < 2 ^ 62) → MayHome m p.seen.begun
-may_all m v ts p t told are low row soon clock = may_from m v p.seen.text t.clocks t.first t.first p.seen.begun [] p.seen.begun p.of_text.0 p.of_text.1 refl are low (omega arith) (started_in m ts p t told) row soon clock
+pub may_all : (m : Machine) (v : IsValidMachine m) (ts : List MotionTurn) (p : Plans m (length m.boards) ts) (t : Told) → p.seen.told ≡ Some t → MayHome m p.seen.begun
+may_all m v ts p t told = let known = subst (AreKnown m) told p.known in let late = known.2 in may_from m v t.clocks t.first p.seen.begun (omega (arith, late)) (started_in m ts p t told)
 
 -- sections start soon
 starts_low : (n : ℕ) (begun : List Started) → n ≤ 2 ^ 42 → All (λ s. s.start < n + 260) begun → All (λ s. s.start < 2 ^ 42 + 260) begun

@@ -76,7 +76,6 @@ idle_put m text begun k d bare done starts =
       out = inl refl;
       further = [];
       are_further = tt;
-      over = inl refl;
       news_are = ap (λ (x : Note). x.news) note ∙ sym (ap (λ z. z ++ (begun_notes k 0 begun ++ [])) done ∙ ap (λ z. z ++ []) starts);
     }
 
@@ -144,7 +143,7 @@ module _ (m : Machine) (v : IsValidMachine m) (s : Scene) (ts : List MotionTurn)
           through = λ g. through_long m v s ts p end c first rest f g (long_own m v s ts p end c first rest f (own_cause c g));
           counts = λ g. counts_so m v s ts p end c first rest f g (long_own m v s ts p end c first rest f (own_cause c g));
           sound = sound_by m v s ts p end c first rest f p.seen.told refl;
-          further = further_by m v s ts p end c first rest f p.seen.told refl;
+          further = further_by m v s ts p end c first rest f (length (rest ++ end ∷ []) + 271) (omega arith) p.seen.told refl;
         }
 
   -- a run of one turn

@@ -2,20 +2,23 @@
 use Rattle.std.proofs.Common.{◌≡◌, inl, inr, ℕ, zero, suc, ◌+◌, ◌-◌, ◌*◌, ◌<◌, ◌≤◌, ◌⊎◌, List, [], ◌∷◌, ◌++◌, length, take, All, Option, None, Some, refl, ap, sym, ◌∙◌, subst, arith, length-append, append_assoc}
 use Rattle.std.proofs.Math.Logic.{∥∥₁_map}
 use Rattle.std.proofs.Math.Seq.{take-append_seam}
+use Rattle.std.proofs.lemmas.List.{length-map}
 use Rattle.plan_types.specs.declared.cause.Cause.{Cause}
 use Rattle.plan_types.specs.declared.cause.Cause.TheVariants as cause
 use Rattle.plan_types.specs.declared.machine.Machine.{Machine}
-use Rattle.plan_types.specs.declared.plan.SectionKind.TheVariants.{Home}
+use Rattle.plan_types.specs.declared.plan.Pulse.{Pulse}
 use Rattle.plan_types.specs.Clock.{turn_ns}
-use Rattle.plan_types.specs.Lines.{Clocks}
+use Rattle.plan_types.specs.Lines.{Clocks, lines_tick}
 use Rattle.plan_types.specs.Machines.{IsValidMachine, board_at, stepper_at}
-use Rattle.plan_types.specs.Plan.{Fits}
+use Rattle.plan_types.specs.Plan.{Fits, max_error}
 use Rattle.plan_types.specs.Sections.{base_tick, clocks_at, stepper_plan}
+use Rattle.clock_line.proofs.Turns.{tick_over-mono}
+use Rattle.section_feed.specs.Fewer.{AreFirstLines}
+use Rattle.section_feed.proofs.Fewer.{fits-agree, plans-agree}
 use Rattle.io_core.specs.declared.traits.Files.{Ghosts as Files}
 use Rattle.io_core.specs.declared.traits.Sink.{Ghosts as Sink}
 use Rattle.wire_scene.specs.declared.scene.Scene.{Scene}
 use Rattle.host_reactor.specs.Reactor.{Run}
-use Rattle.motion_work.specs.Puts.{ArePut}
 use Rattle.motion_work.specs.Seen.{Started}
 use Rattle.motion_work.specs.Told.{Told}
 use Rattle.motion_stream.proofs.Wholing.{at_place}
@@ -28,33 +31,27 @@ use Rattle.session_run.specs.Runs.{RunsOver}
 use Rattle.run_laws.specs.Boards.{AreEnded, IsWindow, NextStart}
 use Rattle.run_plans.specs.Boards.{lines_between, times_of}
 use Rattle.run_plans.specs.Lines.{TellTurns, pulses_of}
-use Rattle.run_plans.specs.Planned.{Plans, puts_of}
+use Rattle.run_plans.specs.Planned.{Plans, put_of}
 use Rattle.run_plans.proofs.Beginning.{Spread}
 use Rattle.run_plans.proofs.Running.{started_in}
 use Rattle.run_plans.proofs.Spreading.{plans_spread}
 use Rattle.run_plans.proofs.Telling.{all_tell, pulses_append}
 use Rattle.session_laws.specs.run_ends.Ends.{GoesThrough}
 use Rattle.session_laws.proofs.run_ends.Ending.{own_cause}
-use Rattle.session_laws.specs.run_headline.Further.{TellsFurther}
 use Rattle.session_laws.specs.run_headline.Made.{IsMade}
 use Rattle.session_laws.specs.run_headline.Timely.{clocks_heard, ready_heard}
 use Rattle.session_laws.proofs.run_headline.Boarded.{lined, ready}
-use Rattle.session_laws.proofs.run_headline.Further.{EachTold, told_more}
 use Rattle.session_laws.proofs.run_headline.Joining.{of_sections, row_none}
 use Rattle.session_laws.proofs.run_headline.Making.{run_made}
 use Rattle.session_laws.proofs.run_headline.Runs.{facts}
 use Rattle.session_laws.proofs.run_headline.Showing.{Facts, Unread, alone_ends, boards_told, counts_so, first_pulses, further_by, heard, in_none, lines_all, long_answered, long_own, long_read, not_told, sound_by, started, starts_late, through_long, untold_alone}
-use Rattle.session_laws.proofs.run_headline.Reporting.{told_to}
-use Rattle.session_laws.proofs.run_headline.Words.{news_in}
 use Rattle.homing_laws.specs.home_plans.Notes.{AreInARow}
 use Rattle.homing_laws.proofs.home_plans.Noting.{begun_row}
 use Rattle.homing_laws.proofs.home_parts.Told.{row_from}
 use Rattle.session_laws.specs.home_headline.Follow.{AllShowHomes, FollowHomes, ShowHomes}
 use Rattle.session_laws.specs.home_headline.Little.{AllHomeLittle}
 use Rattle.session_laws.specs.home_headline.Reading.{ReadsOn}
-use Rattle.session_laws.proofs.home_headline.Clocks.{put_behind}
 use Rattle.session_laws.proofs.home_headline.Following.{follows}
-use Rattle.session_laws.proofs.home_headline.Noted.{IsNotedIn, all_in, home_over}
 use Rattle.session_laws.proofs.home_headline.Sections.{all_lines}
 
 module _ (m : Machine) (v : IsValidMachine m) (s : Scene) (ts : List MotionTurn) (p : Plans m (length m.boards) ts) (end : ReactorTurn) (c : Cause) where
@@ -105,29 +102,34 @@ module _ (m : Machine) (v : IsValidMachine m) (s : Scene) (ts : List MotionTurn)
         let front : lines_between 0 n (rest ++ end ∷ []) ≡ all past = ap (λ z. lines_between 0 n z) then ∙ ap (λ (k : ℕ). all (take k (past ++ behind))) whole ∙ ap all (take-append_seam past behind) in
         pulses_append place y.lines (all past) ∙ ap (λ z. z ++ pulses_of place (all past)) now ∙ ap (pulses_of place) (sym front) ∙ none
 
-    -- where a section homes, the lines that notes tell behind the turns of the run hold from behind its last planned step on
-    told_all : (o : Option Told) → p.seen.told ≡ o → GoesThrough c → (past : List Started) (x : Started) (later : List Started) (axis : ℕ) → p.seen.begun ≡ past ++ x ∷ later → x.section.kind ≡ Home axis → (b : ℕ) → b < length m.boards
-        → TellsFurther b (clocks_at (clocks_heard p.seen.told) b).held (x.last + 7) c (gather (λ t. t.lines) (first ∷ (rest ++ end ∷ [])))
-    told_all None e g past x later axis cut home b h = absurd (in_none past x later p.seen.begun (not_told m v s ts p end c e) cut)
-    told_all (Some t) e g past x later axis cut home b h =
+    -- in a run that went through, by the lines of the boards without those that hold behind its end
+    told_all : (o : Option Told) → p.seen.told ≡ o → GoesThrough c → (short : List Clocks) → ((b : ℕ) → b < length m.boards → AreFirstLines (clocks_at short b) (clocks_at (clocks_heard p.seen.told) b) (length (rest ++ end ∷ []) + 271))
+        → (past : List Started) (x : Started) (later : List Started) (from to place : ℕ) → p.seen.begun ≡ past ++ x ∷ later → place < length m.steppers → IsWindow (length (rest ++ end ∷ [])) from to (record { start = x.start; end = x.end }) (times_of later)
+        → Fits (clocks_at short (stepper_at m place).board).first.freq (base_tick m short x.start place) (pulses_of place (lines_between from to (rest ++ end ∷ []))) (stepper_plan m short x.section.moves x.start place)
+    told_all None e g short firsts past x later from to place cut h w = absurd (in_none past x later p.seen.begun (not_told m v s ts p end c e) cut)
+    told_all (Some t) e g short firsts past x later from to place cut h w =
         let n = length (rest ++ end ∷ []) in
+        let b = (stepper_at m place).board in
+        let small = (v.steppers place h).board in
+        let clocks = clocks_heard p.seen.told in
+        let ps = pulses_of place (lines_between from to (rest ++ end ∷ [])) in
+        let line = clocks_at clocks b in
+        let heard_is : t.clocks ≡ clocks = sym (ap clocks_heard e) in
         let Row : List Started → Type 0 = λ ss. AreInARow t.first ss in
         let order = (row_from t.first past x later (subst Row cut (begun_row m t.clocks t.first p.seen.begun (started_in m ts p t e)))).1 in
         let Ended : List Started → Type 0 = λ ss. All (λ (y : Started). y.end + 5 ≤ n) ss in
         let over = at_place (λ (y : Started). y.end + 5 ≤ n) past x later (subst Ended cut (through_long m v s ts p end c first rest f g (long g)).over) in
-        let left : (front back : List MotionTurn) → p.made ≡ front ++ back → length front ≡ n → EachTold (λ board line from. (x.last + 7) * turn_ns < from) (news_in back) = λ front back are many.
-        (let Put_all : List MotionTurn → Type 0 = λ ds. ArePut m p.seen.text p.seen.begun 0 (puts_of ds) in
-        let Put_from : ℕ → Type 0 = λ k. ArePut m p.seen.text p.seen.begun k (puts_of back) in
-        let from_n : 0 + length front ≡ n = omega (arith, many) in
-        let high = n + length back in
-        told_more (λ board line from. IsNotedIn p.seen.begun n high from) (λ board line from. (x.last + 7) * turn_ns < from) (news_in back) (λ board line from y.
-        let z = home_over p.seen.begun n high from past x later axis y cut home in
-        let low = z.1 in
-        let from_is = z.3 in
-        elim z.4 [ inl ahead ↦ absurd (omega (arith, ahead, low, order, over)) | inr ended ↦ let last = ended.1 in omega (arith, from_is, last) ])
-        (all_in m p.seen.text p.seen.begun n back (subst Put_from from_n (put_behind m p.seen.text p.seen.begun 0 front back (subst Put_all are p.put))))) in
-        let At : Option Told → Type 0 = λ z. TellsFurther b (clocks_at (clocks_heard z) b).held (x.last + 7) c (gather (λ (y : ReactorTurn). y.lines) (first ∷ (rest ++ end ∷ []))) in
-        subst At (sym e) (told_to m v s ts p end c first rest f t e (x.last + 7) left b h)
+        let few = p.small in
+        let made = length-map p.made put_of in
+        let most = long g in
+        let sound = sound_by m v s ts p end c first rest f p.seen.told refl (λ none. in_none past x later p.seen.begun none cut) in
+        let agree = plans-agree m short clocks x.section.moves x.start (n + 271) place (sound.kept b small) (firsts b small) (omega (arith, order, over)) in
+        let Lines : List Clocks → Type 0 = λ cs. All (λ (q : Pulse). q.tick + max_error (board_at m b).freq < lines_tick (clocks_at cs b) ((x.end + 276) * turn_ns)) ps in
+        let early = subst Lines heard_is ((by_told t e).early past x later from to place cut h w (omega (arith, over, made, few, most))) in
+        let Freq : ℕ → Type 0 = λ f. All (λ (q : Pulse). q.tick + max_error f < lines_tick line ((n + 271) * turn_ns)) ps in
+        let up = tick_over-mono line.first 0 line.held ((x.end + 276) * turn_ns) ((n + 271) * turn_ns) (omega (arith, over)) in
+        let soon : All (λ (q : Pulse). q.tick + max_error (board_at m b).freq < lines_tick line ((n + 271) * turn_ns)) ps = λ k d low. (let own = early k d low in omega (arith, own, up)) in
+        fits-agree m short clocks x.section.moves x.start place (lines_tick line ((n + 271) * turn_ns)) ps agree (subst Freq (sym (sound.clocks_are.freq b small)) soon) (fits p.seen.told refl past x later from to place cut h w)
 
     pub shows : ShowHomes m p.seen (clocks_heard p.seen.told) (ready_heard p.seen.told) c first (rest ++ end ∷ [])
     shows = record {
@@ -143,8 +145,8 @@ module _ (m : Machine) (v : IsValidMachine m) (s : Scene) (ts : List MotionTurn)
       through = λ g. through_long m v s ts p end c first rest f g (long g);
       counts = λ g. counts_so m v s ts p end c first rest f g (long g);
       sound = sound_by m v s ts p end c first rest f p.seen.told refl;
-      further = further_by m v s ts p end c first rest f p.seen.told refl;
-      homes = told_all p.seen.told refl;
+      further = further_by m v s ts p end c first rest f (length (rest ++ end ∷ []) + 271) (omega arith) p.seen.told refl;
+      told = told_all p.seen.told refl;
     }
 
   -- the planner went on, or no section was begun
@@ -181,7 +183,7 @@ module _ (m : Machine) (v : IsValidMachine m) (s : Scene) (ts : List MotionTurn)
     counts = λ g. absurd (alone_ends m v s ts p end c f g);
     sound = λ some. absurd (untold_alone m v s ts p end c p.seen.told refl f some);
     further = λ some. absurd (untold_alone m v s ts p end c p.seen.told refl f some);
-    homes = λ g. absurd (alone_ends m v s ts p end c f g);
+    told = λ g. absurd (alone_ends m v s ts p end c f g);
   }
     where
       spread : Spread 260 p.seen.begun

@@ -31,7 +31,6 @@ use Rattle.board_runs.specs.Turns.{AreBoardTurns, BoardTurn, stands_after}
 use Rattle.clock_runs.specs.Runs.{orders_in}
 use Rattle.motion_work.specs.Seen.{Started}
 use Rattle.motion_work.specs.Told.{Told}
-use Rattle.motion_work.proofs.Turning.{end_after}
 use Rattle.session_lanes.specs.declared.near.Told as near
 use Rattle.session_desk.specs.declared.tell.Kept.{Kept}
 use Rattle.session_work.specs.declared.table.MotionTurn.{MotionTurn}
@@ -53,7 +52,8 @@ use Rattle.homing_laws.specs.home_runs.Words.{IsToldIn}
 use Rattle.homing_laws.proofs.home_runs.Homed.{none_set}
 use Rattle.homing_laws.specs.home_plans.Notes.{AreInARow, CameNotes, WasBegun}
 use Rattle.homing_laws.proofs.home_plans.Knowing.{now_was}
-use Rattle.homing_laws.specs.home_parts.Cuts.{PlansEndBefore, cut_on, cuts_on}
+use Rattle.homing_laws.proofs.home_parts.Cut.{over_late}
+use Rattle.homing_laws.specs.home_parts.Cuts.{AreOverBefore, cut_on, cuts_on}
 use Rattle.homing_laws.specs.home_parts.Known.{KnowsLately}
 use Rattle.homing_laws.proofs.home_parts.Told.{row_from, section_told}
 use Rattle.homing_laws.specs.switch_runs.Reports.{HearSoon, WasReported}
@@ -159,10 +159,11 @@ module _ (m : Machine) (v : IsValidMachine m) (s : Scene) (ts : List MotionTurn)
         let l = lines m v s ts p t first rest end c told f long little Board there in
         let early = r.early in
         let Row : List Started → Type 0 = λ z. AreInARow t.first z in
-        let Ends : List Started → Type 0 = λ z. PlansEndBefore m t.clocks l.tracked.until z in
-        let start = (row_from t.first past st later (subst Row cut (row m v s ts p t first rest end c told f long little))).0 in
+        let Ends : List Started → Type 0 = λ z. AreOverBefore m t.clocks l.tracked.until z in
+        let at = row_from t.first past st later (subst Row cut (row m v s ts p t first rest end c told f long little)) in
+        let start = at.0 in
         let over = end_at m t.clocks l.tracked.until past st later (subst Ends cut l.over) in
-        let after = end_after m t.clocks st.section.moves st.start in
+        let after = over_late st.section.kind m t.clocks st at.1 in
         let next : st.start - 1 + 1 ≡ st.start = omega (arith, early, start) in
         subst (λ (n : ℕ). board_tick (clock_of (board_at m Board)) (st.start - 1) ≤ lines_tick (clocks_at t.clocks Board) (n * turn_ns)) next (l.tracked.behind (st.start - 1) (omega (arith, early, start)) (omega (arith, over, after)))
 

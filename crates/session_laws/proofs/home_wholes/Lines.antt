@@ -42,13 +42,13 @@ use Rattle.run_plans.specs.Planned.{Plans}
 use Rattle.run_plans.proofs.Fitting.{between, plan_is}
 use Rattle.run_plans.proofs.Running.{started_in}
 use Rattle.session_laws.specs.run_headline.Timely.{AreSound, link_of}
-use Rattle.session_laws.proofs.run_headline.Boarded.{Ready, came_cut, first_in_range, ready, sound_of, took, valid_at}
+use Rattle.session_laws.proofs.run_headline.Boarded.{Ready, came_cut, ready, sound_of, took, valid_at}
 use Rattle.session_laws.proofs.run_headline.Showing.{Facts, front_notes, lines_long, took_notes}
 use Rattle.homing_laws.specs.home_runs.Settled.{AreHomed}
 use Rattle.homing_laws.specs.home_plans.Notes.{AreInARow}
 use Rattle.homing_laws.proofs.home_plans.Noting.{begun_row}
 use Rattle.homing_laws.specs.home_parts.Answers.{ArePastConnecting, IsPlannedBy, MayHome, TakeSetUps}
-use Rattle.homing_laws.specs.home_parts.Cuts.{PlansEndBefore, cut_on, cuts_on}
+use Rattle.homing_laws.specs.home_parts.Cuts.{AreOverBefore, cut_on, cuts_on, over_in}
 use Rattle.homing_laws.specs.home_parts.Known.{KnowsLately, StartInRange}
 use Rattle.homing_laws.proofs.home_parts.Told.{all_told, row_from}
 use Rattle.homing_laws.proofs.home_parts.Limits.{turns_fit}
@@ -66,7 +66,7 @@ use Rattle.session_laws.proofs.home_wholes.Told.{all_homed}
 use Rattle.session_laws.proofs.home_headline.Uncut.{cut_many, cut_released, out_at, planned_at, released_by}
 use Rattle.homing_laws.proofs.home_parts.Lines.{next_behind}
 
-pub end_at : (m : Machine) (clocks : List Clocks) (until : ℕ) (xs : List Started) (x : Started) (later : List Started) → PlansEndBefore m clocks until (xs ++ x ∷ later) → section_end m clocks x.section.moves x.start < until
+pub end_at : (m : Machine) (clocks : List Clocks) (until : ℕ) (xs : List Started) (x : Started) (later : List Started) → AreOverBefore m clocks until (xs ++ x ∷ later) → over_in x.section.kind m clocks x < until
 end_at m clocks until [] x later h = h.0
 end_at m clocks until (y ∷ xs) x later h = end_at m clocks until xs x later h.1
 
@@ -120,7 +120,7 @@ module _ (m : Machine) (v : IsValidMachine m) (s : Scene) (ts : List MotionTurn)
       range_all m t.clocks (board_tick (clock_of (board_at m b))) (clocks_at t.clocks b) By t.first p.seen.begun l.tracked (own b h) (omega (arith, early)) row l.over (starts_soon m (length m.boards) ts p)
 
   pub formed : MayHome m p.seen.begun
-  formed = let late = sound.late in may_all m v ts p t told sound.clocks_are (omega (arith, late)) row (starts_soon m (length m.boards) ts p) (λ b h. first_in_range m v s ts p t first rest end told b turn h)
+  formed = may_all m v ts p t told
 
   pub on : (b : ℕ) (h : b < length m.boards) → IsHomeBoard b s.entries By N (cuts_on m t.clocks N p.seen.begun b) (Here b h)
   on b h = boarded m v s ts p t first rest end told f.ahead b f.words_left (whole b h) turn h f.turns f.words notes long (little b h (whole b h)) (lines b h) sound formed (range b h)
@@ -211,10 +211,10 @@ module _ (m : Machine) (v : IsValidMachine m) (s : Scene) (ts : List MotionTurn)
         let early = turn.early in
         let start = starts.0 in
         let within = w.within in
-        let Ends : List Started → Type 0 = λ ss. PlansEndBefore m t.clocks l.tracked.until ss in
+        let Ends : List Started → Type 0 = λ ss. AreOverBefore m t.clocks l.tracked.until ss in
         let Out : List Started → Type 0 = λ ss. AreOut (length p.made) (runs_on m t.clocks ss b) in
         released_by m (board_tick (clock_of (board_at m b))) t.clocks b By (length p.made) x (valid_ticks (board_at m b) (valid_at m.boards b h v.boards)) l.tracked moved h (omega (arith, early, start))
-        (end_at m t.clocks l.tracked.until past x later (subst Ends cut l.over)) (out_at m t.clocks (length p.made) b past x later (subst Out cut (little b h (whole b h)).out) (ap is_home moves)) (omega (arith, over, within, long))
+        (subst (λ (k : SectionKind). over_in k m t.clocks x < l.tracked.until) moves (end_at m t.clocks l.tracked.until past x later (subst Ends cut l.over))) (out_at m t.clocks (length p.made) b past x later (subst Out cut (little b h (whole b h)).out) (ap is_home moves)) (omega (arith, over, within, long))
 
     as_planned : (oid : ℕ) → length (Cut.section.plan oid) ≡ length ((part_on m t.clocks x b).plan oid)
     as_planned oid = let within = w.within in cut_many m t.clocks b N x moved h released (omega (arith, over, within)) oid

@@ -59,7 +59,7 @@ use Rattle.run_boards.specs.Turns.{came_before}
 use Rattle.run_plans.specs.Boards.{TookStates}
 use Rattle.run_plans.specs.Given.{TookControls}
 use Rattle.run_plans.specs.Planned.{AreKnown, Plans, puts_of, words_in}
-use Rattle.run_plans.proofs.Running.{all_sent, run_is, sections_are}
+use Rattle.run_plans.proofs.Running.{all_sent, run_is, sections_are, sent_on}
 use Rattle.session_laws.specs.run_headline.Timely.{AreNear, AreSound, HoldsLittle, TakesNear, link_of}
 use Rattle.session_laws.proofs.run_headline.Asked.{asked_late}
 use Rattle.session_laws.proofs.run_headline.Holding.{may_each}
@@ -446,7 +446,7 @@ module _ (m : Machine) (v : IsValidMachine m) (s : Scene) (ts : List MotionTurn)
       let after = stands_after (link_of m s b) (behind [] w.made) in
       let all = turns_told clock 0 (orders_of w.made) (states_of w.made) (link_of m s b) after w.told in
       record {
-        timely = few_heeded def pins b s.entries (clocks_at t.clocks b) (length (came_from [] r.past)) 10_000 (length p.made) parts (orders_of w.made) after all (valid_at m.boards b h v.boards) x.is (all_sent m ts p t b h told) (omega (arith, x.count, goes))
+        timely = few_heeded def pins b s.entries (clocks_at t.clocks b) (length (came_from [] r.past)) 10_000 (length p.made) parts (orders_of w.made) after all (valid_at m.boards b h v.boards) x.is (sent_on m t.clocks (length p.made) b p.seen.begun h homes (all_sent m (length m.boards) ts p t told)) (omega (arith, x.count, goes))
             (controls_before b r w x)
             (λ k. elim little.few [ inl e ↦ omega (arith, calm_links clock def pins b s.entries (orders_of w.made) after all k e) | inr f ↦ f k ]) (omega arith);
         near = little.near;

@@ -133,7 +133,6 @@ bare_put m text n k (t ∷ ts) e h =
         out = inl refl;
         further = [];
         are_further = tt;
-        over = inl refl;
         news_are = ap (λ (x : Note). x.news) note;
       },
       bare_put m text n (k + 1) ts e h.1,

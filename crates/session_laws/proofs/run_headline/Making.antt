@@ -103,6 +103,6 @@ module _ {F S : Type 0} (f : Files F) (o : Sink S) (m : Machine) (s : Scene) (na
   run_sends text told at = ∥∥₁_map (run_made text told at) (λ w. record {
     made = w.0;
     of_text = w.1;
-    sent = λ t b known low. all_sent m r.runs.0 w.0.plans t b low known;
+    sent = λ t known. all_sent m (length m.boards) r.runs.0 w.0.plans t known;
     paced = λ t b known low moves. sections_are m r.runs.0 w.0.plans t b low known moves;
   })

@@ -32,7 +32,8 @@ use Rattle.run_plans.specs.Planned.{AreBare, AreKnown, Plans, words_in}
 use Rattle.run_laws.proofs.Lists.{cons_same}
 use Rattle.session_laws.specs.run_ends.Boards.{boards_of}
 use Rattle.session_laws.proofs.run_ends.Connecting.{after_boards, before_boards, boards_append}
-use Rattle.session_laws.specs.run_headline.Further.{AreNamed, BoardsFirst, HoldBehind, TellFurther, TellsFurther}
+use Rattle.session_laws.specs.run_headline.Further.{AreNamed, BoardsFirst, TellFurther, TellsFurther}
+use Rattle.section_feed.specs.Fewer.{HoldBehind}
 use Rattle.session_laws.proofs.run_headline.Asked.{asked_late}
 use Rattle.session_laws.proofs.run_headline.Boarded.{Ready, ready}
 use Rattle.session_laws.proofs.run_headline.Drifts.{drifts_append, reacts_drifts}
@@ -387,7 +388,7 @@ module _ (m : Machine) (v : IsValidMachine m) (s : Scene) (ts : List MotionTurn)
       (λ board line from x same. let low = there 0 (length Took.front) board line from x in omega (arith, low, same, high)) boards))
 
   -- those that are left untold hold from behind a turn on, where so does each that a note tells that was not taken
-  pub told_to : (turn : ℕ) → ((front back : List MotionTurn) → p.made ≡ front ++ back → length front ≡ length (rest ++ end ∷ []) → EachTold (λ board line from. turn * turn_ns < from) (news_in back)) → (b : ℕ) → b < length m.boards
+  told_to : (turn : ℕ) → ((front back : List MotionTurn) → p.made ≡ front ++ back → length front ≡ length (rest ++ end ∷ []) → EachTold (λ board line from. turn * turn_ns < from) (news_in back)) → (b : ℕ) → b < length m.boards
       → TellsFurther b (clocks_at t.clocks b).held turn c (gather (λ z. z.lines) (first ∷ (rest ++ end ∷ [])))
   told_to turn left b inside =
       let r = ready_here in
@@ -430,15 +431,15 @@ module _ (m : Machine) (v : IsValidMachine m) (s : Scene) (ts : List MotionTurn)
           let own = line_is (length (came_from [] r.past)) b m.boards r.is.lines r.is.fit inside in
           ap (λ (x : Clocks). x.held) (ap (λ cs. clocks_at cs b) r.is.clocks_are ∙ own.2)
 
-  further : (b : ℕ) → b < length m.boards → TellsFurther b (clocks_at t.clocks b).held (length Behind) c Lines
-  further b inside =
+  further : (turn : ℕ) → turn ≤ length Behind + 276 → (b : ℕ) → b < length m.boards → TellsFurther b (clocks_at t.clocks b).held turn c Lines
+  further turn soon b inside =
       let words = words_in p.made in
-      let Late : ℕ → Line → ℕ → Type 0 = λ board line from. length Behind * turn_ns < from in
-      told_to (length Behind) (λ front back are long.
+      let Late : ℕ → Line → ℕ → Type 0 = λ board line from. turn * turn_ns < from in
+      told_to turn (λ front back are long.
       let at_front : 0 + length front ≡ length front = omega arith in
       let all = subst (λ i. AllNoted words i back) at_front (noted_later words 0 front back (subst (AllNoted words 0) are Notes_all)) in
       let size = ap length are ∙ length-append front back in
-      told_more (IsNoted words (length front) (length p.made)) Late (news_in back) (λ board line from x. (let far = x.late in let at = x.is.from_is in omega (arith, long, far, at)))
+      told_more (IsNoted words (length front) (length p.made)) Late (news_in back) (λ board line from x. (let far = x.late in let at = x.is.from_is in omega (arith, long, far, at, soon)))
       (noted_between words (length front) (length front) (length p.made) back (omega arith) (omega (arith, size)) all)) b inside
 
   lines_cut : (xs ys : List ReactorTurn) → gather (λ z. z.lines) (xs ++ ys) ≡ gather (λ z. z.lines) xs ++ gather (λ z. z.lines) ys
@@ -493,5 +494,5 @@ module _ (m : Machine) (v : IsValidMachine m) (s : Scene) (ts : List MotionTurn)
       subst BoardsFirst (sym (ap lines are ∙ lines_cut upto others))
       (first_behind (lines upto) (lines others) (none_upto r.past r.turn r.later r.are (omega (arith, number, long))) (none_first (lines others) later_none))
 
-  pub told_further : TellFurther m t.clocks (length Behind) c Lines
-  told_further = record { first = boards_first; named = named; further = further }
+  pub told_further : (turn : ℕ) → turn ≤ length Behind + 276 → TellFurther m t.clocks turn c Lines
+  told_further turn soon = record { first = boards_first; named = named; further = further turn soon }

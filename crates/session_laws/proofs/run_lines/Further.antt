@@ -14,7 +14,8 @@ use Rattle.run_plans.specs.Lines.{drift_in, drifts_of, held_lines}
 use Rattle.session_laws.specs.run_ends.Boards.{boards_of}
 use Rattle.session_laws.specs.run_ends.Ends.{GoesThrough}
 use Rattle.session_laws.proofs.run_ends.Connecting.{boards_append}
-use Rattle.session_laws.specs.run_headline.Further.{AreNamed, BoardsFirst, HoldBehind, ShowsAll, TellFurther, TellsFurther}
+use Rattle.session_laws.specs.run_headline.Further.{AreNamed, BoardsFirst, ShowsAll, TellFurther, TellsFurther}
+use Rattle.section_feed.specs.Fewer.{HoldBehind}
 
 left_none : (xs ys : List ReportLine) → xs ++ ys ≡ [] → xs ≡ []
 left_none [] ys e = refl

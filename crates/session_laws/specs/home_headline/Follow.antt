@@ -1,15 +1,17 @@
 -- What the lines of a whole run in which axes home show of the sections that its planner begun.
-use Rattle.std.specs.Prelude.{◌≡◌, ◌≢◌, ℕ, ◌+◌, ◌<◌, ◌≤◌, List, [], ◌∷◌, ◌++◌, length, map, take}
+use Rattle.std.specs.Prelude.{◌≡◌, ◌≢◌, ℕ, ◌+◌, ◌*◌, ◌<◌, ◌≤◌, All, List, [], ◌∷◌, ◌++◌, length, map, take}
 use Rattle.gcode_program.specs.Programs.{program_end, program_sections}
 use Rattle.plan_types.specs.declared.cause.Cause.{Cause}
 use Rattle.plan_types.specs.declared.machine.Machine.{Machine}
-use Rattle.plan_types.specs.declared.plan.SectionKind.TheVariants.{Home}
-use Rattle.plan_types.specs.Lines.{Clocks}
+use Rattle.plan_types.specs.Clock.{turn_ns}
+use Rattle.plan_types.specs.Lines.{Clocks, lines_tick}
 use Rattle.plan_types.specs.Machines.{board_at, stepper_at}
-use Rattle.plan_types.specs.Plan.{Fits}
+use Rattle.plan_types.specs.Plan.{Fits, max_error}
 use Rattle.plan_types.specs.Sections.{base_tick, clocks_at, stepper_plan}
 use Rattle.report_text.specs.declared.line.ReportLine.{ReportLine}
 use Rattle.report_text.specs.declared.line.ReportLine.TheVariants as report
+use Rattle.section_feed.specs.Fewer.{AreFirstLines}
+use Rattle.motion_work.specs.Homes.{no_end}
 use Rattle.motion_work.specs.Seen.{AreStarted, Started}
 use Rattle.motion_work.specs.Told.{Told}
 use Rattle.session_work.specs.declared.table.ReactorTurn.{ReactorTurn}
@@ -20,7 +22,7 @@ use Rattle.run_plans.specs.Lines.{TellTurns, heads_of, pulses_of}
 use Rattle.run_plans.specs.Planned.{Seen}
 use Rattle.session_laws.specs.run_ends.Boards.{counts_of}
 use Rattle.session_laws.specs.run_ends.Ends.{GoesThrough}
-use Rattle.session_laws.specs.run_headline.Further.{TellFurther, TellsFurther}
+use Rattle.session_laws.specs.run_headline.Further.{TellFurther}
 use Rattle.session_laws.specs.run_headline.Timely.{AreHeard, AreSound, AreThrough, TellBoards}
 use Rattle.session_laws.specs.run_lines.Due.{AreFirst, begun_lines}
 
@@ -35,6 +37,10 @@ pub record FollowHomes (m : Machine) (t : Told) (seen : Seen) (first : ReactorTu
   pub fit : (past : List Started) (s : Started) (later : List Started) (from to place : ℕ) → seen.begun ≡ past ++ s ∷ later → place < length m.steppers →
       IsWindow (length rest) from to (record { start = s.start; end = s.end }) (times_of later) →
       Fits (board_at m (stepper_at m place).board).freq (base_tick m t.clocks s.start place) (pulses_of place (lines_between from to rest)) (stepper_plan m t.clocks s.section.moves s.start place)
+  -- where its end is known, they are before the tick that its board has in the 276th turn behind that, by as much as a step may be early
+  pub early : (past : List Started) (s : Started) (later : List Started) (from to place : ℕ) → seen.begun ≡ past ++ s ∷ later → place < length m.steppers →
+      IsWindow (length rest) from to (record { start = s.start; end = s.end }) (times_of later) → s.end < no_end →
+      All (λ p. p.tick + max_error (board_at m (stepper_at m place).board).freq < lines_tick (clocks_at t.clocks (stepper_at m place).board) ((s.end + 276) * turn_ns)) (pulses_of place (lines_between from to rest))
   -- and there are none behind its end
   pub between : (past later : List Started) (from to place : ℕ) → seen.begun ≡ past ++ later → place < length m.steppers → from ≤ to → to ≤ length rest → AreEnded from (times_of past) →
       NextStart to (times_of later) → pulses_of place (lines_between from to rest) ≡ []
@@ -66,13 +72,15 @@ pub record ShowHomes (m : Machine) (seen : Seen) (clocks : List Clocks) (ready :
   pub through : GoesThrough c → AreThrough m seen c (length rest)
   -- the numbers of accepted lines and of passed commands stand in its lines once
   pub counts : GoesThrough c → counts_of (gather (λ t. t.lines) (first ∷ rest)) ≡ report.Lines (program_end m seen.text).lines (program_end m seen.text).passed ∷ []
-  -- where a section was begun, the clock lines are sound, and the lines tell the further ones
+  -- where a section was begun, the clock lines are sound, and the lines tell the further ones: those that are left untold hold from behind the 271st turn
+  -- behind the last one on
   pub sound : seen.begun ≢ [] → AreSound m clocks ready
-  pub further : seen.begun ≢ [] → TellFurther m clocks (length rest) c (gather (λ t. t.lines) (first ∷ rest))
-  -- where one of the sections homes and the run went through, those that are left untold hold from behind the eighth turn but one behind its last
-  -- planned step on
-  pub homes : GoesThrough c → (past : List Started) (s : Started) (later : List Started) (axis : ℕ) → seen.begun ≡ past ++ s ∷ later → s.section.kind ≡ Home axis → (b : ℕ) → b < length m.boards →
-      TellsFurther b (clocks_at clocks b).held (s.last + 7) c (gather (λ t. t.lines) (first ∷ rest))
+  pub further : seen.begun ≢ [] → TellFurther m clocks (length rest + 271) c (gather (λ t. t.lines) (first ∷ rest))
+  -- and in a run that went through the pulses of a section fit its plan without these as well
+  pub told : GoesThrough c → (short : List Clocks) → ((b : ℕ) → b < length m.boards → AreFirstLines (clocks_at short b) (clocks_at clocks b) (length rest + 271)) →
+      (past : List Started) (s : Started) (later : List Started) (from to place : ℕ) → seen.begun ≡ past ++ s ∷ later → place < length m.steppers →
+      IsWindow (length rest) from to (record { start = s.start; end = s.end }) (times_of later) →
+      Fits (clocks_at short (stepper_at m place).board).first.freq (base_tick m short s.start place) (pulses_of place (lines_between from to rest)) (stepper_plan m short s.section.moves s.start place)
 
 -- so the turns of a whole run, which ended for a cause
 abbrev pub AllShowHomes : Machine → Seen → List Clocks → ℕ → Cause → List ReactorTurn → Type 0
@@ -94,9 +102,10 @@ pub record ShowBegun (m : Machine) (seen : Seen) (clocks : List Clocks) (ready :
   pub through : GoesThrough c → AreThrough m seen c (length rest)
   -- the numbers of accepted lines and of passed commands stand in its lines once
   pub counts : GoesThrough c → counts_of (gather (λ t. t.lines) (first ∷ rest)) ≡ report.Lines (program_end m seen.text).lines (program_end m seen.text).passed ∷ []
-  -- where a section was begun, the clock lines are sound, and the lines tell the further ones
+  -- where a section was begun, the clock lines are sound, and the lines tell the further ones: those that are left untold hold from behind the 271st turn
+  -- behind the last one on
   pub sound : seen.begun ≢ [] → AreSound m clocks ready
-  pub further : seen.begun ≢ [] → TellFurther m clocks (length rest) c (gather (λ t. t.lines) (first ∷ rest))
+  pub further : seen.begun ≢ [] → TellFurther m clocks (length rest + 271) c (gather (λ t. t.lines) (first ∷ rest))
 
 -- so the turns of a whole run, which ended for a cause
 abbrev pub AllShowBegun : Machine → Seen → List Clocks → ℕ → Cause → List ReactorTurn → Type 0

@@ -27,13 +27,13 @@ use Rattle.run_plans.specs.Planned.{Plans}
 use Rattle.run_boards.specs.Boards.{IsInWhole, behind, orders_of, states_of}
 use Rattle.session_laws.specs.run_headline.Timely.{link_of}
 use Rattle.homing_laws.specs.home_parts.Answers.{TakeSetUps}
-use Rattle.homing_laws.specs.home_parts.Cuts.{PlansEndBefore}
+use Rattle.homing_laws.specs.home_parts.Cuts.{AreOverBefore}
 
 -- The clock lines of a board are near it in a whole run in which axes home: its clock is exact, or each further line came before the one before
--- it was too old (`ComeInTime`), up to a turn by which the plans of all sections end.
+-- it was too old (`ComeInTime`), up to a turn by which all sections are over.
 abbrev pub PlansAreNear : Machine → ℕ → List Clocks → List Started → Type 0
 PlansAreNear m b clocks begun =
-    ((board_at m b).drift ≡ pos 0) ⊎ ((until : ℕ) × PlansEndBefore m clocks until begun × ComeInTime (board_at m b).drift (clocks_at clocks b).first (clocks_at clocks b).held until)
+    ((board_at m b).drift ≡ pos 0) ⊎ ((until : ℕ) × AreOverBefore m clocks until begun × ComeInTime (board_at m b).drift (clocks_at clocks b).first (clocks_at clocks b).held until)
 
 -- A board in a whole run in which axes home holds nothing long. Of the units that are due in the planner's turns, those of a section of moves
 -- that are sent behind the turn in which they are due are sent by four turns behind the section's end. The board takes no unit half a round of

@@ -7,6 +7,7 @@ use Rattle.plan_types.specs.declared.plan.Held.{Held}
 use Rattle.plan_types.specs.Clock.{turn_ns}
 use Rattle.plan_types.specs.Lines.{Clocks}
 use Rattle.plan_types.specs.Sections.{clocks_at}
+use Rattle.section_feed.specs.Fewer.{HoldBehind}
 use Rattle.report_text.specs.declared.line.ReportLine.{ReportLine}
 use Rattle.report_text.specs.declared.line.ReportLine.TheVariants as report
 use Rattle.run_plans.specs.Lines.{drifts_of, held_lines}
@@ -23,11 +24,6 @@ abbrev pub AreNamed : Machine → List ReportLine → Type 0
 AreNamed m [] = Unit {0}
 AreNamed m (report.Drift board sent clock from ∷ lines) = (board < length m.boards) × AreNamed m lines
 AreNamed m (other ∷ lines) = AreNamed m lines
-
--- some further clock lines hold from behind the beginning of a turn on
-abbrev pub HoldBehind : ℕ → List Held → Type 0
-HoldBehind turn [] = Unit {0}
-HoldBehind turn (h ∷ held) = (turn * turn_ns < h.from) × HoldBehind turn held
 
 -- a run that ends for such a cause shows all of its lines: it is neither want of memory nor a write that failed
 abbrev pub ShowsAll : Cause → Type 0

@@ -5,9 +5,8 @@ use Rattle.plan_types.specs.declared.cause.Cause.{Cause}
 use Rattle.plan_types.specs.Machines.{board_at}
 use Rattle.plan_types.specs.Sections.{clocks_at}
 use Rattle.section_units.specs.Sections.{IsSection}
-use Rattle.section_units.specs.Sent.{AreSentTo}
 use Rattle.motion_work.specs.Boards.{parts_on}
-use Rattle.motion_work.specs.Seen.{AreMoves}
+use Rattle.motion_work.specs.Seen.{AreMoves, AreSentBy}
 use Rattle.motion_work.specs.Told.{Told}
 use Rattle.msg_code.specs.declared.talk.Note.{Note}
 use Rattle.host_reactor.specs.Notes.{noted}
@@ -33,9 +32,9 @@ pub record IsMade (m : Machine) (s : Scene) (ts : List MotionTurn) (rs : List Re
 pub record SendsSections (m : Machine) (s : Scene) (text : List ℕ) (ts : List MotionTurn) (rs : List ReactorTurn) : Type 0 where
   pub made : IsMade m s ts rs
   pub of_text : made.plans.seen.text ≡ text
-  -- what a board is sent of each section, moves or homing, stands in order, and each triple covers as many steps as one can
-  pub sent : (t : Told) (b : ℕ) → made.plans.seen.told ≡ Some t → b < length m.boards →
-      All (AreSentTo (clocks_at t.clocks b) (board_at m b).freq (length made.plans.made)) (parts_on m t.clocks made.plans.seen.begun b)
+  -- what boards are sent of each section, moves or homing, stands in order, and each triple covers as many steps as one can: of the plan by all
+  -- clock lines, or, of a section that homes, by those that were taken up by its end
+  pub sent : (t : Told) → made.plans.seen.told ≡ Some t → AreSentBy m t.clocks (length made.plans.made) made.plans.seen.begun
   -- where none homes, the units of a section mean one step for each planned step, in its window, and are paced from exactly 250 turns before its start on
   pub paced : (t : Told) (b : ℕ) → made.plans.seen.told ≡ Some t → b < length m.boards → AreMoves made.plans.seen.begun →
       All (IsSection (clocks_at t.clocks b) (board_at m b).freq (board_at m b).slots) (parts_on m t.clocks made.plans.seen.begun b)

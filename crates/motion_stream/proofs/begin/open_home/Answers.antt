@@ -1,9 +1,12 @@
-use Rattle.std.proofs.Common.{[], ◌∷◌, arith, refl, true}
+use Rattle.std.proofs.Common.{◌+◌, ◌<◌, ◌≤◌, ◌^◌, [], ◌∷◌, arith, refl, true}
 use Rattle.gcode_program.specs.declared.items.Item.TheVariants as items
 use Rattle.plan_types.specs.Valid.{IsValidMove}
+use Rattle.gcode_program.specs.Held.{IsNear}
+use Rattle.motion_work.proofs.Homing.{near_short}
+use Rattle.motion_stream.proofs.Bounding.{section_known}
 use Rattle.motion_stream.proofs.Limits.{none_pushed}
 use Rattle.motion_stream.proofs.Opening.{home_good, home_ready, one_all}
-use Rattle.motion_stream.proofs.Taking.{first_short, home_on}
+use Rattle.motion_stream.proofs.Taking.{first_short, home_on, may_start}
 use Rattle.motion_stream.proofs.begin.open_home.Goals as goal
 
 pub home_end-requires : goal.home_end-requires
@@ -41,5 +44,19 @@ returns c =
       takes = f.open;
       on = home_on c.args.machine.now c.args.lines.now c.args.start true c.in_ok-section.section c.push.new.self c.finish.new.self one p.boards p.sets p.cruise p.begin c.in_ok-push.ensures.on f.boards f.sets f.cruise f.begin c.in_ok-finish.ensures.on e.on;
       next = omega (arith, next, after, from);
-      tells = (refl, c.in_ok-last.ensures, c.moving_in-moving.ensures);
+      tells = (
+        refl,
+        c.in_ok-last.ensures,
+        (
+            let m = c.args.machine.now in
+            let lines = c.args.lines.now in
+            let valid = c.requires.machine in
+            let small = c.requires.small in
+            let soon : c.args.start < 2 ^ 43 = omega (arith, small) in
+            let good = home_good one (items.End ∷ c.take_home.new.items.items) c.args.items.now.items c.in-Some.ensures c.requires.good in
+            let known = section_known m lines (one ∷ []) c.args.start valid (λ b lt. may_start m lines c.args.start b c.requires.boards c.requires.early soon lt) (near_short (one ∷ []) (one_all IsValidMove one good.0) (one_all IsNear one good.1)) (omega arith) in
+            let is = c.in_ok-last.ensures in
+            omega (arith, known, is, small)),
+        c.moving_in-moving.ensures,
+      );
     }

@@ -6,32 +6,34 @@ use Rattle.motion_stream.specs.Courses.{IsCourseBy}
 use Rattle.motion_stream.specs.News.{IsPlain, begins_in, read_news}
 use Rattle.motion_stream.specs.Steps.{Advances}
 use Rattle.motion_stream.proofs.Leaving.{leaves_behind}
-use Rattle.motion_stream.proofs.Turning.{early_on, turned}
+use Rattle.motion_stream.proofs.Turning.{by_next, early_on, turned}
 use Rattle.motion_stream.proofs.turn.make_turn.Goals as goal
+
+pub advance-requires-clause-sound : goal.advance-requires-clause-sound
+advance-requires-clause-sound c = by_next c.args.machine.now c.take_up.new.course c.args.k (c.take_up.ensures.next ∙ c.requires.next) c.in_ok-further.ensures.sound
 
 pub begin_next-requires-clause-next : goal.begin_next-requires-clause-next
 begin_next-requires-clause-next c =
-    let s = c.in_ok-further.ensures.sound in
+    let s = by_next c.args.machine.now c.take_up.new.course c.args.k (c.take_up.ensures.next ∙ c.requires.next) c.in_ok-further.ensures.sound in
     let a = c.in_ok-batches.ensures.passed s.seen s.is in
-    let k = c.take_up.ensures.next ∙ c.requires.next in
-    a.2.next ∙ a.1.next ∙ ap (λ n. n + 1) (sym s.is.next ∙ k)
+    a.2.next ∙ a.1.next ∙ ap (λ n. n + 1) (sym s.is.next ∙ c.take_up.ensures.next ∙ c.requires.next)
 
 pub begin_next-requires-clause-early : goal.begin_next-requires-clause-early
 begin_next-requires-clause-early c =
-    let s = c.in_ok-further.ensures.sound in
+    let s = by_next c.args.machine.now c.take_up.new.course c.args.k (c.take_up.ensures.next ∙ c.requires.next) c.in_ok-further.ensures.sound in
     let a = c.in_ok-batches.ensures.passed s.seen s.is in
     let k = c.take_up.new.course.next in
     early_on c.args.machine.now c.take_up.new.course c.advance.new.course s.seen a.0 (k + 260) (k + 261) a.1.told s.is a.2 c.in_ok-further.ensures.early
 
 pub begin_next-requires-clause-sound : goal.begin_next-requires-clause-sound
 begin_next-requires-clause-sound c =
-    let s = c.in_ok-further.ensures.sound in
+    let s = by_next c.args.machine.now c.take_up.new.course c.args.k (c.take_up.ensures.next ∙ c.requires.next) c.in_ok-further.ensures.sound in
     let a = c.in_ok-batches.ensures.passed s.seen s.is in
     (a.0, subst (λ n. IsCourseBy c.args.machine.now c.advance.new.course a.0 (n + 260) (n + 261)) (c.take_up.ensures.next ∙ c.requires.next) a.2)
 
 pub read_news-read-requires : goal.read_news-read-requires
 read_news-read-requires c =
-    let s = c.in_ok-further.ensures.sound in
+    let s = by_next c.args.machine.now c.take_up.new.course c.args.k (c.take_up.ensures.next ∙ c.requires.next) c.in_ok-further.ensures.sound in
     let a = c.in_ok-batches.ensures.passed s.seen s.is in
     let b = c.in_ok-start.ensures.begun a.0 (subst (λ n. IsCourseBy c.args.machine.now c.advance.new.course a.0 (n + 260) (n + 261)) (c.take_up.ensures.next ∙ c.requires.next) a.2) in
     let few = b.2.few in

@@ -25,6 +25,3 @@ returns-in_ok-take_each-in-len1-up-clause-told n c =
 pub returns-in_ok-take_each-in-len1-up-clause-more : goal.returns-in_ok-take_each-in-len1-up-clause-more
 returns-in_ok-take_each-in-len1-up-clause-more n c =
     both_more c.args.course.now.lines.each.items c.take_one.new.course.lines.each.items c.take_each.new.course.lines.each.items c.args.news.now c.take_one.new.news c.take_each.new.news c.in_ok-take_one-in-len1-up.ensures.more c.in_ok-take_each-in-len1-up.ensures.more
-
-pub returns-in_ok-take_each-in-len1-up-clause-fed : goal.returns-in_ok-take_each-in-len1-up-clause-fed
-returns-in_ok-take_each-in-len1-up-clause-fed n c = λ fed. c.in_ok-take_each-in-len1-up.ensures.fed (c.in_ok-take_one-in-len1-up.ensures.fed fed)

@@ -13,7 +13,7 @@ use Rattle.motion_work.specs.Further.{WasHeard}
 use Rattle.motion_stream.specs.declared.course.BoardLines.{BoardLines}
 use Rattle.motion_stream.specs.Uptakes.{AddsTo, HasTold}
 use Rattle.motion_stream.proofs.Leaving.{one_more, told_more}
-use Rattle.motion_stream.proofs.Uptaking.{board_held, each_long, line_lasts, line_taken, one_sound, open_on, read_at}
+use Rattle.motion_stream.proofs.Uptaking.{board_held, each_long, line_lasts, line_taken, one_sound, read_at}
 use Rattle.motion_stream.proofs.uptake.take_one.Goals as goal
 
 pub may_take-requires : goal.may_take-requires
@@ -21,13 +21,12 @@ may_take-requires c =
     let m = c.args.machine.now in
     let old = c.args.course.now in
     let s = c.requires.sound in
-    let on = (open_on old old.current c.requires.open).0 in
-    let long = each_long m old s.seen s.is on in
+    let long = each_long m old s.seen (c.args.k + 260) (c.args.k + 261) s.is c.requires.on in
     let b = c.from-board.result in
     let boards = c.len.ensures in
     let below = c.if-board-len.false in
     let lt : b < length m.boards = omega (arith, boards, below) in
-    subst IsLasting (sym (read_at old.lines.each.items b c.index.result.now c.index.ensures (omega (arith, long, lt)))) (line_lasts m old s.seen b s.is on c.requires.early lt)
+    subst IsLasting (sym (read_at old.lines.each.items b c.index.result.now c.index.ensures (omega (arith, long, lt)))) (line_lasts m old s.seen (c.args.k + 260) (c.args.k + 261) b s.is c.requires.on c.requires.early lt)
 
 pub add-requires-clause-tick_small : goal.add-requires-clause-tick_small
 add-requires-clause-tick_small c =
@@ -36,7 +35,7 @@ add-requires-clause-tick_small c =
     let s = c.requires.sound in
     let boards = c.len.ensures in
     let below = c.if-board-len.false in
-    (board_held m old s.seen c.args.k c.from-board.result c.from-from.result c.args.one.now.line c.index.result.now c.index_mut.result.now s.is (open_on old old.current c.requires.open).0 c.requires.early (omega (arith, boards, below)) c.index.ensures c.index_mut.ensures.value c.from-from.ensures (c.if-not-may_take.ensures.0 refl)).tick_small
+    (board_held m old s.seen c.args.k c.from-board.result c.from-from.result c.args.one.now.line c.index.result.now c.index_mut.result.now s.is c.requires.on c.requires.early (omega (arith, boards, below)) c.index.ensures c.index_mut.ensures.value c.from-from.ensures (c.if-not-may_take.ensures.0 refl)).tick_small
 
 pub add-requires-clause-start_small : goal.add-requires-clause-start_small
 add-requires-clause-start_small c =
@@ -45,7 +44,7 @@ add-requires-clause-start_small c =
     let s = c.requires.sound in
     let boards = c.len.ensures in
     let below = c.if-board-len.false in
-    (board_held m old s.seen c.args.k c.from-board.result c.from-from.result c.args.one.now.line c.index.result.now c.index_mut.result.now s.is (open_on old old.current c.requires.open).0 c.requires.early (omega (arith, boards, below)) c.index.ensures c.index_mut.ensures.value c.from-from.ensures (c.if-not-may_take.ensures.0 refl)).start_small
+    (board_held m old s.seen c.args.k c.from-board.result c.from-from.result c.args.one.now.line c.index.result.now c.index_mut.result.now s.is c.requires.on c.requires.early (omega (arith, boards, below)) c.index.ensures c.index_mut.ensures.value c.from-from.ensures (c.if-not-may_take.ensures.0 refl)).start_small
 
 pub add-requires-clause-plan_small : goal.add-requires-clause-plan_small
 add-requires-clause-plan_small c =
@@ -54,7 +53,7 @@ add-requires-clause-plan_small c =
     let s = c.requires.sound in
     let boards = c.len.ensures in
     let below = c.if-board-len.false in
-    (board_held m old s.seen c.args.k c.from-board.result c.from-from.result c.args.one.now.line c.index.result.now c.index_mut.result.now s.is (open_on old old.current c.requires.open).0 c.requires.early (omega (arith, boards, below)) c.index.ensures c.index_mut.ensures.value c.from-from.ensures (c.if-not-may_take.ensures.0 refl)).plan_small
+    (board_held m old s.seen c.args.k c.from-board.result c.from-from.result c.args.one.now.line c.index.result.now c.index_mut.result.now s.is c.requires.on c.requires.early (omega (arith, boards, below)) c.index.ensures c.index_mut.ensures.value c.from-from.ensures (c.if-not-may_take.ensures.0 refl)).plan_small
 
 pub returns-clause-taken : goal.returns-clause-taken
 returns-clause-taken c = λ seen heard h.
@@ -66,7 +65,7 @@ returns-clause-taken c = λ seen heard h.
     let one = c.args.one.now in
     let line = one.line in
     let s = c.requires.sound in
-    let long = each_long m old s.seen s.is (open_on old old.current c.requires.open).0 in
+    let long = each_long m old s.seen (c.args.k + 260) (c.args.k + 261) s.is c.requires.on in
     let boards = c.len.ensures in
     let below = c.if-board-len.false in
     let lt : b < length m.boards = omega (arith, boards, below) in
@@ -75,7 +74,7 @@ returns-clause-taken c = λ seen heard h.
     let added_is : c.add.new.self ≡ added (clocks_at each b) ((k + 277) * turn_ns) line = c.in_ok-add.ensures.ok ∙ ap (λ (x : Clocks). added x (c.from-from.result * turn_ns) line) here ∙ ap (λ n. added (clocks_at each b) (n * turn_ns) line) c.from-from.ensures in
     let lines : BoardLines = record old.lines { each = with_item old.lines.each b c.add.new.self } in
     let adds = subst (λ n. AddsTo b n line old.current c.add_to.new.current) refl c.in_ok-add_to.ensures in
-    let told = line_taken m old c.add_to.new.current lines seen k b (k + 277) line c.args.news.now h c.requires.next refl c.requires.open c.requires.early lt may adds (ap (λ (x : Clocks). set each b x) added_is) refl refl (subst (λ n. WasHeard n line seen.lines) (sym c.from-board.ensures) heard) in
+    let told = line_taken m old c.add_to.new.current lines seen k b (k + 277) line c.args.news.now h c.requires.next refl c.requires.on c.requires.early lt may adds (ap (λ (x : Clocks). set each b x) added_is) refl (subst (λ n. WasHeard n line seen.lines) (sym c.from-board.ensures) heard) in
     let e : c.args.news.now ++ news.Line b line ((k + 277) * turn_ns) ∷ [] ≡ c.push.new.self =
     ap (λ n. c.args.news.now ++ news.Line n line ((k + 277) * turn_ns) ∷ []) c.from-board.ensures ∙ ap (λ n. c.args.news.now ++ news.Line one.board line (n * turn_ns) ∷ []) (sym c.from-from.ensures) ∙ sym c.in_ok-push.ensures.ok in
     subst (λ (ns : List NoteNews). HasTold m seen k c.args.news.now ns (record old { current = c.add_to.new.current; lines = lines })) e told
@@ -94,7 +93,7 @@ returns-clause-more c =
     let b = c.from-board.result in
     let line = c.args.one.now.line in
     let s = c.requires.sound in
-    let long = each_long m old s.seen s.is (open_on old old.current c.requires.open).0 in
+    let long = each_long m old s.seen (c.args.k + 260) (c.args.k + 261) s.is c.requires.on in
     let boards = c.len.ensures in
     let below = c.if-board-len.false in
     let lt : b < length m.boards = omega (arith, boards, below) in

@@ -1,5 +1,5 @@
 -- The commands of a homing group's orders to a board have at most 42 bytes in a turn.
-use Rattle.std.proofs.Common.{◌≡◌, ◌≤◌, ◌<◌, ℕ, zero, suc, ◌+◌, ◌-◌, ◌*◌, ◌/◌, ◌%◌, ◌^◌, Bool, true, false, cond, List, [], ◌∷◌, ◌++◌, length, take, drop, map, get_or, Option, Some, None, refl, ap, ◌∙◌, arith}
+use Rattle.std.proofs.Common.{◌≡◌, ◌≤◌, ◌<◌, ◌⊎◌, inl, inr, ℕ, zero, suc, ◌+◌, ◌-◌, ◌*◌, ◌/◌, ◌%◌, ◌^◌, Bool, true, false, cond, List, [], ◌∷◌, ◌++◌, length, take, drop, map, get_or, Option, Some, None, refl, ap, ◌∙◌, arith}
 use Rattle.std.specs.Prelude.{◌==◌, ◌&&◌, nat_lt, not, AllPairs}
 use Rattle.std.proofs.lemmas.Bool.{lt-leb, ltb-true, ltb-false, eqb-true}
 use Rattle.std.proofs.lemmas.Bool.Decides.{nat_tests}
@@ -26,11 +26,12 @@ use Rattle.trigger_group.specs.declared.round.Round.{Round}
 use Rattle.trigger_group.specs.declared.round.Round.TheVariants.{Resets, Starts, Homes, Timeouts, Relays}
 use Rattle.trigger_group.specs.declared.round.Phase.{Phase}
 use Rattle.trigger_group.specs.declared.round.Phase.TheVariants.{Sends, Goes, Rests}
-use Rattle.trigger_group.specs.Group.{GroupState, bits, steppers, to_board, reset, stop, unless_fired, orders_to, round_of, limit, relay_in, relays_in, all_fired, goes, orders_in, orders, phase}
+use Rattle.trigger_group.specs.Group.{GroupState, bits, first_timeout, steppers, to_board, reset, stop, unless_fired, orders_to, round_of, limit, relay_in, relays_in, all_fired, goes, orders_in, orders, phase}
 use Rattle.board_asking.specs.Machine.{trigger_of, steppers_on, endstop_pins, pins_of, is_among}
 use Rattle.board_asking.specs.Drift.{bytes_of}
 use Rattle.axis_homing.specs.Homing.{low, flag, place_from, order_command, command_to, commands_to}
 use Rattle.axis_homing.specs.Rising.{IsRising}
+use Rattle.axis_homing.specs.Room.{MayFill}
 
 -- numbers of one, two and three bytes
 count-one : (n : ℕ) → n < 96 → byte_count n ≤ 1
@@ -295,17 +296,30 @@ steppers-few : (s : Seen) → length (steppers s) ≤ 16
 unfolding steppers
 steppers-few s = bits-few 0 16 s.member.moving
 
+-- the most bytes of a round's orders to one board; behind two rows of resets at most four are left
 abbrev most_of : Round → ℕ
-most_of (Resets row) = 42
+most_of (Resets zero) = 42
+most_of (Resets (suc zero)) = 42
+most_of (Resets (suc (suc row))) = 28
 most_of (Starts turn) = 42
 most_of Homes = 40
 most_of (Timeouts turn) = 7
 most_of Relays = 3
 
-round-one : (m : Machine) (clocks : Clocks) (b start : ℕ) (axis : AxisDef) (round : Round) (s : Seen) → IsValidMachine m → Cost m clocks b start axis (orders_to round s) ≤ most_of round
-round-one m clocks b start axis (Resets row) s v =
+row-cost : (m : Machine) (clocks : Clocks) (b start : ℕ) (axis : AxisDef) (row : ℕ) (s : Seen) → IsValidMachine m → Cost m clocks b start axis (orders_to (Resets row) s) ≤ 42
+row-cost m clocks b start axis row s v =
     let h = resets-cost m clocks b start axis s (take 6 (drop (row * 6) (steppers s))) v in
     let l = length-take 6 (drop (row * 6) (steppers s)) in
+    omega arith
+
+round-one : (m : Machine) (clocks : Clocks) (b start : ℕ) (axis : AxisDef) (round : Round) (s : Seen) → IsValidMachine m → Cost m clocks b start axis (orders_to round s) ≤ most_of round
+round-one m clocks b start axis (Resets zero) s v = row-cost m clocks b start axis zero s v
+round-one m clocks b start axis (Resets (suc zero)) s v = row-cost m clocks b start axis (suc zero) s v
+round-one m clocks b start axis (Resets (suc (suc row))) s v =
+    let h = resets-cost m clocks b start axis s (take 6 (drop (suc (suc row) * 6) (steppers s))) v in
+    let l = length-take 6 (drop (suc (suc row) * 6) (steppers s)) in
+    let d = length-drop (suc (suc row) * 6) (steppers s) in
+    let f = steppers-few s in
     omega arith
 round-one m clocks b start axis (Starts turn) s v =
     let h = stops-cost m clocks b start axis s (take 8 (steppers s)) v in
@@ -378,7 +392,9 @@ cost-unless true m clocks b start axis xs limit h = omega arith
 cost-unless false m clocks b start axis xs limit h = h
 
 most-fits : (round : Round) → most_of round ≤ 42
-most-fits (Resets row) = omega arith
+most-fits (Resets zero) = omega arith
+most-fits (Resets (suc zero)) = omega arith
+most-fits (Resets (suc (suc row))) = omega arith
 most-fits (Starts turn) = omega arith
 most-fits Homes = omega arith
 most-fits (Timeouts turn) = omega arith
@@ -412,3 +428,25 @@ rising-one b (s ∷ ss) h = (
 pub fits : (m : Machine) (clocks : Clocks) (b start : ℕ) (axis : AxisDef) (g : GroupState) (turn : ℕ) → IsValidMachine m → IsRising g
     → bytes_of (commands_to m clocks b start axis (orders g turn)) ≤ 42
 fits m clocks b start axis g turn v r = phase-cost (phase g.start g.last turn) m clocks b start axis g turn v (rising-one b g.members r)
+
+-- a phase that is none of the three that may fill a control leaves room
+left-room : (X : Type 0) (r0 r1 r2 starts homes now : Bool) (m : Machine) (clocks : Clocks) (b start : ℕ) (axis : AxisDef) (g : GroupState) (turn first : ℕ) → IsValidMachine m → OneOn b g.members
+    → (r0 ≡ true → X) → (r1 ≡ true → X) → (starts ≡ true → X)
+    → (Cost m clocks b start axis (orders_in (cond r0 (Sends (Resets 0)) (cond r1 (Sends (Resets 1)) (cond r2 (Sends (Resets 2)) (cond starts (Sends (Starts first)) (cond homes (Sends Homes) (cond now Goes Rests)))))) g turn) < 42) ⊎ X
+left-room X true r1 r2 starts homes now m clocks b start axis g turn first v o f h i = inr (f refl)
+left-room X false true r2 starts homes now m clocks b start axis g turn first v o f h i = inr (h refl)
+left-room X false false true starts homes now m clocks b start axis g turn first v o f h i = inl (let c = round-cost m clocks b start axis (Resets 2) g.members v o in omega arith)
+left-room X false false false true homes now m clocks b start axis g turn first v o f h i = inr (i refl)
+left-room X false false false false true now m clocks b start axis g turn first v o f h i = inl (let c = round-cost m clocks b start axis Homes g.members v o in omega arith)
+left-room X false false false false false true m clocks b start axis g turn first v o f h i =
+    inl (let c = cost-unless (all_fired g.members) m clocks b start axis (goes g turn) 10 (goes-cost m clocks b start axis g turn v o) in omega arith)
+left-room X false false false false false false m clocks b start axis g turn first v o f h i = inl (omega arith)
+
+pub leaves-room : (m : Machine) (clocks : Clocks) (b start : ℕ) (axis : AxisDef) (g : GroupState) (turn : ℕ) → IsValidMachine m → IsRising g
+    → (bytes_of (commands_to m clocks b start axis (orders g turn)) < 42) ⊎ MayFill g.start turn
+leaves-room m clocks b start axis g turn v r =
+    let left = g.start - turn in
+    left-room (MayFill g.start turn) (left == 254) (left == 253) (left == 252) (left == 251) (left == 250) (left == 0) m clocks b start axis g turn (first_timeout g.start g.last) v (rising-one b g.members r)
+    (λ e. let f = eqb-true left 254 e in inl (omega arith))
+    (λ e. let f = eqb-true left 253 e in inr (inl (omega arith)))
+    (λ e. let f = eqb-true left 251 e in inr (inr (omega arith)))

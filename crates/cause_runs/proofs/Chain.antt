@@ -216,7 +216,7 @@ pub record Turn (m : Machine) (b k : ℕ) (a y : Asking) (commands : List Cmd) :
   pub does : AsksNow k (waits_in (drifts (board_at m b).drift) k a) y commands
       ⊎ ((asks_now homing (waits_in (drifts (board_at m b).drift) k a) ≡ false) × AsksNot (waits_in (drifts (board_at m b).drift) k a) y commands)
 
-one_of : (x a : Asking) → x ∷ [] ≡ a ∷ [] → x ≡ a
+pub one_of : (x a : Asking) → x ∷ [] ≡ a ∷ [] → x ≡ a
 one_of x a e = cc
 
 -- what waits behind a turn's states
@@ -234,7 +234,7 @@ not_now : (d out : Bool) (x : Bool) → out ≡ true → (d && (not out && x)) �
 not_now true out x e = ap (λ (o : Bool). not o && x) e
 not_now false out x e = refl
 
-not_four : (k s : ℕ) → (k ≤ s + 3) ⊎ (s + 5 ≤ k) → (k - s == 4) ≡ false
+pub not_four : (k s : ℕ) → (k ≤ s + 3) ⊎ (s + 5 ≤ k) → (k - s == 4) ≡ false
 not_four k s h = elim (eqb_tells (k - s) 4) [
   | inl p ↦ let q = p.1 in elim h [ inl l ↦ absurd (omega arith) | inr l ↦ absurd (omega arith) ]
   | inr p ↦ p.0
@@ -245,18 +245,22 @@ neither false false x y a e f = refl
 neither false true x y a e f = cc
 neither true n x y a e f = cc
 
-waits_out : (d : Bool) (k s : ℕ) (a : Asking) → a.since ≡ Some s → (k ≤ s + 3) ⊎ (s + 5 ≤ k) → waits_in d k a ≡ a
+pub waits_out : (d : Bool) (k s : ℕ) (a : Asking) → a.since ≡ Some s → (k ≤ s + 3) ⊎ (s + 5 ≤ k) → waits_in d k a ≡ a
 waits_out d k s a e h =
     neither (is_unanswered k a.since) (is_asked_now d k a.since) (record a { missed = more a.missed; waits = true }) (record a { waits = true }) a (ap (is_unanswered k) e ∙ not_four k s h)
     (not_now d (is_out a.since) (k % 1_000 == 0) (ap is_out e))
 
-waits_four : (d : Bool) (k s : ℕ) (a : Asking) → a.since ≡ Some s → k ≡ s + 4 → waits_in d k a ≡ record a { missed = more a.missed; waits = true }
-waits_four d k s a e h =
+pub unanswered_four : (k s : ℕ) (o : Option ℕ) → o ≡ Some s → k ≡ s + 4 → is_unanswered k o ≡ true
+unanswered_four k s o e h =
     let four : (k - s == 4) ≡ true = elim (eqb_tells (k - s) 4) [ inl p ↦ p.0 | inr p ↦ absurd (p.1 (omega arith)) ] in
-    ap (λ (t : Bool). cond t (record a { missed = more a.missed; waits = true }) (cond (is_asked_now d k a.since) (record a { waits = true }) a)) (ap (is_unanswered k) e ∙ four)
+    ap (is_unanswered k) e ∙ four
+
+pub waits_four : (d : Bool) (k s : ℕ) (a : Asking) → a.since ≡ Some s → k ≡ s + 4 → waits_in d k a ≡ record a { missed = more a.missed; waits = true }
+waits_four d k s a e h =
+    ap (λ (t : Bool). cond t (record a { missed = more a.missed; waits = true }) (cond (is_asked_now d k a.since) (record a { waits = true }) a)) (unanswered_four k s a.since e h)
 
 -- no room is looked for where nothing waits
-none_asked : (homing : List Cmd) (w : Asking) → w.waits ≡ false → asks_now homing w ≡ false
+pub none_asked : (homing : List Cmd) (w : Asking) → w.waits ≡ false → asks_now homing w ≡ false
 none_asked homing w e = ap (λ (t : Bool). t && nat_lt (bytes_of homing) control_bytes) e
 
 zero_first : (n k f : ℕ) → n ≡ 0 → cond (n == 0) k f ≡ k
@@ -518,14 +522,14 @@ runs_so m r b k states a x c y g at =
     }
 
 -- one turn
-late_state : (clock : BoardClock) (first : LinkState) (turns : List BoardTurn) (s : State) (rest : List State) → AreBoardTurns clock first turns → latest_state turns ≡ s ∷ rest → s.turn + 1 ≡ length turns
+pub late_state : (clock : BoardClock) (first : LinkState) (turns : List BoardTurn) (s : State) (rest : List State) → AreBoardTurns clock first turns → latest_state turns ≡ s ∷ rest → s.turn + 1 ≡ length turns
 late_state clock first [] s rest are e = cc
 late_state clock first (t ∷ turns) s rest are e =
     let same : t.state ≡ s = cc in
     let turn : t.state.turn ≡ length turns = are.0.1.turn in
     omega (arith, ap (λ (x : State). x.turn) same)
 
-in_time_none : (turn : ℕ) (o : Option ℕ) → o ≡ None → is_in_time turn o ≡ false
+pub in_time_none : (turn : ℕ) (o : Option ℕ) → o ≡ None → is_in_time turn o ≡ false
 in_time_none turn o e = ap (is_in_time turn) e
 
 not_in_time : (turn s : ℕ) (o : Option ℕ) → o ≡ Some s → s + 4 ≤ turn → is_in_time turn o ≡ false
@@ -557,10 +561,10 @@ abbrev pub Stands : Machine → List Switch → List (List Level) → List Entry
 Stands m switches pins entries b all came turns y =
     (((known_by m switches came).phase ≡ Connecting) × IsSettled y) ⊎ (((known_by m switches came).phase ≡ Connecting → ⊥) × Chain m switches pins entries b all turns y)
 
-running_not : (p : Phase) → p ≡ Running → p ≡ Connecting → ⊥
+pub running_not : (p : Phase) → p ≡ Running → p ≡ Connecting → ⊥
 running_not p e f = let g : Running ≡ Connecting = sym e ∙ f in cc
 
-still_running : (stop : Option ℕ) (p : Phase) → p ≡ phase_after stop → p ≡ Connecting → ⊥
+pub still_running : (stop : Option ℕ) (p : Phase) → p ≡ phase_after stop → p ≡ Connecting → ⊥
 still_running None p e f = running_not p e f
 still_running (Some line) p e f = let g : Stopping line ≡ Connecting = sym e ∙ f in cc
 

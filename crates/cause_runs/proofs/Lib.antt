@@ -17,3 +17,9 @@ pub mod Chain
 pub mod Stale
 pub mod Entries
 pub mod Around
+pub mod Again
+pub mod Pieces
+pub mod Soon
+pub mod DictionaryText
+pub mod ConfiguredBoards
+pub mod ShortNames

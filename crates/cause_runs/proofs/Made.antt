@@ -15,26 +15,27 @@ use Rattle.board_sim.specs.Rig.{Passed, Rig, Slot, acts, acts_running, all_left,
 use Rattle.board_sim.proofs.RigStates.{passes_state}
 
 -- what time and triggers keep of a board
-record Same (x y : Controller) : Type 0 where
+pub record Same (x y : Controller) : Type 0 where
   pub complete : x.complete ≡ y.complete
   pub crc : x.crc ≡ y.crc
+  pub dictionary : x.dictionary ≡ y.dictionary
 
 same_both : (x y z : Controller) → Same x y → Same y z → Same x z
-same_both x y z a b = record { complete = a.complete ∙ b.complete; crc = a.crc ∙ b.crc }
+same_both x y z a b = record { complete = a.complete ∙ b.complete; crc = a.crc ∙ b.crc; dictionary = a.dictionary ∙ b.dictionary }
 
 on_same : (s : BoardState) (b : Controller) (t : ℕ) → Same (board.passes_on s b t).board b
-on_same Running b t = record { complete = refl; crc = refl }
-on_same (Shut reason tick first) b t = record { complete = refl; crc = refl }
+on_same Running b t = record { complete = refl; crc = refl; dictionary = refl }
+on_same (Shut reason tick first) b t = record { complete = refl; crc = refl; dictionary = refl }
 
 run_same : (b : Controller) (t : ℕ) → Same (board.passes b t).board b
-run_same b t = elim (leb_tells b.tick t) [ inl p ↦ rw p.0 (on_same b.state b t) | inr p ↦ rw p.0 (record { complete = refl; crc = refl }) ]
+run_same b t = elim (leb_tells b.tick t) [ inl p ↦ rw p.0 (on_same b.state b t) | inr p ↦ rw p.0 (record { complete = refl; crc = refl; dictionary = refl }) ]
 
-halts_same : (h : Bool) (bound : List ℕ) (b : Controller) → Same (halts h bound b) b
-halts_same true bound b = record { complete = refl; crc = refl }
-halts_same false bound b = record { complete = refl; crc = refl }
+pub halts_same : (h : Bool) (bound : List ℕ) (b : Controller) → Same (halts h bound b) b
+halts_same true bound b = record { complete = refl; crc = refl; dictionary = refl }
+halts_same false bound b = record { complete = refl; crc = refl; dictionary = refl }
 
 happens_same : (r : Rig) (t oid : ℕ) (o : Option Slot) → Same (happens_to r t oid o).rig.controller r.controller
-happens_same r t oid None = record { complete = refl; crc = refl }
+happens_same r t oid None = record { complete = refl; crc = refl; dictionary = refl }
 happens_same r t oid (Some s) = halts_same (s.trigger.can && not (trig.advanced (levels_of r s.pin) t s.trigger).trigger.can) s.bound r.controller
 
 goes_same : (o : Option (ℕ × ℕ)) (r : Rig) (t : ℕ) (rest : Passed) → Same rest.rig.controller (happens r t (at_of o)).rig.controller
@@ -46,13 +47,13 @@ goes_same (Some at) r t rest e =
     (same_both (happens r t at).rig.controller ran.controller r.controller (happens_same ran t at.1 (slot_at ran at.1)) (run_same r.controller (at.0 / 3)))
 
 steps_same : (n : ℕ) (r : Rig) (t : ℕ) → Same (pass n r t).rig.controller r.controller
-steps_same zero r t = record { complete = refl; crc = refl }
+steps_same zero r t = record { complete = refl; crc = refl; dictionary = refl }
 steps_same (suc n) r t =
     let first = happens r t (at_of (earliest r t 0 r.triggers)) in
     goes_same (earliest r t 0 r.triggers) r t (pass n first.rig t) (steps_same n first.rig t)
 
-passes_same : (r : Rig) (t : ℕ) → Same (passes r t).rig.controller r.controller
-passes_same r t = elim (leb_tells r.controller.tick t) [ inl p ↦ rw p.0 (steps_same (all_left t r.triggers + 1) r t) | inr p ↦ rw p.0 (record { complete = refl; crc = refl }) ]
+pub passes_same : (r : Rig) (t : ℕ) → Same (passes r t).rig.controller r.controller
+passes_same r t = elim (leb_tells r.controller.tick t) [ inl p ↦ rw p.0 (steps_same (all_left t r.triggers + 1) r t) | inr p ↦ rw p.0 (record { complete = refl; crc = refl; dictionary = refl }) ]
 
 -- the commands of connecting
 abbrev pub MayTake : Cmd → Type 0
@@ -120,11 +121,11 @@ by_make : (b : Controller) (oid : ℕ) (o : Option Pending) → b.state ≡ Runn
 by_make b oid None e f = record { running = e; crc = f; complete = λ g. cc; still = λ g. g }
 by_make b oid (Some q) e f = record { running = e; crc = f; complete = λ g. cc; still = λ g. g }
 
-made_same : (r : Rig) (oid : ℕ) (o : Option Slot) → (make_trigger r oid o).controller ≡ r.controller
+pub made_same : (r : Rig) (oid : ℕ) (o : Option Slot) → (make_trigger r oid o).controller ≡ r.controller
 made_same r oid None = refl
 made_same r oid (Some s) = refl
 
-endstop_same : (r : Rig) (oid pin : ℕ) (o : Option ℕ) → (make_endstop r oid pin o).controller ≡ r.controller
+pub endstop_same : (r : Rig) (oid pin : ℕ) (o : Option ℕ) → (make_endstop r oid pin o).controller ≡ r.controller
 endstop_same r oid pin None = refl
 endstop_same r oid pin (Some p) = refl
 

@@ -70,7 +70,7 @@ pub record ConnectsSo (m : Machine) (switches : List Switch) (b : ℕ) (came : L
   pub asking : asking_at b (known_by m switches came).askings.items ≡ asking_behind (configuration m b) turns ∷ []
   pub all : AllAsk (configuration m b) turns
 
-one_of : (x a : Asking) → x ∷ [] ≡ a ∷ [] → x ≡ a
+pub one_of : (x a : Asking) → x ∷ [] ≡ a ∷ [] → x ≡ a
 one_of x a e = cc
 
 asked_so : (m : Machine) (switches : List Switch) (b : ℕ) (c : Came) (before : List Came) (t : BoardTurn) (turns : List BoardTurn) (a : Asking) (k : ℕ) → k ≡ length turns
@@ -90,7 +90,7 @@ asked_so m switches b c before t turns a k e p is (Asks q g) all =
 asked_so m switches b c before t turns a k e p is (Ends q g) all = absurd (not_connecting _ g.phase p)
 asked_so m switches b c before t turns a k e p is (Runs q g) all = absurd (still_running g.stop _ g.phase p)
 
-was_connecting : (m : Machine) (switches : List Switch) (b : ℕ) (c : Came) (before : List Came) (t : BoardTurn) (a : Asking) (k : ℕ) → (last_turn m switches c before).known.phase ≡ Connecting
+pub was_connecting : (m : Machine) (switches : List Switch) (b : ℕ) (c : Came) (before : List Came) (t : BoardTurn) (a : Asking) (k : ℕ) → (last_turn m switches c before).known.phase ≡ Connecting
     → BoardTurned m (noted m c.note (known_by m switches before)) b k c.states a (last_turn m switches c before) t.control → (known_by m switches before).phase ≡ Connecting
 was_connecting m switches b c before t a k p (Asks q g) = sym (noted_phase m c.note (known_by m switches before)) ∙ q
 was_connecting m switches b c before t a k p (Ends q g) = sym (noted_phase m c.note (known_by m switches before)) ∙ q

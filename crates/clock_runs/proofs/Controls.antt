@@ -1,19 +1,15 @@
 -- The commands of a control, and what else it tells its link.
-use Rattle.std.proofs.Common.{◌≡◌, ℕ, ◌+◌, ◌-◌, ◌*◌, ◌≤◌, Bool, true, false, cond, List, [], ◌∷◌, ◌++◌, map, take, drop, Option, Some, None, refl, ◌∙◌, arith}
-use Rattle.std.specs.Prelude.{◌==◌, nat_le, nat_lt, not}
-use Rattle.plan_types.specs.Board.{nearest}
-use Rattle.clock_line.specs.Early.{turn_in_run, turn_tick}
+use Rattle.std.proofs.Common.{◌≡◌, ℕ, ◌+◌, ◌-◌, ◌*◌, ◌≤◌, Bool, true, false, cond, List, [], ◌∷◌, ◌++◌, map, take, drop, Option, Some, None, refl, arith}
+use Rattle.std.specs.Prelude.{◌==◌, nat_lt}
 use Rattle.std.specs.List.{All}
 use Rattle.std.proofs.lemmas.Bool.{eqb-true}
 use Rattle.std.proofs.lemmas.List.Elements.{All-cons, All-nil}
 use Rattle.plan_types.specs.declared.machine.AxisDef.{AxisDef}
 use Rattle.plan_types.specs.declared.machine.Machine.{Machine}
-use Rattle.plan_types.specs.declared.plan.TrigState.{TrigState}
 use Rattle.plan_types.specs.Lines.{Clocks}
 use Rattle.plan_types.specs.Machines.{axis_at}
 use Rattle.msg_code.specs.declared.cmd.Cmd.{Cmd}
 use Rattle.msg_code.specs.declared.cmd.Cmd.TheVariants as cmd
-use Rattle.msg_code.specs.declared.talk.News.{News}
 use Rattle.msg_code.specs.declared.talk.State.{State}
 use Rattle.trigger_group.specs.declared.order.Ctl.{Ctl}
 use Rattle.trigger_group.specs.declared.order.End.{End}
@@ -36,7 +32,8 @@ use Rattle.board_asking.specs.Asking.{asks, is_due, question}
 use Rattle.board_asking.specs.Drift.{asks_now, clock_question}
 use Rattle.board_asking.specs.Machine.{control_bytes, fitting, setup_command}
 use Rattle.axis_homing.specs.declared.homing.Homing.{Homing}
-use Rattle.axis_homing.specs.Homing.{answer_in, by_answer, came_at, command_to, commands_to, hears_all, hears_answer, hears_news, hears_state, hears_states, homing_turn, order_command}
+use Rattle.axis_homing.specs.Homing.{answer_in, by_answer, command_to, commands_to, hears_all, hears_states, homing_turn, order_command}
+use Rattle.axis_homing.proofs.Starts as starts
 use Rattle.host_reactor.specs.Reactor.{homing_commands, stop_command}
 use Rattle.clock_runs.specs.Ordered.{IsHoming, MayOrder, SetsClocks}
 
@@ -160,31 +157,8 @@ orders_may : (g : GroupState) (k : ℕ) → CtlsMay g.start k (orders g k)
 orders_may g k = in_may g.start k (phase g.start g.last k) g k (phase_may g.start g.last k)
 
 -- the group's start stays
-came_start : (b : ℕ) (s : TrigState) (tick : ℕ) (o : Option ℕ) (g : GroupState) → (came_at b s tick o g).start ≡ g.start
-came_start b s tick None g = refl
-came_start b s tick (Some turn) g = refl
-
-answer_start : (clocks : Clocks) (b turn : ℕ) (c : Cmd) (g : GroupState) → (hears_answer clocks b turn c g).start ≡ g.start
-answer_start clocks b turn (cmd.TrsyncState oid can reason clock) g =
-    let at = nearest (turn_tick clocks turn) clock in
-    came_start b (record { can = not (can == 0); reason = reason; clock = clock }) at (turn_in_run clocks at) g
-answer_start clocks b turn c g = refl
-
-news_start : (clocks : Clocks) (b turn : ℕ) (ns : List News) (g : GroupState) → (hears_news clocks b turn ns g).start ≡ g.start
-news_start clocks b turn [] g = refl
-news_start clocks b turn (n ∷ ns) g = news_start clocks b turn ns (hears_answer clocks b turn n.answer g) ∙ answer_start clocks b turn n.answer g
-
-either_start : (b : Bool) (x y : GroupState) → x.start ≡ y.start → (cond b x y).start ≡ y.start
-either_start true x y e = e
-either_start false x y e = refl
-
-state_start : (clocks : Clocks) (b start : ℕ) (s : State) (g : GroupState) → (hears_state clocks b start s g).start ≡ g.start
-state_start clocks b start s g = either_start (nat_le start (s.turn + 1)) (hears_news clocks b s.turn s.news g) g (news_start clocks b s.turn s.news g)
-
 pub states_start : (clocks : List Clocks) (b start : ℕ) (states : List State) (g : GroupState) → (hears_states clocks b start states g).start ≡ g.start
-states_start [] b start states g = refl
-states_start (c ∷ clocks) b start [] g = refl
-states_start (c ∷ clocks) b start (s ∷ states) g = states_start clocks (b + 1) start states (hears_state c b start s g) ∙ state_start c b start s g
+states_start = starts.states_start
 
 -- the commands of the group's orders
 ctl_may : (h : Option Homing) (m : Machine) (clocks : Clocks) (b start k : ℕ) (axis : AxisDef) (what : Order) (at : ℕ) → IsHoming h → (Clocked at k → SetsClocks h k) → CtlMay at k what → MayOrder h k (order_command m clocks b start axis what)

@@ -1,3 +1,4 @@
 pub mod Noting
+pub mod Starting
 pub mod Knowing
 pub mod Controlling

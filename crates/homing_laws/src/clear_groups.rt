@@ -1,6 +1,6 @@
 //! The boards of homing groups over the turns of a section in a scene without entries, as laws.
 
-ghost use Rattle.std.specs.Prelude.{◌≡◌, ◌<◌, ◌≤◌, ◌+◌, ◌-◌, ◌*◌, ℕ, List, [], ◌∷◌, Some, false, length, None, ◌++◌};
+ghost use Rattle.std.specs.Prelude.{◌≡◌, ◌<◌, ◌≤◌, ◌+◌, ◌-◌, ◌*◌, ℕ, List, [], ◌∷◌, Some, false, length, None, ◌++◌, min};
 ghost use Rattle.plan_types.specs.declared.levels.Level.{Level};
 ghost use Rattle.plan_types.specs.declared.machine.Machine.{Machine};
 ghost use Rattle.plan_types.specs.Clock.{board_tick, clock_of, turn_ns};
@@ -35,21 +35,21 @@ ghost use Rattle.homing_laws.specs.clear_groups.Quiet.{IsQuiet};
 ghost use Rattle.homing_laws.specs.clear_groups.Resting.{AllOff, BeginsAlone};
 ghost use Rattle.homing_laws.specs.clear_groups.Runs.{AreSetUp, BeginNone, IsClearRun};
 
-/// The law of safe sections: in a scene without entries, where the clock lines follow the boards, a homing group and its members' boards that are safe
-/// in a turn between the section's set-up and its start, or from there on, are so in each later turn in which the section is known; and no board told
-/// since of an expiry in a turn up to the section's last one.
+/// The law of safe sections: in a scene without entries, where the clock lines follow the boards until 276 turns ahead, or to the section's end, a homing
+/// group and its members' boards that are safe in a turn between the section's set-up and its start, or from there on, are so in each later turn in which
+/// the section is known; and no board told since of an expiry in a turn up to the section's last one.
 pub fn safe_sections_stay_safe()
-    ensures { (m : Machine) (switches : List Switch) (pins : ℕ → List (List Level)) (entries : List Entry) (lines : ℕ → Clocks) (ready from start last at : ℕ) (members : List Member) → entries ≡ [] →
-        ((b : ℕ) → IsMember b members → IsFollowed m b (lines b) ready start last) → from ≤ at → ready + 4 ≤ at → start ≤ at + 249 → (c : Came) (before : List Came) (all : List (ℕ → BoardTurn)) →
-        IsClearSection m switches pins entries lines from start members c before all → at ≤ length before → IsSafeAt m switches pins entries lines start last members at (c ∷ before) all →
+    ensures { (m : Machine) (switches : List Switch) (pins : ℕ → List (List Level)) (entries : List Entry) (lines : ℕ → Clocks) (ready from start last until at : ℕ) (members : List Member) → entries ≡ [] →
+        ((b : ℕ) → IsMember b members → IsFollowed m b (lines b) ready start last until) → from ≤ at → ready + 4 ≤ at → start ≤ at + 249 → (c : Came) (before : List Came) (all : List (ℕ → BoardTurn)) →
+        IsClearSection m switches pins entries lines from start members c before all → length before + 276 ≤ until → at ≤ length before → IsSafeAt m switches pins entries lines start last members at (c ∷ before) all →
         IsSafeIn m switches pins entries lines start last members c before all × ((b : ℕ) → IsMember b members → AllLate (lines b) last at (turns_of b all)) }
 {}
 
 /// The law of safe groups: where it is so in a turn between the set-up and the start, the group never answers that a board expired.
 pub fn safe_groups_answer_of_no_expiry()
-    ensures { (m : Machine) (switches : List Switch) (pins : ℕ → List (List Level)) (entries : List Entry) (lines : ℕ → Clocks) (ready from start last at : ℕ) (members : List Member) → entries ≡ [] →
-        ((b : ℕ) → IsMember b members → IsFollowed m b (lines b) ready start last) → from ≤ at → ready + 4 ≤ at → start ≤ at + 249 → at + 1 ≤ start → (c : Came) (before : List Came) (all : List (ℕ → BoardTurn)) →
-        IsClearSection m switches pins entries lines from start members c before all → at ≤ length before → IsSafeAt m switches pins entries lines start last members at (c ∷ before) all → (h : Homing) →
+    ensures { (m : Machine) (switches : List Switch) (pins : ℕ → List (List Level)) (entries : List Entry) (lines : ℕ → Clocks) (ready from start last until at : ℕ) (members : List Member) → entries ≡ [] →
+        ((b : ℕ) → IsMember b members → IsFollowed m b (lines b) ready start last until) → from ≤ at → ready + 4 ≤ at → start ≤ at + 249 → at + 1 ≤ start → (c : Came) (before : List Came) (all : List (ℕ → BoardTurn)) →
+        IsClearSection m switches pins entries lines from start members c before all → length before + 276 ≤ until → at ≤ length before → IsSafeAt m switches pins entries lines start last members at (c ∷ before) all → (h : Homing) →
         (noted m c.note (known_by m switches before)).homing ≡ Some h → (b turn : ℕ) →
         answer_in (length before) h.start (hears_all (noted m c.note (known_by m switches before)).clocks c.states h).group ≡ Some (Expired b turn) → ⊥ }
 {}
@@ -57,9 +57,9 @@ pub fn safe_groups_answer_of_no_expiry()
 /// The law of set-ups: in a scene without entries, where the clock lines follow the boards, a homing group and its members' boards are safe 249 turns
 /// before the section's start, where the group is new 251 turns before it, and each board's one trigger is at rest then, or is set up already.
 pub fn set_ups_make_sections_safe()
-    ensures { (m : Machine) (switches : List Switch) (pins : ℕ → List (List Level)) (entries : List Entry) (lines : ℕ → Clocks) (ready from start last : ℕ) (members : List Member) → entries ≡ [] →
-        ((b : ℕ) → IsMember b members → IsFollowed m b (lines b) ready start last) → start ≤ last → (c d e : Came) (past : List Came) (i j : ℕ → BoardTurn) (js : List (ℕ → BoardTurn)) →
-        IsClearSection m switches pins entries lines from start members c (d ∷ e ∷ past) (i ∷ j ∷ js) → from ≤ length past → ready + 4 ≤ length past → length past + 251 ≡ start →
+    ensures { (m : Machine) (switches : List Switch) (pins : ℕ → List (List Level)) (entries : List Entry) (lines : ℕ → Clocks) (ready from start last until : ℕ) (members : List Member) → entries ≡ [] →
+        ((b : ℕ) → IsMember b members → IsFollowed m b (lines b) ready start last until) → start ≤ last → (c d e : Came) (past : List Came) (i j : ℕ → BoardTurn) (js : List (ℕ → BoardTurn)) →
+        IsClearSection m switches pins entries lines from start members c (d ∷ e ∷ past) (i ∷ j ∷ js) → from ≤ length past → ready + 4 ≤ length past → length past + 251 ≡ start → length past + 276 ≤ until →
         AreOfTurn (length past + 1) d.states → AreOfTurn (length past + 2) c.states → (h : Homing) → (noted m e.note (known_by m switches past)).homing ≡ Some h →
         IsNew start last members (hears_all (noted m e.note (known_by m switches past)).clocks e.states h).group →
         ((b : ℕ) → IsMember b members → HoldsOf (trigger_of m b) (λ ps x. IsPrepared (lines_tick (lines b) (start * turn_ns)) ps x) (rig_at m pins entries js b)) →
@@ -70,18 +70,18 @@ pub fn set_ups_make_sections_safe()
 /// before its start or earlier never answers that a board expired, where each member's board has one trigger that is at rest 251 turns before the
 /// start, or is set up already.
 pub fn begun_sections_answer_of_no_expiry()
-    ensures { (m : Machine) (switches : List Switch) (pins : ℕ → List (List Level)) (entries : List Entry) (lines : ℕ → Clocks) (ready from start last : ℕ) (members : List Member) → entries ≡ [] →
-        ((b : ℕ) → IsMember b members → IsFollowed m b (lines b) ready start last) → ready + 255 ≤ start → from + 251 ≤ start → start ≤ last → (c : Came) (before : List Came) (all : List (ℕ → BoardTurn)) →
-        IsClearSection m switches pins entries lines from start members c before all → AllOfTurn (c ∷ before) → from ≤ length before → IsNewAt m switches start last members from (c ∷ before) →
+    ensures { (m : Machine) (switches : List Switch) (pins : ℕ → List (List Level)) (entries : List Entry) (lines : ℕ → Clocks) (ready from start last until : ℕ) (members : List Member) → entries ≡ [] →
+        ((b : ℕ) → IsMember b members → IsFollowed m b (lines b) ready start last until) → ready + 255 ≤ start → from + 251 ≤ start → start ≤ last → (c : Came) (before : List Came) (all : List (ℕ → BoardTurn)) →
+        IsClearSection m switches pins entries lines from start members c before all → AllOfTurn (c ∷ before) → length before + 276 ≤ until → from ≤ length before → IsNewAt m switches start last members from (c ∷ before) →
         ArePreparedAt m pins entries lines start members (start - 251) all → (h : Homing) → (noted m c.note (known_by m switches before)).homing ≡ Some h → (b turn : ℕ) →
         answer_in (length before) h.start (hears_all (noted m c.note (known_by m switches before)).clocks c.states h).group ≡ Some (Expired b turn) → ⊥ }
 {}
 
-/// The law of followed boards: a board whose clock lines track it from five turns before a section's start on, until the turn behind its last one, is
-/// followed by them.
+/// The law of followed boards: a board whose clock lines track it from five turns before a section's start on, until a turn, or until the turn behind the
+/// section's last one, is followed by them.
 pub fn tracked_boards_are_followed()
-    ensures { (m : Machine) (b : ℕ) (clocks : Clocks) (ready start last : ℕ) → IsValidMachine m → b < length m.boards → (k : AreTracked (λ n. board_tick (clock_of (board_at m b)) n) clocks ready) → ready + 5 ≤ start →
-        start ≤ last → last + 1 ≤ k.until → k.until < run_turns → IsFollowed m b clocks ready start last }
+    ensures { (m : Machine) (b : ℕ) (clocks : Clocks) (ready start last until : ℕ) → IsValidMachine m → b < length m.boards → (k : AreTracked (λ n. board_tick (clock_of (board_at m b)) n) clocks ready) → ready + 5 ≤ start →
+        start ≤ last → min (last + 1) until ≤ k.until → k.until < run_turns → IsFollowed m b clocks ready start last until }
 {}
 
 /// The law of new groups: the group of a homing section that a note begins before its start is new in the turn of the note, and stays so until 251 turns
@@ -89,8 +89,8 @@ pub fn tracked_boards_are_followed()
 pub fn noted_groups_are_new()
     ensures noted { (m : Machine) (switches : List Switch) (c : Came) (before : List Came) (h : Homing) → BeginsSome (news_of c.note) → (noted m c.note (known_by m switches before)).homing ≡ Some h → AreOfTurn (length before) c.states →
         length before < h.start → IsNewIn m switches h.start h.group.last (members_of h.group) c before }
-    ensures stays { (m : Machine) (switches : List Switch) (pins : ℕ → List (List Level)) (entries : List Entry) (lines : ℕ → Clocks) (ready from start last : ℕ) (members : List Member) → entries ≡ [] →
-        ((b : ℕ) → IsMember b members → IsFollowed m b (lines b) ready start last) → ready + 255 ≤ start → from + 251 ≤ start → start ≤ last → (c : Came) (before : List Came) (all : List (ℕ → BoardTurn)) →
+    ensures stays { (m : Machine) (switches : List Switch) (pins : ℕ → List (List Level)) (entries : List Entry) (lines : ℕ → Clocks) (ready from start last until : ℕ) (members : List Member) → entries ≡ [] →
+        ((b : ℕ) → IsMember b members → IsFollowed m b (lines b) ready start last until) → ready + 255 ≤ start → from + 251 ≤ start → start ≤ last → (c : Came) (before : List Came) (all : List (ℕ → BoardTurn)) →
         IsClearSection m switches pins entries lines from start members c before all → AllOfTurn (c ∷ before) → from ≤ length before → length before + 251 ≤ start → IsNewAt m switches start last members from (c ∷ before) →
         IsNewIn m switches start last members c before }
 {}
@@ -98,18 +98,18 @@ pub fn noted_groups_are_new()
 /// The law of quiet boards: in a run in a scene without entries whose homing sections are all set up, and begun where none is known, no trigger that can't
 /// trigger ever reads its switch; and so a board whose one trigger can't trigger is prepared for any start.
 pub fn boards_stay_quiet()
-    ensures quiet { (m : Machine) (switches : List Switch) (pins : ℕ → List (List Level)) (entries : List Entry) (lines : ℕ → ℕ → Clocks) (ready b : ℕ) → IsValidMachine m → entries ≡ [] → b < length m.boards →
+    ensures quiet { (m : Machine) (switches : List Switch) (pins : ℕ → List (List Level)) (entries : List Entry) (lines : ℕ → ℕ → Clocks) (ready until b : ℕ) → IsValidMachine m → entries ≡ [] → b < length m.boards →
         (c : Came) (before : List Came) (all : List (ℕ → BoardTurn)) → length all ≡ length before → IsPlain m switches (pins b) entries b before (turns_of b all) → BeginsAlone m switches before →
-        AreSetUp m switches pins entries lines ready (c ∷ before) all → IsQuiet (rig_at m pins entries all b) }
+        AreSetUp m switches pins entries lines ready until (c ∷ before) all → length before + 276 ≤ until → IsQuiet (rig_at m pins entries all b) }
     ensures prepared { (oid base : ℕ) (r : Rig) → HoldsOf oid (λ ps s. s.trigger.can ≡ false) r → IsQuiet r → AllSound r → HoldsOf oid (λ ps s. IsPrepared base ps s) r }
 {}
 
 /// The law of sections that are set up: in a run in a scene without entries whose homing sections are all set up, and begun where none is known, the group
 /// of a section that was known 251 turns before its start never answers that a board expired.
 pub fn set_up_sections_answer_of_no_expiry()
-    ensures { (m : Machine) (switches : List Switch) (pins : ℕ → List (List Level)) (entries : List Entry) (lines : ℕ → ℕ → Clocks) (ready from start : ℕ) (members : List Member) → IsValidMachine m → entries ≡ [] → from + 251 ≤ start →
+    ensures { (m : Machine) (switches : List Switch) (pins : ℕ → List (List Level)) (entries : List Entry) (lines : ℕ → ℕ → Clocks) (ready until from start : ℕ) (members : List Member) → IsValidMachine m → entries ≡ [] → from + 251 ≤ start →
         (c : Came) (before : List Came) (all : List (ℕ → BoardTurn)) → IsClearSection m switches pins entries (lines start) from start members c before all → BeginsAlone m switches before →
-        AreSetUp m switches pins entries lines ready (c ∷ before) all → from ≤ length before → (h : Homing) → (noted m c.note (known_by m switches before)).homing ≡ Some h → (b turn : ℕ) →
+        AreSetUp m switches pins entries lines ready until (c ∷ before) all → length before + 276 ≤ until → from ≤ length before → (h : Homing) → (noted m c.note (known_by m switches before)).homing ≡ Some h → (b turn : ℕ) →
         answer_in (length before) h.start (hears_all (noted m c.note (known_by m switches before)).clocks c.states h).group ≡ Some (Expired b turn) → ⊥ }
 {}
 
@@ -135,11 +135,11 @@ pub fn boards_have_one_trigger()
 {}
 
 /// The law of clear runs: in a run of all boards in a scene without entries, whose homing sections are begun past connecting, where none is known, 251 turns
-/// before their starts or earlier, and where each section's own clock lines track the boards, and turns begin as by them by those that the reactor knows
-/// where the section is known, no homing group ever answers that a board expired.
+/// before their starts or earlier, and where each section's own clock lines track the boards until 276 turns ahead, or to the section's end, and turns begin
+/// as by them by those that the reactor knows where the section is known, no homing group ever answers that a board expired.
 pub fn clear_runs_answer_of_no_expiry()
-    ensures { (m : Machine) (switches : List Switch) (pins : ℕ → List (List Level)) (entries : List Entry) (lines : ℕ → ℕ → Clocks) (ready : ℕ) → IsValidMachine m → entries ≡ [] → (c : Came) (before : List Came) (all : List (ℕ → BoardTurn)) →
-        IsClearRun m switches pins entries lines ready c before all → (h : Homing) → (noted m c.note (known_by m switches before)).homing ≡ Some h → (b turn : ℕ) →
+    ensures { (m : Machine) (switches : List Switch) (pins : ℕ → List (List Level)) (entries : List Entry) (lines : ℕ → ℕ → Clocks) (ready until : ℕ) → IsValidMachine m → entries ≡ [] → (c : Came) (before : List Came) (all : List (ℕ → BoardTurn)) →
+        IsClearRun m switches pins entries lines ready until c before all → length before + 276 ≤ until → (h : Homing) → (noted m c.note (known_by m switches before)).homing ≡ Some h → (b turn : ℕ) →
         answer_in (length before) h.start (hears_all (noted m c.note (known_by m switches before)).clocks c.states h).group ≡ Some (Expired b turn) → ⊥ }
 {}
 

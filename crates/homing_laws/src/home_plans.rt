@@ -12,6 +12,7 @@ ghost use Rattle.axis_homing.specs.Homing.{members_from};
 ghost use Rattle.plan_types.specs.Lines.{Clocks};
 ghost use Rattle.motion_work.specs.Seen.{AreStarted, Started};
 ghost use Rattle.host_reactor.specs.Notes.{news_of, noted};
+ghost use Rattle.host_reactor.specs.Room.{BeginFar, HaveRoom};
 ghost use Rattle.host_reactor.specs.Runs.{Came, GoesOn, known_by};
 ghost use Rattle.plan_types.specs.declared.levels.Level.{Level};
 ghost use Rattle.plan_types.specs.Machines.{IsValidMachine};
@@ -42,6 +43,13 @@ pub fn begun_sections_are_in_a_row()
 pub fn known_sections_were_begun()
     ensures { (m : Machine) (switches : List Switch) (begun : List Started) (c : Came) (before : List Came) → GoesOn m switches before → CameNotes begun (c ∷ before) →
         WasBegun begun (noted m c.note (known_by m switches before)).homing }
+{}
+
+/// The law of spare room: where the notes are a planner's, each section is begun 255 turns before its start or earlier, and so of any
+/// three turns in a row one leaves room for an asking of a board's clock beside the orders for homing.
+pub fn planned_turns_leave_room()
+    ensures far { (begun : List Started) (came : List Came) → CameNotes begun came → BeginFar came }
+    ensures room { (m : Machine) (switches : List Switch) (b : ℕ) (begun : List Started) (came : List Came) → IsValidMachine m → CameNotes begun came → HaveRoom m switches b came }
 {}
 
 /// The law of controls, over turns: what the controls of a board hold in a run whose notes are a planner's are control commands of a run in

@@ -4,7 +4,7 @@ ghost use Rattle.std.specs.Prelude.{◌≡◌, ◌<◌, ◌≤◌, ◌+◌, ◌+
 ghost use Rattle.plan_types.specs.declared.levels.Level.{Level};
 ghost use Rattle.plan_types.specs.declared.machine.BoardDef.{BoardDef};
 ghost use Rattle.plan_types.specs.declared.machine.Machine.{Machine};
-ghost use Rattle.plan_types.specs.Clock.{board_tick, clock_of};
+ghost use Rattle.plan_types.specs.Clock.{clock_of};
 ghost use Rattle.wire_scene.specs.declared.scene.Entry.{Entry};
 ghost use Rattle.wire_scene.specs.declared.scene.Switch.{Switch};
 ghost use Rattle.board_sim.specs.Board.{stepper_at};
@@ -29,6 +29,7 @@ ghost use Rattle.trigger_group.specs.declared.order.Member.{Member};
 ghost use Rattle.link_work.specs.Limits.{AllKeepLimits};
 ghost use Rattle.link_work.specs.Runs.{AreTurns};
 ghost use Rattle.link_work.specs.Turn.{LinkState};
+ghost use Rattle.run_laws.specs.Events.{AreOwn};
 ghost use Rattle.run_laws.specs.Homes.{AreInTurn, AreOrdersIn, AreSettledOn, IsHomeBoard, IsHomeRun, IsSectionBy, RunSection, SetsIn};
 ghost use Rattle.plan_types.specs.Lines.{Clocks};
 ghost use Rattle.clock_runs.specs.Runs.{orders_in};
@@ -147,12 +148,12 @@ pub fn told_sections_are_homed()
 
 /// The law of boards that home: a board of a run whose part of it is one in which axes home, whose homing sections that have ended were told
 /// of, and which takes no unit half a round of the 32-bit clock after its first tick, is one of which `run_laws` says that it keeps its
-/// sections.
+/// sections, by any ticks that are its own up to the run's end.
 pub fn told_boards_are_home_boards()
-    ensures { (m : Machine) (switches : List Switch) (pins : List (List Level)) (entries : List Entry) (b ready : ℕ) (clocks : Clocks) (stops : ℕ → Option ℕ) (ss : List RunSection) (turns : List BoardTurn) (states : List State) (end : LinkState)
+    ensures { (m : Machine) (switches : List Switch) (pins : List (List Level)) (entries : List Entry) (b ready : ℕ) (own : ℕ → ℕ) (clocks : Clocks) (stops : ℕ → Option ℕ) (ss : List RunSection) (turns : List BoardTurn) (states : List State) (end : LinkState)
         (told : AreTold (clock_of (board_at m b)) 0 (orders_in turns) states (first_state (board_at m b) pins b entries) end) → IsValidMachine m → b < length m.boards →
         AreBoardTurns (clock_of (board_at m b)) (first_state (board_at m b) pins b entries) turns →
-        IsHomeRun (board_tick (clock_of (board_at m b))) clocks (board_at m b).freq (board_at m b).slots ready stops ss (orders_in turns) →
+        AreOwn (board_at m b) (length turns) own → IsHomeRun own clocks (board_at m b).freq (board_at m b).slots ready stops ss (orders_in turns) →
         AllTimely (start (board_at m b) pins) (steps_of (clock_of (board_at m b)) 0 (orders_in turns) (first_state (board_at m b) pins b entries) end
         (turns_told (clock_of (board_at m b)) 0 (orders_in turns) states (first_state (board_at m b) pins b entries) end told)) →
         AreToldIn m switches pins entries b stops ss turns →

@@ -80,12 +80,12 @@ use Rattle.session_laws.specs.home_wholes.Whole.{AllWholeHomes}
 use Rattle.session_laws.proofs.home_wholes.Joined.{run_own}
 use Rattle.session_laws.proofs.home_wholes.Shows.{all_wholes}
 use Rattle.session_laws.specs.clear_homes.Closes.{AllClose}
-use Rattle.session_laws.specs.clear_homes.Sends.{SendsAllSoon}
 use Rattle.session_laws.proofs.clear_homes.Clear as homed
 use Rattle.session_laws.proofs.clear_homes.First.{run_first}
 use Rattle.session_laws.proofs.run_causes.Answering as answering
 use Rattle.session_laws.proofs.clear_homes.Through.{soon_all}
-use Rattle.session_laws.specs.clear_runs.Clear.{SendsInTime}
+use Rattle.cause_runs.specs.Short.{HaveShortDictionaries}
+use Rattle.session_laws.specs.clear_runs.Clear.{SendsAllSoon}
 use Rattle.session_laws.proofs.clear_runs.Clear.{run_through}
 use Rattle.session_laws.proofs.clear_runs.Stopped.{run_is_for}
 use Rattle.session_laws.proofs.clear_runs.Through.{sends_hold}
@@ -734,7 +734,7 @@ memory_or c = elim (cause_either c) [
   | inr not ↦ inr not.0
 ]
 
-module _ {F S : Type 0} (f : Files F) (o : Sink S) (m : Machine) (s : Scene) (gcode : List ℕ) (files files' : F) (out out' : S) (c : Cause) (lines : List ReportLine) (counts : List ℕ) (links : List LinkLog) (v : IsValidMachine m) where
+module _ {F S : Type 0} (f : Files F) (o : Sink S) (m : Machine) (s : Scene) (gcode : List ℕ) (files files' : F) (out out' : S) (c : Cause) (lines : List ReportLine) (counts : List ℕ) (links : List LinkLog) (v : IsValidMachine m) (short : HaveShortDictionaries m) where
   -- a run that shows all its lines was written whole, and ends for its own cause
   shows_all : (r : IsReported f o m s gcode files files' out out' c lines counts links) → ShowsAll c → (r.rest ≡ []) × (c ≡ r.told.cause)
   shows_all r g =
@@ -745,7 +745,7 @@ module _ {F S : Type 0} (f : Files F) (o : Sink S) (m : Machine) (s : Scene) (gc
   texts : (r : IsReported f o m s gcode files files' out out' c lines counts links) (text : List ℕ) → f.told files gcode ≡ Some text → AreOfMoves (sections_over m text) → (r.told.cause ≡ cause.Memory → ⊥)
       → HoldsNothingLong m s text r.runs.runs.0 (r.runs.runs.1 ++ r.runs.runs.2 ∷ []) → ∥ ShowsText m text c r.said ∥₁
   texts r text told moves other holds =
-      ∥∥₁_map (run_shows f o m s gcode files files' out r.behind r.kept r.kept' r.told r.runs v text told r.fresh.at) (λ shows.
+      ∥∥₁_map (run_shows f o m s gcode files files' out r.behind r.kept r.kept' r.told r.runs v short text told r.fresh.at) (λ shows.
       let seen = shows.0.plans.seen in
       let same = shows.1 in
       let all = shows.2 other moves holds in
@@ -837,9 +837,9 @@ module _ {F S : Type 0} (f : Files F) (o : Sink S) (m : Machine) (s : Scene) (gc
       let reads = subst Reads (sym w.1) on in
       let all = facts f o m s gcode files files' out r.behind r.kept r.kept' r.told r.runs other in
       homes_shown m s.switches seen (clocks_heard seen.told) (ready_heard seen.told) r.told.cause c text r.said r.rest (plans_spread m (length m.boards) r.runs.runs.0 made.plans) w.1 (shows_all r) turns (some_turns r.runs.runs.1 r.runs.runs.2)
-      (all_shows m v s r.runs.runs.0 made.plans r.runs.runs.2 r.told.cause r.runs.runs.1 all held)
+      (all_shows m v s r.runs.runs.0 made.plans r.runs.runs.2 r.told.cause r.runs.runs.1 all short held)
       (all_ends m v s r.runs.runs.0 made.plans r.runs.runs.2 r.told.cause r.runs.runs.1 (run_ended f o m s gcode files files' out r.behind r.kept r.kept' r.told r.runs other) reads)
-      (all_wholes m v s r.runs.runs.0 made.plans r.runs.runs.2 r.told.cause r.runs.runs.1 all reads held) r.shown)
+      (all_wholes m v s r.runs.runs.0 made.plans r.runs.runs.2 r.told.cause r.runs.runs.1 all reads short held) r.shown)
 
   -- and of any text, whatever ended the run
   front_texts : (r : IsReported f o m s gcode files files' out out' c lines counts links) (text : List ℕ) → f.told files gcode ≡ Some text → ShownHoldLittle m s text r.runs.runs.0 r.runs.runs.1 r.runs.runs.2 r.told.cause → ∥ ShowsFront m text c r.said ∥₁
@@ -852,7 +852,7 @@ module _ {F S : Type 0} (f : Files F) (o : Sink S) (m : Machine) (s : Scene) (gc
         let held = subst Little (sym w.1) (little.0 other) in
         let all = facts f o m s gcode files files' out r.behind r.kept r.kept' r.told r.runs other in
         front_shown m seen (clocks_heard seen.told) (ready_heard seen.told) r.told.cause c text r.said r.rest (plans_spread m (length m.boards) r.runs.runs.0 made.plans) w.1 (shows_all r) turns (some_turns r.runs.runs.1 r.runs.runs.2)
-        (all_begun m v s r.runs.runs.0 made.plans r.runs.runs.2 r.told.cause r.runs.runs.1 all) (all_shows m v s r.runs.runs.0 made.plans r.runs.runs.2 r.told.cause r.runs.runs.1 all held) r.shown)
+        (all_begun m v s r.runs.runs.0 made.plans r.runs.runs.2 r.told.cause r.runs.runs.1 all) (all_shows m v s r.runs.runs.0 made.plans r.runs.runs.2 r.told.cause r.runs.runs.1 all short held) r.shown)
     | inl memory ↦ elim (cut_last r.runs.runs.1) [
       | inl none ↦
           let lines_are : [] ≡ r.said ++ r.rest = sym (ap lines_of none) ∙ sym (written memory) ∙ r.shown in
@@ -867,7 +867,7 @@ module _ {F S : Type 0} (f : Files F) (o : Sink S) (m : Machine) (s : Scene) (gc
           let long = w.3 in
           let Little : List ReactorTurn → Type 0 = λ z. AllHomeLittle m s text w.0 z in
           let held = subst Little x.2 (little.1 memory w.0 w.1 w.2 (omega (arith, long, size))) in
-          front_shown m seen (clocks_heard seen.told) (ready_heard seen.told) cause.ReadFault c text r.said r.rest (plans_spread m (length m.boards) w.0 w.4) w.5 (λ g. absurd (none_through memory g)) turns (some_turns x.0 x.1) w.6 (w.7 held) lines_are)
+          front_shown m seen (clocks_heard seen.told) (ready_heard seen.told) cause.ReadFault c text r.said r.rest (plans_spread m (length m.boards) w.0 w.4) w.5 (λ g. absurd (none_through memory g)) turns (some_turns x.0 x.1) w.6 (w.7 short held) lines_are)
     ]
   ]
     where
@@ -881,7 +881,7 @@ module _ {F S : Type 0} (f : Files F) (o : Sink S) (m : Machine) (s : Scene) (gc
 
   -- in a scene without entries it goes through
   completes : (r : IsReported f o m s gcode files files' out out' c lines counts links) (text : List ℕ) → f.told files gcode ≡ Some text → AreOfMoves (sections_over m text) → ((line : ℕ) → (program_end m text).stop ≡ read.Stop line → ⊥)
-      → s.entries ≡ [] → SendsInTime m text r.runs.runs.0 → IsCauseOf (cause_of (program_end m text).stop) c
+      → s.entries ≡ [] → SendsAllSoon m text r.runs.runs.0 → IsCauseOf (cause_of (program_end m text).stop) c
   completes r text told moves goes clear sends = elim (cause_either c) [
     | inl e ↦ elim e [ inl x ↦ inr (inl x) | inr x ↦ inr (inr (inr x)) ]
     | inr not ↦
@@ -892,9 +892,9 @@ module _ {F S : Type 0} (f : Files F) (o : Sink S) (m : Machine) (s : Scene) (gc
           | inr (inr (inl x)) ↦ inr (read_causes x.0 c (w.2 ∙ x.1))
           | inr (inr (inr own)) ↦
               let other = λ (e : r.told.cause ≡ cause.Memory). not.0 (w.2 ∙ e) in
-              let through = run_through f o m s gcode files files' out r.behind r.kept r.kept' r.told r.runs v text told r.fresh.at clear own other moves goes sends in
+              let through = run_through f o m s gcode files files' out r.behind r.kept r.kept' r.told r.runs v short text told r.fresh.at clear own other moves goes sends in
               let Through : Cause → Type 0 = λ z. GoesThrough z in
-              let holds = sends_hold m s text r.runs.runs.0 clear sends (r.runs.runs.1 ++ r.runs.runs.2 ∷ []) in
+              let holds = sends_hold m s text r.runs.runs.0 clear (r.runs.runs.1 ++ r.runs.runs.2 ∷ []) in
               inl (∥∥₁_elim (texts r text told moves other holds) (hlevel props) (λ z. z.cause (subst Through (sym w.2) through)))
         ]
   ]
@@ -914,7 +914,7 @@ module _ {F S : Type 0} (f : Files F) (o : Sink S) (m : Machine) (s : Scene) (gc
               let other = λ (e : r.told.cause ≡ cause.Memory). not.0 (w.2 ∙ e) in
               let Through : Cause → Type 0 = λ z. GoesThrough z in
               let little = clear_little m s text r.runs.runs.0 (r.runs.runs.1 ++ r.runs.runs.2 ∷ []) clear (soon_all m text r.runs.runs.0 sends) in
-              elim (homed.run_through f o m s gcode files files' out r.behind r.kept r.kept' r.told r.runs v text told r.fresh.at clear own other goes sends) [
+              elim (homed.run_through f o m s gcode files files' out r.behind r.kept r.kept' r.told r.runs v short text told r.fresh.at clear own other goes sends) [
                 | inl through ↦ inl (inl (∥∥₁_elim (home_texts r text told (inl own) other little) (hlevel props) (λ z. z.cause (subst Through (sym w.2) through))))
                 | inr e ↦ inr (e.0, w.2 ∙ e.1)
               ]
@@ -938,7 +938,7 @@ module _ {F S : Type 0} (f : Files F) (o : Sink S) (m : Machine) (s : Scene) (gc
         let Own : Cause → Type 0 = λ z. IsOwn z in
         let Through : Cause → Type 0 = λ z. GoesThrough z in
         let other = λ (g : r.told.cause ≡ cause.Memory). (let h : cause.NoSwitch e.0 ≡ cause.Memory = sym is ∙ g in let none : ⊥ = cc in none) in
-        absurd (subst Through is (homed.run_closes f o m s gcode files files' out r.behind r.kept r.kept' r.told r.runs v text told r.fresh.at clear (subst Own (sym is) tt) other goes sends closes))
+        absurd (subst Through is (homed.run_closes f o m s gcode files files' out r.behind r.kept r.kept' r.told r.runs v short text told r.fresh.at clear (subst Own (sym is) tt) other goes sends closes))
   ]
 
   pub planned : IsReported f o m s gcode files files' out out' c lines counts links → IsLinkReport f o m s gcode files files' out out' c lines counts links
@@ -957,12 +957,12 @@ module _ {F S : Type 0} (f : Files F) (o : Sink S) (m : Machine) (s : Scene) (gc
     begun = begun_texts r;
     fronts = front_texts r;
     homes = home_texts r;
-    own = λ text told on other little soon. run_own f o m s gcode files files' out r.behind r.kept r.kept' r.told r.runs v text told r.fresh.at other on little soon;
+    own = λ text told on other little soon. run_own f o m s gcode files files' out r.behind r.kept r.kept' r.told r.runs v short text told r.fresh.at other on little soon;
     complete = completes r;
     complete_homes = homes_complete r;
     complete_switches = switches_complete r;
-    first_ticks = λ text told goes clear own other sends soon. homed.run_firsts f o m s gcode files files' out r.behind r.kept r.kept' r.told r.runs v text told r.fresh.at clear own other goes sends soon;
-    no_switch = λ text told goes clear sends. ∥∥₁_map (homed.run_misses f o m s gcode files files' out r.behind r.kept r.kept' r.told r.runs v text told r.fresh.at clear goes sends) (λ w.
+    first_ticks = λ text told goes clear own other sends soon. homed.run_firsts f o m s gcode files files' out r.behind r.kept r.kept' r.told r.runs v short text told r.fresh.at clear own other goes sends soon;
+    no_switch = λ text told goes clear sends. ∥∥₁_map (homed.run_misses f o m s gcode files files' out r.behind r.kept r.kept' r.told r.runs v short text told r.fresh.at clear goes sends) (λ w.
         (w.0, w.1, λ section e. w.2 section (of_no_switch r section e)));
     last_cut = λ text told. run_last f o m s gcode files files' out r.behind r.kept r.kept' r.told r.runs v text told r.fresh.at;
     connect = λ text told board turn e. answering.run_silent f o m s gcode files files' out r.behind r.kept r.kept' r.told r.runs v text told r.fresh.at board turn
@@ -983,7 +983,7 @@ not_begun f o m files files' out out' c shown n = record {
   bytes = (n.written, λ memory write. absurd (memory n.memory));
 }
 
-pub run_planned : {F S : Type 0} (f : Files F) (o : Sink S) (m : Machine) (s : Scene) (gcode : List ℕ) (files files' : F) (out out' : S) (e : Ended) → IsValidMachine m
+pub run_planned : {F S : Type 0} (f : Files F) (o : Sink S) (m : Machine) (s : Scene) (gcode : List ℕ) (files files' : F) (out out' : S) (e : Ended) → IsValidMachine m → HaveShortDictionaries m
     → EndsOver f o m s gcode files files' out out' e → ShowsRun f o m s gcode files files' out out' e.cause e.report
-run_planned f o m s gcode files files' out out' e v (inl r) = inl (files, (λ name. refl), planned f o m s gcode files files' out out' e.cause e.report.lines e.report.counts e.report.links.items v r)
-run_planned f o m s gcode files files' out out' e v (inr n) = inr (inl (not_begun f o m files files' out out' e.cause e.report n))
+run_planned f o m s gcode files files' out out' e v short (inl r) = inl (files, (λ name. refl), planned f o m s gcode files files' out out' e.cause e.report.lines e.report.counts e.report.links.items v short r)
+run_planned f o m s gcode files files' out out' e v short (inr n) = inr (inl (not_begun f o m files files' out out' e.cause e.report n))

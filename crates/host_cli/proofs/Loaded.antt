@@ -1,6 +1,10 @@
 -- The summary of a run of a load.
-use Rattle.std.proofs.Common.{◌≡◌, ◌≢◌, ◌⊎◌, ◌∙◌, ℕ, List, Option, Some, inl, inr, ap, refl, subst, sym, arith}
-use Rattle.generated_load.specs.Printer.{load_machine}
+use Rattle.std.proofs.Common.{◌≡◌, ◌≢◌, ◌⊎◌, ◌∙◌, ℕ, zero, suc, List, Option, Some, inl, inr, ap, refl, subst, sym, arith}
+use Rattle.board_sim.specs.Board.{new_controller}
+use Rattle.cause_runs.specs.Short.{HaveShortDictionaries}
+use Rattle.cause_runs.proofs.DictionaryText.{AreShort, short_text}
+use Rattle.json.specs.Print.{escape_byte}
+use Rattle.generated_load.specs.Printer.{load_board, load_machine}
 use Rattle.generated_load.specs.Text.{load_text}
 use Rattle.io_core.specs.declared.traits.Files.{Ghosts as Files}
 use Rattle.io_core.specs.declared.traits.Sink.{Ghosts as Sink}
@@ -22,6 +26,19 @@ use Rattle.host_cli.proofs.Whole.{end-shown, given-for}
 use Rattle.host_cli.specs.Counts.{summary}
 use Rattle.host_cli.specs.Loads.{AreCounts, IsLoadAnswer, ShowsLoad}
 
+-- the printer's dictionary is short
+load_pins : AreShort load_board.pins
+unfolding escape_byte
+load_pins = (omega arith, (omega arith, (omega arith, (omega arith, (omega arith, (omega arith, (omega arith, (omega arith, (omega arith, (omega arith, (omega arith, tt)))))))))))
+
+load_dictionaries : HaveShortDictionaries load_machine
+unfolding new_controller
+load_dictionaries zero below = short_text load_board (omega arith) (omega arith) load_pins
+load_dictionaries (suc b) below = absurd (omega (arith, below))
+
+load_short : (m : Machine) → m ≡ load_machine → HaveShortDictionaries m
+load_short m is = subst (λ (x : Machine). HaveShortDictionaries x) (sym is) load_dictionaries
+
 pub load-summary : {F S : Type 0} (f : Files F) (o : Sink S) (seed moves : ℕ) (m : Machine) (s : Scene) (name : List ℕ) (files files' : F) (out out' : S) (e : Ended) (shown : List ReportLine)
     → m ≡ load_machine → IsValidMachine m → s ≡ no_scene → f.told files name ≡ Some (load_text seed moves) → e.cause ≢ cause.Memory → shown ≡ summary seed moves e.report.counts e.cause
     → EndsOver f o m s name files files' out out' e → IsLoadAnswer f o seed moves (record { cause = e.cause; machine = m; report = record { lines = shown; counts = e.report.counts; links = e.report.links } })
@@ -36,7 +53,7 @@ load-summary f o seed moves m s name files files' out out' e shown is valid none
     told = told;
     lines = e.report.lines;
     run = subst (λ (x : Machine × Scene). IsLinkReport f o x.0 x.1 name files files' out out' e.cause e.report.lines e.report.counts e.report.links.items) (λ i. (is i, none i))
-        (planned f o m s name files files' out out' e.cause e.report.lines e.report.counts e.report.links.items valid r);
+        (planned f o m s name files files' out out' e.cause e.report.lines e.report.counts e.report.links.items valid (load_short m is) r);
   };
   lines = shows;
 }

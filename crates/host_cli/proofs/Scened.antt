@@ -169,6 +169,9 @@ machine-unwritten told c (inr (inr x)) w = let y = sym w ∙ x in cc
 pub one-machine : (printer : List ℕ) (x m : Machine) → reading printer ≡ Ok x → reading printer ≡ Ok m → x ≡ m
 one-machine printer x m e h = let q = sym e ∙ h in cc
 
+pub one-scene : (m : Machine) (text : List ℕ) (x s : Scene) → scenes.reading m text ≡ Ok x → scenes.reading m text ≡ Ok s → x ≡ s
+one-scene m text x s e h = let q = sym e ∙ h in cc
+
 -- a scene in which nothing stands
 pub empty-scene : (s : Scene) → s.entries ≡ [] → s.switches ≡ [] → s ≡ no_scene
 empty-scene s entries switches = λ i. record { entries = entries i; switches = switches i }

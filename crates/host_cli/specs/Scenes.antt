@@ -29,11 +29,10 @@ use Rattle.session_laws.specs.run_lines.Due.{BoardsHave, StandApart}
 use Rattle.session_laws.specs.home_headline.Little.{AllHomeLittle, ShownHoldLittle}
 use Rattle.session_laws.specs.home_headline.Reading.{ReadsOn}
 use Rattle.session_laws.specs.home_wholes.Own.{AllHearSoon, TellOwn}
-use Rattle.session_laws.specs.clear_homes.Sends.{SendsAllSoon}
 use Rattle.session_laws.specs.clear_homes.Closes.{AllClose, MissesSwitch, TellFirst}
 use Rattle.session_laws.specs.clear_homes.First.{IsFirstExpired}
 use Rattle.session_laws.specs.run_causes.Unanswered.{GaveNoAnswer, IsStaleSince}
-use Rattle.session_laws.specs.clear_runs.Clear.{SendsInTime}
+use Rattle.session_laws.specs.clear_runs.Clear.{SendsAllSoon}
 use Rattle.host_cli.specs.Body.{cause_of}
 use Rattle.host_cli.specs.Headline.{moves_of}
 use Rattle.host_cli.specs.Homes.{ShowsBegun, ShowsFront, ShowsHomes}
@@ -90,8 +89,8 @@ pub record ShowsText (m : Machine) (text : List ℕ) (c : Cause) (said : List Re
 -- ends for a cause of its own) and each board takes the set-up of a homing section in time. Where moreover what a board's trigger does in a homing
 -- section is heard of within half a round (`AllHearSoon`), the tick that a turn tells of a switch is one at which this very section's readings are
 -- complete (`TellOwn`). What suffices for these
--- premises in a scene without entries is said by laws (`clear_links_hold_nothing_long`, `clear_scenes_hold_little`). Completeness: in a scene without entries, and where no line asks for a stop, a run of moves whose units are all sent in time ends as the reading of its text
--- does, but for want of memory and for faults of files and output; and so does one of any text whose units are sent so (`SendsAllSoon`), or a switch
+-- premises in a scene without entries is said by laws (`clear_links_hold_nothing_long`, `clear_scenes_hold_little`). Completeness: in a scene without entries, and where no line asks for a stop, a run of moves whose units are all sent soon (`SendsAllSoon`) ends as the reading
+-- of its text does, but for want of memory and for faults of files and output; and so does one of any text whose units are sent so, or a switch
 -- never closed; where each section's switch closes in time (`AllClose`) there is no such exception, each line of a switch is of the first tick at which
 -- it closes (`TellFirst`), and where a run ends since no switch closed, none did in time (`MissesSwitch`). Causes: a run ends for a board that gives no
 -- answer, or whose clock line is too old, only where its askings in a row were hindered on its link (`GaveNoAnswer`, `IsStaleSince`), and for a board
@@ -115,7 +114,7 @@ pub record IsLinkReport {F S : Type 0} (f : Files F) (o : Sink S) (m : Machine) 
       AllHomeLittle m s text reported.runs.runs.0 (reported.runs.runs.1 ++ reported.runs.runs.2 ∷ []) → AllHearSoon m s text reported.runs.runs.0 (reported.runs.runs.1 ++ reported.runs.runs.2 ∷ []) →
       ∥ TellOwn m s.switches [] reported.runs.runs.1 ∥₁
   pub complete : (text : List ℕ) → f.told files gcode ≡ Some text → AreOfMoves (sections_over m text) → ((line : ℕ) → (program_end m text).stop ≡ read.Stop line → ⊥) → s.entries ≡ [] →
-      SendsInTime m text reported.runs.runs.0 → IsCauseOf (cause_of (program_end m text).stop) c
+      SendsAllSoon m text reported.runs.runs.0 → IsCauseOf (cause_of (program_end m text).stop) c
   pub complete_homes : (text : List ℕ) → f.told files gcode ≡ Some text → ((line : ℕ) → (program_end m text).stop ≡ read.Stop line → ⊥) → s.entries ≡ [] → SendsAllSoon m text reported.runs.runs.0 →
       IsCauseOf (cause_of (program_end m text).stop) c ⊎ ((section : ℕ) × (c ≡ cause.NoSwitch section))
   pub complete_switches : (text : List ℕ) → f.told files gcode ≡ Some text → ((line : ℕ) → (program_end m text).stop ≡ read.Stop line → ⊥) → s.entries ≡ [] → SendsAllSoon m text reported.runs.runs.0 → AllClose m s text reported.runs.runs.0 →

@@ -233,7 +233,7 @@ all-rise : (m : Machine) (ns : List NoteNews) (r : Known) → HomingRises r.homi
 all-rise m [] r h = h
 all-rise m (n ∷ ns) r h = all-rise m ns (told m r n) (told-rises m r n h)
 
-noted-rises : (m : Machine) (note : Option Note) (r : Known) → HomingRises r.homing → HomingRises (noted m note r).homing
+pub noted-rises : (m : Machine) (note : Option Note) (r : Known) → HomingRises r.homing → HomingRises (noted m note r).homing
 noted-rises m None r h = h
 noted-rises m (Some note) r h = all-rise m note.news r h
 
@@ -242,7 +242,7 @@ turn-fits m switches r k states note v h =
     let s = noted m note r in
     ended (first_cause (is_out note) s.stopped states) m switches s k states (first_lines m s k (news_of note) states) v (noted-rises m note r h)
 
-run-rises : (m : Machine) (switches : List Switch) (came : List Came) → IsValidMachine m → HomingRises (known_by m switches came).homing
+pub run-rises : (m : Machine) (switches : List Switch) (came : List Came) → IsValidMachine m → HomingRises (known_by m switches came).homing
 run-rises m switches [] v = tt
 run-rises m switches (c ∷ before) v = (turn-fits m switches (known_by m switches before) (length before) c.states c.note v (run-rises m switches before v)).rises
 

@@ -9,3 +9,5 @@ pub mod Connects
 pub mod Fitting
 pub mod Rowing
 pub mod Blames
+pub mod Homes
+pub mod Roomy

@@ -8,3 +8,4 @@ pub mod Calm
 pub mod Laws
 pub mod Runs
 pub mod Rows
+pub mod Room

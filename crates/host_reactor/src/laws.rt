@@ -21,6 +21,7 @@ ghost use Rattle.host_reactor.specs.Laws.{AskOnce, FitIn};
 ghost use Rattle.plan_types.specs.Machines.{IsValidMachine};
 ghost use Rattle.board_asking.specs.Machine.{configuration};
 ghost use Rattle.board_asking.specs.Turns.{AreUnanswered, OnceConfigured};
+ghost use Rattle.host_reactor.specs.Room.{BeginFar, HaveRoom};
 ghost use Rattle.host_reactor.specs.Runs.{Came, known_by, last_turn, GoesOn, HaveStates, told_by};
 
 /// The law of askings: whatever states and notes come, a control asks its board for the clock at most once.
@@ -87,6 +88,12 @@ pub fn controls_fit()
         ((line : ℕ) → (last_turn m switches c before).known.phase ≡ Stopping line → ⊥) → FitIn 42 (last_turn m switches c before).ordered.controls }
     ensures all { (m : Machine) (switches : List Switch) (c : Came) (before : List Came) → IsValidMachine m →
         FitIn 43 (last_turn m switches c before).ordered.controls }
+{}
+
+/// The law of spare room: in any run whose notes begin sections 255 turns before their start or earlier, of any three turns in a row
+/// one leaves room for an asking of a board's clock beside the orders for homing.
+pub fn turns_leave_room()
+    ensures { (m : Machine) (switches : List Switch) (b : ℕ) (came : List Came) → IsValidMachine m → BeginFar came → HaveRoom m switches b came }
 {}
 
 /// The law of rows: each turn orders one control for each board and one word, all of that turn, which say whether it ends the

@@ -15,7 +15,7 @@ mod running;
 
 pub use laws::{
     asks_once, connects_in_a_run, controls_fit, ends_as_told, ends_in_order, free_turns_are_rest,
-    orders_stand_in_rows, rests,
+    orders_stand_in_rows, rests, turns_leave_room,
 };
 pub use ordered::{Begun, Known, Ordered, Phase, Reading};
 pub use reactor::Reactor;

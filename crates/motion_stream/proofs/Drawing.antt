@@ -128,8 +128,15 @@ later_easy turn free ready None (items.End ∷ its) le lf = tt
 later_easy turn free ready (Some e) (items.End ∷ its) le lf = tt
 
 -- what waits to be taken up, where the lines are the same
-pub uptake_kept : (old new : BoardLines) (free later : ℕ) (heard : List BoardLine) → new ≡ old → later ≡ free → IsUptake old free heard → IsUptake new later heard
-uptake_kept old new free later heard same at u = subst (λ n. IsUptake new n heard) (sym at) (subst (λ (x : BoardLines). IsUptake x free heard) (sym same) u)
+pub uptake_kept : (old new : Course) (free later : ℕ) (fresh : List BoardLine) → new.connected ≡ old.connected → new.lines ≡ old.lines → later ≡ free → IsUptake old free fresh → IsUptake new later fresh
+uptake_kept old new free later fresh on same at u = record {
+  waiting = ap (λ x. x.waiting.items) same ∙ u.waiting;
+  none = λ off. u.none (sym on ∙ off);
+  held =
+      let Held_by : BoardLines → Type 0 = λ x. (b : ℕ) → b < length x.each.items → AreHeldBy (free + 16) (clocks_at x.each.items b).held in
+      let Until : ℕ → Type 0 = λ n. (b : ℕ) → b < length new.lines.each.items → AreHeldBy (n + 16) (clocks_at new.lines.each.items b).held in
+      subst Until (sym at) (subst Held_by (sym same) u.held);
+}
 
 -- the lines that were taken up hold by later turns
 pub held_later : (a b : ℕ) (held : List Held) → a ≤ b → AreHeldBy a held → AreHeldBy b held
@@ -151,7 +158,7 @@ fed_on m c seen k at fed h =
       few = omega (arith, few, at);
       going = h.going;
       early = by c.current refl (subst (λ n. IsEarly c.current (n + 260) (n + 260) c) at h.early);
-      uptake = record { waiting = h.uptake.waiting; held = λ b lt. held_later (c.next + 260 + 16) (k + 261 + 16) (clocks_at c.lines.each.items b).held (omega (arith, at)) (h.uptake.held b lt) };
+      uptake = record { waiting = h.uptake.waiting; none = h.uptake.none; held = λ b lt. held_later (c.next + 260 + 16) (k + 261 + 16) (clocks_at c.lines.each.items b).held (omega (arith, at)) (h.uptake.held b lt) };
     }
   where
     by : (o : Open) → c.current ≡ o → IsEarly o (k + 260) (k + 260) c → IsEarly o (k + 260) (k + 261) c
@@ -160,7 +167,7 @@ fed_on m c seen k at fed h =
 
 -- what was seen behind a turn
 abbrev pub behind : Seen → List Started → Option Going → Seen
-behind seen begun going = record { text = seen.text; ended = seen.ended; read = seen.read; told = seen.told; lines = seen.lines; next = seen.next + 1; begun = begun; going = going }
+behind seen begun going = record { text = seen.text; ended = seen.ended; read = seen.read; told = seen.told; fresh = seen.fresh; next = seen.next + 1; begun = begun; going = going }
 
 pub course_on : (m : Machine) (old new : Course) (seen : Seen) (begun : List Started) (going : Option Going) (turn free : ℕ) → IsCourseBy m old seen turn free → IsKept old new → new.next ≡ old.next + 1 → old.next < 2 ^ 42
     → items_read begun going ≡ items_read seen.begun seen.going → IsTold m new seen.told begun going → count_of begun going ≡ count_of seen.begun seen.going → IsGoing m new.current new seen.told begun going → IsEarly new.current turn free new
@@ -179,7 +186,7 @@ course_on m old new seen begun going turn free h kept next small same told count
       few = omega (arith, place, p);
       going = goes;
       early = early;
-      uptake = uptake_kept old.lines new.lines free free seen.lines kept.lines refl h.uptake;
+      uptake = uptake_kept old new free free seen.fresh kept.connected kept.lines refl h.uptake;
     }
 
 -- the same sections go on
@@ -206,7 +213,7 @@ idle_passed m old new seen k batches done h nothing after kept ready goes next a
         ended = refl;
         read = refl;
         told = refl;
-        lines = refl;
+        fresh = refl;
         next = refl;
         sections = same_go k seen.begun seen.going;
         whole = λ all w. back seen.going none all w;

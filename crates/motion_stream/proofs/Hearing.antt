@@ -1,16 +1,15 @@
 -- What a machine takes: pieces of the text, and words.
-use Rattle.std.proofs.Common.{◌≡◌, ◌⊎◌, ℕ, ◌+◌, ◌*◌, ◌<◌, ◌≤◌, ◌^◌, Bool, true, false, not, map, max, List, [], ◌∷◌, ◌++◌, append-nil, append_assoc, length, length-append, refl, ap, sym, subst, ◌∙◌, arith, inl, inr}
+use Rattle.std.proofs.Common.{◌≡◌, ℕ, ◌+◌, ◌*◌, ◌<◌, ◌≤◌, ◌^◌, Bool, true, false, not, map, max, List, [], ◌∷◌, ◌++◌, append-nil, append_assoc, length, length-append, refl, ap, sym, subst, ◌∙◌, arith, inl, inr}
 use Rattle.std.proofs.Math.Logic.{∥∥₁_elim, ∥∥₁_map, ∥∥₁_prop}
 use Rattle.std.proofs.lemmas.Grind.{merely}
 use Rattle.std.proofs.lemmas.Bool.Decides.{leb_tells}
-use Rattle.std.proofs.lemmas.List.Elements.{All-append, All-cons, All-nil}
+use Rattle.std.proofs.lemmas.List.Elements.{All-cons, All-nil}
 use Rattle.std.specs.Prelude.{◌&&◌, nat_le, All, Option, Some, None, if◌then◌else◌, slice_index_or}
 use Rattle.gcode_program.specs.declared.items.Item.{Item}
 use Rattle.gcode_program.specs.declared.items.Item.TheVariants as items
 use Rattle.gcode_program.specs.Items.{ending, items_of, moves_in}
 use Rattle.msg_code.specs.declared.talk.WordMsg.{WordMsg}
 use Rattle.plan_types.specs.declared.machine.Machine.{Machine}
-use Rattle.plan_types.specs.declared.plan.Line.{Line}
 use Rattle.plan_types.specs.declared.plan.Move.{Move}
 use Rattle.plan_types.specs.declared.plan.ReadEnd.{ReadEnd}
 use Rattle.section_feed.specs.declared.board.BoardStream.{BoardStream}
@@ -54,7 +53,7 @@ use Rattle.motion_stream.proofs.ByKind.{all_of, answered_board, answered_items, 
 use Rattle.motion_stream.proofs.Laid.{laid_later, laid_more}
 use Rattle.motion_stream.specs.Courses.{AreLaid, AreAhead, HomesOn, IsConnected, IsCourseBy, IsCourseOf, IsEarly, IsGoing, IsGoingOn, IsIdle, IsLater, IsTold, IsUptake, row_at}
 use Rattle.motion_stream.specs.Gone.{HasHeardBy}
-use Rattle.motion_stream.specs.Motions.{IsLonger, IsMore, answered, begun_with, going_with, hears_answer, read_on, waits_by, with_answer, with_further, with_lines}
+use Rattle.motion_stream.specs.Motions.{IsLonger, IsMore, answered, begun_with, going_with, hears_answer, lines_kept, read_on, waits_by, with_answer, with_further, with_lines}
 use Rattle.motion_stream.specs.Seen.{Going, Seen, count_of, homes_by, items_read, sections_in}
 use Rattle.motion_stream.specs.Texts.{HasGrown, IsSourceOf, ended_after, text_after}
 use Rattle.motion_stream.proofs.Drawing.{boards_in_all, later_easy, units_snoc, uptake_kept}
@@ -159,7 +158,7 @@ text_passed m old new seen bytes end b goes reads early h =
         few = omega (arith, few, p, n);
         going = goes h.going;
         early = early h.early;
-        uptake = uptake_kept old.lines new.lines (old.next + 260) (new.next + 260) seen.lines b.lines (let e = b.next in omega (arith, e)) h.uptake;
+        uptake = uptake_kept old new (old.next + 260) (new.next + 260) seen.fresh b.connected b.lines (let e = b.next in omega (arith, e)) h.uptake;
       },
     )
 
@@ -254,7 +253,7 @@ text_heard m old mid new s later homes seen bytes end b was now reads reader sto
             few = few;
             going = subst (λ o. IsGoing m o new seen.told seen.begun seen.going) (sym now) (subst (λ x. IsGoingOn m x homes new seen.told seen.begun seen.going) (sym same.0) (going_beside m s homes old new seen.told seen.begun seen.going b i));
             early = subst (λ o. IsEarly o (new.next + 260) (new.next + 260) new) (sym now) tt;
-            uptake = uptake_kept old.lines new.lines (old.next + 260) (new.next + 260) seen.lines b.lines (let e = b.next in omega (arith, e)) h.uptake;
+            uptake = uptake_kept old new (old.next + 260) (new.next + 260) seen.fresh b.connected b.lines (let e = b.next in omega (arith, e)) h.uptake;
           },
         )
     by_taking true t taken i =
@@ -297,7 +296,7 @@ text_heard m old mid new s later homes seen bytes end b was now reads reader sto
               ahead = subst (λ a. AreAhead m a.items new.next seen.begun) (sym b.ahead) (subst (λ z. AreAhead m old.ahead.items z seen.begun) (sym b.next) i.ahead);
             });
             early = subst (λ o. IsEarly o (new.next + 260) (new.next + 260) new) (sym now) tt;
-            uptake = uptake_kept old.lines new.lines (old.next + 260) (new.next + 260) seen.lines b.lines (let e = b.next in omega (arith, e)) h.uptake;
+            uptake = uptake_kept old new (old.next + 260) (new.next + 260) seen.fresh b.connected b.lines (let e = b.next in omega (arith, e)) h.uptake;
           },
         )
 
@@ -306,7 +305,7 @@ heard_known : (m : Machine) (next : ℕ) (w : WordMsg) (told : Option Told) (c :
 heard_known m next w None c begun going on h = absurd (clash (sym on ∙ h.0))
 heard_known m next w (Some t) c begun going on h = refl
 
-with_told : (m : Machine) (c : Course) (seen : Seen) (told : Option Told) → told ≡ seen.told → IsCourseOf m c seen → IsCourseOf m c (record { text = seen.text; ended = seen.ended; read = seen.read; told = told; lines = seen.lines; next = seen.next; begun = seen.begun; going = seen.going })
+with_told : (m : Machine) (c : Course) (seen : Seen) (told : Option Told) → told ≡ seen.told → IsCourseOf m c seen → IsCourseOf m c (record { text = seen.text; ended = seen.ended; read = seen.read; told = told; fresh = seen.fresh; next = seen.next; begun = seen.begun; going = seen.going })
 with_told m c seen told e h = record {
   machine = h.machine;
   source = h.source;
@@ -380,14 +379,15 @@ lines_told m old new seen w off told waiting ready on source read place goes cur
       going = subst (λ o. IsGoing m o new (heard m seen.next w seen.told) seen.begun seen.going) (sym current) (idle_going m old.current old new seen.told (heard m seen.next w seen.told) seen.begun seen.going u.1 u.2 (sym goes) (sym next) (sym ahead) h.going);
       early = any_early new.current (new.next + 260) new (omega (arith, ready, next));
       uptake = record {
-        waiting = subst (λ (ls : List BoardLine). All (λ (x : BoardLine). WasHeard x.board x.line seen.lines) ls) (sym (ap (λ v. v.items) waiting)) h.uptake.waiting;
+        waiting = ap (λ v. v.items) waiting ∙ h.uptake.waiting;
+        none = λ no. absurd (clash (sym on ∙ no));
         held = λ b lt. subst (λ (hs : List Held). AreHeldBy (new.next + 260 + 16) hs) (sym (are.1.alone b (let count = are.1.count in omega (arith, lt, count)))) tt;
       };
     }
 
 -- an answer
 abbrev with_ended : Seen → Option Started → Seen
-with_ended seen o = record { text = seen.text; ended = seen.ended; read = seen.read; told = seen.told; lines = seen.lines; next = seen.next; begun = begun_with seen.begun o; going = going_with seen.going o }
+with_ended seen o = record { text = seen.text; ended = seen.ended; read = seen.read; told = seen.told; fresh = seen.fresh; next = seen.next; begun = begun_with seen.begun o; going = going_with seen.going o }
 
 both : (a b : Bool) → (a && b) ≡ true → (a ≡ true) × (b ≡ true)
 both true b e = (refl, e)
@@ -461,7 +461,7 @@ answer_told m s old new seen i began small nothing goes ready on lines source re
         };
       });
       early = subst (λ o. IsEarly o (new.next + 260) (new.next + 260) new) (sym nothing) (λ c. later_easy (new.next + 260) (new.next + 260) new.ready new.source.end new.source.items.items (omega (arith, ready, next)) (omega (arith, ready, next)));
-      uptake = uptake_kept old.lines new.lines (old.next + 260) (new.next + 260) seen.lines lines (omega (arith, next)) h.uptake;
+      uptake = uptake_kept old new (old.next + 260) (new.next + 260) seen.fresh on lines (omega (arith, next)) h.uptake;
     }
   where
     told_by : (told : Option Told) → told ≡ Some i.t → HomesOn m i.t.clocks i.g → homes_by i.g.kind ≡ true → i.g.start ≤ seen.next → seen.next < no_end → IsTold m old told seen.begun seen.going → IsTold m new told (seen.begun ++ answered m seen.next i.g ∷ []) None
@@ -565,9 +565,9 @@ early_lined : (o : Open) (turn free : ℕ) (old : Course) (lines : BoardLines) �
 early_lined opens.Nothing turn free old lines e = e
 early_lined (opens.Goes s homes) turn free old lines e = e
 
-pub course_lined : (m : Machine) (old : Course) (lines : BoardLines) (seen : Seen) (turn free : ℕ) (heard : List BoardLine) → lines.each ≡ old.lines.each → IsUptake lines free heard → IsCourseBy m old seen turn free
-    → IsCourseBy m (record old { lines = lines }) (record { text = seen.text; ended = seen.ended; read = seen.read; told = seen.told; lines = heard; next = seen.next; begun = seen.begun; going = seen.going }) turn free
-course_lined m old lines seen turn free heard each uptake h = record {
+pub course_lined : (m : Machine) (old : Course) (lines : BoardLines) (seen : Seen) (turn free : ℕ) (more : List BoardLine) → lines.each ≡ old.lines.each → IsUptake (record old { lines = lines }) free more → IsCourseBy m old seen turn free
+    → IsCourseBy m (record old { lines = lines }) (record { text = seen.text; ended = seen.ended; read = seen.read; told = seen.told; fresh = more; next = seen.next; begun = seen.begun; going = seen.going }) turn free
+course_lined m old lines seen turn free more each uptake h = record {
   machine = h.machine;
   source = h.source;
   read = h.read;
@@ -581,48 +581,41 @@ course_lined m old lines seen turn free heard each uptake h = record {
   uptake = uptake;
 }
 
--- what was heard of stays so
-heard_front : (board : ℕ) (line : Line) (xs ys : List BoardLine) → WasHeard board line xs → WasHeard board line (xs ++ ys)
-heard_front board line [] ys h = absurd h
-heard_front board line (x ∷ xs) ys (inl e) = inl e
-heard_front board line (x ∷ xs) ys (inr h) = inr (heard_front board line xs ys h)
-
-heard_back : (board : ℕ) (line : Line) (xs ys : List BoardLine) → WasHeard board line ys → WasHeard board line (xs ++ ys)
-heard_back board line [] ys h = h
-heard_back board line (x ∷ xs) ys h = inr (heard_back board line xs ys h)
-
-abbrev AreKnown : List BoardLine → List BoardLine → Type 0
-AreKnown heard ls = All (λ (x : BoardLine). WasHeard x.board x.line heard) ls
-
-all_front : (heard more ls : List BoardLine) → AreKnown heard ls → AreKnown (heard ++ more) ls
-all_front heard more ls h = λ i d lt. heard_front _ _ heard more (h i d lt)
-
-own_heard : (ls : List BoardLine) → AreKnown ls ls
+-- each of some lines is one of them
+pub own_heard : (ls : List BoardLine) → All (λ (x : BoardLine). WasHeard x.board x.line ls) ls
 own_heard [] = All-nil (λ (x : BoardLine). WasHeard x.board x.line [])
 own_heard (l ∷ ls) =
     let P : BoardLine → Type 0 = λ x. WasHeard x.board x.line (l ∷ ls) in
     All-cons P l ls (inl (refl, refl)) (λ i d lt. inr (own_heard ls i d lt))
 
-all_back : (heard more : List BoardLine) → AreKnown (heard ++ more) more
-all_back heard more = λ i d lt. heard_back _ _ heard more (own_heard more i d lt)
+-- once connecting ended all lines of a word are kept
+kept_on : (m : Machine) (c : Course) (told : Option Told) (begun : List Started) (going : Option Going) (ls : List BoardLine) → c.connected ≡ true → IsTold m c told begun going → lines_kept told ls ≡ ls
+kept_on m c None begun going ls on h = absurd (clash (sym on ∙ h.0))
+kept_on m c (Some t) begun going ls on h = refl
 
--- one more line that was heard of
-pub also_heard : (m : Machine) (c : Course) (seen : Seen) (turn free : ℕ) (more : List BoardLine) → IsCourseBy m c seen turn free
-    → IsCourseBy m c (record { text = seen.text; ended = seen.ended; read = seen.read; told = seen.told; lines = seen.lines ++ more; next = seen.next; begun = seen.begun; going = seen.going }) turn free
-also_heard m c seen turn free more h = course_lined m c c.lines seen turn free (seen.lines ++ more) refl (record { waiting = all_front seen.lines more c.lines.waiting.items h.uptake.waiting; held = h.uptake.held }) h
+-- before it none is
+kept_off : (m : Machine) (c : Course) (told : Option Told) (begun : List Started) (going : Option Going) (ls : List BoardLine) → c.connected ≡ false → IsTold m c told begun going → lines_kept told ls ≡ []
+kept_off m c None begun going ls off h = refl
+kept_off m c (Some t) begun going ls off h = absurd (clash (sym h.connected ∙ off))
 
 -- further lines that a word tells
-pub further_kept : (m : Machine) (old : Course) (lines : BoardLines) (seen : Seen) (w : WordMsg) → lines.each ≡ old.lines.each → lines.waiting.items ≡ old.lines.waiting.items ++ lines_in w.news → IsCourseOf m old seen → IsCourseOf m (record old { lines = lines }) (with_further seen w)
-further_kept m old lines seen w each are h =
-    let heard = seen.lines ++ lines_in w.news in
-    course_lined m old lines seen (old.next + 260) (old.next + 260) heard each (record {
-      waiting = subst (AreKnown heard) (sym are) (All-append (λ (x : BoardLine). WasHeard x.board x.line heard) old.lines.waiting.items (lines_in w.news) (all_front seen.lines (lines_in w.news) old.lines.waiting.items h.uptake.waiting) (all_back seen.lines (lines_in w.news)));
+pub further_kept : (m : Machine) (old : Course) (lines : BoardLines) (seen : Seen) (w : WordMsg) → old.connected ≡ true → lines.each ≡ old.lines.each → lines.waiting.items ≡ old.lines.waiting.items ++ lines_in w.news → IsCourseOf m old seen
+    → IsCourseOf m (record old { lines = lines }) (with_further seen w)
+further_kept m old lines seen w on each are h =
+    let same = kept_on m old seen.told seen.begun seen.going (lines_in w.news) on h.told in
+    course_lined m old lines seen (old.next + 260) (old.next + 260) (seen.fresh ++ lines_kept seen.told (lines_in w.news)) each (record {
+      waiting = are ∙ ap (λ ls. ls ++ lines_in w.news) h.uptake.waiting ∙ ap (λ ls. seen.fresh ++ ls) (sym same);
+      none = λ off. absurd (clash (sym on ∙ off));
       held = subst (λ (cs : List Clocks). (b : ℕ) → b < length cs → AreHeldBy (old.next + 260 + 16) (clocks_at cs b).held) (sym (ap (λ v. v.items) each)) h.uptake.held;
     }) h
 
 -- none is kept
-pub further_none : (m : Machine) (c : Course) (seen : Seen) (w : WordMsg) → IsCourseOf m c seen → IsCourseOf m c (with_further seen w)
-further_none m c seen w h = also_heard m c seen (c.next + 260) (c.next + 260) (lines_in w.news) h
-
-pub last_heard : (heard : List BoardLine) (one : BoardLine) → WasHeard one.board one.line (heard ++ one ∷ [])
-last_heard heard one = heard_back one.board one.line heard (one ∷ []) (inl (refl, refl))
+pub further_none : (m : Machine) (c : Course) (seen : Seen) (w : WordMsg) → c.connected ≡ false → IsCourseOf m c seen → IsCourseOf m c (with_further seen w)
+further_none m c seen w off h =
+    let more = lines_in w.news in
+    let same : seen.fresh ≡ seen.fresh ++ lines_kept seen.told more = sym (append-nil seen.fresh) ∙ ap (λ ls. seen.fresh ++ ls) (sym (kept_off m c seen.told seen.begun seen.going more off h.told)) in
+    course_lined m c c.lines seen (c.next + 260) (c.next + 260) (seen.fresh ++ lines_kept seen.told more) refl (record {
+      waiting = h.uptake.waiting ∙ same;
+      none = λ no. sym same ∙ h.uptake.none no;
+      held = h.uptake.held;
+    }) h

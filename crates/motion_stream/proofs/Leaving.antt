@@ -12,8 +12,7 @@ use Rattle.section_feed.specs.Boards.{MayTake}
 use Rattle.section_feed.specs.Lined.{line_at}
 use Rattle.section_feed.proofs.Staying.{other-line}
 use Rattle.motion_work.specs.declared.told.BoardLine.{BoardLine}
-use Rattle.motion_stream.specs.declared.course.Course.{Course}
-use Rattle.motion_stream.specs.Uptakes.{IsNotLost, LeavesNone, TakesMore, TellsOf}
+use Rattle.motion_stream.specs.Uptakes.{IsNotLost, TakesMore, TellsOf}
 
 -- what some news tell, more of them tell
 pub tells_front : (b : ℕ) (xs ys : List NoteNews) → TellsOf b xs → TellsOf b (xs ++ ys)
@@ -81,7 +80,7 @@ each_left m old mid new k one two three waiting e some a c last front =
     (λ low may. c.stay (get_or waiting (length waiting - 1) e).board (last low may))
 
 -- so where more is told before it
-pub leaves_behind : (m : Machine) (c : Course) (k : ℕ) (further told xs ys zs : List NoteNews) → told ≡ xs ++ (ys ++ (zs ++ further)) → LeavesNone m c k further → LeavesNone m c k told
-leaves_behind m c k further told xs ys zs is none = λ may i d lt low one.
-    let b = (get_or c.lines.waiting.items i d).board in
-    subst (TellsOf b) (sym is) (tells_back b xs (ys ++ (zs ++ further)) (tells_back b ys (zs ++ further) (tells_back b zs further (none may i d lt low one))))
+pub leaves_behind : (m : Machine) (clocks : List Clocks) (k : ℕ) (further told xs ys zs : List NoteNews) (lines : List BoardLine) → told ≡ xs ++ (ys ++ (zs ++ further)) → All (IsNotLost m clocks k further) lines → All (IsNotLost m clocks k told) lines
+leaves_behind m clocks k further told xs ys zs lines is none = λ i d lt low one.
+    let b = (get_or lines i d).board in
+    subst (TellsOf b) (sym is) (tells_back b xs (ys ++ (zs ++ further)) (tells_back b ys (zs ++ further) (tells_back b zs further (none i d lt low one))))

@@ -1,5 +1,5 @@
 -- A section that is begun.
-use Rattle.std.proofs.Common.{◌≡◌, ℕ, zero, suc, ◌+◌, ◌*◌, ◌<◌, ◌≤◌, ◌^◌, Bool, true, false, not, max, List, [], ◌∷◌, ◌++◌, length, map, append-nil, append_assoc, refl, ap, sym, subst, ◌∙◌, arith, inl, inr}
+use Rattle.std.proofs.Common.{◌≡◌, ℕ, zero, suc, ◌+◌, ◌*◌, ◌<◌, ◌≤◌, ◌^◌, Bool, true, false, not, List, [], ◌∷◌, ◌++◌, length, map, append-nil, append_assoc, refl, ap, sym, subst, ◌∙◌, arith, inl, inr}
 use Rattle.std.specs.Prelude.{◌-◌, ◌/◌, All, Option, Some, None}
 use Rattle.gcode_program.specs.declared.items.Item.{Item}
 use Rattle.gcode_program.specs.declared.items.Item.TheVariants as items
@@ -37,14 +37,13 @@ use Rattle.section_stream.specs.Apart.{AreApart}
 use Rattle.section_feed.specs.Boards.{IsLasting}
 use Rattle.section_feed.proofs.Lasts.{kept-lasting, last-soon, lines-small}
 use Rattle.motion_work.proofs.Turning.{clocks_later, end_after, ready_more}
-use Rattle.motion_stream.specs.declared.course.BoardLines.{BoardLines}
 use Rattle.motion_stream.specs.declared.course.Course.{Course}
 use Rattle.motion_stream.specs.declared.course.Open.{Open}
 use Rattle.motion_stream.specs.declared.course.Open.TheVariants as opens
 use Rattle.motion_stream.specs.declared.source.Source.{Source}
-use Rattle.motion_stream.proofs.Drawing.{same_go, some_same}
+use Rattle.motion_stream.proofs.Drawing.{same_go, some_same, uptake_kept}
 use Rattle.motion_stream.proofs.Laid.{laid_later}
-use Rattle.motion_stream.specs.Courses.{AreAhead, GoesAs, IsConnected, IsCourseBy, IsCourseOf, IsEarly, IsGoing, IsIdle, IsLater, IsTold, IsUptake}
+use Rattle.motion_stream.specs.Courses.{AreAhead, GoesAs, IsConnected, IsCourseBy, IsCourseOf, IsEarly, IsGoing, IsIdle, IsLater, IsTold}
 use Rattle.motion_stream.specs.Gone.{HasOpened, TellsAs}
 use Rattle.motion_stream.specs.Seen.{AreWhole, Going, Seen, count_of, homes_by, items_read, sections_in}
 use Rattle.motion_stream.proofs.ByKind.{starts_late}
@@ -117,7 +116,7 @@ due_in m c seen k start dwell kind rest h next nothing on its at soon =
 
 -- what was seen, with a section more
 abbrev pub with_begun : Seen → List Started → Option Going → Seen
-with_begun seen begun going = record { text = seen.text; ended = seen.ended; read = seen.read; told = seen.told; lines = seen.lines; next = seen.next; begun = begun; going = going }
+with_begun seen begun going = record { text = seen.text; ended = seen.ended; read = seen.read; told = seen.told; fresh = seen.fresh; next = seen.next; begun = begun; going = going }
 
 -- what changes where a section is begun
 pub record IsOpened (old new : Course) (start : ℕ) : Type 0 where
@@ -185,7 +184,7 @@ section_begun m old new seen k start dwell last moving kind rest s homes n h nex
         ended = refl;
         read = refl;
         told = refl;
-        lines = refl;
+        fresh = refl;
         next = refl;
         sections = record { more = []; are = sym (append-nil seen.begun); moves = tt; goes = λ x e. inl (ap (λ (y : Going). y.start) (some_same x g (sym e)) ∙ exact) };
         grown = λ all w. grown_by seen.told d.told_is all w none seen_next place told exact;
@@ -230,7 +229,7 @@ section_begun m old new seen k start dwell last moving kind rest s homes n h nex
           ahead = subst (λ x. AreAhead m x.items new.next seen.begun) (sym o.ahead) (subst (λ x. AreAhead m old.ahead.items x seen.begun) (sym n') d.idle.ahead);
         });
         early = subst (λ x. IsEarly x (new.next + 260) (new.next + 260) new) (sym current) tt;
-        uptake = subst (λ n. IsUptake new.lines n seen.lines) (let e : k + 261 ≡ new.next + 260 = omega (arith, n', next) in e) (subst (λ (y : BoardLines). IsUptake y (k + 261) seen.lines) (sym o.lines) h.uptake);
+        uptake = uptake_kept old new (k + 261) (new.next + 260) seen.fresh o.connected o.lines (omega (arith, n', next)) h.uptake;
       },
     )
   where
@@ -288,7 +287,7 @@ none_begun m c seen k next due h =
         ended = refl;
         read = refl;
         told = refl;
-        lines = refl;
+        fresh = refl;
         next = refl;
         sections = same_go k seen.begun seen.going;
         grown = λ all w. record { before = all; whole = w; are = inl (refl, refl) };
@@ -304,7 +303,7 @@ none_begun m c seen k next due h =
         few = omega (arith, few, next);
         going = h.going;
         early = subst (λ x. IsEarly c.current x x c) (let e : k + 261 ≡ c.next + 260 = omega (arith, next) in e) (still_early c.current c k due h.early);
-        uptake = subst (λ n. IsUptake c.lines n seen.lines) (let e : k + 261 ≡ c.next + 260 = omega (arith, next) in e) h.uptake;
+        uptake = uptake_kept c c (k + 261) (c.next + 260) seen.fresh refl refl (omega (arith, next)) h.uptake;
       },
     )
 

@@ -1,9 +1,8 @@
 -- A turn of a section whose moves still come.
-use Rattle.std.proofs.Common.{◌≡◌, ℕ, zero, suc, ◌+◌, ◌<◌, ◌≤◌, ◌^◌, Bool, true, false, not, List, [], ◌∷◌, ◌++◌, drop, length, append-nil, length-append, refl, ap, sym, subst, ◌∙◌, arith, inl, inr}
+use Rattle.std.proofs.Common.{◌≡◌, ℕ, zero, suc, ◌+◌, ◌<◌, ◌≤◌, ◌^◌, Bool, true, false, List, [], ◌∷◌, ◌++◌, drop, length, append-nil, length-append, refl, ap, sym, subst, ◌∙◌, arith, inr}
 use Rattle.std.proofs.Math.Logic.{∥∥₁_elim, ∥∥₁_map, ∥∥₁_prop}
 use Rattle.std.proofs.lemmas.List.FromFn.{length-map-range_with_len}
 use Rattle.std.specs.Prelude.{All, Option, Some, None, slice_index_or}
-use Rattle.gcode_program.specs.declared.items.Item.TheVariants as items
 use Rattle.msg_code.specs.declared.unit.Batch.{Batch}
 use Rattle.plan_types.specs.declared.machine.Machine.{Machine}
 use Rattle.plan_types.specs.declared.plan.Move.{Move}
@@ -99,7 +98,7 @@ before_passed m old new s homes seen k batches i h kept ready start next at smal
         ended = refl;
         read = refl;
         told = refl;
-        lines = refl;
+        fresh = refl;
         next = refl;
         sections = same_go k seen.begun seen.going;
         whole = λ all w.
@@ -190,7 +189,7 @@ drawn_passed m old new s later homes own seen k batches i h kept ready start nex
         ended = refl;
         read = refl;
         told = refl;
-        lines = refl;
+        fresh = refl;
         next = refl;
         sections = record { more = []; are = sym (append-nil seen.begun); moves = tt; goes = λ x e. (let same = some_same x g' (sym e) in inr (g, i.is, ap (λ (y : Going). y.kind) same, ap (λ (y : Going). y.start) same)) };
         whole = λ all w.
@@ -313,7 +312,7 @@ ended_passed m old new s later last homes own rows end seen k batches off i h ke
         ended = refl;
         read = refl;
         told = refl;
-        lines = refl;
+        fresh = refl;
         next = refl;
         sections = record { more = x ∷ []; are = refl; moves = (kind, tt); goes = λ y e. absurd (none_some y e) };
         whole = λ all w. is_last m seen.told seen.next seen.begun all seen.going t g i.told_is i.is (record {

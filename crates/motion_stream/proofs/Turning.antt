@@ -15,7 +15,6 @@ use Rattle.plan_types.specs.declared.machine.Machine.{Machine}
 use Rattle.plan_types.specs.declared.plan.Move.{Move}
 use Rattle.plan_types.specs.declared.plan.ReadEnd.{ReadEnd}
 use Rattle.plan_types.specs.declared.plan.Section.{Section}
-use Rattle.plan_types.specs.declared.plan.SectionKind.TheVariants.{Moves}
 use Rattle.plan_types.specs.Sections.{clocks_at}
 use Rattle.plan_types.specs.Lines.{Clocks}
 use Rattle.step_feed.specs.Pacing.{batch_at}
@@ -38,8 +37,9 @@ use Rattle.motion_stream.specs.News.{HasPutAll, IsPlain, begins_in, read_news}
 use Rattle.motion_stream.specs.Puts.{AreGrown, GoesOn, HaveBegun, IsNew}
 use Rattle.motion_stream.specs.Seen.{AreWhole, Going, MayBe, Seen, count_of, items_read, sections_in}
 use Rattle.motion_stream.specs.Steps.{Advances, AreBegun, Begins, IsPassed}
-use Rattle.motion_stream.specs.Uptakes.{TakesUp, lined}
-use Rattle.motion_stream.proofs.Drawing.{boards_in_all, units_snoc, whole_none}
+use Rattle.motion_stream.specs.Uptakes.{TakesUp, emptied, lined}
+use Rattle.motion_stream.proofs.Drawing.{boards_in_all, units_snoc, uptake_kept, whole_none}
+use Rattle.motion_stream.proofs.Leaving.{leaves_behind}
 use Rattle.motion_stream.proofs.Opening.{linked}
 use Rattle.motion_stream.proofs.Rowing.{no_row}
 
@@ -103,8 +103,8 @@ told_known m c seen whole all turn free told end (inl e) h may = subst (λ x. Is
 told_known m c seen whole all turn free told end (inr e) h may = told_read m c seen whole all turn free told end (sym e) h may
 
 -- with how the text was read told
-read_on : (m : Machine) (old new : Course) (seen : Seen) (read : Bool) → new ≡ record old { read = read } → IsCourseOf m old seen → IsCourseOf m new (record { text = seen.text; ended = seen.ended; read = read; told = seen.told; lines = seen.lines; next = seen.next; begun = seen.begun; going = seen.going })
-read_on m old new seen read e h = subst (λ c. IsCourseOf m c (record { text = seen.text; ended = seen.ended; read = read; told = seen.told; lines = seen.lines; next = seen.next; begun = seen.begun; going = seen.going })) (sym e) (record {
+read_on : (m : Machine) (old new : Course) (seen : Seen) (read : Bool) → new ≡ record old { read = read } → IsCourseOf m old seen → IsCourseOf m new (record { text = seen.text; ended = seen.ended; read = read; told = seen.told; fresh = seen.fresh; next = seen.next; begun = seen.begun; going = seen.going })
+read_on m old new seen read e h = subst (λ c. IsCourseOf m c (record { text = seen.text; ended = seen.ended; read = read; told = seen.told; fresh = seen.fresh; next = seen.next; begun = seen.begun; going = seen.going })) (sym e) (record {
   machine = h.machine;
   source = h.source;
   read = refl;
@@ -115,7 +115,7 @@ read_on m old new seen read e h = subst (λ c. IsCourseOf m c (record { text = s
   few = h.few;
   going = going_as old.current h.going;
   early = early_as old.current h.early;
-  uptake = h.uptake;
+  uptake = uptake_kept old (record old { read = read }) (old.next + 260) (old.next + 260) seen.fresh refl refl refl h.uptake;
 })
   where
     told_as : (t : Option Told) → IsTold m old t seen.begun seen.going → IsTold m (record old { read = read }) t seen.begun seen.going
@@ -255,11 +255,10 @@ pub turned : (m : Machine) (old first mid begun new : Course) (k : ℕ) (further
     → note.news ≡ listed done ++ (listed start ++ (listed (read_news begun.read end (begun.place + begins_in begun.source.items.items)) ++ further)) → Turns m old k batches note new
 turned m old first mid begun new k further batches done start note read end known at plain_done plain_start plain_read takes passes begins new_is turn told seen h =
     let u = takes seen h in
-    let from = lined seen further in
-    let a = passes from u.2 in
+    let a = passes (lined (emptied seen) further) u.is in
     let b = begins a.0 a.2 in
     let next = b.0 in
-    let now : Seen = record { text = next.text; ended = next.ended; read = read; told = next.told; lines = next.lines; next = next.next; begun = next.begun; going = next.going } in
+    let now : Seen = record { text = next.text; ended = next.ended; read = read; told = next.told; fresh = next.fresh; next = next.next; begun = next.begun; going = next.going } in
     let p = a.1 in
     let q = b.1 in
     let behind : begun.next ≡ k + 1 = b.2.next ∙ q.next ∙ p.next ∙ ap (λ n. n + 1) (sym h.next ∙ at) in
@@ -272,21 +271,22 @@ turned m old first mid begun new k further batches done start note read end know
         text = q.text ∙ p.text;
         ended = q.ended ∙ p.ended;
         told = q.told ∙ p.told ∙ sym same;
-        lines = q.lines ∙ p.lines;
-        heard = subst (WereHeard seen.lines) (sym told) (heard_plain seen.lines done tail plain_done (heard_plain seen.lines start (r ++ further) plain_start (heard_plain seen.lines (read_news begun.read end (begun.place + begins_in begun.source.items.items)) further plain_read u.1)));
+        fresh = q.fresh ∙ p.fresh;
+        heard = subst (WereHeard seen.fresh) (sym told) (heard_plain seen.fresh done tail plain_done (heard_plain seen.fresh start (r ++ further) plain_start (heard_plain seen.fresh (read_news begun.read end (begun.place + begins_in begun.source.items.items)) further plain_read u.heard)));
+        taken = λ t is. leaves_behind m t.clocks k further note.news (listed done) (listed start) r seen.fresh told (u.taken t is);
         next = q.next ∙ p.next;
         sections = both_go k seen.begun a.0.begun next.begun seen.going a.0.going next.going p.sections q.sections;
         grown = λ all w. grown_by all (q.grown all w) p;
       },
-      λ started whole all may. put_by all whole (q.grown all may.sections) p started u.0 (told_known m begun next whole all (begun.next + 260) (begun.next + 260) begun.read end (elim known [ inl e ↦ inl e | inr e ↦ inr e.0 ]) b.2 (record { text = may.text; sections = may.sections }))
+      λ started whole all may. put_by all whole (q.grown all may.sections) p started u.further_are (told_known m begun next whole all (begun.next + 260) (begun.next + 260) begun.read end (elim known [ inl e ↦ inl e | inr e ↦ inr e.0 ]) b.2 (record { text = may.text; sections = may.sections }))
           (out_known m begun next whole all k (begun.next + 260) (begun.next + 260) begun.read end known b.2 (record { text = may.text; sections = may.sections }) behind),
       read_on m begun new next read new_is b.2,
     )
   where
-    grown_by : {a : Seen} (all : List Started) → AreBegun m a k start all → IsPassed m (lined seen further) a k batches done → AreGrown m seen k all
+    grown_by : {a : Seen} (all : List Started) → AreBegun m a k start all → IsPassed m (lined (emptied seen) further) a k batches done → AreGrown m seen k all
     grown_by all g p = record { old = g.before; whole = whole_lined m further seen.told seen.next seen.begun g.before seen.going (p.whole g.before g.whole); are = elim g.are [ inl e ↦ inl e.0 | inr e ↦ inr (e.0, e.1, e.2.new) ] }
 
-    put_by : {a : Seen} (all : List Started) (whole : List ℕ) → AreBegun m a k start all → IsPassed m (lined seen further) a k batches done → HaveBegun m seen k → AreFurther k further → IsReadNews m whole (listed (read_news begun.read end (begun.place + begins_in begun.source.items.items)))
+    put_by : {a : Seen} (all : List Started) (whole : List ℕ) → AreBegun m a k start all → IsPassed m (lined (emptied seen) further) a k batches done → HaveBegun m seen k → AreFurther k further → IsReadNews m whole (listed (read_news begun.read end (begun.place + begins_in begun.source.items.items)))
         → (listed (read_news begun.read end (begun.place + begins_in begun.source.items.items)) ≡ []) ⊎ AreOut (length m.boards) k (length (program_sections m whole)) all → IsPut m whole all k (record { batches = batches; note = note })
     put_by all whole g p started is_further is_read out =
         let before = g.before in

@@ -1,7 +1,8 @@
 -- A further clock line of a board is taken up.
 use Rattle.std.proofs.Common.{◌≡◌, ℕ, ◌+◌, ◌*◌, ◌<◌, ◌≤◌, ◌^◌, Bool, true, false, max, List, [], ◌∷◌, ◌++◌, All, length, append-nil, append_assoc, refl, ap, sym, subst, ◌∙◌, arith, inl, inr}
-use Rattle.std.proofs.Math.Logic.{∥∥₁_elim, ∥∥₁_map, ∥∥₁_prop}
+use Rattle.std.proofs.Math.Logic.{∥∥₁_map}
 use Rattle.std.proofs.lemmas.Bool.{cases_eq}
+use Rattle.std.proofs.lemmas.List.Elements.{All-nil}
 use Rattle.std.proofs.lemmas.List.{get_or_default, length-set}
 use Rattle.std.specs.Prelude.{◌-◌, Option, Some, None, slice_index_or}
 use Rattle.msg_code.specs.declared.talk.NoteNews.{NoteNews}
@@ -13,7 +14,7 @@ use Rattle.plan_types.specs.declared.plan.SectionKind.TheVariants.{Home, Moves}
 use Rattle.plan_types.specs.declared.plan.Held.{Held}
 use Rattle.plan_types.specs.Clock.{tick, turn_ns}
 use Rattle.plan_types.specs.Lines.{Clocks, lines_tick}
-use Rattle.plan_types.specs.Sections.{clocks_at, for_each_stepper, latest, stepper_end}
+use Rattle.plan_types.specs.Sections.{clocks_at}
 use Rattle.plan_types.specs.Valid.{IsValidLine}
 use Rattle.clock_line.specs.Kept.{added}
 use Rattle.section_feed.specs.declared.queue.MoveQueue.{MoveQueue}
@@ -42,14 +43,19 @@ use Rattle.motion_stream.specs.declared.course.BoardLines.{BoardLines}
 use Rattle.motion_stream.specs.declared.course.Course.{Course}
 use Rattle.motion_stream.specs.declared.course.Open.{Open}
 use Rattle.motion_stream.specs.declared.course.Open.TheVariants as opens
-use Rattle.motion_stream.specs.Courses.{AreAhead, AreLaid, IsConnected, GoesAs, IsCourseBy, IsEarly, IsGoing, IsGoingOn, IsSoundBy, IsTold, IsUptake}
+use Rattle.motion_stream.specs.Courses.{AreAhead, AreLaid, IsConnected, GoesAs, IsCourseBy, IsCourseOf, IsEarly, IsGoing, IsGoingOn, IsSoundBy, IsTold, IsUptake}
 use Rattle.motion_stream.specs.Motions.{AreEarly}
 use Rattle.motion_stream.specs.Seen.{Seen}
 use Rattle.motion_stream.proofs.ByKind.{goes_beside, goes_lined}
-use Rattle.motion_stream.specs.Uptakes.{AddsTo, HasTold, MayAdd, MayAddTo, TakesOne, lined}
+use Rattle.motion_stream.specs.Steps.{IsFed}
+use Rattle.motion_stream.specs.Uptakes.{AddsTo, HasTakenUp, HasTold, IsNotLost, MayAdd, MayAddTo, TakesOne, emptied, lined}
 use Rattle.motion_stream.proofs.Opening.{IsLinked, linked}
-use Rattle.motion_stream.proofs.Hearing.{also_heard, last_heard}
+use Rattle.motion_stream.proofs.Drawing.{fed_on}
+use Rattle.motion_stream.proofs.Hearing.{course_lined}
 use Rattle.motion_stream.proofs.Laid.{EndBy, EndsBy, end_by, laid_stay}
+
+none_some : {X : Type 0} (x : X) → None ≡ Some x → ⊥
+none_some x p = cc
 
 some_same : {X : Type 0} (x y : X) → Some x ≡ Some y → x ≡ y
 some_same x y p = cc
@@ -231,10 +237,10 @@ all_held clocks b turn by line inside le all a lt = elim (cases_eq a b) as (λ _
 ]
 
 -- a line that was heard of is taken up, and told
-pub line_taken : (m : Machine) (old : Course) (now : Open) (lines : BoardLines) (seen : Seen) (k b turn : ℕ) (line : Line) (before : List NoteNews) → IsCourseBy m old seen (k + 260) (k + 261) → old.next ≡ k → turn ≡ k + 277 → old.connected ≡ true → AreEarly m old → b < length m.boards
-    → MayTake (clocks_at old.lines.each.items b) turn line → AddsTo b turn line old.current now → lines.each.items ≡ line_at old.lines.each.items b turn line → lines.waiting ≡ old.lines.waiting → WasHeard b line seen.lines
-    → HasTold m seen k before (before ++ news.Line b line (turn * turn_ns) ∷ []) (record old { current = now; lines = lines })
-line_taken m old now lines seen k b turn line before h at is on early lt may adds each waiting heard = by old.current refl h.going adds h.early
+pub line_taken : (m : Machine) (old : Course) (now : Open) (lines : BoardLines) (seen : Seen) (heard_of : List BoardLine) (k b turn : ℕ) (line : Line) (before : List NoteNews) → IsCourseBy m old seen (k + 260) (k + 261) → old.next ≡ k → turn ≡ k + 277 → old.connected ≡ true → AreEarly m old → b < length m.boards
+    → MayTake (clocks_at old.lines.each.items b) turn line → AddsTo b turn line old.current now → lines.each.items ≡ line_at old.lines.each.items b turn line → lines.waiting ≡ old.lines.waiting → WasHeard b line heard_of
+    → HasTold m seen heard_of k before (before ++ news.Line b line (turn * turn_ns) ∷ []) (record old { current = now; lines = lines })
+line_taken m old now lines seen heard_of k b turn line before h at is on early lt may adds each waiting heard = by old.current refl h.going adds h.early
   where
     new : Course
     new = record old { current = now; lines = lines }
@@ -242,12 +248,13 @@ line_taken m old now lines seen k b turn line before h at is on early lt may add
     more : List NoteNews
     more = news.Line b line (turn * turn_ns) ∷ []
 
-    uptake : IsUptake lines (k + 261) seen.lines
+    uptake : IsUptake new (k + 261) seen.fresh
     uptake =
         let long = each_long m old seen (k + 260) (k + 261) h on in
         let All_held : List Clocks → Type 0 = λ cs. (a : ℕ) → a < length cs → AreHeldBy (k + 261 + 16) (clocks_at cs a).held in
         record {
-          waiting = subst (λ (w : List BoardLine). All (λ (x : BoardLine). WasHeard x.board x.line seen.lines) w) (sym (ap (λ v. v.items) waiting)) h.uptake.waiting;
+          waiting = ap (λ v. v.items) waiting ∙ h.uptake.waiting;
+          none = h.uptake.none;
           held = subst All_held (sym each) (λ a low. (
               let size = length-set old.lines.each.items b (added (clocks_at old.lines.each.items b) (turn * turn_ns) line) in
               all_held old.lines.each.items b turn (k + 261 + 16) line (omega (arith, long, lt)) (omega (arith, is)) h.uptake.held a (omega (arith, low, size))));
@@ -258,7 +265,7 @@ line_taken m old now lines seen k b turn line before h at is on early lt may add
         subst (λ (x : Option Told). IsTold m new x seen.begun seen.going) (sym (told_later m old new seen k b turn line h at is on lt early may b (turn * turn_ns) refl refl))
         (connected m old new seen k b turn line h at is on lt early may refl each refl refl)
 
-    made : IsGoing m now new (told_on more seen.told) seen.begun seen.going → IsEarly now (k + 260) (k + 261) new → HasTold m seen k before (before ++ more) new
+    made : IsGoing m now new (told_on more seen.told) seen.begun seen.going → IsEarly now (k + 260) (k + 261) new → HasTold m seen heard_of k before (before ++ more) new
     made goes soon = record {
       more = more;
       are = refl;
@@ -279,7 +286,7 @@ line_taken m old now lines seen k b turn line before h at is on early lt may add
       };
     }
 
-    by : (o : Open) → old.current ≡ o → IsGoing m o old seen.told seen.begun seen.going → AddsTo b turn line o now → IsEarly o (k + 260) (k + 261) old → HasTold m seen k before (before ++ more) new
+    by : (o : Open) → old.current ≡ o → IsGoing m o old seen.told seen.begun seen.going → AddsTo b turn line o now → IsEarly o (k + 260) (k + 261) old → HasTold m seen heard_of k before (before ++ more) new
     by opens.Nothing e i a soon =
         made
         (subst (λ (x : Open). IsGoing m x new (told_on more seen.told) seen.begun seen.going) (sym a) (record { none = i.none; goes = i.goes; ahead = i.ahead }))
@@ -301,15 +308,54 @@ may_add_to m c seen k b turn line h at is on early lt may = by c.current h.going
 
 -- where no line is taken up
 pub told_none : (m : Machine) (c : Course) (seen : Seen) (turn free : ℕ) → IsCourseBy m c seen turn free → IsCourseBy m c (lined seen []) turn free
-told_none m c seen turn free h = subst (λ (x : Option Told). IsCourseBy m c (record { text = seen.text; ended = seen.ended; read = seen.read; told = x; lines = seen.lines; next = seen.next; begun = seen.begun; going = seen.going }) turn free) (same seen.told) h
+told_none m c seen turn free h = subst (λ (x : Option Told). IsCourseBy m c (record { text = seen.text; ended = seen.ended; read = seen.read; told = x; fresh = seen.fresh; next = seen.next; begun = seen.begun; going = seen.going }) turn free) (same seen.told) h
   where
     same : (o : Option Told) → o ≡ told_on [] o
     same None = refl
     same (Some t) = refl
 
 -- a line that is passed over
-pub line_passed : (m : Machine) (c : Course) (seen : Seen) (k : ℕ) (before : List NoteNews) → IsCourseBy m c seen (k + 260) (k + 261) → HasTold m seen k before before c
-line_passed m c seen k before h = record { more = []; are = sym (append-nil before); further = tt; heard = tt; is = told_none m c seen (k + 260) (k + 261) h }
+pub line_passed : (m : Machine) (c : Course) (seen : Seen) (heard_of : List BoardLine) (k : ℕ) (before : List NoteNews) → IsCourseBy m c seen (k + 260) (k + 261) → HasTold m seen heard_of k before before c
+line_passed m c seen heard_of k before h = record { more = []; are = sym (append-nil before); further = tt; heard = tt; is = told_none m c seen (k + 260) (k + 261) h }
+
+-- the lines that wait are taken out
+pub course_emptied : (m : Machine) (c : Course) (lines : BoardLines) (seen : Seen) (turn free : ℕ) → lines.each ≡ c.lines.each → lines.waiting.items ≡ [] → IsCourseBy m c seen turn free → IsCourseBy m (record c { lines = lines }) (emptied seen) turn free
+course_emptied m c lines seen turn free each none h =
+    course_lined m c lines seen turn free [] each (record {
+      waiting = none;
+      none = λ off. refl;
+      held = subst (λ (cs : List Clocks). (b : ℕ) → b < length cs → AreHeldBy (free + 16) (clocks_at cs b).held) (sym (ap (λ v. v.items) each)) h.uptake.held;
+    }) h
+
+no_items : {X : Type 0} (xs : List X) → length xs ≡ 0 → xs ≡ []
+no_items [] e = refl
+no_items (x ∷ xs) e = absurd (omega (arith, e))
+
+-- none waits before connecting ended
+none_waits : (m : Machine) (c : Course) (seen : Seen) (turn free : ℕ) (on : Bool) → c.connected ≡ on → IsCourseBy m c seen turn free → (c.connected ≡ true → length c.lines.waiting.items ≡ 0) → c.lines.waiting.items ≡ []
+none_waits m c seen turn free true on h none = no_items c.lines.waiting.items (none on)
+none_waits m c seen turn free false off h none = h.uptake.waiting ∙ h.uptake.none off
+
+-- where none waits, none is taken up
+pub none_taken : (m : Machine) (c : Course) (seen : Seen) (k : ℕ) (further : List NoteNews) → further ≡ [] → (c.connected ≡ true → length c.lines.waiting.items ≡ 0) → c.next ≡ k → IsFed c k → IsCourseOf m c seen → HasTakenUp m seen k further c
+none_taken m c seen k further nil how at fed h =
+    let none = none_waits m c seen (c.next + 260) (c.next + 260) c.connected refl h how in
+    let by = course_emptied m c c.lines seen (k + 260) (k + 261) refl none (fed_on m c seen k at fed h) in
+    record {
+      further_are = subst (AreFurther k) (sym nil) tt;
+      heard = subst (WereHeard seen.fresh) (sym nil) tt;
+      taken = λ t is. subst (All (IsNotLost m t.clocks k further)) (sym none ∙ h.uptake.waiting) (All-nil (IsNotLost m t.clocks k further));
+      is = subst (λ (ns : List NoteNews). IsCourseBy m c (lined (emptied seen) ns) (k + 260) (k + 261)) (sym nil) (told_none m c (emptied seen) (k + 260) (k + 261) by);
+    }
+
+-- of the lines that wait, by the boards' lines as they were told
+pub none_lost : (m : Machine) (c : Course) (seen : Seen) (turn free k : ℕ) (ns : List NoteNews) (t : Told) → IsCourseBy m c seen turn free → seen.told ≡ Some t → All (IsNotLost m c.lines.each.items k ns) c.lines.waiting.items → All (IsNotLost m t.clocks k ns) seen.fresh
+none_lost m c seen turn free k ns t h is all =
+    subst (All (IsNotLost m t.clocks k ns)) h.uptake.waiting (subst (λ (cs : List Clocks). All (IsNotLost m cs k ns) c.lines.waiting.items) (by seen.told h.told is) all)
+  where
+    by : (o : Option Told) → IsTold m c o seen.begun seen.going → o ≡ Some t → c.lines.each.items ≡ t.clocks
+    by None i e = absurd (none_some t e)
+    by (Some u) i e = i.lines ∙ ap (λ (x : Told). x.clocks) (some_same u t e)
 
 -- one line behind some others
 noted_both : (xs ys : List NoteNews) (clocks : List Clocks) → noted_lines (xs ++ ys) clocks ≡ noted_lines ys (noted_lines xs clocks)
@@ -337,14 +383,14 @@ heard_both heard (news.Start section kind turn last moving ∷ xs) ys a b = hear
 heard_both heard (news.Done section turn ∷ xs) ys a b = heard_both heard xs ys a b
 heard_both heard (news.Read end sections ∷ xs) ys a b = heard_both heard xs ys a b
 
-pub both_told : (m : Machine) (seen : Seen) (k : ℕ) (one two three : List NoteNews) (c : Course) (a : (more : List NoteNews) × (two ≡ one ++ more) × AreFurther k more × WereHeard seen.lines more) → HasTold m (lined seen a.0) k two three c → HasTold m seen k one three c
-both_told m seen k one two three c a b =
-    let Of : Option Told → Type 0 = λ o. IsCourseBy m c (record { text = seen.text; ended = seen.ended; read = seen.read; told = o; lines = seen.lines; next = seen.next; begun = seen.begun; going = seen.going }) (k + 260) (k + 261) in
+pub both_told : (m : Machine) (seen : Seen) (heard_of : List BoardLine) (k : ℕ) (one two three : List NoteNews) (c : Course) (a : (more : List NoteNews) × (two ≡ one ++ more) × AreFurther k more × WereHeard heard_of more) → HasTold m (lined seen a.0) heard_of k two three c → HasTold m seen heard_of k one three c
+both_told m seen heard_of k one two three c a b =
+    let Of : Option Told → Type 0 = λ o. IsCourseBy m c (record { text = seen.text; ended = seen.ended; read = seen.read; told = o; fresh = seen.fresh; next = seen.next; begun = seen.begun; going = seen.going }) (k + 260) (k + 261) in
     record {
       more = a.0 ++ b.more;
       are = b.are ∙ ap (λ x. x ++ b.more) a.1 ∙ append_assoc one a.0 b.more;
       further = further_both k a.0 b.more a.2 b.further;
-      heard = heard_both seen.lines a.0 b.more a.3 b.heard;
+      heard = heard_both heard_of a.0 b.more a.3 b.heard;
       is = subst Of (sym (told_both a.0 b.more seen.told)) b.is;
     }
 
@@ -369,9 +415,8 @@ early_more m old now lines b turn line inside each early = λ on a low.
 pub one_sound : (m : Machine) (old : Course) (k : ℕ) (one : BoardLine) (before after : List NoteNews) (new : Course) → IsSoundBy m old k → TakesOne m old k one before after new → IsSoundBy m new k
 one_sound m old k one before after new s takes =
     let seen = s.seen in
-    let more : Seen = record { text = seen.text; ended = seen.ended; read = seen.read; told = seen.told; lines = seen.lines ++ one ∷ []; next = seen.next; begun = seen.begun; going = seen.going } in
-    let t = takes more (last_heard seen.lines one) (also_heard m old seen (k + 260) (k + 261) (one ∷ []) s.is) in
-    record { seen = lined more t.more; is = t.is }
+    let t = takes seen (one ∷ []) (inl (refl, refl)) s.is in
+    record { seen = lined seen t.more; is = t.is }
 
 -- the numbers of a line that is taken up
 pub board_held : (m : Machine) (c : Course) (seen : Seen) (k b turn : ℕ) (line : Line) (read now : Clocks) → IsCourseBy m c seen (k + 260) (k + 261) → c.connected ≡ true → AreEarly m c → b < length m.boards → read ≡ slice_index_or c.lines.each.items b read → now ≡ slice_index_or c.lines.each.items b now → turn ≡ k + 277

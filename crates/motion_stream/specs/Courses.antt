@@ -1,5 +1,5 @@
 -- Where a motion machine is, by what it has seen.
-use Rattle.std.specs.Prelude.{◌≡◌, ◌⊎◌, ℕ, ◌+◌, ◌-◌, ◌^◌, ◌<◌, ◌≤◌, All, Bool, true, false, List, [], ◌∷◌, length, map, max, slice_index_or, Option, Some, None}
+use Rattle.std.specs.Prelude.{◌≡◌, ℕ, ◌+◌, ◌-◌, ◌^◌, ◌<◌, ◌≤◌, Bool, true, false, List, [], ◌∷◌, length, map, max, slice_index_or, Option, Some, None}
 use Rattle.gcode_program.specs.declared.items.Item.{Item}
 use Rattle.gcode_program.specs.declared.items.Item.TheVariants as items
 use Rattle.plan_types.specs.declared.machine.Machine.{Machine}
@@ -21,11 +21,9 @@ use Rattle.step_feed.specs.Units.{StepUnit}
 use Rattle.motion_work.specs.Feeds.{units_at}
 use Rattle.motion_work.specs.Homes.{last_step, moving_in}
 use Rattle.motion_work.specs.declared.told.BoardLine.{BoardLine}
-use Rattle.motion_work.specs.Further.{WasHeard}
 use Rattle.motion_work.specs.Known.{AreHeldBy, lines_by}
 use Rattle.motion_work.specs.Seen.{AreAllSent, AreBoardClocks, AreDone, AreStarted, IsOpen, Started, ready_after}
 use Rattle.motion_work.specs.Told.{Told}
-use Rattle.motion_stream.specs.declared.course.BoardLines.{BoardLines}
 use Rattle.motion_stream.specs.declared.course.Course.{Course}
 use Rattle.motion_stream.specs.declared.course.Open.{Open}
 use Rattle.motion_stream.specs.declared.course.Open.TheVariants as opens
@@ -130,10 +128,12 @@ abbrev pub IsEarly : Open → ℕ → ℕ → Course → Type 0
 IsEarly opens.Nothing turn free c = c.connected ≡ true → IsLater turn free c.ready c.source.end c.source.items.items
 IsEarly (opens.Goes s homes) turn free c = Unit {0}
 
--- The further lines that wait were heard of; and each that was taken up holds by 16 turns behind another.
-pub record IsUptake (lines : BoardLines) (free : ℕ) (heard : List BoardLine) : Type 0 where
-  pub waiting : All (λ l. WasHeard l.board l.line heard) lines.waiting.items
-  pub held : (b : ℕ) → b < length lines.each.items → AreHeldBy (free + 16) (clocks_at lines.each.items b).held
+-- The further lines that wait are those that words told since the last turn; none waits before connecting ended; and each that was taken up
+-- holds by 16 turns behind another.
+pub record IsUptake (c : Course) (free : ℕ) (fresh : List BoardLine) : Type 0 where
+  pub waiting : c.lines.waiting.items ≡ fresh
+  pub none : c.connected ≡ false → fresh ≡ []
+  pub held : (b : ℕ) → b < length c.lines.each.items → AreHeldBy (free + 16) (clocks_at c.lines.each.items b).held
 
 -- a machine has seen this, and the next section that it begins starts in a turn or later
 pub record IsCourseBy (m : Machine) (c : Course) (seen : Seen) (turn free : ℕ) : Type 0 where
@@ -147,7 +147,7 @@ pub record IsCourseBy (m : Machine) (c : Course) (seen : Seen) (turn free : ℕ)
   pub few : c.place + 260 ≤ turn
   pub going : IsGoing m c.current c seen.told seen.begun seen.going
   pub early : IsEarly c.current turn free c
-  pub uptake : IsUptake c.lines free seen.lines
+  pub uptake : IsUptake c free seen.fresh
 
 -- a machine has seen this
 abbrev pub IsCourseOf : Machine → Course → Seen → Type 0

@@ -14,7 +14,8 @@ use Rattle.section_stream.specs.Looking.{IsFuture}
 use Rattle.section_feed.specs.Queues.{is_taking, settled_to}
 use Rattle.section_feed.specs.Sections.{queue_of}
 use Rattle.motion_work.specs.Seen.{Started}
-use Rattle.motion_work.specs.Told.{heard, lines_in, tells_homed}
+use Rattle.motion_work.specs.declared.told.BoardLine.{BoardLine}
+use Rattle.motion_work.specs.Told.{Told, heard, lines_in, tells_homed}
 use Rattle.motion_stream.specs.declared.course.Course.{Course}
 use Rattle.motion_stream.specs.declared.course.Open.{Open}
 use Rattle.motion_stream.specs.declared.course.Open.TheVariants as opens
@@ -75,7 +76,7 @@ pub record Can (p : Planner) (k : ℕ) : Type 0 where
 -- what was seen behind a piece of the text, by which moves were added to a section that goes on
 abbrev pub read_on : Seen → List ℕ → Bool → Option Going → Seen
 read_on seen bytes end going =
-    record { text = text_after seen.text seen.ended bytes; ended = ended_after seen.ended end; read = seen.read; told = seen.told; lines = seen.lines; next = seen.next; begun = seen.begun; going = going }
+    record { text = text_after seen.text seen.ended bytes; ended = ended_after seen.ended end; read = seen.read; told = seen.told; fresh = seen.fresh; next = seen.next; begun = seen.begun; going = going }
 
 -- a section that goes on, of which more moves were read, and maybe its end
 pub record IsLonger (old new : Going) : Type 0 where
@@ -100,7 +101,7 @@ with_lines m seen w = record {
   ended = seen.ended;
   read = seen.read;
   told = heard m seen.next w seen.told;
-  lines = seen.lines;
+  fresh = seen.fresh;
   next = seen.next;
   begun = seen.begun;
   going = seen.going;
@@ -142,11 +143,16 @@ with_answer m seen w = record {
   ended = seen.ended;
   read = seen.read;
   told = seen.told;
-  lines = seen.lines;
+  fresh = seen.fresh;
   next = seen.next;
   begun = begun_with seen.begun (ended_in m seen w);
   going = going_with seen.going (ended_in m seen w);
 }
+
+-- The further lines that a word tells are kept until the next turn, once connecting ended; before it they are passed over.
+abbrev pub lines_kept : Option Told → List BoardLine → List BoardLine
+lines_kept None ls = []
+lines_kept (Some t) ls = ls
 
 abbrev pub with_further : Seen → WordMsg → Seen
 with_further seen w = record {
@@ -154,7 +160,7 @@ with_further seen w = record {
   ended = seen.ended;
   read = seen.read;
   told = seen.told;
-  lines = seen.lines ++ lines_in w.news;
+  fresh = seen.fresh ++ lines_kept seen.told (lines_in w.news);
   next = seen.next;
   begun = seen.begun;
   going = seen.going;

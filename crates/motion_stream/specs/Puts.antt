@@ -8,7 +8,9 @@ use Rattle.step_feed.specs.Pacing.{batch_at}
 use Rattle.motion_work.specs.Further.{WereHeard, told_on}
 use Rattle.motion_work.specs.Puts.{ArePut, IsPut, Put}
 use Rattle.motion_work.specs.Seen.{AreMoves, Started}
+use Rattle.motion_work.specs.Told.{Told}
 use Rattle.motion_stream.specs.Seen.{AreWhole, Going, MayBe, Seen}
+use Rattle.motion_stream.specs.Uptakes.{IsNotLost}
 
 -- All that was put before a machine's next turn is told by whole sections, whatever text follows, and each of them was begun in one
 -- of these turns.
@@ -38,13 +40,15 @@ pub record AreGrown (m : Machine) (seen : Seen) (k : ℕ) (all : List Started) :
   pub are : (all ≡ old) ⊎ ((s : Started) × (all ≡ old ++ s ∷ []) × IsNew m k s)
 
 -- What was seen behind turn k, with this news: the same text, and the same sections, of which one more may have been begun, and more was
--- released. Further clock lines that the news tell hold; they were heard of.
+-- released. Further clock lines that the news tell hold; words told them since the turn before. Of each board of which one was told since
+-- then that it may have, one is taken up.
 pub record IsBehind (m : Machine) (old new : Seen) (k : ℕ) (news : List NoteNews) : Type 0 where
   pub text : new.text ≡ old.text
   pub ended : new.ended ≡ old.ended
   pub told : new.told ≡ told_on news old.told
-  pub lines : new.lines ≡ old.lines
-  pub heard : WereHeard old.lines news
+  pub fresh : new.fresh ≡ []
+  pub heard : WereHeard old.fresh news
+  pub taken : (t : Told) → old.told ≡ Some t → All (IsNotLost m t.clocks k news) old.fresh
   pub next : new.next ≡ old.next + 1
   pub sections : GoesOn k old.begun old.going new.begun new.going
   pub grown : (all : List Started) → AreWhole m new.told new.next new.begun new.going all → AreGrown m old k all

@@ -38,22 +38,22 @@ pub record Going : Type 0 where
   pub moving : ℕ
   pub released : ℕ → List Release
 
--- the text so far and whether it ended; whether it was told how it was read; what is known of connecting, and the further clock lines
--- of boards that were heard of; the turn whose batches are made next; the sections that were begun and are known whole; and the one behind
--- them of which the end is not known
+-- the text so far and whether it ended; whether it was told how it was read; what is known of connecting, and the further clock lines of
+-- boards that words told since the last turn, once connecting had ended; the turn whose batches are made next; the sections that were begun
+-- and are known whole; and the one behind them of which the end is not known
 pub record Seen : Type 0 where
   pub text : List ℕ
   pub ended : Bool
   pub read : Bool
   pub told : Option Told
-  pub lines : List BoardLine
+  pub fresh : List BoardLine
   pub next : ℕ
   pub begun : List Started
   pub going : Option Going
 
 -- before the first call nothing was seen
 abbrev pub nothing_seen : Seen
-nothing_seen = record { text = []; ended = false; read = false; told = None; lines = []; next = 0; begun = []; going = None }
+nothing_seen = record { text = []; ended = false; read = false; told = None; fresh = []; next = 0; begun = []; going = None }
 
 -- the sections of which some were begun
 abbrev pub sections_in : List Started → List Section

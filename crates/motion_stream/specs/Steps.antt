@@ -36,7 +36,7 @@ pub record IsPassed (m : Machine) (old new : Seen) (k : ℕ) (batches : List Bat
   pub ended : new.ended ≡ old.ended
   pub read : new.read ≡ old.read
   pub told : new.told ≡ old.told
-  pub lines : new.lines ≡ old.lines
+  pub fresh : new.fresh ≡ old.fresh
   pub next : new.next ≡ old.next + 1
   pub sections : GoesOn k old.begun old.going new.begun new.going
   pub whole : (all : List Started) → AreWhole m new.told new.next new.begun new.going all → AreWhole m old.told old.next old.begun old.going all
@@ -77,7 +77,7 @@ pub record IsBegun (m : Machine) (old new : Seen) (k : ℕ) (start : Option Note
   pub ended : new.ended ≡ old.ended
   pub read : new.read ≡ old.read
   pub told : new.told ≡ old.told
-  pub lines : new.lines ≡ old.lines
+  pub fresh : new.fresh ≡ old.fresh
   pub next : new.next ≡ old.next
   pub sections : GoesOn k old.begun old.going new.begun new.going
   pub grown : (all : List Started) → AreWhole m new.told new.next new.begun new.going all → AreBegun m old k start all

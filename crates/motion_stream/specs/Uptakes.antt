@@ -1,5 +1,5 @@
 -- How a motion machine takes up further clock lines of boards.
-use Rattle.std.specs.Prelude.{◌≡◌, ◌⊎◌, ℕ, ◌+◌, ◌<◌, All, true, List, [], ◌∷◌, ◌++◌, length, slice_index_or, Some}
+use Rattle.std.specs.Prelude.{◌≡◌, ◌⊎◌, ℕ, ◌+◌, ◌<◌, All, List, [], ◌∷◌, ◌++◌, length, slice_index_or, Some}
 use Rattle.msg_code.specs.declared.talk.NoteNews.{NoteNews}
 use Rattle.msg_code.specs.declared.talk.NoteNews.TheVariants as news
 use Rattle.plan_types.specs.declared.machine.Machine.{Machine}
@@ -12,6 +12,7 @@ use Rattle.section_feed.specs.Sets.{BoardSet}
 use Rattle.section_feed.specs.declared.section.SectionStream.{SectionStream}
 use Rattle.motion_work.specs.declared.told.BoardLine.{BoardLine}
 use Rattle.motion_work.specs.Further.{AreFurther, WasHeard, WereHeard, told_on}
+use Rattle.motion_work.specs.Told.{Told}
 use Rattle.plan_types.specs.Lines.{Clocks}
 use Rattle.plan_types.specs.Sections.{clocks_at}
 use Rattle.motion_stream.specs.declared.course.Course.{Course}
@@ -37,22 +38,26 @@ AddsTo board turn line opens.Nothing new = new ≡ opens.Nothing
 
 -- what a machine has seen where these news of further lines are told
 abbrev pub lined : Seen → List NoteNews → Seen
-lined seen further = record { text = seen.text; ended = seen.ended; read = seen.read; told = told_on further seen.told; lines = seen.lines; next = seen.next; begun = seen.begun; going = seen.going }
+lined seen further = record { text = seen.text; ended = seen.ended; read = seen.read; told = told_on further seen.told; fresh = seen.fresh; next = seen.next; begun = seen.begun; going = seen.going }
 
--- Of a line that was heard of a machine has taken it up before turn k, or passed it over; some news were told before.
-pub record HasTold (m : Machine) (seen : Seen) (k : ℕ) (old new : List NoteNews) (c : Course) : Type 0 where
+-- and where none was told since the last turn
+abbrev pub emptied : Seen → Seen
+emptied seen = record { text = seen.text; ended = seen.ended; read = seen.read; told = seen.told; fresh = []; next = seen.next; begun = seen.begun; going = seen.going }
+
+-- Of some lines that were heard of a machine has taken each up before turn k, or passed it over; some news were told before.
+pub record HasTold (m : Machine) (seen : Seen) (heard_of : List BoardLine) (k : ℕ) (old new : List NoteNews) (c : Course) : Type 0 where
   pub more : List NoteNews
   pub are : new ≡ old ++ more
   pub further : AreFurther k more
-  pub heard : WereHeard seen.lines more
+  pub heard : WereHeard heard_of more
   pub is : IsCourseBy m c (lined seen more) (k + 260) (k + 261)
 
 abbrev pub TakesOne : Machine → Course → ℕ → BoardLine → List NoteNews → List NoteNews → Course → Type 0
-TakesOne m c k one old new next = (seen : Seen) → WasHeard one.board one.line seen.lines → IsCourseBy m c seen (k + 260) (k + 261) → HasTold m seen k old new next
+TakesOne m c k one old new next = (seen : Seen) (heard_of : List BoardLine) → WasHeard one.board one.line heard_of → IsCourseBy m c seen (k + 260) (k + 261) → HasTold m seen heard_of k old new next
 
 -- so of some lines
 abbrev pub TakesEach : Machine → Course → ℕ → List BoardLine → List NoteNews → List NoteNews → Course → Type 0
-TakesEach m c k waiting old new next = (seen : Seen) → All (λ l. WasHeard l.board l.line seen.lines) waiting → IsCourseBy m c seen (k + 260) (k + 261) → HasTold m seen k old new next
+TakesEach m c k waiting old new next = (seen : Seen) (heard_of : List BoardLine) → All (λ l. WasHeard l.board l.line heard_of) waiting → IsCourseBy m c seen (k + 260) (k + 261) → HasTold m seen heard_of k old new next
 
 -- some news tell a further clock line of a board
 abbrev pub TellsOf : ℕ → List NoteNews → Type 0
@@ -70,11 +75,13 @@ pub record TakesMore (old new : List Clocks) (before told : List NoteNews) : Typ
   pub stay : (b : ℕ) → TellsOf b before → TellsOf b told
   pub same : (b : ℕ) → TellsOf b told ⊎ (clocks_at new b ≡ clocks_at old b)
 
--- Once connecting ended a machine leaves none out: of each board of which a line waits that it may have in turn k, one is told.
-abbrev pub LeavesNone : Machine → Course → ℕ → List NoteNews → Type 0
-LeavesNone m c k told = c.connected ≡ true → All (IsNotLost m c.lines.each.items k told) c.lines.waiting.items
+-- A machine took up further clock lines before turn k, and this is the news of them: words told each since the turn before, and it holds from turn k + 277 on. None
+-- is left out: of each board of which a line was told since the turn before that it may have, one is taken up. Then no line waits.
+pub record HasTakenUp (m : Machine) (seen : Seen) (k : ℕ) (further : List NoteNews) (new : Course) : Type 0 where
+  pub further_are : AreFurther k further
+  pub heard : WereHeard seen.fresh further
+  pub taken : (t : Told) → seen.told ≡ Some t → All (IsNotLost m t.clocks k further) seen.fresh
+  pub is : IsCourseBy m new (lined (emptied seen) further) (k + 260) (k + 261)
 
--- A machine took up further clock lines before turn k, and this is the news of them: each was heard of, and holds from turn k + 277 on.
 abbrev pub TakesUp : Machine → Course → ℕ → List NoteNews → Course → Type 0
-TakesUp m old k further new =
-    (seen : Seen) → IsCourseOf m old seen → AreFurther k further × WereHeard seen.lines further × IsCourseBy m new (lined seen further) (k + 260) (k + 261)
+TakesUp m old k further new = (seen : Seen) → IsCourseOf m old seen → HasTakenUp m seen k further new

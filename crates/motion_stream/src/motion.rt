@@ -45,7 +45,6 @@ impl<'a> Motion<'a> {
     ghost use Rattle.motion_stream.specs.Motions.{Can, Hears, IsPlannerOf, Makes, Reads, hungry, wants};
     ghost use Rattle.motion_stream.specs.Courses.{IsSound};
     ghost use Rattle.motion_stream.specs.Seen.{nothing_seen};
-    ghost use Rattle.motion_stream.specs.Uptakes.{LeavesNone};
 
     /// A machine before turn 0, to which nothing was told.
     pub fn new(alloc: Global, machine: &'a Machine) -> Motion<'a>
@@ -98,9 +97,8 @@ impl<'a> Motion<'a> {
         can_turn(&self.course, k)
     }
 
-    /// Takes the next word. Further clock lines that it tells are taken up in the next turn in which they may be: such a line holds from
-    /// 277 turns later on, and the note of that turn tells it. None is taken up while a section homes, nor before the last of its planned
-    /// steps is eight turns before such a line may hold. Lines of the boards that none of them may have are passed over.
+    /// Takes the next word. Further clock lines that it tells are taken up in the next turn, while a section homes, too: such a line holds
+    /// from 277 turns later on, and the note of that turn tells it. Lines that their boards may not have then are passed over.
     ///
     /// # Errors
     ///
@@ -145,7 +143,6 @@ impl<'a> Motion<'a> {
         requires can { Can self.old k }
         requires fed { hungry self.old k ≡ false }
         ensures made { IfOk result (λ m. Makes self.old k m.batches.items m.note self.new) }
-        ensures lines { IfOk result (λ m. LeavesNone self.old.machine self.old.course k m.note.news) }
         ensures note { IfOk result (λ m. m.note.turn ≡ k) }
         ensures quiet { IfOk result (λ m. m.note.out ≡ false) }
         ensures clear { IfOk result (λ m. m.note.clear ≡ clear_of self.new.course) }

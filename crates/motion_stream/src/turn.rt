@@ -5,7 +5,6 @@ ghost use Rattle.motion_stream.specs.Clear.{clear_of};
 ghost use Rattle.motion_stream.specs.Courses.{IsSound};
 ghost use Rattle.motion_stream.specs.Motions.{AreEarly, Turns};
 ghost use Rattle.motion_stream.specs.Steps.{IsFed};
-ghost use Rattle.motion_stream.specs.Uptakes.{LeavesNone};
 ghost use Rattle.motion_work.specs.Feeds.{AreOfTurn};
 
 use crate::OutOfMemory;
@@ -31,7 +30,6 @@ pub fn make_turn(
     requires early { AreEarly machine.now course.old }
     requires fed { IsFed course.old k }
     ensures made { IfOk result (λ m. Turns machine.now course.old k m.batches.items m.note course.new) }
-    ensures none { IfOk result (λ m. LeavesNone machine.now course.old k m.note.news) }
     ensures note { IfOk result (λ m. m.note.turn ≡ k) }
     ensures quiet { IfOk result (λ m. m.note.out ≡ false) }
     ensures clear { IfOk result (λ m. m.note.clear ≡ clear_of course.new) }

@@ -4,7 +4,7 @@ ghost use Rattle.std.specs.Prelude.{◌≡◌, ℕ, ◌+◌, ◌<◌, ◌≤◌,
 ghost use Rattle.motion_stream.specs.Courses.{IsSound, IsSoundBy};
 ghost use Rattle.motion_stream.specs.Motions.{AreEarly};
 ghost use Rattle.motion_stream.specs.Steps.{IsFed};
-ghost use Rattle.motion_stream.specs.Uptakes.{AddsTo, IsNotLost, LeavesNone, MayAddTo, TakesEach, TakesMore, TakesOne, TakesUp};
+ghost use Rattle.motion_stream.specs.Uptakes.{AddsTo, IsNotLost, MayAddTo, TakesEach, TakesMore, TakesOne, TakesUp};
 
 use crate::OutOfMemory;
 use crate::course::{Course, Open, TURN_NS};
@@ -114,7 +114,6 @@ pub fn take_up(
     requires early { AreEarly machine.now course.old }
     requires fed { IsFed course.old k }
     ensures taken { IfOk result (λ news. TakesUp machine.now course.old k news course.new) }
-    ensures none { IfOk result (λ news. LeavesNone machine.now course.old k news) }
     ensures sound { OnOk result (IsSoundBy machine.now course.new k) }
     ensures next { course.new.next ≡ course.old.next }
     ensures early { OnOk result (AreEarly machine.now course.new) }

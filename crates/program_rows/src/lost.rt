@@ -51,19 +51,8 @@ fn play<R: Threads + Wait + Sync>(
 /// The board runs slow.
 const SLOW: &str = "[simulated_mcu]\ndrift_ppm: -200\n";
 
-/// The board runs fast, and x makes a step each metre.
-const LONG: &str = "[simulated_mcu]
-drift_ppm: 100
-[stepper_x]
-rotation_distance: 1000
-microsteps: 1
-full_steps_per_rotation: 1
-position_max: 500
-";
-
-/// Two seconds of a move, where the board's first line is exact, and where it is three turns ahead; and five seconds of a move in which x
-/// makes no step, with a millimetre of both behind them.
-const KEPT: [Kept<'static>; 3] = [
+/// Two seconds of a move, where the board's first line is exact, and where it is three turns ahead.
+const KEPT: [Kept<'static>; 2] = [
     (
         SLOW,
         "G1 X20 F600\n",
@@ -88,18 +77,6 @@ board mcu freq 16000000 turn 1260 tick 20207881
             SLOW_LINES,
         ],
     ),
-    (
-        LONG,
-        "G1 X499 F6000\nG1 X500 Y1 F600\n",
-        0,
-        [(1, 102_781_672), (80, 102_742_836)],
-        [
-            "machine cartesian boards 1 steppers 4
-board mcu freq 16000000 turn 1260 tick 20160054
-",
-            LONG_LINES,
-        ],
-    ),
 ];
 
 const SLOW_LINES: &str = "line mcu turn 1000 tick 15996800 from 1342000000
@@ -107,17 +84,6 @@ section 0 turn 1260 move
 line mcu turn 2000 tick 31993600 from 2342000000
 line mcu turn 3000 tick 47990400 from 3342000000
 lines 1 passed 0
-end 0 done
-";
-
-const LONG_LINES: &str = "line mcu turn 1000 tick 16001600 from 1342000000
-section 0 turn 1260 move
-line mcu turn 2000 tick 32003200 from 2342000000
-line mcu turn 3000 tick 48004800 from 3342000000
-line mcu turn 4000 tick 64006400 from 4342000000
-line mcu turn 5000 tick 80008000 from 5342000000
-line mcu turn 6000 tick 96009600 from 6342000000
-lines 2 passed 0
 end 0 done
 ";
 
@@ -231,13 +197,19 @@ end 0 done
     ),
 ];
 
-/// The lines that tell the clock of a board each second while x homes, which hold 277 turns behind the turn in which they are told.
-fn told_while_homing(alloc: Global, head: &str, ticks: u64) -> Result<String, AllocError> {
+/// Lines that tell the clock of a board in each second from the second one on and before another, each of which holds so many turns behind its own turn.
+fn told_each_second(
+    alloc: Global,
+    head: &str,
+    ticks: u64,
+    until: u64,
+    turns: u64,
+) -> Result<String, AllocError> {
     let mut lines = String::from_str(alloc, head)?;
-    for second in 2..50_u64 {
+    for second in 2..until {
         let tick = second.wrapping_mul(ticks);
         let line = format!(in alloc;
-            "line mcu turn {second}000 tick {tick} from {second}278000000\n"
+            "line mcu turn {second}000 tick {tick} from {second}{turns}000000\n"
         )?;
         lines.push_str(line.as_str())?;
     }
@@ -251,7 +223,7 @@ fn is_homed<R: Threads + Wait + Sync>(
     row: &Homed<'_>,
 ) -> Result<bool, AllocError> {
     let (more, x, ticks, [head, tail]) = *row;
-    let lines = told_while_homing(alloc, head, ticks)?;
+    let lines = told_each_second(alloc, head, ticks, 50, 278)?;
     let mut out = MemSink::new(alloc, Vec::new(alloc));
     let scene = "switch mcu PC0 800000000 1\n";
     play(rt, alloc, more, "G28 X\nG1 X1 F600\n", scene, &mut out)?;
@@ -266,6 +238,38 @@ fn steps_of_a_long_homing(rt: HostRuntime) -> Result<(), Fail> {
     for row in &HOMED {
         assert!(rt; is_homed(&rt, rt.alloc(), row)?);
     }
+    Ok(())
+}
+
+/// The board runs fast, and x makes a step each metre.
+const LONG: &str = "[simulated_mcu]
+drift_ppm: 100
+[stepper_x]
+rotation_distance: 1000
+microsteps: 1
+full_steps_per_rotation: 1
+position_max: 500
+";
+
+const LONG_HEAD: &str = "machine cartesian boards 1 steppers 4
+board mcu freq 16000000 turn 1260 tick 20160054
+line mcu turn 1000 tick 16001600 from 1342000000
+section 0 turn 1260 move
+";
+
+/// 4,990 seconds of a move in which x makes no step, and a millimetre of both x and y behind them, which make all their steps.
+#[test]
+fn steps_behind_an_hour_without_one(rt: HostRuntime) -> Result<(), Fail> {
+    let alloc = rt.alloc();
+    let lines = told_each_second(alloc, LONG_HEAD, 16_001_600, 4_992, 342)?;
+    let mut out = MemSink::new(alloc, Vec::new(alloc));
+    let text = "G1 X499 F6\nG1 X500 Y1 F600\n";
+    play(&rt, alloc, LONG, text, "", &mut out)?;
+    let report = out.bytes();
+    assert!(rt; makes(alloc, report, "stepper_x", (1, 79_870_461_302))?);
+    assert!(rt; makes(alloc, report, "stepper_y", (80, 79_870_422_466))?);
+    let tail = "lines 2 passed 0\nend 0 done\n";
+    assert!(rt; tells(alloc, report, [lines.as_str(), tail])?);
     Ok(())
 }
 

@@ -48,6 +48,8 @@ use Rattle.session_laws.proofs.run_headline.Showing.{Facts, long_own}
 use Rattle.session_laws.proofs.run_headline.Telling.{reacts_told}
 use Rattle.session_laws.specs.home_headline.Follow.{AllShowHomes, ShowHomes}
 use Rattle.session_laws.specs.home_headline.Little.{AllHomeLittle}
+use Rattle.cause_runs.specs.Short.{HaveShortDictionaries}
+use Rattle.cause_runs.proofs.ShortNames.{short_dictionaries}
 use Rattle.session_laws.proofs.home_headline.Shows.{run_shows}
 use Rattle.session_laws.specs.run_limits.Limits.{AreLow, DriftsLow, greatest_tick, start_limit}
 use Rattle.session_laws.proofs.run_limits.Early.{heads_low, starts_early}
@@ -143,10 +145,10 @@ module _ {F S : Type 0} (f : Files F) (o : Sink S) (m : Machine) (s : Scene) (na
       let Of : List ReactorTurn → Type 0 = λ z. Facts m s r.runs.0 z r.runs.2 t.cause in
       home_low m v s r.runs.0 p r.runs.2 t.cause through some first rest (subst Of (sym e) (facts f o m s name files files' out out' kept kept' t r (in_memory t.cause through))) shows
 
-  home_limits : IsValidMachine m → (text : List ℕ) → f.told files name ≡ Some text → kept.at ≡ 0 → program_sections m text ≢ [] → AllHomeLittle m s text r.runs.0 (r.runs.1 ++ r.runs.2 ∷ []) → GoesThrough t.cause
+  home_limits : IsValidMachine m → HaveShortDictionaries m → (text : List ℕ) → f.told files name ≡ Some text → kept.at ≡ 0 → program_sections m text ≢ [] → AllHomeLittle m s text r.runs.0 (r.runs.1 ++ r.runs.2 ∷ []) → GoesThrough t.cause
       → ∥ AreLow (gather (λ t. t.lines) (r.runs.1 ++ r.runs.2 ∷ [])) ∥₁
-  home_limits v text told at some little through =
-      ∥∥₁_map (run_shows f o m s name files files' out out' kept kept' t r v text told at) (λ w.
+  home_limits v short text told at some little through =
+      ∥∥₁_map (run_shows f o m s name files files' out out' kept kept' t r v short text told at) (λ w.
       let Some_in : List ℕ → Type 0 = λ z. program_sections m z ≢ [] in
       limits v r.runs.1 w.0.plans refl (w.2 (in_memory t.cause through) little) (subst Some_in (sym w.1) some) through)
 
@@ -175,7 +177,7 @@ module _ {F S : Type 0} (f : Files F) (o : Sink S) (printer : List ℕ) (m : Mac
       let said : gather (λ (t : ReactorTurn). t.lines) (own.runs.runs.1 ++ own.runs.runs.2 ∷ []) ≡ own.said = own.shown ∙ ap (λ (z : List ReportLine). own.said ++ z) w.0 ∙ append-nil own.said in
       let Through : Cause → Type 0 = λ z. GoesThrough z in
       let went = subst Through w.2 through in
-      let kept = home_limits f o m s gcode files files' out own.behind own.kept own.kept' own.told own.runs home_valid text told own.fresh.at some little went in
+      let kept = home_limits f o m s gcode files files' out own.behind own.kept own.kept' own.told own.runs home_valid (short_dictionaries printer m configured) text told own.fresh.at some little went in
       let long = home_long f o m s gcode files files' out own.behind own.kept own.kept' own.told own.runs scene went in
       let telling = home_told f o m s gcode files files' out own.behind own.kept own.kept' own.told own.runs went in
       ∥∥₁_elim (r.homes text told (inl (own_cause own.told.cause went)) (λ e. not.0 (w.2 ∙ e)) little) (hlevel props)

@@ -251,5 +251,5 @@ module _ (m : Machine) (v : IsValidMachine m) (s : Scene) (ts : List MotionTurn)
   pub untold_none : NoneDrifts (gather (λ t. t.lines) (first ∷ (rest ++ end ∷ [])))
   untold_none =
       let numbered = made_numbered m s.switches f.ahead (first ∷ rest) ts p.made p.bare f.words_left p.are f.turns f.words in
-      let quiet = made_quiet (words_in p.made) 0 p.made never (all_noted m p.seen.text p.seen.begun 0 0 [] p.made refl p.put p.heard p.ahead numbered) in
+      let quiet = made_quiet (words_in p.made) 0 p.made never (all_noted m p.seen.text p.seen.begun 0 0 None [] p.made refl p.put p.lines p.ahead numbered) in
       runs_plain m s.switches ts (first ∷ rest) end f.known (length (came_from [] (first ∷ rest))) f.notes_left (plans_quiet m (length m.boards) ts p quiet) f.turns f.lines_are f.notes

@@ -5,7 +5,7 @@ use Rattle.plan_types.specs.declared.clock.BoardClock.{BoardClock}
 use Rattle.plan_types.specs.declared.plan.BoardState.{BoardState}
 use Rattle.plan_types.specs.declared.plan.BoardState.TheVariants.{Running, Shut}
 use Rattle.plan_types.specs.declared.plan.Pulse.{Pulse}
-use Rattle.plan_types.specs.Clock.{board_tick, clock_of}
+use Rattle.plan_types.specs.Clock.{clock_of}
 use Rattle.msg_code.specs.declared.talk.ShutNews.{ShutNews}
 use Rattle.msg_code.specs.declared.talk.State.{State}
 use Rattle.link_core.specs.Core.{sent}
@@ -21,7 +21,7 @@ use Rattle.run_laws.specs.Links.{AreTold, pulses_in, steps_of, steps_of_turn, tu
 use Rattle.run_laws.specs.Parts.{IsRun}
 use Rattle.run_laws.specs.Runs.{IsBoardRun, Made}
 use Rattle.run_laws.specs.Timely.{AllTimely}
-use Rattle.run_laws.proofs.Linking.{first_tick, told_made, turns_append, turns_are, valid_ticks}
+use Rattle.run_laws.proofs.Linking.{own_first, told_made, turns_append, turns_are, turns_owned}
 
 abbrev pub steps_told : (clock : BoardClock) (turn : ℕ) (os : List Orders) (states : List State) (l m : LinkState) → AreTold clock turn os states l m → List Step
 steps_told clock turn os states l m t = steps_of clock turn os l m (turns_told clock turn os states l m t)
@@ -91,7 +91,7 @@ states_behind xs ys zs all to turns e t n =
     ap pulses_in (states_between (xs ++ ys) zs [] all to turns joined (length-append xs ys ∙ t) (omega (arith, length-append xs ys, t, n)))
 
 -- A run of a board in three parts: the turns before one, those before another, and the others.
-pub record Cut (x : OnBoard) (ready from to turns : ℕ) (end : Core) : Type 0 where
+pub record Cut (x : OnBoard) (own : ℕ → ℕ) (ready from to turns : ℕ) (end : Core) : Type 0 where
   pub before : List Orders
   pub during : List Orders
   pub behind : List Orders
@@ -99,10 +99,10 @@ pub record Cut (x : OnBoard) (ready from to turns : ℕ) (end : Core) : Type 0 w
   pub second : List Step
   pub third : List Step
   pub orders_are : x.orders ≡ before ++ (during ++ behind)
-  pub run_is : IsBoardRun x.board x.pins (board_tick (clock_of x.board)) x.clocks ready x.sections (before ++ (during ++ behind)) (first ++ (second ++ third))
-  pub one : AreTurnsOf (board_tick (clock_of x.board)) 0 before first
-  pub two : AreTurnsOf (board_tick (clock_of x.board)) (length before) during second
-  pub three : AreTurnsOf (board_tick (clock_of x.board)) (length before + length during) behind third
+  pub run_is : IsBoardRun x.board x.pins own x.clocks ready x.sections (before ++ (during ++ behind)) (first ++ (second ++ third))
+  pub one : AreTurnsOf own 0 before first
+  pub two : AreTurnsOf own (length before) during second
+  pub three : AreTurnsOf own (length before + length during) behind third
   pub from_is : length before ≡ from
   pub to_is : length before + length during ≡ to
   pub all_is : length (before ++ (during ++ behind)) ≡ turns
@@ -112,13 +112,15 @@ pub record Cut (x : OnBoard) (ready from to turns : ℕ) (end : Core) : Type 0 w
 
 cut_here : (x : OnBoard) (place : ℕ) (entries : List Entry) (ready from to turns : ℕ) (times : List Times) (k : IsOnBoard place entries ready turns times x) (before during behind : List Orders)
     → length before ≡ from → length before + length during ≡ to → length (before ++ (during ++ behind)) ≡ turns
-    → x.orders ≡ before ++ (during ++ behind) → IsRun (board_tick (clock_of x.board)) x.clocks x.board.freq x.board.slots ready x.sections (before ++ (during ++ behind))
+    → x.orders ≡ before ++ (during ++ behind) → IsRun k.own x.clocks x.board.freq x.board.slots ready x.sections (before ++ (during ++ behind))
     → (t : AreTold (clock_of x.board) 0 (before ++ (during ++ behind)) x.states (first_state x.board x.pins place entries) k.end)
     → AllTimely (start x.board x.pins) (steps_told (clock_of x.board) 0 (before ++ (during ++ behind)) x.states (first_state x.board x.pins place entries) k.end t)
-    → Cut x ready from to turns k.end.core
+    → Cut x k.own ready from to turns k.end.core
 cut_here x place entries ready from to turns times k before during behind from_is to_is all_is orders_are r t timely =
     let clock = clock_of x.board in
-    let own = board_tick clock in
+    let own = k.own in
+    let all = length-append before (during ++ behind) in
+    let both = length-append during behind in
     let l = first_state x.board x.pins place entries in
     let h = start x.board x.pins in
     let a = length before in
@@ -139,7 +141,10 @@ cut_here x place entries ready from to turns times k before during behind from_i
     t3.0 ∙ ap (run third) (t2.0 ∙ ap (run second) t1.0) ∙ sym (run_append first (second ++ third) h ∙ run_append second third (run first h)) in
     let zero_more : a ≡ 0 + a = omega arith in
     let At : ℕ → Type 0 = λ n. AreTurnsOf own n (during ++ behind) (second ++ third) in
-    let rest = turns_append own a during behind second third t2.1 t3.1 in
+    let one_turns = turns_owned x.board own turns 0 before first k.own_is (omega (arith, all, all_is)) t1.1 in
+    let two_turns = turns_owned x.board own turns a during second k.own_is (omega (arith, all, both, all_is)) t2.1 in
+    let three_turns = turns_owned x.board own turns d behind third k.own_is (omega (arith, all, both, all_is)) t3.1 in
+    let rest = turns_append own a during behind second third two_turns three_turns in
     let Timely : List Step → Type 0 = λ y. AllTimely h y in
     let count : d + length u.second ≡ turns = omega (arith, all_is, length-append before (during ++ behind), length-append during behind, told_count clock d behind u.second u.mid k.end u.two) in
     let within : told_in from to x ≡ pulses_in u.first = ap pulses_in (states_between s.first u.first u.second x.states from to states (s.long ∙ from_is) (omega (arith, s.long, u.long, to_is))) in
@@ -152,15 +157,15 @@ cut_here x place entries ready from to turns times k before during behind from_i
       third = third;
       orders_are = orders_are;
       run_is = record {
-        ticks = valid_ticks x.board k.valid;
-        first = first_tick x.board;
+        ticks = k.own_is.ticks;
+        first = own_first x.board turns own k.own_is;
         run_is = r;
-        turns = turns_append own 0 before (during ++ behind) first (second ++ third) t1.1 (subst At zero_more rest);
+        turns = turns_append own 0 before (during ++ behind) first (second ++ third) one_turns (subst At zero_more rest);
         timely = subst Timely whole timely;
       };
-      one = t1.1;
-      two = t2.1;
-      three = t3.1;
+      one = one_turns;
+      two = two_turns;
+      three = three_turns;
       from_is = from_is;
       to_is = to_is;
       all_is = all_is;
@@ -173,7 +178,7 @@ cut_here x place entries ready from to turns times k before during behind from_i
 
 -- a run of a board is cut at any two turns
 pub cut_at : (x : OnBoard) (place : ℕ) (entries : List Entry) (ready from to turns : ℕ) (times : List Times) (k : IsOnBoard place entries ready turns times x) → from ≤ to → to ≤ turns
-    → Cut x ready from to turns k.end.core
+    → Cut x k.own ready from to turns k.end.core
 cut_at x place entries ready from to turns times k order within =
     let clock = clock_of x.board in
     let l = first_state x.board x.pins place entries in
@@ -184,8 +189,8 @@ cut_at x place entries ready from to turns times k order within =
     let cut : x.orders ≡ before ++ (during ++ behind) = sym (take-append-drop from x.orders) ∙ ap (λ y. before ++ y) (sym (take-append-drop (to - from) rest)) in
     let one : length before ≡ from = length-take-le from x.orders (omega (arith, order, within, k.count)) in
     let two : length during ≡ to - from = length-take-le (to - from) rest (omega (arith, order, within, k.count, length-drop from x.orders)) in
-    let At : List Orders → Type 0 = λ o. length o ≡ turns → x.orders ≡ o → IsRun (board_tick clock) x.clocks x.board.freq x.board.slots ready x.sections o → (t : AreTold clock 0 o x.states l k.end)
-    → AllTimely (start x.board x.pins) (steps_told clock 0 o x.states l k.end t) → Cut x ready from to turns k.end.core in
+    let At : List Orders → Type 0 = λ o. length o ≡ turns → x.orders ≡ o → IsRun k.own x.clocks x.board.freq x.board.slots ready x.sections o → (t : AreTold clock 0 o x.states l k.end)
+    → AllTimely (start x.board x.pins) (steps_told clock 0 o x.states l k.end t) → Cut x k.own ready from to turns k.end.core in
     subst At (sym cut) (λ count same r t timely. cut_here x place entries ready from to turns times k before during behind one (omega (arith, one, two, order)) count same r t timely) k.count refl k.run_is k.told k.timely
 
 -- what the last state tells

@@ -4,7 +4,7 @@ use Rattle.std.proofs.lemmas.List.{append_cancel_left}
 use Rattle.plan_types.specs.declared.plan.BoardState.{BoardState}
 use Rattle.plan_types.specs.declared.plan.BoardState.TheVariants.{Running, Shut}
 use Rattle.plan_types.specs.declared.plan.Pulse.{Pulse}
-use Rattle.plan_types.specs.Clock.{board_tick, clock_of}
+use Rattle.plan_types.specs.Clock.{clock_of}
 use Rattle.plan_types.specs.Plan.{Fits}
 use Rattle.msg_code.specs.declared.talk.ShutNews.{ShutNews}
 use Rattle.msg_code.specs.declared.talk.State.{State}
@@ -91,9 +91,9 @@ apart (s ∷ ss) (p ∷ past) later e =
 record At (entries : List Entry) (ready turns from to : ℕ) (x : OnBoard) (before : List BoardSection) (s : BoardSection) (behind : List BoardSection) (past : List Times) (t : Times) (later : List Times) : Type 0 where
   place : ℕ
   is : IsOnBoard place entries ready turns (past ++ t ∷ later) x
-  cut : Cut x ready from to turns is.end.core
-  run_is : IsBoardRun x.board x.pins (board_tick (clock_of x.board)) x.clocks ready (before ++ s ∷ behind) (cut.before ++ (cut.during ++ cut.behind)) (cut.first ++ (cut.second ++ cut.third))
-  span : IsSpan (board_tick (clock_of x.board)) s behind cut.before cut.during cut.behind cut.first cut.second cut.third
+  cut : Cut x is.own ready from to turns is.end.core
+  run_is : IsBoardRun x.board x.pins is.own x.clocks ready (before ++ s ∷ behind) (cut.before ++ (cut.during ++ cut.behind)) (cut.first ++ (cut.second ++ cut.third))
+  span : IsSpan is.own s behind cut.before cut.during cut.behind cut.first cut.second cut.third
   end_is : s.end ≡ t.end
 
 at_part : (entries : List Entry) (ready turns from to : ℕ) (xs : List OnBoard) (x : OnBoard) (before : List BoardSection) (s : BoardSection) (behind : List BoardSection) (past : List Times) (t : Times)
@@ -103,7 +103,7 @@ at_part entries ready turns from to xs x before s behind past t later p w =
     let c = cut_at x place entries ready from to turns (past ++ t ∷ later) k w.order w.within in
     let times = times_at before s behind past t later (ap times_of (sym p.sections) ∙ k.times_are) p.place in
     let start : s.start ≡ t.start = ap (λ (y : Times). y.start) times.0 in
-    let Run : List BoardSection → Type 0 = λ ss. IsBoardRun x.board x.pins (board_tick (clock_of x.board)) x.clocks ready ss (c.before ++ (c.during ++ c.behind)) (c.first ++ (c.second ++ c.third)) in
+    let Run : List BoardSection → Type 0 = λ ss. IsBoardRun x.board x.pins k.own x.clocks ready ss (c.before ++ (c.during ++ c.behind)) (c.first ++ (c.second ++ c.third)) in
     let Next : List Times → Type 0 = λ ts. NextStart to ts in
     let Here : ℕ → Type 0 = λ n. NextAfter n behind in
     record {
@@ -122,9 +122,9 @@ at_part entries ready turns from to xs x before s behind past t later p w =
     }
 
 -- the pulses that are told are those that were made
-same_pulses : (x : OnBoard) (ready from to turns : ℕ) (end : Core) (c : Cut x ready from to turns end) (pulses : List Pulse)
+same_pulses : (x : OnBoard) (own : ℕ → ℕ) (ready from to turns : ℕ) (end : Core) (c : Cut x own ready from to turns end) (pulses : List Pulse)
     → Made (run c.first (start x.board x.pins)) (run (c.first ++ c.second) (start x.board x.pins)) pulses → pulses ≡ told_in from to x
-same_pulses x ready from to turns end c pulses m = append_cancel_left (run c.first (start x.board x.pins)).made pulses (told_in from to x) (sym m ∙ c.made)
+same_pulses x own ready from to turns end c pulses m = append_cancel_left (run c.first (start x.board x.pins)).made pulses (told_in from to x) (sym m ∙ c.made)
 
 pub part_fits : (entries : List Entry) (ready turns from to : ℕ) (xs : List OnBoard) (x : OnBoard) (before : List BoardSection) (s : BoardSection) (behind : List BoardSection) (past : List Times) (t : Times)
     (later : List Times) → IsPart entries ready turns xs x before s behind past t later → IsWindow turns from to t later → (oid : ℕ)
@@ -132,9 +132,9 @@ pub part_fits : (entries : List Entry) (ready turns from to : ℕ) (xs : List On
 part_fits entries ready turns from to xs x before s behind past t later p w oid =
     let a = at_part entries ready turns from to xs x before s behind past t later p w in
     let c = a.cut in
-    let f = span_fits x.board x.pins (board_tick (clock_of x.board)) x.clocks ready before s behind c.before c.during c.behind c.first c.second c.third a.run_is a.span in
+    let f = span_fits x.board x.pins a.is.own x.clocks ready before s behind c.before c.during c.behind c.first c.second c.third a.run_is a.span in
     let To : List Pulse → Type 0 = λ ps. Fits x.board.freq (base_of x.clocks s) (only oid ps) (s.plan oid) in
-    subst To (same_pulses x ready from to turns a.is.end.core c f.0 f.1) (f.2 oid)
+    subst To (same_pulses x a.is.own ready from to turns a.is.end.core c f.0 f.1) (f.2 oid)
 
 pub none_told : (entries : List Entry) (ready turns from to : ℕ) (xs : List OnBoard) (x : OnBoard) (past later : List Times) → AreOnBoards 0 entries ready turns (past ++ later) xs → IsIn x xs
     → from ≤ to → to ≤ turns → AreEnded from past → NextStart to later → told_in from to x ≡ []
@@ -142,12 +142,12 @@ none_told entries ready turns from to xs x past later boards among order within 
     let (place, k) = this_one entries ready turns (past ++ later) xs x boards among in
     let c = cut_at x place entries ready from to turns (past ++ later) k order within in
     let ss = apart x.sections past later k.times_are in
-    let Run : List BoardSection → Type 0 = λ y. IsBoardRun x.board x.pins (board_tick (clock_of x.board)) x.clocks ready y (c.before ++ (c.during ++ c.behind)) (c.first ++ (c.second ++ c.third)) in
+    let Run : List BoardSection → Type 0 = λ y. IsBoardRun x.board x.pins k.own x.clocks ready y (c.before ++ (c.during ++ c.behind)) (c.first ++ (c.second ++ c.third)) in
     let Ended : List Times → Type 0 = λ ts. AreEnded from ts in
     let Next : List Times → Type 0 = λ ts. NextStart to ts in
     let Over : ℕ → Type 0 = λ n. AreOver n ss.before in
     let Here : ℕ → Type 0 = λ n. NextAfter n ss.behind in
-    let none = none_between x.board x.pins (board_tick (clock_of x.board)) x.clocks ready ss.before ss.behind c.before c.during c.behind c.first c.second c.third (subst Run ss.are c.run_is) c.one c.two c.three
+    let none = none_between x.board x.pins k.own x.clocks ready ss.before ss.behind c.before c.during c.behind c.first c.second c.third (subst Run ss.are c.run_is) c.one c.two c.three
     (subst Over (sym c.from_is) (over_of from ss.before (subst Ended (sym ss.past_is) ended))) (subst Here (sym c.to_is) (next_of to ss.behind (subst Next (sym ss.later_is) next))) in
     append_cancel_left (run c.first (start x.board x.pins)).made (told_in from to x) [] (sym c.made ∙ none ∙ sym (append-nil (run c.first (start x.board x.pins)).made))
 
@@ -172,12 +172,12 @@ part_whole entries ready turns from to xs x before s behind past t later rest la
     let h = run steps (start x.board x.pins) in
     let Idle : Core → Type 0 = λ y. (y.link.waiting ≡ []) × (y.link.acked ≡ sent y.link) in
     let idle_then : Idle h = subst Idle c.end_is quiet in
-    let took = idle_took_turns x.board x.pins (board_tick (clock_of x.board)) x.clocks ready (before ++ s ∷ behind) os steps a.run_is idle_then.0 idle_then.1 in
+    let took = idle_took_turns x.board x.pins a.is.own x.clocks ready (before ++ s ∷ behind) os steps a.run_is idle_then.0 idle_then.1 in
     let Took : ℕ → Type 0 = λ n. TookBefore n os h in
-    let f = span_whole x.board x.pins (board_tick (clock_of x.board)) x.clocks ready before s behind c.before c.during c.behind c.first c.second c.third turns a.run_is a.span
+    let f = span_whole x.board x.pins a.is.own x.clocks ready before s behind c.before c.during c.behind c.first c.second c.third turns a.run_is a.span
     (omega (arith, a.end_is, over, c.to_is)) (omega (arith, c.all_is)) released (ap (λ (y : Core). y.board.controller.state) (sym c.end_is) ∙ running) (subst Took c.all_is took) in
     let To : List Pulse → Type 0 = λ ps. length (only oid ps) ≡ length (s.plan oid) in
-    subst To (same_pulses x ready from to turns a.is.end.core c f.0 f.1) (f.2 oid)
+    subst To (same_pulses x a.is.own ready from to turns a.is.end.core c f.0 f.1) (f.2 oid)
 
 pub part_passed : (entries : List Entry) (ready turns from to : ℕ) (xs : List OnBoard) (x : OnBoard) (before : List BoardSection) (s : BoardSection) (behind : List BoardSection) (past : List Times) (t : Times)
     (later : List Times) (rest : List State) (last : State) → IsPart entries ready turns xs x before s behind past t later → IsWindow turns from to t later → t.end + 5 ≤ to
@@ -190,10 +190,10 @@ part_passed entries ready turns from to xs x before s behind past t later rest l
     let late = run (c.first ++ c.second) (start x.board x.pins) in
     let grew = λ (e : (run (c.first ++ (c.second ++ c.third)) (start x.board x.pins)).made ≡ late.made).
     some (append_cancel_left late.made (told_in to turns x) [] (sym c.made_on ∙ e ∙ sym (append-nil late.made))) in
-    let f = span_before x.board x.pins (board_tick (clock_of x.board)) x.clocks ready before s behind c.before c.during c.behind c.first c.second c.third a.run_is a.span
+    let f = span_before x.board x.pins a.is.own x.clocks ready before s behind c.before c.during c.behind c.first c.second c.third a.run_is a.span
     (omega (arith, a.end_is, over, c.to_is)) (ap (λ (y : Core). y.board.controller.state) (sym c.end_is) ∙ running) grew in
     let To : List Pulse → Type 0 = λ ps. length (only oid ps) ≡ length (s.plan oid) in
-    subst To (same_pulses x ready from to turns a.is.end.core c f.0 f.1) (f.2 oid)
+    subst To (same_pulses x a.is.own ready from to turns a.is.end.core c f.0 f.1) (f.2 oid)
 
 -- why a board ended
 pub shut_as : (state : BoardState) (o : Option ShutNews) (n : ShutNews) → IsShutNews state o → o ≡ Some n → state ≡ Shut n.reason n.tick n.first
@@ -214,7 +214,7 @@ end_told entries ready turns times xs x rest last n boards among states shut =
     let (place, k) = this_one entries ready turns times xs x boards among in
     let c = cut_at x place entries ready turns turns turns times k (omega arith) (omega arith) in
     let told = last_told (clock_of x.board) 0 x.orders rest last (first_state x.board x.pins place entries) k.end (last_of place entries ready turns times x k rest last states) in
-    let own = board_tick (clock_of x.board) in
+    let own = k.own in
     let os = c.before ++ (c.during ++ c.behind) in
     let steps = c.first ++ (c.second ++ c.third) in
     let is : (run steps (start x.board x.pins)).board.controller.state ≡ Shut n.reason n.tick n.first =
@@ -231,7 +231,7 @@ end_unstopped entries ready turns times xs x rest last n boards among states shu
     let (place, k) = this_one entries ready turns times xs x boards among in
     let c = cut_at x place entries ready turns turns turns times k (omega arith) (omega arith) in
     let told = last_told (clock_of x.board) 0 x.orders rest last (first_state x.board x.pins place entries) k.end (last_of place entries ready turns times x k rest last states) in
-    let own = board_tick (clock_of x.board) in
+    let own = k.own in
     let os = c.before ++ (c.during ++ c.behind) in
     let steps = c.first ++ (c.second ++ c.third) in
     let is : (run steps (start x.board x.pins)).board.controller.state ≡ Shut n.reason n.tick n.first =

@@ -8,9 +8,8 @@ use Rattle.plan_types.specs.declared.clock.BoardClock.{BoardClock}
 use Rattle.plan_types.specs.declared.levels.Level.{Level}
 use Rattle.plan_types.specs.Clock.{board_tick, clock_of}
 use Rattle.plan_types.specs.Lines.{Clocks}
-use Rattle.plan_types.specs.Machines.{IsValidBoard}
 use Rattle.wire_scene.specs.declared.scene.Entry.{Entry}
-use Rattle.board_world.specs.World.{Core, run, start}
+use Rattle.board_world.specs.World.{Core, Step, run, start}
 use Rattle.link_work.specs.Ends.{EndSo, Ended, last_of, spoiled}
 use Rattle.link_work.specs.Limits.{AllKeepLimits}
 use Rattle.link_work.specs.Runs.{AreTurns, queued_in}
@@ -20,6 +19,7 @@ use Rattle.link_work.proofs.Late.{last_append}
 use Rattle.link_work.proofs.Limits.{units_bytes}
 use Rattle.section_units.specs.Sections.{BoardSection}
 use Rattle.section_units.specs.Sent.{AreSentTo}
+use Rattle.run_laws.specs.Events.{AreOwn, AreTurnsOf}
 use Rattle.run_laws.specs.Known.{Sent, sent_in, orders_in}
 use Rattle.run_laws.specs.Links.{ends_of, steps_of, steps_of_turn}
 use Rattle.run_laws.specs.Parts.{IsRun}
@@ -28,11 +28,11 @@ use Rattle.run_laws.proofs.Heeded.{run_walked}
 use Rattle.run_laws.proofs.Heeding.{TakesEnough, orders_length, timed_timely}
 use Rattle.run_laws.proofs.Latest.{AreFew, IsFar, IsWalked, Reaches}
 use Rattle.run_laws.proofs.Limiting.{text_sum}
-use Rattle.run_laws.proofs.Linking.{first_tick, turn_runs, turns_are, valid_ticks}
+use Rattle.run_laws.proofs.Linking.{next_within, own_few, own_first, turn_runs, turns_are, turns_owned}
 use Rattle.run_laws.proofs.Lists.{cuts}
 use Rattle.run_laws.proofs.Shutting.{AreSince, since_behind, since_in}
 use Rattle.run_laws.proofs.Spans.{sent_in_append}
-use Rattle.run_laws.proofs.Spoiled.{end_snoc, most_at, take_all, ticks_few}
+use Rattle.run_laws.proofs.Spoiled.{end_snoc, most_at, take_all}
 use Rattle.run_laws.proofs.Wholes.{sent_orders}
 
 -- turns whose units are few, and whose control commands keep the limits
@@ -111,33 +111,43 @@ enough_from b pins board entries clock n size most turn all done (o ∷ os) l m 
           (cut ∙ sym (append_assoc done (o ∷ []) os)) limits short few full ends (last_append first past (now ∷ [])) few_then,
     )
 
-ten_seconds : (b : BoardDef) (n : ℕ) → IsValidBoard b → n ≤ 10_000 → IsFar (board_tick (clock_of b)) n
-ten_seconds b n v small = λ k. omega (arith, ticks_few b v (n + 5 + 2) k, small)
+-- so it is by other ticks that are the same by then
+enough_owned : (b : BoardDef) (n size : ℕ) (all : List Orders) (own : ℕ → ℕ) (last turn : ℕ) (os : List Orders) (steps : List Step) (h : Core) (o : AreOwn b last own) (within : turn + length os ≤ last)
+    (t : AreTurnsOf (board_tick (clock_of b)) turn os steps) → TakesEnough n size all (board_tick (clock_of b)) turn os steps h t
+    → TakesEnough n size all own turn os steps h (turns_owned b own last turn os steps o within t)
+unfolding turns_owned
+enough_owned b n size all own last turn [] steps h o within t s = tt
+enough_owned b n size all own last turn (x ∷ os) steps h o within t s = (s.0, enough_owned b n size all own last (turn + 1) os t.1 (run t.0 h) o (next_within turn last x os within) t.4 s.1)
+
+ten_seconds : (b : BoardDef) (turns : ℕ) (own : ℕ → ℕ) (n : ℕ) → AreOwn b turns own → n ≤ 10_000 → IsFar own n
+ten_seconds b turns own n o small = λ k. omega (arith, own_few b turns own o (n + 5 + 2) k, small)
 
 -- the last turn may pass the limits
-pub few_heeded : (b : BoardDef) (pins : List (List Level)) (board : ℕ) (entries : List Entry) (clocks : Clocks) (ready n turns : ℕ) (ss : List BoardSection) (os : List Orders) (l : LinkState)
-    (t : AreTurns (clock_of b) 0 os (first_state b pins board entries) l) → IsValidBoard b → IsRun (board_tick (clock_of b)) clocks b.freq b.slots ready ss os → All (AreSentTo clocks b.freq turns) ss → length os ≤ turns
+pub few_heeded : (b : BoardDef) (pins : List (List Level)) (board : ℕ) (entries : List Entry) (own : ℕ → ℕ) (clocks : Clocks) (ready n turns : ℕ) (ss : List BoardSection) (os : List Orders) (l : LinkState)
+    (t : AreTurns (clock_of b) 0 os (first_state b pins board entries) l) → AreOwn b (length os) own → IsRun own clocks b.freq b.slots ready ss os → All (AreSentTo clocks b.freq turns) ss → length os ≤ turns
     → ((done : List Orders) (o : Orders) (rest : List Orders) → os ≡ done ++ (o ∷ rest) → ControlsKeep done)
     → ((k : ℕ) → spoiled (take k (ends_of (clock_of b) 0 os (first_state b pins board entries) l t)) ≤ n) → n ≤ 10_000
     → AllTimely (start b pins) (steps_of (clock_of b) 0 os (first_state b pins board entries) l t)
-few_heeded b pins board entries clocks ready n turns ss os l t v r sent within controls few small =
+few_heeded b pins board entries own clocks ready n turns ss os l t o r sent within controls few small =
     let clock = clock_of b in
-    let own = board_tick clock in
     let first : LinkState = first_state b pins board entries in
-    let ticks = valid_ticks b v in
-    let (w, x, same) = run_walked own clocks b.freq b.slots ready n turns ss os ticks r sent within (ten_seconds b n v small) in
+    let ticks = o.ticks in
+    let (w, x, same) = run_walked own clocks b.freq b.slots ready n turns ss os ticks r sent within (ten_seconds b (length os) own n o small) in
     let full : w.count < length os → length x.front < length (flat_map queued_in (take w.count os)) = λ less.
     (let more = reach_more w.count os w.cut.front w.cut.tail w.cut.is less w.reach in omega (arith, more, ap length same)) in
-    timed_timely b pins own n os (steps_of clock 0 os first l t) (turns_are clock 0 os first l t).1 ticks (first_tick b) x
-    (enough_from b pins board entries clock n (length x.front) w.count 0 os [] os first l t [] (start b pins) refl refl refl controls w.short w.few full refl refl few)
+    let steps = steps_of clock 0 os first l t in
+    let taken = (turns_are clock 0 os first l t).1 in
+    let low : 0 + length os ≤ length os = omega arith in
+    timed_timely b pins own n os steps (turns_owned b own (length os) 0 os steps o low taken) ticks (own_first b (length os) own o) x
+    (enough_owned b n (length x.front) os own (length os) 0 os steps (start b pins) o low taken (enough_from b pins board entries clock n (length x.front) w.count 0 os [] os first l t [] (start b pins) refl refl refl controls w.short w.few full refl refl few))
 
 controls_split : (xs ys : List Orders) → ControlsKeep (xs ++ ys) → ControlsKeep xs
 controls_split [] ys c = tt
 controls_split (x ∷ xs) ys c = (c.0, c.1, controls_split xs ys c.2)
 
-pub all_heeded : (b : BoardDef) (pins : List (List Level)) (board : ℕ) (entries : List Entry) (clocks : Clocks) (ready n turns : ℕ) (ss : List BoardSection) (os : List Orders) (l : LinkState)
-    (t : AreTurns (clock_of b) 0 os (first_state b pins board entries) l) → IsValidBoard b → IsRun (board_tick (clock_of b)) clocks b.freq b.slots ready ss os → All (AreSentTo clocks b.freq turns) ss → length os ≤ turns
+pub all_heeded : (b : BoardDef) (pins : List (List Level)) (board : ℕ) (entries : List Entry) (own : ℕ → ℕ) (clocks : Clocks) (ready n turns : ℕ) (ss : List BoardSection) (os : List Orders) (l : LinkState)
+    (t : AreTurns (clock_of b) 0 os (first_state b pins board entries) l) → AreOwn b (length os) own → IsRun own clocks b.freq b.slots ready ss os → All (AreSentTo clocks b.freq turns) ss → length os ≤ turns
     → ControlsKeep os → ((k : ℕ) → spoiled (take k (ends_of (clock_of b) 0 os (first_state b pins board entries) l t)) ≤ n) → n ≤ 10_000
     → AllTimely (start b pins) (steps_of (clock_of b) 0 os (first_state b pins board entries) l t)
-all_heeded b pins board entries clocks ready n turns ss os l t v r sent within controls few small =
-    few_heeded b pins board entries clocks ready n turns ss os l t v r sent within (λ done o rest cut. controls_split done (o ∷ rest) (subst (λ x. ControlsKeep x) cut controls)) few small
+all_heeded b pins board entries own clocks ready n turns ss os l t o r sent within controls few small =
+    few_heeded b pins board entries own clocks ready n turns ss os l t o r sent within (λ done x rest cut. controls_split done (x ∷ rest) (subst (λ x. ControlsKeep x) cut controls)) few small

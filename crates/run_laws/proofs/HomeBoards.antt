@@ -1,7 +1,8 @@
 -- A board of a run in which axes home, cut at two turns.
-use Rattle.std.proofs.Common.{◌≡◌, ℕ, ◌+◌, ◌-◌, ◌≤◌, List, [], ◌∷◌, ◌++◌, length, take, drop, Option, refl, ap, sym, ◌∙◌, subst, arith, append_assoc, append-nil}
+use Rattle.std.proofs.Common.{◌≡◌, ℕ, ◌+◌, ◌-◌, ◌≤◌, List, [], ◌∷◌, ◌++◌, length, take, drop, Option, refl, ap, sym, ◌∙◌, subst, arith, append_assoc, append-nil, length-append}
 use Rattle.std.proofs.lemmas.List.{append_cancel_left, length-take-le, length-drop, take-append-drop}
 use Rattle.plan_types.specs.declared.clock.BoardClock.{BoardClock}
+use Rattle.plan_types.specs.declared.machine.BoardDef.{BoardDef}
 use Rattle.plan_types.specs.declared.plan.Pulse.{Pulse}
 use Rattle.plan_types.specs.Clock.{board_tick, clock_of}
 use Rattle.plan_types.specs.Plan.{Fits}
@@ -16,6 +17,7 @@ use Rattle.link_work.specs.Turn.{LinkState, Orders}
 use Rattle.link_work.proofs.Sending.{run_append}
 use Rattle.run_laws.specs.Boards.{OnBoard, told_in}
 use Rattle.run_laws.specs.Courses.{IsSettled, AreSettled}
+use Rattle.run_laws.specs.Events.{AreOwn, AreTurnsOf}
 use Rattle.run_laws.specs.Homes.{RunSection, IsHomeRun, NextBehind, AreOverBy, IsHomeSpan, AreSettledOn, IsHomeBoard}
 use Rattle.run_laws.specs.Known.{Sent, sent_at, sent_in}
 use Rattle.run_laws.specs.Links.{AreTold, pulses_in, steps_of, steps_of_turn, turns_told}
@@ -23,7 +25,7 @@ use Rattle.run_laws.specs.Runs.{Made}
 use Rattle.run_laws.specs.Timely.{AllTimely}
 use Rattle.run_laws.proofs.Boarding.{states_between}
 use Rattle.run_laws.proofs.HomeSpans.{section_is, between_is}
-use Rattle.run_laws.proofs.Linking.{first_tick, told_made, turn_runs, turns_are, valid_ticks}
+use Rattle.run_laws.proofs.Linking.{next_within, own_first, told_made, turn_runs, turns_are, turns_owned}
 use Rattle.run_laws.proofs.Turning.{timely_front}
 
 -- what is settled on a link is so over its steps
@@ -38,6 +40,14 @@ settled_head stops clock turn sent (o ∷ os) l m t s =
     let is : mid.core ≡ run first l.core = ap (λ (x : LinkState). x.core) one.becomes ∙ turn_runs clock turn o one.resent l in
     let At : Core → Type 0 = λ h. AreSettled stops (board_tick clock) (turn + 1) (sent ++ sent_at turn (queued_in o)) os later h (turns_are clock (turn + 1) os mid m more).1 in
     (s.0, subst At is (settled_head stops clock (turn + 1) (sent ++ sent_at turn (queued_in o)) os mid m more s.1))
+
+-- so it is by other ticks that are the same by then
+pub settled_owned : (b : BoardDef) (stops : ℕ → Option ℕ) (own : ℕ → ℕ) (last turn : ℕ) (sent : List Sent) (os : List Orders) (steps : List Step) (h : Core) (o : AreOwn b last own) (within : turn + length os ≤ last)
+    (t : AreTurnsOf (board_tick (clock_of b)) turn os steps) → AreSettled stops (board_tick (clock_of b)) turn sent os steps h t → AreSettled stops own turn sent os steps h (turns_owned b own last turn os steps o within t)
+unfolding turns_owned
+settled_owned b stops own last turn sent [] steps h o within t s = s
+settled_owned b stops own last turn sent (x ∷ os) steps h o within t s =
+    (s.0, settled_owned b stops own last (turn + 1) (sent ++ sent_at turn (queued_in x)) os t.1 (run t.0 h) o (next_within turn last x os within) t.4 s.1)
 
 abbrev steps_told : (clock : BoardClock) (turn : ℕ) (os : List Orders) (states : List State) (l m : LinkState) → AreTold clock turn os states l m → List Step
 steps_told clock turn os states l m t = steps_of clock turn os l m (turns_told clock turn os states l m t)
@@ -104,26 +114,28 @@ split_at stops clock turn next sent (x ∷ xs) ys (y ∷ states) l m t e s =
     }
 
 -- a board's turns between two, with the pulses that its states tell
-pub record Cut (x : OnBoard) (ready from to : ℕ) (stops : ℕ → Option ℕ) (ss : List RunSection) : Type 0 where
+pub record Cut (x : OnBoard) (own : ℕ → ℕ) (ready from to : ℕ) (stops : ℕ → Option ℕ) (ss : List RunSection) : Type 0 where
   pub before : List Orders
   pub during : List Orders
   pub behind : List Orders
   pub first : List Step
   pub second : List Step
-  pub span : IsHomeSpan x.board x.pins (board_tick (clock_of x.board)) x.clocks ready stops ss before during behind first second
+  pub span : IsHomeSpan x.board x.pins own x.clocks ready stops ss before during behind first second
   pub from_is : length before ≡ from
   pub to_is : length before + length during ≡ to
   pub made : Made (run first (start x.board x.pins)) (run (first ++ second) (start x.board x.pins)) (told_in from to x)
 
 cut_here : (x : OnBoard) (place : ℕ) (entries : List Entry) (ready from to : ℕ) (ss : List RunSection) (turns : ℕ) (k : IsHomeBoard place entries ready turns ss x) (before during behind : List Orders)
-    → length before ≡ from → length before + length during ≡ to → IsHomeRun (board_tick (clock_of x.board)) x.clocks x.board.freq x.board.slots ready k.stops ss (before ++ (during ++ behind))
+    → length before ≡ from → length before + length during ≡ to → length (before ++ (during ++ behind)) ≡ turns → IsHomeRun k.own x.clocks x.board.freq x.board.slots ready k.stops ss (before ++ (during ++ behind))
     → (t : AreTold (clock_of x.board) 0 (before ++ (during ++ behind)) x.states (first_state x.board x.pins place entries) k.end)
     → AllTimely (start x.board x.pins) (steps_told (clock_of x.board) 0 (before ++ (during ++ behind)) x.states (first_state x.board x.pins place entries) k.end t)
     → SettledTold k.stops (clock_of x.board) 0 [] (before ++ (during ++ behind)) x.states (first_state x.board x.pins place entries) k.end t
-    → Cut x ready from to k.stops ss
-cut_here x place entries ready from to ss turns k before during behind from_is to_is r t timely settled =
+    → Cut x k.own ready from to k.stops ss
+cut_here x place entries ready from to ss turns k before during behind from_is to_is all_is r t timely settled =
     let clock = clock_of x.board in
-    let own = board_tick clock in
+    let own = k.own in
+    let all = length-append before (during ++ behind) in
+    let both = length-append during behind in
     let l = first_state x.board x.pins place entries in
     let h = start x.board x.pins in
     let a = length before in
@@ -140,7 +152,10 @@ cut_here x place entries ready from to ss turns k before during behind from_is t
     let early : s.mid.core ≡ run first h = t1.0 in
     let late : u.mid.core ≡ run (first ++ second) h = t2.0 ∙ ap (run second) t1.0 ∙ sym (run_append first second h) in
     let Timely : List Step → Type 0 = λ y. AllTimely h y in
-    let At : Core → Type 0 = λ y. AreSettled k.stops own a (sent_in 0 before) during second y t2.1 in
+    let one_within : 0 + a ≤ turns = omega (arith, all, all_is) in
+    let two_within : a + length during ≤ turns = omega (arith, all, both, all_is) in
+    let two_turns = turns_owned x.board own turns a during second k.own_is two_within t2.1 in
+    let At : Core → Type 0 = λ y. AreSettled k.stops own a (sent_in 0 before) during second y two_turns in
     let within : told_in from to x ≡ pulses_in u.first = ap pulses_in (states_between s.first u.first u.second x.states from to states (s.long ∙ from_is) (omega (arith, s.long, u.long, to_is))) in
     record {
       before = before;
@@ -149,14 +164,16 @@ cut_here x place entries ready from to ss turns k before during behind from_is t
       first = first;
       second = second;
       span = record {
-        ticks = valid_ticks x.board k.valid;
-        begin = first_tick x.board;
+        ticks = k.own_is.ticks;
+        begin = own_first x.board turns own k.own_is;
         run_is = r;
-        first_turns = t1.1;
-        second_turns = t2.1;
+        first_turns = turns_owned x.board own turns 0 before first k.own_is one_within t1.1;
+        second_turns = two_turns;
         timely = timely_front (first ++ second) third h (subst Timely whole timely);
-        first_settled = settled_head k.stops clock 0 [] before l s.mid (turns_told clock 0 before s.first l s.mid s.one) s.settled_one;
-        second_settled = subst At early (settled_head k.stops clock a (sent_in 0 before) during s.mid u.mid (turns_told clock a during u.first s.mid u.mid u.one) u.settled_one);
+        first_settled = settled_owned x.board k.stops own turns 0 [] before first h k.own_is one_within t1.1
+            (settled_head k.stops clock 0 [] before l s.mid (turns_told clock 0 before s.first l s.mid s.one) s.settled_one);
+        second_settled = subst At early (settled_owned x.board k.stops own turns a (sent_in 0 before) during second s.mid.core k.own_is two_within t2.1
+            (settled_head k.stops clock a (sent_in 0 before) during s.mid u.mid (turns_told clock a during u.first s.mid u.mid u.one) u.settled_one));
       };
       from_is = from_is;
       to_is = to_is;
@@ -164,7 +181,7 @@ cut_here x place entries ready from to ss turns k before during behind from_is t
           ∙ ap (λ y. (run first h).made ++ y) (sym within);
     }
 
-pub cut_at : (x : OnBoard) (place : ℕ) (entries : List Entry) (ready from to turns : ℕ) (ss : List RunSection) (k : IsHomeBoard place entries ready turns ss x) → from ≤ to → to ≤ turns → Cut x ready from to k.stops ss
+pub cut_at : (x : OnBoard) (place : ℕ) (entries : List Entry) (ready from to turns : ℕ) (ss : List RunSection) (k : IsHomeBoard place entries ready turns ss x) → from ≤ to → to ≤ turns → Cut x k.own ready from to k.stops ss
 cut_at x place entries ready from to turns ss k order within =
     let clock = clock_of x.board in
     let l = first_state x.board x.pins place entries in
@@ -175,9 +192,9 @@ cut_at x place entries ready from to turns ss k order within =
     let cut : x.orders ≡ before ++ (during ++ behind) = sym (take-append-drop from x.orders) ∙ ap (λ y. before ++ y) (sym (take-append-drop (to - from) rest)) in
     let one : length before ≡ from = length-take-le from x.orders (omega (arith, order, within, k.count)) in
     let two : length during ≡ to - from = length-take-le (to - from) rest (omega (arith, order, within, k.count, length-drop from x.orders)) in
-    let At : List Orders → Type 0 = λ o. IsHomeRun (board_tick clock) x.clocks x.board.freq x.board.slots ready k.stops ss o → (t : AreTold clock 0 o x.states l k.end)
-    → AllTimely (start x.board x.pins) (steps_told clock 0 o x.states l k.end t) → SettledTold k.stops clock 0 [] o x.states l k.end t → Cut x ready from to k.stops ss in
-    subst At (sym cut) (λ r t timely settled. cut_here x place entries ready from to ss turns k before during behind one (omega (arith, one, two, order)) r t timely settled) k.run_is k.told k.timely k.settled
+    let At : List Orders → Type 0 = λ o. length o ≡ turns → IsHomeRun k.own x.clocks x.board.freq x.board.slots ready k.stops ss o → (t : AreTold clock 0 o x.states l k.end)
+    → AllTimely (start x.board x.pins) (steps_told clock 0 o x.states l k.end t) → SettledTold k.stops clock 0 [] o x.states l k.end t → Cut x k.own ready from to k.stops ss in
+    subst At (sym cut) (λ count r t timely settled. cut_here x place entries ready from to ss turns k before during behind one (omega (arith, one, two, order)) count r t timely settled) k.count k.run_is k.told k.timely k.settled
 
 same_made : (a b c : List Pulse) (h : List Pulse) → h ≡ a ++ b → h ≡ a ++ c → b ≡ c
 same_made a b c h e f = append_cancel_left a b c (sym e ∙ f)
@@ -187,7 +204,7 @@ pub told_section : (place : ℕ) (entries : List Entry) (ready turns from to : �
 told_section place entries ready turns from to x past s later k begin order within next oid =
     let c = cut_at x place entries ready from to turns (past ++ s ∷ later) k order within in
     let Next : ℕ → Type 0 = λ n. NextBehind n later in
-    let (pulses, made, fits) = section_is x.board x.pins (board_tick (clock_of x.board)) x.clocks ready k.stops past s later c.before c.during c.behind c.first c.second c.span (omega (arith, c.from_is, begin)) (subst Next (sym c.to_is) next) in
+    let (pulses, made, fits) = section_is x.board x.pins k.own x.clocks ready k.stops past s later c.before c.during c.behind c.first c.second c.span (omega (arith, c.from_is, begin)) (subst Next (sym c.to_is) next) in
     let h1 = run c.first (start x.board x.pins) in
     let same = same_made h1.made pulses (told_in from to x) (run (c.first ++ c.second) (start x.board x.pins)).made made c.made in
     let At : List Pulse → Type 0 = λ y. Fits x.board.freq (base_of x.clocks s.section) (only oid y) (s.section.plan oid) in
@@ -199,6 +216,6 @@ told_between place entries ready turns from to x past later k over order within 
     let c = cut_at x place entries ready from to turns (past ++ later) k order within in
     let Next : ℕ → Type 0 = λ n. NextBehind n later in
     let Over : ℕ → Type 0 = λ n. AreOverBy n past in
-    let same = between_is x.board x.pins (board_tick (clock_of x.board)) x.clocks ready k.stops past later c.before c.during c.behind c.first c.second c.span (subst Over (sym c.from_is) over) (subst Next (sym c.to_is) next) in
+    let same = between_is x.board x.pins k.own x.clocks ready k.stops past later c.before c.during c.behind c.first c.second c.span (subst Over (sym c.from_is) over) (subst Next (sym c.to_is) next) in
     let h1 = run c.first (start x.board x.pins) in
     sym (same_made h1.made [] (told_in from to x) (run (c.first ++ c.second) (start x.board x.pins)).made (same ∙ sym (append-nil h1.made)) c.made)

@@ -4,9 +4,8 @@ use Rattle.std.proofs.lemmas.List.Elements.{All-head, All-tail}
 use Rattle.std.specs.List.{flat_map}
 use Rattle.plan_types.specs.declared.levels.Level.{Level}
 use Rattle.plan_types.specs.declared.machine.BoardDef.{BoardDef}
-use Rattle.plan_types.specs.Clock.{board_tick, clock_of, turn_ns}
+use Rattle.plan_types.specs.Clock.{clock_of, turn_ns}
 use Rattle.plan_types.specs.Lines.{Clocks, lines_tick}
-use Rattle.plan_types.specs.Machines.{IsValidBoard}
 use Rattle.msg_code.specs.declared.cmd.Cmd.{Cmd}
 use Rattle.msg_code.specs.declared.cmd.Cmd.TheVariants as cmd
 use Rattle.board_world.specs.Orders.{plain, units_orders}
@@ -20,7 +19,7 @@ use Rattle.link_work.specs.Runs.{AreTurns, queued_in}
 use Rattle.link_work.specs.Stands.{first_state}
 use Rattle.link_work.specs.Turn.{LinkState, Orders}
 use Rattle.section_units.specs.Sections.{BoardSection, base_of, of_stepper, section_steps}
-use Rattle.run_laws.specs.Events.{AreTicks}
+use Rattle.run_laws.specs.Events.{AreOwn, AreTicks}
 use Rattle.run_laws.specs.Homes.{AreInTurn, AreOrdersIn, IsControlIn, IsHomeRun, IsSectionBy, RunSection}
 use Rattle.run_laws.specs.Links.{ends_of, steps_of}
 use Rattle.run_laws.specs.Parts.{AreTracked}
@@ -28,7 +27,6 @@ use Rattle.run_laws.specs.Runs.{AreSpilled, IsSpilled}
 use Rattle.run_laws.specs.Timely.{AllTimely, AreTimely, IsTimely}
 use Rattle.run_laws.proofs.Entering.{early_fits, begun_inside, all_inside}
 use Rattle.run_laws.proofs.Lasting.{Lasting, lasting_append, batch_lasts, units_timely}
-use Rattle.run_laws.proofs.Linking.{valid_ticks}
 use Rattle.run_laws.proofs.Seeking.{begun_tell}
 use Rattle.run_laws.proofs.Soon.{timely_append}
 use Rattle.run_laws.proofs.Spoiled.{few_spoiled, ten_seconds}
@@ -102,10 +100,10 @@ home_lasting own clocks freq slots ready n m turns stops ss all ticks r spilled 
     let more = length-append seg os in
     seg_lasts own clocks freq slots ready n m turns top stops ss all ticks r spilled far (0 + length xs) seg placed (omega (arith, few, long, more)) (omega (arith, near))
 
-pub home_timely : (b : BoardDef) (pins : List (List Level)) (board : ℕ) (entries : List Entry) (clocks : Clocks) (ready n m turns : ℕ) (stops : ℕ → Option ℕ) (ss : List RunSection) (os : List Orders) (l : LinkState)
-    (t : AreTurns (clock_of b) 0 os (first_state b pins board entries) l) → IsValidBoard b → IsHomeRun (board_tick (clock_of b)) clocks b.freq b.slots ready stops ss os → AreSpilled turns m (map (λ s. s.section) ss) → length os ≤ turns
+pub home_timely : (b : BoardDef) (pins : List (List Level)) (board : ℕ) (entries : List Entry) (own : ℕ → ℕ) (clocks : Clocks) (ready n m turns : ℕ) (stops : ℕ → Option ℕ) (ss : List RunSection) (os : List Orders) (l : LinkState)
+    (t : AreTurns (clock_of b) 0 os (first_state b pins board entries) l) → AreOwn b (length os) own → IsHomeRun own clocks b.freq b.slots ready stops ss os → AreSpilled turns m (map (λ s. s.section) ss) → length os ≤ turns
     → ((done : List Orders) (o : Orders) (rest : List Orders) → os ≡ done ++ (o ∷ rest) → AllKeepLimits done)
     → ((k : ℕ) → spoiled (take k (ends_of (clock_of b) 0 os (first_state b pins board entries) l t)) ≤ n) → n + m ≤ 10_700
     → AllTimely (start b pins) (steps_of (clock_of b) 0 os (first_state b pins board entries) l t)
-home_timely b pins board entries clocks ready n m turns stops ss os l t v r spilled within limits few small =
-    few_spoiled b pins board entries n os l t v (home_lasting (board_tick (clock_of b)) clocks b.freq b.slots ready n m turns stops ss os (valid_ticks b v) r spilled within (ten_seconds b n m v small)) limits few
+home_timely b pins board entries own clocks ready n m turns stops ss os l t o r spilled within limits few small =
+    few_spoiled b pins board entries own n os l t o (home_lasting own clocks b.freq b.slots ready n m turns stops ss os o.ticks r spilled within (ten_seconds b (length os) own n m o small)) limits few

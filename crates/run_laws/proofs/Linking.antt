@@ -1,7 +1,7 @@
 -- A link's turns as steps.
 use Rattle.std.proofs.lemmas.Int.{ints}
 use Rattle.std.proofs.lemmas.List.{append_cancel_left}
-use Rattle.std.proofs.Common.{◌≡◌, ℕ, ℤ, pos, negsuc, Bool, ◌+◌, ◌*◌, ◌≤◌, ◌≤ℤ◌, List, [], ◌∷◌, ◌++◌, length, refl, ap, sym, ◌∙◌, subst, arith, append_assoc, append-nil, ◌≢◌, ◌⊎◌, inl, inr, true, false, ◌↔◌}
+use Rattle.std.proofs.Common.{◌≡◌, ℕ, ℤ, zero, suc, pos, negsuc, Bool, ◌+◌, ◌*◌, ◌≤◌, ◌≤ℤ◌, List, [], ◌∷◌, ◌++◌, length, refl, ap, sym, ◌∙◌, subst, arith, append_assoc, append-nil, length-append, ◌≢◌, ◌⊎◌, inl, inr, true, false, ◌↔◌}
 use Rattle.run_laws.proofs.Windows.{quiet_made}
 use Rattle.board_sim.proofs.RigShut.{passes_left}
 use Rattle.board_sim.proofs.RigStates.{passes_state}
@@ -34,7 +34,7 @@ use Rattle.link_work.specs.Stands.{first_state}
 use Rattle.link_work.specs.Runs.{AreTurns}
 use Rattle.link_work.proofs.Sending.{run_append}
 use Rattle.link_work.proofs.Steps.{AllOf, all_append, all_come, all_resent, all_sent}
-use Rattle.run_laws.specs.Events.{IsQuiet, AreQuiet, IsTurnOf, AreTurnsOf, AreTicks}
+use Rattle.run_laws.specs.Events.{IsQuiet, AreOwn, AreQuiet, IsTurnOf, AreTurnsOf, AreTicks}
 use Rattle.run_laws.specs.Links.{steps_of_turn, steps_of, AreTold, pulses_in, turns_told}
 use Rattle.run_laws.specs.Runs.{IsBoardRun, IsSpan, NextAfter}
 use Rattle.section_units.specs.Sections.{BoardSection, base_of}
@@ -119,9 +119,10 @@ pub rate_most : (drift : ℤ) → drift ≤ℤ pos 200 → rate drift ≤ 1_000_
 rate_most (pos n) h = omega (arith, ints, h)
 rate_most (negsuc n) h = omega arith
 
-tick_most : (start freq k : ℕ) (drift : ℤ) → freq ≤ 200_000_000 → drift ≤ℤ pos 200 → own_tick start freq drift (k + 1) ≤ own_tick start freq drift k + 1_000_000
+-- a valid board has at most 200,041 ticks a turn
+tick_few : (start freq k : ℕ) (drift : ℤ) → freq ≤ 200_000_000 → drift ≤ℤ pos 200 → own_tick start freq drift (k + 1) ≤ own_tick start freq drift k + 200_041
 unfolding own_tick
-tick_most start freq k drift h e =
+tick_few start freq k drift h e =
     let more : (k + 1) * freq * rate drift ≡ k * freq * rate drift + freq * rate drift = grind arith in
     let most : freq * rate drift ≤ 200_000_000 * rate drift = mul-le-mul_right (rate drift) h in
     omega (arith, more, most, rate_most drift e)
@@ -129,12 +130,51 @@ tick_most start freq k drift h e =
 pub valid_ticks : (b : BoardDef) → IsValidBoard b → AreTicks (board_tick (clock_of b))
 valid_ticks b v = record {
   up = λ k. rise b.start b.freq k (k + 1) b.drift (omega arith);
-  most = λ k. tick_most b.start b.freq k b.drift v.freq.high v.drift_high;
+  most = λ k. omega (arith, tick_few b.start b.freq k b.drift v.freq.high v.drift_high);
 }
+
+pub own_ticks : (b : BoardDef) (turns : ℕ) → IsValidBoard b → AreOwn b turns (board_tick (clock_of b))
+own_ticks b turns v = record { ticks = valid_ticks b v; few = λ k. tick_few b.start b.freq k b.drift v.freq.high v.drift_high; same = λ k low. refl }
 
 pub first_tick : (b : BoardDef) → board_tick (clock_of b) 0 ≡ b.start
 unfolding own_tick
 first_tick b = omega arith
+
+pub own_first : (b : BoardDef) (turns : ℕ) (own : ℕ → ℕ) → AreOwn b turns own → own 0 ≡ b.start
+own_first b turns own o = o.same 0 (omega arith) ∙ first_tick b
+
+pub own_front : (b : BoardDef) (n turns : ℕ) (own : ℕ → ℕ) → n ≤ turns → AreOwn b turns own → AreOwn b n own
+own_front b n turns own h o = record { ticks = o.ticks; few = o.few; same = λ k low. o.same k (omega (arith, low, h)) }
+
+pub own_few : (b : BoardDef) (turns : ℕ) (own : ℕ → ℕ) → AreOwn b turns own → (j k : ℕ) → own (k + j) ≤ own k + 200_041 * j
+own_few b turns own o zero k = let e : k + 0 ≡ k = omega arith in rw e (omega arith)
+own_few b turns own o (suc j) k =
+    let e : k + suc j ≡ k + j + 1 = omega arith in
+    rw e (omega (arith, own_few b turns own o j k, o.few (k + j)))
+
+-- the turns of a board are those of any ticks that are the same by their end
+pub next_within : (turn last : ℕ) (o : Orders) (os : List Orders) → turn + length (o ∷ os) ≤ last → turn + 1 + length os ≤ last
+next_within turn last o os within = omega (arith, within)
+
+pub turn_owned : (own : ℕ → ℕ) (turn : ℕ) (o : Orders) (steps : List Step) (other : ℕ → ℕ) → own (turn + 1) ≡ other (turn + 1) → IsTurnOf other turn o steps → IsTurnOf own turn o steps
+turn_owned own turn o steps other same i = record {
+  before = i.before;
+  after = i.after;
+  are = i.are ∙ ap (λ t. Turn turn ∷ Do (event.Control o.control) ∷ Do (event.Put o.batch) ∷ i.before ++ Do (event.Pass t) ∷ i.after) (sym same);
+  before_quiet = i.before_quiet;
+  after_quiet = i.after_quiet;
+}
+
+unfoldable pub turns_owned : (b : BoardDef) (own : ℕ → ℕ) (last turn : ℕ) (os : List Orders) (steps : List Step) → AreOwn b last own → turn + length os ≤ last
+    → AreTurnsOf (board_tick (clock_of b)) turn os steps → AreTurnsOf own turn os steps
+turns_owned b own last turn [] steps same within t = t
+turns_owned b own last turn (o ∷ os) steps same within t = (
+  t.0,
+  t.1,
+  t.2,
+  turn_owned own turn o t.0 (board_tick (clock_of b)) (same.same (turn + 1) (omega (arith, within))) t.3,
+  turns_owned b own last (turn + 1) os t.1 same (next_within turn last o os within) t.4,
+)
 
 -- the states of turns tell the pulses that were made in them
 pub told_made : (clock : BoardClock) (turn : ℕ) (os : List Orders) (states : List State) (l m : LinkState) → AreTold clock turn os states l m → l.core.made ++ pulses_in states ≡ m.core.made
@@ -150,17 +190,19 @@ pub told_both : (clock : BoardClock) (turn : ℕ) (os : List Orders) (states : L
 told_both clock turn os states l m t = (turns_told clock turn os states l m t, told_made clock turn os states l m t)
 
 -- what a link shows of a section
-pub link_shows : (b : BoardDef) (pins : List (List Level)) (board : ℕ) (entries : List Entry) (clocks : Clocks) (ready : ℕ) (past : List BoardSection) (s : BoardSection) (later : List BoardSection)
+pub link_shows : (b : BoardDef) (pins : List (List Level)) (board : ℕ) (entries : List Entry) (own : ℕ → ℕ) (clocks : Clocks) (ready : ℕ) (past : List BoardSection) (s : BoardSection) (later : List BoardSection)
     (before during behind : List Orders) (l m n : LinkState) (one : AreTurns (clock_of b) 0 before (first_state b pins board entries) l) (two : AreTurns (clock_of b) (length before) during l m)
-    (three : AreTurns (clock_of b) (length before + length during) behind m n) → IsValidBoard b
-    → IsRun (board_tick (clock_of b)) clocks b.freq b.slots ready (past ++ s ∷ later) (before ++ (during ++ behind))
+    (three : AreTurns (clock_of b) (length before + length during) behind m n) → AreOwn b (length (before ++ (during ++ behind))) own
+    → IsRun own clocks b.freq b.slots ready (past ++ s ∷ later) (before ++ (during ++ behind))
     → AllTimely (start b pins) (steps_of (clock_of b) 0 before (first_state b pins board entries) l one
     ++ (steps_of (clock_of b) (length before) during l m two ++ steps_of (clock_of b) (length before + length during) behind m n three))
     → length before + 1 ≡ s.start → NextAfter (length before + length during) later → (states : List State) → AreTold (clock_of b) (length before) during states l m
     → (oid : ℕ) → Fits b.freq (base_of clocks s) (only oid (pulses_in states)) (s.plan oid)
-link_shows b pins board entries clocks ready past s later before during behind l m n one two three valid r timely begins ends states told oid =
+link_shows b pins board entries own clocks ready past s later before during behind l m n one two three o r timely begins ends states told oid =
     let clock = clock_of b in
-    let own = board_tick clock in
+    let turns = length (before ++ (during ++ behind)) in
+    let all = length-append before (during ++ behind) in
+    let both = length-append during behind in
     let l0 = first_state b pins board entries in
     let t1 = turns_are clock 0 before l0 l one in
     let t2 = turns_are clock (length before) during l m two in
@@ -170,16 +212,19 @@ link_shows b pins board entries clocks ready past s later before during behind l
     let third = steps_of clock (length before + length during) behind m n three in
     let zero_more : length before ≡ 0 + length before = omega arith in
     let At : ℕ → Type 0 = λ k. AreTurnsOf own k (during ++ behind) (second ++ third) in
-    let rest = turns_append own (length before) during behind second third t2.1 t3.1 in
+    let two_turns = turns_owned b own turns (length before) during second o (omega (arith, all, both)) t2.1 in
+    let three_turns = turns_owned b own turns (length before + length during) behind third o (omega (arith, all, both)) t3.1 in
+    let one_turns = turns_owned b own turns 0 before first o (omega (arith, all)) t1.1 in
+    let rest = turns_append own (length before) during behind second third two_turns three_turns in
     let whole : IsBoardRun b pins own clocks ready (past ++ s ∷ later) (before ++ (during ++ behind)) (first ++ (second ++ third)) = record {
-      ticks = valid_ticks b valid;
-      first = first_tick b;
+      ticks = o.ticks;
+      first = own_first b turns own o;
       run_is = r;
-      turns = turns_append own 0 before (during ++ behind) first (second ++ third) t1.1 (subst At zero_more rest);
+      turns = turns_append own 0 before (during ++ behind) first (second ++ third) one_turns (subst At zero_more rest);
       timely = timely;
     } in
     let span : IsSpan own s later before during behind first second third =
-    record { first_turns = t1.1; second_turns = t2.1; third_turns = t3.1; begins = begins; ends = ends } in
+    record { first_turns = one_turns; second_turns = two_turns; third_turns = three_turns; begins = begins; ends = ends } in
     let (pulses, made, fits) = span_fits b pins own clocks ready past s later before during behind first second third whole span in
     let early : l.core ≡ run first (start b pins) = t1.0 in
     let late : m.core ≡ run (first ++ second) (start b pins) = t2.0 ∙ ap (λ h. run second h) t1.0 ∙ sym (run_append first second (start b pins)) in
@@ -238,14 +283,14 @@ pulse_runs clock turn o l m t more =
     ]
 
 -- a link's run
-pub link_runs : (b : BoardDef) (pins : List (List Level)) (board : ℕ) (entries : List Entry) (clocks : Clocks) (ready : ℕ) (ss : List BoardSection) (os : List Orders) (m : LinkState)
-    (t : AreTurns (clock_of b) 0 os (first_state b pins board entries) m) → IsValidBoard b → IsRun (board_tick (clock_of b)) clocks b.freq b.slots ready ss os
+pub link_runs : (b : BoardDef) (pins : List (List Level)) (board : ℕ) (entries : List Entry) (own : ℕ → ℕ) (clocks : Clocks) (ready : ℕ) (ss : List BoardSection) (os : List Orders) (m : LinkState)
+    (t : AreTurns (clock_of b) 0 os (first_state b pins board entries) m) → AreOwn b (length os) own → IsRun own clocks b.freq b.slots ready ss os
     → AllTimely (start b pins) (steps_of (clock_of b) 0 os (first_state b pins board entries) m t)
-    → IsBoardRun b pins (board_tick (clock_of b)) clocks ready ss os (steps_of (clock_of b) 0 os (first_state b pins board entries) m t)
-link_runs b pins board entries clocks ready ss os m t valid r timely = record {
-  ticks = valid_ticks b valid;
-  first = first_tick b;
+    → IsBoardRun b pins own clocks ready ss os (steps_of (clock_of b) 0 os (first_state b pins board entries) m t)
+link_runs b pins board entries own clocks ready ss os m t o r timely = record {
+  ticks = o.ticks;
+  first = own_first b (length os) own o;
   run_is = r;
-  turns = (turns_are (clock_of b) 0 os (first_state b pins board entries) m t).1;
+  turns = turns_owned b own (length os) 0 os (steps_of (clock_of b) 0 os (first_state b pins board entries) m t) o (omega arith) (turns_are (clock_of b) 0 os (first_state b pins board entries) m t).1;
   timely = timely;
 }

@@ -7,7 +7,7 @@ use Rattle.plan_types.specs.declared.clock.BoardClock.{BoardClock}
 use Rattle.plan_types.specs.declared.plan.BoardState.{BoardState}
 use Rattle.plan_types.specs.declared.plan.BoardState.TheVariants.{Running, Shut}
 use Rattle.plan_types.specs.declared.plan.Pulse.{Pulse}
-use Rattle.plan_types.specs.Clock.{board_tick, clock_of}
+use Rattle.plan_types.specs.Clock.{clock_of}
 use Rattle.plan_types.specs.Lines.{Clocks}
 use Rattle.msg_code.specs.declared.talk.ShutNews.{ShutNews}
 use Rattle.msg_code.specs.declared.talk.State.{State}
@@ -26,7 +26,7 @@ use Rattle.run_laws.specs.Parts.{AreOrdersOf, IsRun, MakesIn}
 use Rattle.run_laws.specs.Timely.{AllTimely}
 use Rattle.run_laws.proofs.Boarding.{split_at, steps_told, told_count}
 use Rattle.run_laws.proofs.Each.{part_passed, this_one}
-use Rattle.run_laws.proofs.Linking.{pulse_runs}
+use Rattle.run_laws.proofs.Linking.{own_front, pulse_runs}
 use Rattle.run_laws.proofs.Turning.{timely_front}
 
 -- the first turns of a board's part of a run
@@ -52,7 +52,7 @@ up_to n x = record x { orders = take n x.orders; states = take n x.states }
 board_front : (place : ℕ) (entries : List Entry) (ready turns n : ℕ) (times : List Times) (x : OnBoard) → n ≤ turns → IsOnBoard place entries ready turns times x → IsOnBoard place entries ready n times (up_to n x)
 board_front place entries ready turns n times x h k =
     let clock = clock_of x.board in
-    let own = board_tick clock in
+    let own = k.own in
     let first = first_state x.board x.pins place entries in
     let xs = take n x.orders in
     let ys = drop n x.orders in
@@ -68,6 +68,8 @@ board_front place entries ready turns n times x h k =
     subst Told same (s.one, timely_front (steps_told clock 0 xs s.first first s.mid s.one) (steps_told clock n ys s.second s.mid k.end s.two) (start x.board x.pins) (subst Timely s.steps timely)) in
     record {
       valid = k.valid;
+      own = own;
+      own_is = own_front x.board n turns own h k.own_is;
       run_is = run_front own x.clocks x.board.freq x.board.slots ready x.sections xs ys r;
       times_are = k.times_are;
       count = count;

@@ -1,19 +1,17 @@
 -- Where few turns of each busy stretch are spoiled, a board takes soon what was queued.
-use Rattle.std.proofs.Common.{◌≡◌, ℕ, ℤ, pos, zero, suc, ◌+◌, ◌-◌, ◌*◌, ◌^◌, ◌<◌, ◌≤◌, ◌≤ℤ◌, List, [], ◌∷◌, ◌++◌, length, take, drop, refl, ap, sym, ◌∙◌, subst, arith, append_assoc, append-nil, length-append, inl, inr}
+use Rattle.std.proofs.Common.{◌≡◌, ℕ, zero, suc, ◌+◌, ◌-◌, ◌^◌, ◌<◌, ◌≤◌, List, [], ◌∷◌, ◌++◌, length, take, drop, refl, ap, sym, ◌∙◌, subst, arith, append_assoc, append-nil, length-append, inl, inr}
 use Rattle.std.proofs.lemmas.Grind.{flat_map-append}
 use Rattle.std.proofs.lemmas.List.{length-drop, take-append-drop, take-append-le}
 use Rattle.std.proofs.lemmas.Bool.Decides.{leb_tells}
-use Rattle.std.proofs.Math.Nat.{mul-le-mul_right}
 use Rattle.std.specs.List.{flat_map}
 use Rattle.plan_types.specs.declared.machine.BoardDef.{BoardDef}
 use Rattle.plan_types.specs.declared.clock.BoardClock.{BoardClock}
 use Rattle.plan_types.specs.declared.levels.Level.{Level}
-use Rattle.plan_types.specs.Clock.{board_tick, clock_of, own_tick, rate}
+use Rattle.plan_types.specs.Clock.{board_tick, clock_of}
 use Rattle.plan_types.specs.Lines.{Clocks}
-use Rattle.plan_types.specs.Machines.{IsValidBoard}
 use Rattle.wire_scene.specs.declared.scene.Entry.{Entry}
 use Rattle.board_sim.specs.Fair.{Meant}
-use Rattle.board_world.specs.World.{Core, run, start}
+use Rattle.board_world.specs.World.{Core, Step, run, start}
 use Rattle.link_work.specs.Ends.{EndSo, Ended, last_of, spoiled}
 use Rattle.link_work.specs.Limits.{AllKeepLimits}
 use Rattle.link_work.specs.Runs.{AreTurns, queued_in}
@@ -22,11 +20,12 @@ use Rattle.link_work.specs.Taking.{place_of}
 use Rattle.link_work.specs.Turn.{IsTurn, LinkState, Orders}
 use Rattle.link_work.proofs.Late.{last_append, late_command, limits_first, limits_split, ordered_after}
 use Rattle.section_units.specs.Sections.{BoardSection}
+use Rattle.run_laws.specs.Events.{AreOwn, AreTurnsOf}
 use Rattle.run_laws.specs.Links.{ends_of, steps_of, steps_of_turn}
 use Rattle.run_laws.specs.Parts.{IsRun}
 use Rattle.run_laws.specs.Runs.{AreSpilled}
 use Rattle.run_laws.specs.Timely.{AllTimely, TakesSoon}
-use Rattle.run_laws.proofs.Linking.{first_tick, rate_most, turn_runs, turns_are, valid_ticks}
+use Rattle.run_laws.proofs.Linking.{next_within, own_few, own_first, turn_runs, turns_are, turns_owned}
 use Rattle.run_laws.proofs.Lists.{cons_same}
 use Rattle.run_laws.proofs.Timing.{AreLasting, lasting_timely, run_lasting}
 
@@ -148,48 +147,44 @@ soon_from b pins board entries clock n turn all done (o ∷ os) l m t past h sam
           (cut ∙ sym (append_assoc done (o ∷ []) os)) limits ends (last_append first past (now ∷ [])) few_then,
     )
 
--- a valid board has at most 200,041 ticks a turn
-tick_few : (start freq k : ℕ) (drift : ℤ) → freq ≤ 200_000_000 → drift ≤ℤ pos 200 → own_tick start freq drift (k + 1) ≤ own_tick start freq drift k + 200_041
-unfolding own_tick
-tick_few start freq k drift h e =
-    let more : (k + 1) * freq * rate drift ≡ k * freq * rate drift + freq * rate drift = grind arith in
-    let most : freq * rate drift ≤ 200_000_000 * rate drift = mul-le-mul_right (rate drift) h in
-    omega (arith, more, most, rate_most drift e)
-
-pub ticks_few : (b : BoardDef) → IsValidBoard b → (j k : ℕ) → board_tick (clock_of b) (k + j) ≤ board_tick (clock_of b) k + 200_041 * j
-ticks_few b v zero k = let e : k + 0 ≡ k = omega arith in rw e (omega arith)
-ticks_few b v (suc j) k =
-    let e : k + suc j ≡ k + j + 1 = omega arith in
-    rw e (omega (arith, ticks_few b v j k, tick_few b.start b.freq (k + j) b.drift v.freq.high v.drift_high))
+-- so it is by other ticks that are the same by then
+soon_owned : (b : BoardDef) (n : ℕ) (all : List Orders) (own : ℕ → ℕ) (last turn : ℕ) (os : List Orders) (steps : List Step) (h : Core) (o : AreOwn b last own) (within : turn + length os ≤ last)
+    (t : AreTurnsOf (board_tick (clock_of b)) turn os steps) → TakesSoon n all (board_tick (clock_of b)) turn os steps h t → TakesSoon n all own turn os steps h (turns_owned b own last turn os steps o within t)
+unfolding turns_owned
+soon_owned b n all own last turn [] steps h o within t s = tt
+soon_owned b n all own last turn (x ∷ os) steps h o within t s = (s.0, soon_owned b n all own last (turn + 1) os t.1 (run t.0 h) o (next_within turn last x os within) t.4 s.1)
 
 -- what lasts for so many turns is timely
-pub few_spoiled : (b : BoardDef) (pins : List (List Level)) (board : ℕ) (entries : List Entry) (n : ℕ) (os : List Orders) (l : LinkState)
-    (t : AreTurns (clock_of b) 0 os (first_state b pins board entries) l) → IsValidBoard b → AreLasting (board_tick (clock_of b)) n os
+pub few_spoiled : (b : BoardDef) (pins : List (List Level)) (board : ℕ) (entries : List Entry) (own : ℕ → ℕ) (n : ℕ) (os : List Orders) (l : LinkState)
+    (t : AreTurns (clock_of b) 0 os (first_state b pins board entries) l) → AreOwn b (length os) own → AreLasting own n os
     → ((done : List Orders) (o : Orders) (rest : List Orders) → os ≡ done ++ (o ∷ rest) → AllKeepLimits done)
     → ((k : ℕ) → spoiled (take k (ends_of (clock_of b) 0 os (first_state b pins board entries) l t)) ≤ n)
     → AllTimely (start b pins) (steps_of (clock_of b) 0 os (first_state b pins board entries) l t)
-few_spoiled b pins board entries n os l t v lasting limits few =
+few_spoiled b pins board entries own n os l t o lasting limits few =
     let clock = clock_of b in
     let first : LinkState = first_state b pins board entries in
-    lasting_timely b pins (board_tick clock) n os (steps_of clock 0 os first l t) (turns_are clock 0 os first l t).1 (valid_ticks b v) (first_tick b) lasting
-    (soon_from b pins board entries clock n 0 os [] os first l t [] (start b pins) refl refl refl limits refl refl few)
+    let steps = steps_of clock 0 os first l t in
+    let turns = (turns_are clock 0 os first l t).1 in
+    let within : 0 + length os ≤ length os = omega arith in
+    lasting_timely b pins own n os steps (turns_owned b own (length os) 0 os steps o within turns) o.ticks (own_first b (length os) own o) lasting
+    (soon_owned b n os own (length os) 0 os steps (start b pins) o within turns (soon_from b pins board entries clock n 0 os [] os first l t [] (start b pins) refl refl refl limits refl refl few))
 
 -- so many turns are less than half a round of the 32-bit clock
-pub ten_seconds : (b : BoardDef) (n m : ℕ) → IsValidBoard b → n + m ≤ 10_700 → (k : ℕ) → board_tick (clock_of b) (k + (n + m + 2)) < board_tick (clock_of b) k + 2 ^ 31
-ten_seconds b n m v small k = omega (arith, ticks_few b v (n + m + 2) k, small)
+pub ten_seconds : (b : BoardDef) (turns : ℕ) (own : ℕ → ℕ) (n m : ℕ) → AreOwn b turns own → n + m ≤ 10_700 → (k : ℕ) → own (k + (n + m + 2)) < own k + 2 ^ 31
+ten_seconds b turns own n m o small k = omega (arith, own_few b turns own o (n + m + 2) k, small)
 
 -- the last turn may pass the limits
-pub few_timely_before : (b : BoardDef) (pins : List (List Level)) (board : ℕ) (entries : List Entry) (clocks : Clocks) (ready n m turns : ℕ) (ss : List BoardSection) (os : List Orders) (l : LinkState)
-    (t : AreTurns (clock_of b) 0 os (first_state b pins board entries) l) → IsValidBoard b → IsRun (board_tick (clock_of b)) clocks b.freq b.slots ready ss os → AreSpilled turns m ss → length os ≤ turns
+pub few_timely_before : (b : BoardDef) (pins : List (List Level)) (board : ℕ) (entries : List Entry) (own : ℕ → ℕ) (clocks : Clocks) (ready n m turns : ℕ) (ss : List BoardSection) (os : List Orders) (l : LinkState)
+    (t : AreTurns (clock_of b) 0 os (first_state b pins board entries) l) → AreOwn b (length os) own → IsRun own clocks b.freq b.slots ready ss os → AreSpilled turns m ss → length os ≤ turns
     → ((done : List Orders) (o : Orders) (rest : List Orders) → os ≡ done ++ (o ∷ rest) → AllKeepLimits done)
     → ((k : ℕ) → spoiled (take k (ends_of (clock_of b) 0 os (first_state b pins board entries) l t)) ≤ n) → n + m ≤ 10_700
     → AllTimely (start b pins) (steps_of (clock_of b) 0 os (first_state b pins board entries) l t)
-few_timely_before b pins board entries clocks ready n m turns ss os l t v r spilled within limits few small =
-    few_spoiled b pins board entries n os l t v (run_lasting (board_tick (clock_of b)) clocks b.freq b.slots ready n m turns ss os (valid_ticks b v) r spilled within (ten_seconds b n m v small)) limits few
+few_timely_before b pins board entries own clocks ready n m turns ss os l t o r spilled within limits few small =
+    few_spoiled b pins board entries own n os l t o (run_lasting own clocks b.freq b.slots ready n m turns ss os o.ticks r spilled within (ten_seconds b (length os) own n m o small)) limits few
 
-pub few_timely : (b : BoardDef) (pins : List (List Level)) (board : ℕ) (entries : List Entry) (clocks : Clocks) (ready n m turns : ℕ) (ss : List BoardSection) (os : List Orders) (l : LinkState)
-    (t : AreTurns (clock_of b) 0 os (first_state b pins board entries) l) → IsValidBoard b → IsRun (board_tick (clock_of b)) clocks b.freq b.slots ready ss os → AreSpilled turns m ss → length os ≤ turns → AllKeepLimits os
+pub few_timely : (b : BoardDef) (pins : List (List Level)) (board : ℕ) (entries : List Entry) (own : ℕ → ℕ) (clocks : Clocks) (ready n m turns : ℕ) (ss : List BoardSection) (os : List Orders) (l : LinkState)
+    (t : AreTurns (clock_of b) 0 os (first_state b pins board entries) l) → AreOwn b (length os) own → IsRun own clocks b.freq b.slots ready ss os → AreSpilled turns m ss → length os ≤ turns → AllKeepLimits os
     → ((k : ℕ) → spoiled (take k (ends_of (clock_of b) 0 os (first_state b pins board entries) l t)) ≤ n) → n + m ≤ 10_700
     → AllTimely (start b pins) (steps_of (clock_of b) 0 os (first_state b pins board entries) l t)
-few_timely b pins board entries clocks ready n m turns ss os l t v r spilled within limits few small =
-    few_timely_before b pins board entries clocks ready n m turns ss os l t v r spilled within (λ done o rest cut. (limits_split done (o ∷ rest) (subst AllKeepLimits cut limits)).0) few small
+few_timely b pins board entries own clocks ready n m turns ss os l t o r spilled within limits few small =
+    few_timely_before b pins board entries own clocks ready n m turns ss os l t o r spilled within (λ done x rest cut. (limits_split done (x ∷ rest) (subst AllKeepLimits cut limits)).0) few small

@@ -3,7 +3,7 @@ use Rattle.std.specs.Prelude.{◌≡◌, ℕ, ◌+◌, ◌-◌, ◌<◌, ◌≤�
 use Rattle.plan_types.specs.declared.machine.BoardDef.{BoardDef}
 use Rattle.plan_types.specs.declared.levels.Level.{Level}
 use Rattle.plan_types.specs.declared.plan.Pulse.{Pulse}
-use Rattle.plan_types.specs.Clock.{board_tick, clock_of}
+use Rattle.plan_types.specs.Clock.{clock_of}
 use Rattle.plan_types.specs.Lines.{Clocks}
 use Rattle.plan_types.specs.Machines.{IsValidBoard}
 use Rattle.msg_code.specs.declared.talk.State.{State}
@@ -12,6 +12,7 @@ use Rattle.wire_scene.specs.declared.scene.Entry.{Entry}
 use Rattle.board_world.specs.World.{start}
 use Rattle.link_work.specs.Turn.{LinkState, Orders}
 use Rattle.link_work.specs.Stands.{first_state}
+use Rattle.run_laws.specs.Events.{AreOwn}
 use Rattle.run_laws.specs.Late.{IsIn}
 use Rattle.run_laws.specs.Links.{AreTold, pulses_in, steps_of, turns_told}
 use Rattle.run_laws.specs.Parts.{IsRun}
@@ -38,10 +39,13 @@ pub record OnBoard : Type 0 where
   pub states : List State
 
 -- A board of a run of so many turns, at a place among the boards: its link took what it was given and told the states, its
--- orders are those of its sections, and no unit is taken half a round of the 32-bit clock after its first tick.
+-- orders are those of its sections, and no unit is taken half a round of the 32-bit clock after its first tick. Its ticks go on somehow
+-- behind the run.
 pub record IsOnBoard (place : ℕ) (entries : List Entry) (ready turns : ℕ) (times : List Times) (x : OnBoard) : Type 0 where
   pub valid : IsValidBoard x.board
-  pub run_is : IsRun (board_tick (clock_of x.board)) x.clocks x.board.freq x.board.slots ready x.sections x.orders
+  pub own : ℕ → ℕ
+  pub own_is : AreOwn x.board turns own
+  pub run_is : IsRun own x.clocks x.board.freq x.board.slots ready x.sections x.orders
   pub times_are : times_of x.sections ≡ times
   pub count : length x.orders ≡ turns
   pub end : LinkState

@@ -5,7 +5,7 @@ use Rattle.plan_types.specs.declared.clock.BoardClock.{BoardClock}
 use Rattle.plan_types.specs.declared.levels.Level.{Level}
 use Rattle.plan_types.specs.declared.machine.BoardDef.{BoardDef}
 use Rattle.plan_types.specs.declared.plan.Pulse.{Pulse}
-use Rattle.plan_types.specs.Clock.{board_tick, clock_of, turn_ns}
+use Rattle.plan_types.specs.Clock.{clock_of, turn_ns}
 use Rattle.plan_types.specs.Lines.{Clocks, lines_tick}
 use Rattle.plan_types.specs.Machines.{IsValidBoard}
 use Rattle.plan_types.specs.Plan.{AreSpaced, Fits}
@@ -21,7 +21,7 @@ use Rattle.link_work.specs.Turn.{LinkState, Orders}
 use Rattle.run_laws.specs.Boards.{OnBoard}
 use Rattle.run_laws.specs.Courses.{IsFrom, IsSettled, AreSettled}
 use Rattle.run_laws.specs.Courses as course
-use Rattle.run_laws.specs.Events.{AreTicks, AreTurnsOf}
+use Rattle.run_laws.specs.Events.{AreOwn, AreTicks, AreTurnsOf}
 use Rattle.run_laws.specs.Known.{Sent, sent_at, sent_in}
 use Rattle.run_laws.specs.Links.{AreTold, steps_of, turns_told}
 use Rattle.run_laws.specs.Parts.{AreTracked, MakesIn}
@@ -177,11 +177,13 @@ AreSettledOn stops clock turn sent (o ∷ os) l m t =
 
 -- A board of a run of so many turns in which axes home, at a place among the boards, with its sections and which of them home: its link took
 -- what it was given and told the states, its orders are those of its sections, no unit is taken half a round of the 32-bit clock after its
--- first tick, and what stops is halted.
+-- first tick, and what stops is halted. Its ticks go on somehow behind the run.
 pub record IsHomeBoard (place : ℕ) (entries : List Entry) (ready turns : ℕ) (ss : List RunSection) (x : OnBoard) : Type 0 where
   pub valid : IsValidBoard x.board
   pub stops : ℕ → Option ℕ
-  pub run_is : IsHomeRun (board_tick (clock_of x.board)) x.clocks x.board.freq x.board.slots ready stops ss x.orders
+  pub own : ℕ → ℕ
+  pub own_is : AreOwn x.board turns own
+  pub run_is : IsHomeRun own x.clocks x.board.freq x.board.slots ready stops ss x.orders
   pub count : length x.orders ≡ turns
   pub end : LinkState
   pub told : AreTold (clock_of x.board) 0 x.orders x.states (first_state x.board x.pins place entries) end

@@ -9,7 +9,7 @@ ghost use Rattle.link_work.specs.Turn.{LinkState, Orders};
 ghost use Rattle.plan_types.specs.declared.plan.Pulse.{Pulse};
 ghost use Rattle.plan_types.specs.Lines.{Clocks};
 ghost use Rattle.run_laws.specs.Courses.{AreAllGood, AreMadeFor, IsGoodRun, courses, parts_of};
-ghost use Rattle.run_laws.specs.Events.{AreTicks};
+ghost use Rattle.run_laws.specs.Events.{AreOwn, AreTicks};
 ghost use Rattle.run_laws.specs.Homes.{AreFrontsIn, AreOverBy, IsHomeBoard, IsHomeRun, IsHomeSpan, NextBehind, RunSection};
 ghost use Rattle.run_laws.specs.Boards.{OnBoard, told_in};
 ghost use Rattle.wire_scene.specs.declared.scene.Entry.{Entry};
@@ -20,8 +20,7 @@ ghost use Rattle.link_work.specs.Ends.{spoiled};
 ghost use Rattle.link_work.specs.Limits.{AllKeepLimits};
 ghost use Rattle.link_work.specs.Runs.{AreTurns};
 ghost use Rattle.link_work.specs.Stands.{first_state};
-ghost use Rattle.plan_types.specs.Clock.{board_tick, clock_of};
-ghost use Rattle.plan_types.specs.Machines.{IsValidBoard};
+ghost use Rattle.plan_types.specs.Clock.{clock_of};
 ghost use Rattle.plan_types.specs.Plan.{Fits};
 ghost use Rattle.section_units.specs.Sections.{base_of};
 ghost use Rattle.run_laws.specs.Ends.{MayBe};
@@ -79,8 +78,8 @@ pub fn homing_boards_keep_their_sections()
 /// turn at most n turns of a link's busy stretch were spoiled, and no unit that is due in the run's turns is released more than m turns behind its due one, no
 /// unit is taken half a round of the 32-bit clock after its first tick, for n + m up to 10,700 turns.
 pub fn homing_links_are_timely()
-    ensures { (b : BoardDef) (pins : List (List Level)) (board : ℕ) (entries : List Entry) (clocks : Clocks) (ready n m turns : ℕ) (stops : ℕ → Option ℕ) (ss : List RunSection) (os : List Orders) (l : LinkState)
-        (t : AreTurns (clock_of b) 0 os (first_state b pins board entries) l) → IsValidBoard b → IsHomeRun (board_tick (clock_of b)) clocks b.freq b.slots ready stops ss os → AreSpilled turns m (map (λ s. s.section) ss) → length os ≤ turns →
+    ensures { (b : BoardDef) (pins : List (List Level)) (board : ℕ) (entries : List Entry) (own : ℕ → ℕ) (clocks : Clocks) (ready n m turns : ℕ) (stops : ℕ → Option ℕ) (ss : List RunSection) (os : List Orders) (l : LinkState)
+        (t : AreTurns (clock_of b) 0 os (first_state b pins board entries) l) → AreOwn b (length os) own → IsHomeRun own clocks b.freq b.slots ready stops ss os → AreSpilled turns m (map (λ s. s.section) ss) → length os ≤ turns →
         ((done : List Orders) (o : Orders) (rest : List Orders) → os ≡ done ++ (o ∷ rest) → AllKeepLimits done) →
         ((k : ℕ) → spoiled (take k (ends_of (clock_of b) 0 os (first_state b pins board entries) l t)) ≤ n) → n + m ≤ 10_700 →
         AllTimely (start b pins) (steps_of (clock_of b) 0 os (first_state b pins board entries) l t) }

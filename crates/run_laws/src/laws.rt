@@ -22,7 +22,7 @@ ghost use Rattle.link_work.specs.Stands.{first_state};
 ghost use Rattle.link_work.specs.Runs.{AreTurns};
 ghost use Rattle.link_work.specs.Ends.{spoiled};
 ghost use Rattle.run_laws.specs.Ends.{MayBe};
-ghost use Rattle.run_laws.specs.Events.{AreTicks, AreTurnsOf};
+ghost use Rattle.run_laws.specs.Events.{AreOwn, AreTicks, AreTurnsOf};
 ghost use Rattle.run_laws.specs.Late.{IsLateUnit};
 ghost use Rattle.run_laws.specs.Links.{AreTold, ends_of, pulses_in, steps_of};
 ghost use Rattle.run_laws.specs.Runs.{AreOver, AreRising, Begins, IsBoardRun, IsSpan, Made, NextAfter, TookBefore};
@@ -65,8 +65,8 @@ pub fn units_taken_soon_are_timely()
 /// link's busy stretch were spoiled, no unit is taken half a round of the 32-bit clock after its first tick, for n up to 10,000 turns, ten
 /// seconds. The units need no limit: where those of two sections meet in a turn, one before them is late, and shuts the board down.
 pub fn few_spoiled_turns_are_timely()
-    ensures { (b : BoardDef) (pins : List (List Level)) (board : ℕ) (entries : List Entry) (clocks : Clocks) (ready n turns : ℕ) (ss : List BoardSection) (os : List Orders) (l : LinkState)
-        (t : AreTurns (clock_of b) 0 os (first_state b pins board entries) l) → IsValidBoard b → IsRun (board_tick (clock_of b)) clocks b.freq b.slots ready ss os → All (AreSentTo clocks b.freq turns) ss → length os ≤ turns →
+    ensures { (b : BoardDef) (pins : List (List Level)) (board : ℕ) (entries : List Entry) (own : ℕ → ℕ) (clocks : Clocks) (ready n turns : ℕ) (ss : List BoardSection) (os : List Orders) (l : LinkState)
+        (t : AreTurns (clock_of b) 0 os (first_state b pins board entries) l) → AreOwn b (length os) own → IsRun own clocks b.freq b.slots ready ss os → All (AreSentTo clocks b.freq turns) ss → length os ≤ turns →
         ControlsKeep os → ((k : ℕ) → spoiled (take k (ends_of (clock_of b) 0 os (first_state b pins board entries) l t)) ≤ n) → n ≤ 10_000 →
         AllTimely (start b pins) (steps_of (clock_of b) 0 os (first_state b pins board entries) l t) }
 {}
@@ -136,8 +136,8 @@ pub fn idle_links_took_all()
 {}
 
 /// The law of links: the turns of a link are such turns of a board, whatever the scene, and those of a valid board, whose
-/// clock may drift, have ticks as they are asked for, so that all laws of a board's run are laws of its link. A turn that makes a pulse leaves
-/// the board running.
+/// clock may drift, have ticks as they are asked for, so that all laws of a board's run are laws of its link, by any ticks that are the
+/// board's own up to the run's end. A turn that makes a pulse leaves the board running.
 pub fn links_make_turns()
     ensures steps { (clock : BoardClock) (turn : ℕ) (os : List Orders) (l m : LinkState) (t : AreTurns clock turn os l m) →
         (m.core ≡ run (steps_of clock turn os l m t) l.core) × AreTurnsOf (board_tick clock) turn os (steps_of clock turn os l m t) }
@@ -145,12 +145,12 @@ pub fn links_make_turns()
         AreTurnsOf own (turn + length xs) ys second → AreTurnsOf own turn (xs ++ ys) (first ++ second) }
     ensures told { (clock : BoardClock) (turn : ℕ) (os : List Orders) (states : List State) (l m : LinkState) → AreTold clock turn os states l m →
         AreTurns clock turn os l m × (l.core.made ++ pulses_in states ≡ m.core.made) }
-    ensures ticks { (b : BoardDef) → IsValidBoard b → AreTicks (board_tick (clock_of b)) }
-    ensures run { (b : BoardDef) (pins : List (List Level)) (board : ℕ) (entries : List Entry) (clocks : Clocks) (ready : ℕ) (ss : List BoardSection) (os : List Orders) (m : LinkState)
-        (t : AreTurns (clock_of b) 0 os (first_state b pins board entries) m) → IsValidBoard b →
-        IsRun (board_tick (clock_of b)) clocks b.freq b.slots ready ss os →
+    ensures ticks { (b : BoardDef) (turns : ℕ) → IsValidBoard b → AreOwn b turns (board_tick (clock_of b)) }
+    ensures run { (b : BoardDef) (pins : List (List Level)) (board : ℕ) (entries : List Entry) (own : ℕ → ℕ) (clocks : Clocks) (ready : ℕ) (ss : List BoardSection) (os : List Orders) (m : LinkState)
+        (t : AreTurns (clock_of b) 0 os (first_state b pins board entries) m) → AreOwn b (length os) own →
+        IsRun own clocks b.freq b.slots ready ss os →
         AllTimely (start b pins) (steps_of (clock_of b) 0 os (first_state b pins board entries) m t) →
-        IsBoardRun b pins (board_tick (clock_of b)) clocks ready ss os (steps_of (clock_of b) 0 os (first_state b pins board entries) m t) }
+        IsBoardRun b pins own clocks ready ss os (steps_of (clock_of b) 0 os (first_state b pins board entries) m t) }
     ensures running { (clock : BoardClock) (turn : ℕ) (o : Orders) (l m : LinkState) → IsTurn clock turn o l m → m.core.made ≢ l.core.made →
         m.core.board.controller.state ≡ Running }
 {}
@@ -158,12 +158,12 @@ pub fn links_make_turns()
 /// The law of sections, of links: the pulses that the states of a section's turns tell are, for each stepper, made for the
 /// first steps of that section's plan, whatever the scene.
 pub fn links_show_sections()
-    ensures { (b : BoardDef) (pins : List (List Level)) (board : ℕ) (entries : List Entry) (clocks : Clocks) (ready : ℕ) (past : List BoardSection) (s : BoardSection) (later : List BoardSection)
+    ensures { (b : BoardDef) (pins : List (List Level)) (board : ℕ) (entries : List Entry) (own : ℕ → ℕ) (clocks : Clocks) (ready : ℕ) (past : List BoardSection) (s : BoardSection) (later : List BoardSection)
         (before during behind : List Orders) (l m n : LinkState)
         (one : AreTurns (clock_of b) 0 before (first_state b pins board entries) l) (two : AreTurns (clock_of b) (length before) during l m)
         (three : AreTurns (clock_of b) (length before + length during) behind m n) →
-        IsValidBoard b →
-        IsRun (board_tick (clock_of b)) clocks b.freq b.slots ready (past ++ s ∷ later) (before ++ (during ++ behind)) →
+        AreOwn b (length (before ++ (during ++ behind))) own →
+        IsRun own clocks b.freq b.slots ready (past ++ s ∷ later) (before ++ (during ++ behind)) →
         AllTimely (start b pins) (steps_of (clock_of b) 0 before (first_state b pins board entries) l one
         ++ (steps_of (clock_of b) (length before) during l m two ++ steps_of (clock_of b) (length before + length during) behind m n three)) →
         length before + 1 ≡ s.start → NextAfter (length before + length during) later →

@@ -54,7 +54,7 @@ exact_tracked clock turns line until v d few x =
     (λ k low high. keeps_up_always clock turns s k v d i (omega arith)))
 
 -- a line that is not older than it may be has drifted no further
-not_old : (drift : ℤ) (n : ℕ) → n ≤ line_age drift → n * ppm_size drift ≤ 980_000
+pub not_old : (drift : ℤ) (n : ℕ) → n ≤ line_age drift → n * ppm_size drift ≤ 980_000
 not_old drift n le =
     let p = ppm_size drift in
     let own : n * p ≤ 980_000 / p * p = mul-le-mul_right p le in

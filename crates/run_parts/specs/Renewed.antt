@@ -1,9 +1,9 @@
 -- Clock lines that are renewed in time.
-use Rattle.std.specs.Prelude.{◌⊎◌, ℕ, ℤ, ◌+◌, ◌*◌, ◌/◌, ◌≤◌, List, [], ◌∷◌}
+use Rattle.std.specs.Prelude.{◌⊎◌, ℕ, ℤ, ◌+◌, ◌-◌, ◌*◌, ◌/◌, ◌≤◌, List, [], ◌∷◌, min}
 use Rattle.plan_types.specs.declared.clock.BoardClock.{BoardClock}
 use Rattle.plan_types.specs.declared.plan.Held.{Held}
 use Rattle.plan_types.specs.declared.plan.Line.{Line}
-use Rattle.plan_types.specs.Clock.{turn_ns}
+use Rattle.plan_types.specs.Clock.{board_tick, turn_ns}
 use Rattle.board_runs.specs.Turns.{BoardTurn}
 use Rattle.clock_line.specs.Samples.{ppm_size}
 use Rattle.clock_runs.specs.Samples.{IsSampled}
@@ -19,6 +19,10 @@ abbrev pub ComeInTime : ℤ → Line → List Held → ℕ → Type 0
 ComeInTime drift line [] until = until * turn_ns ≤ line.at + line_age drift * turn_ns
 ComeInTime drift line (h ∷ held) until =
     ((until * turn_ns ≤ line.at + line_age drift * turn_ns) × ((until + 1) * turn_ns ≤ h.from)) ⊎ ((h.from ≤ line.at + line_age drift * turn_ns) × ComeInTime drift h.line held until)
+
+-- The ticks of a board's clock as turns begin, up to one of them; behind it a turn has as many as it would have without a drift.
+abbrev pub go_on : BoardClock → ℕ → ℕ → ℕ
+go_on clock n turn = board_tick clock (min turn n) + (turn - n) * (clock.freq / 1_000)
 
 -- each of some further lines is that of a sample of a board's clock
 abbrev pub AreSampled : BoardClock → List BoardTurn → List Held → Type 0

@@ -3,11 +3,12 @@
 ghost use Rattle.std.specs.Prelude.{◌≡◌, ◌⊎◌, ◌*◌, ◌+◌, ◌<◌, ◌≤◌, ◌^◌, ℕ, pos, List, ◌∷◌, All, Option, None, length, take};
 ghost use Rattle.plan_types.specs.declared.clock.BoardClock.{BoardClock};
 ghost use Rattle.plan_types.specs.declared.levels.Level.{Level};
+ghost use Rattle.plan_types.specs.declared.machine.BoardDef.{BoardDef};
 ghost use Rattle.plan_types.specs.declared.machine.Machine.{Machine};
 ghost use Rattle.plan_types.specs.declared.plan.Line.{Line};
-ghost use Rattle.plan_types.specs.Clock.{board_tick, turn_ns};
-ghost use Rattle.plan_types.specs.Lines.{Clocks, one_line};
-ghost use Rattle.plan_types.specs.Machines.{IsValidFreq, IsValidMachine, stepper_at};
+ghost use Rattle.plan_types.specs.Clock.{board_tick, clock_of, turn_ns};
+ghost use Rattle.plan_types.specs.Lines.{Clocks, last_from, one_line};
+ghost use Rattle.plan_types.specs.Machines.{IsValidBoard, IsValidFreq, IsValidMachine, stepper_at};
 ghost use Rattle.clock_line.specs.Kept.{AreKept};
 ghost use Rattle.clock_line.specs.Samples.{ppm_size};
 ghost use Rattle.wire_scene.specs.declared.scene.Entry.{Entry};
@@ -21,11 +22,12 @@ ghost use Rattle.clock_runs.specs.Runs.{IsInRun, orders_in};
 ghost use Rattle.clock_runs.specs.Samples.{IsSampled};
 ghost use Rattle.plan_types.specs.Sections.{clocks_at};
 ghost use Rattle.axis_homing.specs.declared.homing.Homing.{Homing};
+ghost use Rattle.run_laws.specs.Events.{AreOwn};
 ghost use Rattle.run_laws.specs.Homes.{IsControlIn, RunSection};
 ghost use Rattle.run_parts.specs.Homed.{IsOneOf};
 ghost use Rattle.run_laws.specs.Parts.{AreTracked, IsControl, MakesIn};
 ghost use Rattle.run_parts.specs.Ready.{ready_turn};
-ghost use Rattle.run_parts.specs.Renewed.{AreSampled, ComeInTime, NoneBefore, line_age};
+ghost use Rattle.run_parts.specs.Renewed.{AreSampled, ComeInTime, NoneBefore, go_on, line_age};
 
 /// The law of controls: in a run that goes on, what a control holds are control commands, while no homing section is under way.
 pub fn controls_are_control_commands()
@@ -64,4 +66,14 @@ pub fn clock_lines_follow()
     ensures in_time { (clock : BoardClock) (turns : List BoardTurn) (clocks : Clocks) (ready until : ℕ) → IsValidFreq clock.freq → AreKept clocks → IsSampled clock turns clocks.first → AreSampled clock turns clocks.held →
         clocks.first.at ≤ ready * turn_ns → NoneBefore ready clocks.held → (clock.drift ≡ pos 0) ⊎ ((ppm_size clock.drift ≤ 200) × ComeInTime clock.drift clocks.first clocks.held until) →
         (x : AreTracked (λ k. board_tick clock k) clocks ready) × (x.until ≡ until) }
+{}
+
+/// The law of clocks that go on: behind a turn, at least four turns behind that of the last further line, the clock lines of a board
+/// follow for good a clock that has its ticks up to that turn and goes on without a drift (`go_on`), where each line is that of a sample, and
+/// the board's clock is exact, or each line up to that turn is renewed before it is too old. Up to that turn its ticks are the board's own.
+pub fn clocks_go_on()
+    ensures own { (b : BoardDef) (turns n : ℕ) → IsValidBoard b → turns ≤ n → AreOwn b turns (go_on (clock_of b) n) }
+    ensures tracked { (clock : BoardClock) (turns : List BoardTurn) (clocks : Clocks) (ready last n until any : ℕ) → IsValidFreq clock.freq → AreKept clocks → IsSampled clock turns clocks.first → AreSampled clock turns clocks.held →
+        clocks.first.at ≤ ready * turn_ns → NoneBefore ready clocks.held → (clock.drift ≡ pos 0) ⊎ ((ppm_size clock.drift ≤ 200) × ComeInTime clock.drift clocks.first clocks.held until) →
+        last_from 0 clocks.held ≤ last * turn_ns → ready ≤ last → last + 4 ≤ n → n ≤ until → (x : AreTracked (go_on clock n) clocks ready) × (x.until ≡ any) }
 {}

@@ -4,6 +4,6 @@
 mod laws;
 
 pub use laws::{
-    clock_lines_follow, controls_are_control_commands, homing_controls_are_control_commands,
-    steppers_are_made_in_time,
+    clock_lines_follow, clocks_go_on, controls_are_control_commands,
+    homing_controls_are_control_commands, steppers_are_made_in_time,
 };

@@ -1,10 +1,11 @@
 -- The turns of a planner in a run.
-use Rattle.std.proofs.Common.{◌≡◌, ℕ, suc, ◌+◌, ◌^◌, ◌<◌, ◌≤◌, Bool, true, false, ◌⊎◌, List, [], ◌∷◌, ◌++◌, length, Option, None, Some, refl, ap, sym, ◌∙◌, subst, arith, inl, inr, append_assoc, append-nil, length-append}
+use Rattle.std.proofs.Common.{◌≡◌, ℕ, suc, ◌+◌, ◌^◌, ◌<◌, ◌≤◌, Bool, true, false, ◌⊎◌, List, [], ◌∷◌, ◌++◌, All, length, Option, None, Some, refl, ap, sym, ◌∙◌, subst, arith, inl, inr, append_assoc, append-nil, length-append}
 use Rattle.std.specs.Prelude.{◌-◌, ◌&&◌, cond, is_none, nat_lt}
 use Rattle.std.proofs.lemmas.Bool.Decides.{leb_tells}
 use Rattle.plan_types.specs.declared.machine.Machine.{Machine}
 use Rattle.plan_types.specs.declared.plan.ReadEnd.{ReadEnd}
 use Rattle.msg_code.specs.declared.talk.Note.{Note}
+use Rattle.msg_code.specs.declared.talk.NoteNews.{NoteNews}
 use Rattle.msg_code.specs.declared.talk.Piece.{Piece}
 use Rattle.msg_code.specs.declared.talk.WordMsg.{WordMsg}
 use Rattle.motion_work.specs.Homes.{no_end}
@@ -18,11 +19,12 @@ use Rattle.motion_stream.specs.declared.course.Open.{Open}
 use Rattle.motion_stream.specs.declared.course.Open.TheVariants as opens
 use Rattle.motion_stream.specs.Courses.{IsGoing, IsTold}
 use Rattle.plan_types.specs.Sections.{clocks_at}
-use Rattle.motion_stream.specs.Motions.{AreEarly, IsMore, IsPlannerOf, Planner, Reads, ended_in, going_with, waits_by, wants, with_lines, with_word}
+use Rattle.motion_stream.specs.Motions.{AreEarly, IsMore, IsPlannerOf, Planner, Reads, ended_in, going_with, lines_kept, waits_by, wants, with_lines, with_word}
 use Rattle.motion_stream.specs.Motions as motion
 use Rattle.motion_stream.specs.Puts.{ArePutBy}
 use Rattle.motion_stream.specs.Seen.{Going, Seen, nothing_seen}
 use Rattle.motion_stream.specs.Texts.{ended_after, text_after}
+use Rattle.motion_stream.specs.Uptakes.{IsNotLost}
 use Rattle.motion_stream.proofs.Laying.{none_put, text_kept, turn_kept, word_put}
 use Rattle.session_work.specs.declared.machines.MotionMachine.{Ghosts as Motion}
 use Rattle.session_work.specs.declared.seat.Seat.{Seat}
@@ -30,10 +32,10 @@ use Rattle.session_work.specs.declared.table.MotionTurn.{MotionTurn}
 use Rattle.session_work.specs.Motions.{MotionStep, seated}
 use Rattle.session_work.specs.Seats.{MakeStep, PieceStep, Told as ToldTo, WordStep, hungers, is_wanted, needs}
 use Rattle.session_work.specs.Turns.{Goes}
-use Rattle.run_plans.specs.Planned.{AnyEnds, AnyStops, AnyWaits, AreBare, AreRead, BeginInRange, IsBare, IsPlanning, Plans, StopsAt, TellHeard, Text, TookInTime, heard_in, lines_heard, nothing_read, planning, put_of, puts_of, read_all, read_on, told_behind, words_in}
+use Rattle.run_plans.specs.Planned.{AnyEnds, AnyStops, AnyWaits, AreBare, AreRead, BeginInRange, IsBare, IsPlanning, LoseNone, Plans, StopsAt, Text, TookInTime, fresh_in, heard_in, nothing_read, planning, put_of, puts_of, read_all, read_on, told_behind, words_in}
 use Rattle.run_plans.specs.Answers.{TookNoneAhead}
 use Rattle.run_plans.proofs.Answering.{HaveHeard, Homes, heard_piece, heard_turn, heard_word, none_heard, words_end, words_snoc}
-use Rattle.run_plans.proofs.Lining.{lines_snoc, tells_snoc, words_last}
+use Rattle.run_plans.proofs.Lining.{words_last}
 use Rattle.run_plans.proofs.Wholes.{Ran, whole_plans}
 
 clash : true ≡ false → ⊥
@@ -43,9 +45,9 @@ clash e = cc
 abbrev Dead : {M : Type 0} → Seat M → Type 0
 Dead x = (x.halted ≡ true) ⊎ (x.quiet ≡ true)
 
--- a worker in turn k whose planner took these words in it, behind these turns, and has seen what tells these that were put, with this text
--- and this told
-record Live {M : Type 0} (view : M → Planner) (m : Machine) (k : ℕ) (done : List MotionTurn) (words : List WordMsg) (puts : List Put) (text : Text) (told : Option Told) (x : Seat M) : Type 0 where
+-- a worker in turn k whose planner took these words in it, behind these turns, and has seen what tells these that were put, with this text,
+-- this told, and these further lines that words told since the turn before
+record Live {M : Type 0} (view : M → Planner) (m : Machine) (k : ℕ) (done : List MotionTurn) (words : List WordMsg) (puts : List Put) (text : Text) (told : Option Told) (fresh : List BoardLine) (x : Seat M) : Type 0 where
   halted : x.halted ≡ false
   quiet : x.quiet ≡ false
   seen : Seen
@@ -56,7 +58,7 @@ record Live {M : Type 0} (view : M → Planner) (m : Machine) (k : ℕ) (done : 
   text_is : seen.text ≡ text.bytes
   ended_is : seen.ended ≡ text.ended
   told_is : seen.told ≡ told
-  lines_are : seen.lines ≡ lines_heard (words_in done ++ words)
+  fresh_are : seen.fresh ≡ fresh
 
 -- what is dead stays so
 told_dead : {M : Type 0} (g : Motion M) (x y : Seat M) (w : WordMsg) → x.quiet ≡ true → ToldTo g.hears x w y → y.quiet ≡ true
@@ -115,14 +117,14 @@ homes_before going None h = h
 homes_before going (Some s) h = absurd h
 
 -- a live worker hears a word
-record Told_on {M : Type 0} (view : M → Planner) (m : Machine) (k : ℕ) (done : List MotionTurn) (words : List WordMsg) (puts : List Put) (text : Text) (told : Option Told) (going : Option Going) (y : Seat M) : Type 0 where
-  live : Live view m k done words puts text told y
+record Told_on {M : Type 0} (view : M → Planner) (m : Machine) (k : ℕ) (done : List MotionTurn) (words : List WordMsg) (puts : List Put) (text : Text) (told : Option Told) (fresh : List BoardLine) (going : Option Going) (y : Seat M) : Type 0 where
+  live : Live view m k done words puts text told fresh y
   waits : Homes live.seen.going → Homes going
 
-word_heard : {M : Type 0} (g : Motion M) (view : M → Planner) (m : Machine) (k : ℕ) (done : List MotionTurn) (us : List WordMsg) (puts : List Put) (text : Text) (told : Option Told) (x y : Seat M) (w : WordMsg) → IsPlanning g view → length puts ≡ k
-    → (l : Live view m k done us puts text told x) → WordStep g.hears x w y → Told_on view m k done (us ++ w ∷ []) puts text (heard m k w told) l.seen.going y ⊎ (Dead y × ((w.end ≡ true) ⊎ (y.out ≡ true)))
-word_heard g view m k done us puts text told x y w is long l (_, inl s) = inr (inl s.1, inl s.0)
-word_heard g view m k done us puts text told x y w is long l (_, inr s) =
+word_heard : {M : Type 0} (g : Motion M) (view : M → Planner) (m : Machine) (k : ℕ) (done : List MotionTurn) (us : List WordMsg) (puts : List Put) (text : Text) (told : Option Told) (fresh : List BoardLine) (x y : Seat M) (w : WordMsg) → IsPlanning g view → length puts ≡ k
+    → (l : Live view m k done us puts text told fresh x) → WordStep g.hears x w y → Told_on view m k done (us ++ w ∷ []) puts text (heard m k w told) (fresh ++ lines_kept (heard m k w told) (lines_in w.news)) l.seen.going y ⊎ (Dead y × ((w.end ≡ true) ⊎ (y.out ≡ true)))
+word_heard g view m k done us puts text told fresh x y w is long l (_, inl s) = inr (inl s.1, inl s.0)
+word_heard g view m k done us puts text told fresh x y w is long l (_, inr s) =
     let (_, halted, to) = s in
     elim to [
       | inl q ↦ absurd (clash (sym q.0 ∙ l.quiet))
@@ -136,6 +138,7 @@ word_heard g view m k done us puts text told x y w is long l (_, inr s) =
             let same : (view y.machine).machine ≡ m = did.0 ∙ l.machine_is in
             let Then : Machine → Type 0 = λ n. ArePutBy n (with_word (view x.machine).machine l.seen w) puts in
             let small : k ≤ no_end = (let low = l.is.small in let at = l.is.next in omega (arith, low, at, next)) in
+            let known : heard (view x.machine).machine l.seen.next w l.seen.told ≡ heard m k w told = ap (λ n. heard n l.seen.next w l.seen.told) l.machine_is ∙ ap (λ n. heard m n w l.seen.told) next ∙ ap (heard m k w) l.told_is in
             inl (record {
               live = record {
                 halted = halted ∙ l.halted;
@@ -147,8 +150,8 @@ word_heard g view m k done us puts text told x y w is long l (_, inr s) =
                 answers = heard_word (view x.machine).machine l.seen k done us w next small l.answers;
                 text_is = l.text_is;
                 ended_is = l.ended_is;
-                told_is = ap (λ n. heard n l.seen.next w l.seen.told) l.machine_is ∙ ap (λ n. heard m n w l.seen.told) next ∙ ap (heard m k w) l.told_is;
-                lines_are = ap (λ ls. ls ++ lines_in w.news) l.lines_are ∙ sym (lines_snoc (words_in done ++ us) w) ∙ ap lines_heard (append_assoc (words_in done) us (w ∷ []));
+                told_is = known;
+                fresh_are = ap (λ o. l.seen.fresh ++ lines_kept o (lines_in w.news)) known ∙ ap (λ ls. ls ++ lines_kept (heard m k w told) (lines_in w.news)) l.fresh_are;
               };
               waits = homes_before l.seen.going (ended_in (view x.machine).machine (with_lines (view x.machine).machine l.seen w) w);
             })
@@ -181,9 +184,9 @@ waiting m opens.Nothing c told begun going start k h e = absurd (clash (sym e))
 waiting m (opens.Goes s true) c told begun going start k h e = subst Homes (sym h.is) (sym h.homes_is)
 waiting m (opens.Goes s false) c told begun going start k h e = absurd (clash (sym e))
 
-wanted : {M : Type 0} (g : Motion M) (view : M → Planner) (m : Machine) (k : ℕ) (done : List MotionTurn) (words : List WordMsg) (puts : List Put) (text : Text) (told : Option Told) (x : Seat M) → IsPlanning g view → (l : Live view m k done words puts text told x)
+wanted : {M : Type 0} (g : Motion M) (view : M → Planner) (m : Machine) (k : ℕ) (done : List MotionTurn) (words : List WordMsg) (puts : List Put) (text : Text) (told : Option Told) (fresh : List BoardLine) (x : Seat M) → IsPlanning g view → (l : Live view m k done words puts text told fresh x)
     → needs g.wants k x ≡ true → (x.heard ≤ k) × (x.heard ≡ k → (told ≡ None) ⊎ Homes l.seen.going)
-wanted g view m k done words puts text told x is l e =
+wanted g view m k done words puts text told fresh x is l e =
     let p = view x.machine in
     let Wants : Option ℕ → Type 0 = λ o. cond x.halted false (cond x.quiet (nat_lt (x.heard + 63) k) (is_wanted o x.heard)) ≡ true in
     let h = by_word x.halted x.quiet p.course.connected (waits_by p.course.current p.course.start k) k x.heard (subst Wants (is.wants x.machine k) e) l.quiet in (
@@ -199,28 +202,32 @@ heard_none m k w None e = refl
 heard_none m k w (Some t) e = e
 
 -- a live worker hears words
-record Spoken {M : Type 0} (view : M → Planner) (m : Machine) (k : ℕ) (done : List MotionTurn) (words : List WordMsg) (puts : List Put) (text : Text) (told after : Option Told) (going : Option Going) (first : ℕ) (a : Seat M) : Type 0 where
-  live : Live view m k done words puts text after a
+record Spoken {M : Type 0} (view : M → Planner) (m : Machine) (k : ℕ) (done : List MotionTurn) (words : List WordMsg) (puts : List Put) (text : Text) (told after : Option Told) (fresh : List BoardLine) (going : Option Going) (first : ℕ) (a : Seat M) : Type 0 where
+  live : Live view m k done words puts text after fresh a
   low : a.heard ≤ k + 1
   early : first ≤ k → a.heard ≡ k + 1 → (told ≡ None) ⊎ Homes going
 
-words_heard : {M : Type 0} (g : Motion M) (view : M → Planner) (m : Machine) (k i : ℕ) (done : List MotionTurn) (us : List WordMsg) (puts : List Put) (text : Text) (told : Option Told) (ws : List WordMsg) (x a : Seat M) → IsPlanning g view → length puts ≡ k
-    → x.heard ≤ k + 1 → (l : Live view m k done us puts text told x) → Goes (λ _ y w z. (needs g.wants k y ≡ true) × WordStep g.hears y w z) i x ws a
-    → Spoken view m k done (us ++ ws) puts text told (heard_in m k ws told) l.seen.going x.heard a ⊎ (Dead a × (AnyEnds ws ⊎ (a.out ≡ true)))
-words_heard g view m k i done us puts text told [] x a is long few l h =
+words_heard : {M : Type 0} (g : Motion M) (view : M → Planner) (m : Machine) (k i : ℕ) (done : List MotionTurn) (us : List WordMsg) (puts : List Put) (text : Text) (told : Option Told) (fresh : List BoardLine) (ws : List WordMsg) (x a : Seat M) → IsPlanning g view → length puts ≡ k
+    → x.heard ≤ k + 1 → (l : Live view m k done us puts text told fresh x) → Goes (λ _ y w z. (needs g.wants k y ≡ true) × WordStep g.hears y w z) i x ws a
+    → Spoken view m k done (us ++ ws) puts text told (heard_in m k ws told) (fresh ++ fresh_in m k ws told) l.seen.going x.heard a ⊎ (Dead a × (AnyEnds ws ⊎ (a.out ≡ true)))
+words_heard g view m k i done us puts text told fresh [] x a is long few l h =
     let same = ap (λ (s : Seat _). s.heard) h in
-    let Of : List WordMsg → Type 0 = λ z. Live view m k done z puts text told a in
-    inl (record { live = subst Of (sym (append-nil us)) (subst (Live view m k done us puts text told) h l); low = omega (arith, few, same); early = λ low late. absurd (omega (arith, low, late, same)) })
-words_heard g view m k i done us puts text told (w ∷ ws) x a is long few l (y, step, more) =
+    let Of : List WordMsg → Type 0 = λ z. Live view m k done z puts text told (fresh ++ []) a in
+    let Fresh : List BoardLine → Type 0 = λ ls. Live view m k done us puts text told ls a in
+    inl (record { live = subst Of (sym (append-nil us)) (subst Fresh (sym (append-nil fresh)) (subst (Live view m k done us puts text told fresh) h l)); low = omega (arith, few, same); early = λ low late. absurd (omega (arith, low, late, same)) })
+words_heard g view m k i done us puts text told fresh (w ∷ ws) x a is long few l (y, step, more) =
     let (needed, took) = step in
-    let want = wanted g view m k done us puts text told x is l needed in
+    let want = wanted g view m k done us puts text told fresh x is l needed in
     let one = took.0 in
     let here = want.0 in
-    let Live_by : List WordMsg → Type 0 = λ z. Live view m k done z puts text (heard_in m k ws (heard m k w told)) a in
-    elim (word_heard g view m k done us puts text told x y w is long l took) [
-      | inl on ↦ elim (words_heard g view m k (i + 1) done (us ++ w ∷ []) puts text (heard m k w told) ws y a is long (omega (arith, one, here)) on.live more) [
+    let next = heard m k w told in
+    let own = lines_kept next (lines_in w.news) in
+    let both : (fresh ++ own) ++ fresh_in m k ws next ≡ fresh ++ (own ++ fresh_in m k ws next) = append_assoc fresh own (fresh_in m k ws next) in
+    let Live_by : List WordMsg → List BoardLine → Type 0 = λ z ls. Live view m k done z puts text (heard_in m k ws next) ls a in
+    elim (word_heard g view m k done us puts text told fresh x y w is long l took) [
+      | inl on ↦ elim (words_heard g view m k (i + 1) done (us ++ w ∷ []) puts text next (fresh ++ own) ws y a is long (omega (arith, one, here)) on.live more) [
         | inl z ↦ inl (record {
-          live = subst Live_by (append_assoc us (w ∷ []) ws) z.live;
+          live = subst (λ zs. Live_by zs (fresh ++ (own ++ fresh_in m k ws next))) (append_assoc us (w ∷ []) ws) (subst (Live_by ((us ++ w ∷ []) ++ ws)) both z.live);
           low = z.low;
           early = λ low late. elim (leb_tells k x.heard) [
             | inl q ↦ want.1 (omega (arith, q.1, here))
@@ -263,11 +270,11 @@ reads_put p q seen ps bytes end of put reads =
     let Of : Machine → Type 0 = λ n. ArePutBy n (motion.read_on seen bytes end r.0) ps in
     (r.0, r.1, r.2, subst Of (sym reads.0) (text_kept p.machine seen ps bytes end r.0 r.1 put))
 
-piece_read : {M : Type 0} (g : Motion M) (view : M → Planner) (m : Machine) (k now : ℕ) (done : List MotionTurn) (words : List WordMsg) (puts : List Put) (text : Text) (told : Option Told) (x y : Seat M) (p : Piece) → IsPlanning g view
-    → Live view m now done words puts text told x → hungers g.hungry k x ≡ true → PieceStep g.reads x p y → Live view m now done words puts (read_on text p) told y ⊎ (Dead y × (Stops x.heard p ⊎ (y.out ≡ true)))
-piece_read g view m k now done words puts text told x y p is l hungry (_, halted, inl s) = let (stop, turn, _, quiet, _) = s in inr (inr quiet, inl (stop, turn))
-piece_read g view m k now done words puts text told x y p is l hungry (_, halted, inr (inr s)) = inr (inr s.1, inr s.2)
-piece_read g view m k now done words puts text told x y p is l hungry (_, halted, inr (inl s)) =
+piece_read : {M : Type 0} (g : Motion M) (view : M → Planner) (m : Machine) (k now : ℕ) (done : List MotionTurn) (words : List WordMsg) (puts : List Put) (text : Text) (told : Option Told) (fresh : List BoardLine) (x y : Seat M) (p : Piece) → IsPlanning g view
+    → Live view m now done words puts text told fresh x → hungers g.hungry k x ≡ true → PieceStep g.reads x p y → Live view m now done words puts (read_on text p) told fresh y ⊎ (Dead y × (Stops x.heard p ⊎ (y.out ≡ true)))
+piece_read g view m k now done words puts text told fresh x y p is l hungry (_, halted, inl s) = let (stop, turn, _, quiet, _) = s in inr (inr quiet, inl (stop, turn))
+piece_read g view m k now done words puts text told fresh x y p is l hungry (_, halted, inr (inr s)) = inr (inr s.1, inr s.2)
+piece_read g view m k now done words puts text told fresh x y p is l hungry (_, halted, inr (inl s)) =
     let (_, quiet, _, reads) = s in
     let did = is.reads x.machine y.machine p reads in
     let OfPut : Machine → Type 0 = λ n. ArePutBy n l.seen puts in
@@ -289,16 +296,16 @@ piece_read g view m k now done words puts text told x y p is l hungry (_, halted
       text_is = text_more l.seen.ended l.seen.text p.bytes seen_open ∙ ap (λ b. b ++ p.bytes) l.text_is;
       ended_is = ended_then l.seen.ended p.end seen_open;
       told_is = l.told_is;
-      lines_are = l.lines_are;
+      fresh_are = l.fresh_are;
     })
 
-pieces_read : {M : Type 0} (g : Motion M) (view : M → Planner) (m : Machine) (k now i : ℕ) (done : List MotionTurn) (words : List WordMsg) (puts : List Put) (text : Text) (told : Option Told) (ps : List Piece) (x b : Seat M) → IsPlanning g view
-    → Live view m now done words puts text told x → Goes (λ _ y p z. (hungers g.hungry k y ≡ true) × PieceStep g.reads y p z) i x ps b → Live view m now done words puts (read_all text ps) told b ⊎ (Dead b × (AnyStops x.heard ps ⊎ (b.out ≡ true)))
-pieces_read g view m k now i done words puts text told [] x b is l h = inl (subst (Live view m now done words puts text told) h l)
-pieces_read g view m k now i done words puts text told (p ∷ ps) x b is l (y, step, more) =
+pieces_read : {M : Type 0} (g : Motion M) (view : M → Planner) (m : Machine) (k now i : ℕ) (done : List MotionTurn) (words : List WordMsg) (puts : List Put) (text : Text) (told : Option Told) (fresh : List BoardLine) (ps : List Piece) (x b : Seat M) → IsPlanning g view
+    → Live view m now done words puts text told fresh x → Goes (λ _ y p z. (hungers g.hungry k y ≡ true) × PieceStep g.reads y p z) i x ps b → Live view m now done words puts (read_all text ps) told fresh b ⊎ (Dead b × (AnyStops x.heard ps ⊎ (b.out ≡ true)))
+pieces_read g view m k now i done words puts text told fresh [] x b is l h = inl (subst (Live view m now done words puts text told fresh) h l)
+pieces_read g view m k now i done words puts text told fresh (p ∷ ps) x b is l (y, step, more) =
     let (hungry, read) = step in
-    elim (piece_read g view m k now done words puts text told x y p is l hungry read) [
-      | inl on ↦ elim (pieces_read g view m k now (i + 1) done words puts (read_on text p) told ps y b is on more) [
+    elim (piece_read g view m k now done words puts text told fresh x y p is l hungry read) [
+      | inl on ↦ elim (pieces_read g view m k now (i + 1) done words puts (read_on text p) told fresh ps y b is on more) [
         | inl z ↦ inl z
         | inr z ↦ inr (z.0, elim z.1 [ inl stops ↦ inl (inr (subst (λ n. AnyStops n ps) read.0 stops)) | inr out ↦ inr out ])
       ]
@@ -335,10 +342,16 @@ early_in : (m : Machine) (c : Course) (o : Option Told) (begun : List Started) (
 early_in m c None begun going told early = tt
 early_in m c (Some t) begun going told early = λ b inside. subst (λ cs. (clocks_at cs b).first.clock < 2 ^ 62) told.lines (early told.connected b inside)
 
+-- of each board of which a line was told that it may have, one is taken up
+lose_none : (m : Machine) (k : ℕ) (news : List NoteNews) (fresh : List BoardLine) (told : Option Told) → ((t : Told) → told ≡ Some t → All (IsNotLost m t.clocks k news) fresh) → LoseNone m k news fresh told
+lose_none m k news fresh None taken = tt
+lose_none m k news fresh (Some t) taken = taken t refl
+
 -- what a live one puts is its planner's, or it is the last
-live_makes : {M : Type 0} (g : Motion M) (view : M → Planner) (m : Machine) (n k : ℕ) (all : List MotionTurn) (puts : List Put) (text : Text) (told : Option Told) (b y : Seat M) (t : MotionTurn) → IsPlanning g view → length all ≤ k + 1
-    → Live view m (k + 1) all [] puts text told b → MakeStep n g.turns k b t.batches t.note y → (Live view m (k + 1) all [] (puts ++ put_of t ∷ []) text (told_on t.note.news told) y × WereHeard (lines_heard (words_in all)) t.note.news × BeginInRange m told) ⊎ (IsBare n k t × Dead y × (t.note.out ≡ true))
-live_makes g view m n k all puts text told b y t is size l (_, halted, _, inl s) =
+live_makes : {M : Type 0} (g : Motion M) (view : M → Planner) (m : Machine) (n k : ℕ) (all : List MotionTurn) (puts : List Put) (text : Text) (told : Option Told) (fresh : List BoardLine) (b y : Seat M) (t : MotionTurn) → IsPlanning g view → length all ≤ k + 1
+    → Live view m (k + 1) all [] puts text told fresh b → MakeStep n g.turns k b t.batches t.note y
+    → (Live view m (k + 1) all [] (puts ++ put_of t ∷ []) text (told_on t.note.news told) [] y × BeginInRange m told × WereHeard fresh t.note.news × LoseNone m k t.note.news fresh told) ⊎ (IsBare n k t × Dead y × (t.note.out ≡ true))
+live_makes g view m n k all puts text told fresh b y t is size l (_, halted, _, inl s) =
     let (_, _, quiet, _, _, turns) = s in
     let did = is.turns b.machine y.machine k t.batches t.note turns in
     let OfPut : Machine → Type 0 = λ x. ArePutBy x l.seen puts in
@@ -350,7 +363,7 @@ live_makes g view m n k all puts text told b y t is size l (_, halted, _, inl s)
     let same : (view y.machine).machine ≡ m = did.1.0 ∙ l.machine_is in
     let Of : Machine → Type 0 = λ x. IsPlannerOf (record { machine = x; course = (view y.machine).course }) made.0 in
     let Then : Machine → Type 0 = λ x. ArePutBy x made.0 (puts ++ put_of t ∷ []) in
-    let heard = subst (λ (ls : List BoardLine). WereHeard ls t.note.news) (l.lines_are ∙ ap lines_heard (append-nil (words_in all))) behind.heard in
+    let heard = subst (λ (ls : List BoardLine). WereHeard ls t.note.news) l.fresh_are behind.heard in
     inl (
       record {
         halted = halted ∙ l.halted;
@@ -363,12 +376,16 @@ live_makes g view m n k all puts text told b y t is size l (_, halted, _, inl s)
         text_is = behind.text ∙ l.text_is;
         ended_is = behind.ended ∙ l.ended_is;
         told_is = behind.told ∙ ap (told_on t.note.news) l.told_is;
-        lines_are = behind.lines ∙ l.lines_are;
+        fresh_are = behind.fresh;
       },
-      heard,
       subst (BeginInRange m) l.told_is (subst (λ (n : Machine). BeginInRange n l.seen.told) l.machine_is (early_in own (view b.machine).course l.seen.told l.seen.begun l.seen.going l.is.told did.0.early)),
+      heard,
+      (let By_fresh : List BoardLine → Type 0 = λ ls. LoseNone m k t.note.news ls told in
+          let By_told : Option Told → Type 0 = λ o. LoseNone m k t.note.news l.seen.fresh o in
+          let By_machine : Machine → Type 0 = λ x. LoseNone x k t.note.news l.seen.fresh l.seen.told in
+          subst By_fresh l.fresh_are (subst By_told l.told_is (subst By_machine l.machine_is (lose_none own k t.note.news l.seen.fresh l.seen.told behind.taken)))),
     )
-live_makes g view m n k all puts text told b y t is size l (_, halted, _, inr s) =
+live_makes g view m n k all puts text told fresh b y t is size l (_, halted, _, inr s) =
     let (batches, note, how) = s in
     elim how [
       | inl q ↦ let (d, _) = q in elim d [ inl e ↦ absurd (clash (sym e ∙ l.halted)) | inr e ↦ absurd (clash (sym e ∙ l.quiet)) ]
@@ -391,14 +408,31 @@ live_wants false true c w k n a b d e = absurd (clash b)
 live_wants false false true w k n a b d e = absurd (clash d)
 live_wants false false false w k n a b d e = elim (leb_tells (suc n) (k + 1)) [ inl p ↦ absurd (clash (sym p.0 ∙ e)) | inr p ↦ omega (arith, p.1) ]
 
-wants_more : {M : Type 0} (g : Motion M) (view : M → Planner) (m : Machine) (k : ℕ) (done : List MotionTurn) (words : List WordMsg) (puts : List Put) (text : Text) (told : Option Told) (a : Seat M) → IsPlanning g view → Live view m k done words puts text told a → told ≡ None
-    → needs g.wants k a ≡ false → k < a.heard
-wants_more g view m k done words puts text told a is l none enough =
+-- any live worker takes the word of 64 turns before, or a later one
+soon_wants : (h q c w : Bool) (k n : ℕ) → h ≡ false → q ≡ false → cond h false (cond q (nat_lt (n + 63) k) (is_wanted (cond c (cond w (Some k) (cond (nat_lt k 64) None (Some (k - 64)))) (Some k)) n)) ≡ false → k < n + 64
+soon_wants true q c w k n a b e = absurd (clash a)
+soon_wants false true c w k n a b e = absurd (clash b)
+soon_wants false false false w k n a b e = elim (leb_tells (suc n) (k + 1)) [ inl p ↦ absurd (clash (sym p.0 ∙ e)) | inr p ↦ omega (arith, p.1) ]
+soon_wants false false true true k n a b e = elim (leb_tells (suc n) (k + 1)) [ inl p ↦ absurd (clash (sym p.0 ∙ e)) | inr p ↦ omega (arith, p.1) ]
+soon_wants false false true false k n a b e = elim (leb_tells (suc k) 64) [
+  | inl p ↦ omega (arith, p.1)
+  | inr p ↦
+      let At : Bool → Type 0 = λ b. is_wanted (cond b None (Some (k - 64))) n ≡ false in
+      let late = p.1 in
+      elim (leb_tells (suc n) (k - 64 + 1)) [ inl q ↦ absurd (clash (sym q.0 ∙ subst At p.0 e)) | inr q ↦ omega (arith, q.1, late) ]
+]
+
+wants_more : {M : Type 0} (g : Motion M) (view : M → Planner) (m : Machine) (k : ℕ) (done : List MotionTurn) (words : List WordMsg) (puts : List Put) (text : Text) (told : Option Told) (fresh : List BoardLine) (a : Seat M) → IsPlanning g view → Live view m k done words puts text told fresh a
+    → needs g.wants k a ≡ false → (told ≡ None → k < a.heard) × (k < a.heard + 64)
+wants_more g view m k done words puts text told fresh a is l enough =
     let p = view a.machine in
     let Of : Option Told → Type 0 = λ o. IsTold p.machine p.course o l.seen.begun l.seen.going in
-    let apart = subst Of (l.told_is ∙ none) l.is.told in
     let Enough : Option ℕ → Type 0 = λ o. cond a.halted false (cond a.quiet (nat_lt (a.heard + 63) k) (is_wanted o a.heard)) ≡ false in
-    live_wants a.halted a.quiet p.course.connected (waits_by p.course.current p.course.start k) k a.heard l.halted l.quiet apart.0 (subst Enough (is.wants a.machine k) enough)
+    let needed = subst Enough (is.wants a.machine k) enough in
+    let waits = waits_by p.course.current p.course.start k in (
+      λ none. live_wants a.halted a.quiet p.course.connected waits k a.heard l.halted l.quiet (subst Of (l.told_is ∙ none) l.is.told).0 needed,
+      soon_wants a.halted a.quiet p.course.connected waits k a.heard l.halted l.quiet needed,
+    )
 
 -- a live worker whose section waits for its answer takes the word of the same turn
 waits_now : (h q c w : Bool) (k n : ℕ) → h ≡ false → q ≡ false → w ≡ true → cond h false (cond q (nat_lt (n + 63) k) (is_wanted (cond c (cond w (Some k) (cond (nat_lt k 64) None (Some (k - 64)))) (Some k)) n)) ≡ false → k < n
@@ -408,9 +442,9 @@ waits_now false false c false k n a b d e = absurd (clash (sym d))
 waits_now false false true true k n a b d e = elim (leb_tells (suc n) (k + 1)) [ inl p ↦ absurd (clash (sym p.0 ∙ e)) | inr p ↦ omega (arith, p.1) ]
 waits_now false false false true k n a b d e = elim (leb_tells (suc n) (k + 1)) [ inl p ↦ absurd (clash (sym p.0 ∙ e)) | inr p ↦ omega (arith, p.1) ]
 
-words_over : {M : Type 0} (g : Motion M) (view : M → Planner) (m : Machine) (k : ℕ) (done : List MotionTurn) (puts : List Put) (text : Text) (told : Option Told) (t : MotionTurn) (a : Seat M) → IsPlanning g view → length done ≡ k
-    → a.heard ≡ length (words_in (done ++ t ∷ [])) → Live view m k done t.words puts text told a → needs g.wants k a ≡ false → Live view m (k + 1) (done ++ t ∷ []) [] puts text told a
-words_over g view m k done puts text told t a is size many l enough =
+words_over : {M : Type 0} (g : Motion M) (view : M → Planner) (m : Machine) (k : ℕ) (done : List MotionTurn) (puts : List Put) (text : Text) (told : Option Told) (fresh : List BoardLine) (t : MotionTurn) (a : Seat M) → IsPlanning g view → length done ≡ k
+    → a.heard ≡ length (words_in (done ++ t ∷ [])) → Live view m k done t.words puts text told fresh a → needs g.wants k a ≡ false → Live view m (k + 1) (done ++ t ∷ []) [] puts text told fresh a
+words_over g view m k done puts text told fresh t a is size many l enough =
     let p = view a.machine in
     let Enough : Option ℕ → Type 0 = λ o. cond a.halted false (cond a.quiet (nat_lt (a.heard + 63) k) (is_wanted o a.heard)) ≡ false in
     let needed = subst Enough (is.wants a.machine k) enough in
@@ -426,13 +460,13 @@ words_over g view m k done puts text told t a is size many l enough =
       text_is = l.text_is;
       ended_is = l.ended_is;
       told_is = l.told_is;
-      lines_are = l.lines_are ∙ ap lines_heard (sym (words_last done t) ∙ sym (append-nil (words_in (done ++ t ∷ []))));
+      fresh_are = l.fresh_are;
     }
 
 -- all turns from here on are bare
 ends_here : {M : Type 0} (view : M → Planner) (m : Machine) (n k : ℕ) (done : List MotionTurn) (puts : List Put) (text : Text) (told : Option Told) (x : Seat M) (ts : List MotionTurn)
-    → (l : Live view m k done [] puts text told x) → TellHeard [] done → AreBare n k ts → ((begun : List Started) → (Homes l.seen.going → AnyWaits begun) → StopsAt k x.heard l.seen.told begun ts) → Ran m n k done puts text told x.heard ts
-ends_here view m n k done puts text told x ts l tells bare why =
+    → (l : Live view m k done [] puts text told [] x) → AreBare n k ts → ((begun : List Started) → (Homes l.seen.going → AnyWaits begun) → StopsAt k x.heard l.seen.told begun ts) → Ran m n k done puts text told x.heard ts
+ends_here view m n k done puts text told x ts l bare why =
     let e : k + 0 ≡ k = omega arith in
     let f : x.heard + 0 ≡ x.heard = omega arith in
     let Bare : ℕ → Type 0 = λ i. AreBare n i ts in
@@ -451,7 +485,7 @@ ends_here view m n k done puts text told x ts l tells bare why =
       text_is = l.text_is;
       ended_is = l.ended_is;
       told_is = l.told_is;
-      heard = subst (TellHeard []) (sym (append-nil done)) tells;
+      lines = tt;
       in_time = tt;
       in_range = tt;
       ahead = tt;
@@ -462,8 +496,8 @@ ends_here view m n k done puts text told x ts l tells bare why =
 
 -- one turn ahead
 one_ahead : (m : Machine) (n k : ℕ) (done : List MotionTurn) (puts : List Put) (text : Text) (told : Option Told) (taken after : ℕ) (t : MotionTurn) (ts : List MotionTurn) → after ≡ taken + length t.words → after ≤ k + 1
-    → (heard_in m k t.words told ≡ None → k < after) → BeginInRange m (heard_in m k t.words told) → Ran m n (k + 1) (done ++ t ∷ []) (puts ++ put_of t ∷ []) (read_all text t.pieces) (told_behind m k t told) after ts → Ran m n k done puts text told taken (t ∷ ts)
-one_ahead m n k done puts text told taken after t ts number low here range p =
+    → (heard_in m k t.words told ≡ None → k < after) → k < after + 64 → BeginInRange m (heard_in m k t.words told) → WereHeard (fresh_in m k t.words told) t.note.news → LoseNone m k t.note.news (fresh_in m k t.words told) (heard_in m k t.words told) → Ran m n (k + 1) (done ++ t ∷ []) (puts ++ put_of t ∷ []) (read_all text t.pieces) (told_behind m k t told) after ts → Ran m n k done puts text told taken (t ∷ ts)
+one_ahead m n k done puts text told taken after t ts number low here soon range own lines p =
     let e : k + 1 + length p.made ≡ k + length (t ∷ p.made) = omega arith in
     let f : after + length (words_in p.made) ≡ taken + length (t.words ++ words_in p.made) = omega (arith, number, length-append t.words (words_in p.made)) in
     let Bare : ℕ → Type 0 = λ i. AreBare n i p.bare in
@@ -482,10 +516,10 @@ one_ahead m n k done puts text told taken after t ts number low here range p =
       text_is = p.text_is;
       ended_is = p.ended_is;
       told_is = p.told_is;
-      heard = subst (TellHeard []) (append_assoc done (t ∷ []) p.made) p.heard;
+      lines = (own, lines, p.lines);
       in_time =
-          let All : ℕ → Type 0 = λ i. (heard_in m k t.words told ≡ None → k < i) × TookInTime m (k + 1) i p.made (told_behind m k t told) in
-          subst All number (here, p.in_time);
+          let In_time : ℕ → Type 0 = λ i. (heard_in m k t.words told ≡ None → k < i) × (k < i + 64) × TookInTime m (k + 1) i p.made (told_behind m k t told) in
+          subst In_time number (here, soon, p.in_time);
       in_range = (range, p.in_range);
       ahead =
           let Ahead : ℕ → Type 0 = λ i. (i ≤ k + 1) × TookNoneAhead (k + 1) i p.made in
@@ -496,21 +530,21 @@ one_ahead m n k done puts text told taken after t ts number low here range p =
     }
 
 live_goes : {M : Type 0} (g : Motion M) (view : M → Planner) (m : Machine) (n k : ℕ) (done : List MotionTurn) (puts : List Put) (text : Text) (told : Option Told) (ts : List MotionTurn) (x e : Seat M) → IsPlanning g view → length puts ≡ k → length done ≡ k
-    → x.heard ≡ length (words_in done) → x.heard ≤ k → TellHeard [] done → Live view m k done [] puts text told x → Goes (MotionStep g n) k x ts e → Ran m n k done puts text told x.heard ts
-live_goes g view m n k done puts text told [] x e is long size words low tells l h = ends_here view m n k done puts text told x [] l tells tt (λ begun home. tt)
-live_goes g view m n k done puts text told (t ∷ ts) x e is long size words low tells l (y, step, more) =
+    → x.heard ≡ length (words_in done) → x.heard ≤ k → Live view m k done [] puts text told [] x → Goes (MotionStep g n) k x ts e → Ran m n k done puts text told x.heard ts
+live_goes g view m n k done puts text told [] x e is long size words low l h = ends_here view m n k done puts text told x [] l tt (λ begun home. tt)
+live_goes g view m n k done puts text told (t ∷ ts) x e is long size words low l (y, step, more) =
     let (a, b, heard, enough, fed, full, make) = step in
-    let dies = λ (bare : IsBare n k t × Dead y) (why : (begun : List Started) → (Homes l.seen.going → AnyWaits begun) → StopsAt k x.heard l.seen.told begun (t ∷ ts)). ends_here view m n k done puts text told x (t ∷ ts) l tells (bare.0, dead_goes g n (k + 1) ts y e bare.1 more) why in
+    let dies = λ (bare : IsBare n k t × Dead y) (why : (begun : List Started) → (Homes l.seen.going → AnyWaits begun) → StopsAt k x.heard l.seen.told begun (t ∷ ts)). ends_here view m n k done puts text told x (t ∷ ts) l (bare.0, dead_goes g n (k + 1) ts y e bare.1 more) why in
     let count = words_taken g k 0 t.words x a heard in
     let all = done ++ t ∷ [] in
     let longer : length all ≡ k + 1 = omega (arith, size, length-append done (t ∷ [])) in
     let many : a.heard ≡ length (words_in all) = omega (arith, count, words, words_snoc done t) in
-    elim (words_heard g view m k 0 done [] puts text told t.words x a is long (omega (arith, low)) l heard) [
+    elim (words_heard g view m k 0 done [] puts text told [] t.words x a is long (omega (arith, low)) l heard) [
       | inr d ↦
           let db = pieces_dead g k 0 t.pieces a b d.0 fed in
           dies (dead_makes g n k b y t db make)
           (λ begun home. elim d.1 [ inl z ↦ inl z | inr z ↦ inr (inl (note_out g n k b y t db (pieces_out g k 0 t.pieces a b z fed) make)) ])
-      | inl la ↦ elim (pieces_read g view m k (k + 1) 0 all [] puts text (heard_in m k t.words told) t.pieces a b is (words_over g view m k done puts text (heard_in m k t.words told) t a is size many la.live enough) fed) [
+      | inl la ↦ elim (pieces_read g view m k (k + 1) 0 all [] puts text (heard_in m k t.words told) (fresh_in m k t.words told) t.pieces a b is (words_over g view m k done puts text (heard_in m k t.words told) (fresh_in m k t.words told) t a is size many la.live enough) fed) [
         | inr db ↦
             let below = la.low in
             dies (dead_makes g n k b y t db.0 make)
@@ -522,17 +556,21 @@ live_goes g view m n k done puts text told (t ∷ ts) x e is long size words low
               }))
               | inr out ↦ inr (inl (note_out g n k b y t db.0 out make))
             ])
-        | inl lb ↦ elim (live_makes g view m n k all puts (read_all text t.pieces) (heard_in m k t.words told) b y t is (omega (arith, longer)) lb make) [
+        | inl lb ↦ elim (live_makes g view m n k all puts (read_all text t.pieces) (heard_in m k t.words told) (fresh_in m k t.words told) b y t is (omega (arith, longer)) lb make) [
           | inr bare ↦ dies (bare.0, bare.1) (λ begun home. inr (inl bare.2))
           | inl ly ↦
               let pieces = pieces_taken g k 0 t.pieces a b fed in
               let number : y.heard ≡ x.heard + length t.words = make.0 ∙ pieces ∙ count in
               let same : a.heard ≡ y.heard = sym (make.0 ∙ pieces) in
               let below = la.low in
+              let took = wants_more g view m k done t.words puts text (heard_in m k t.words told) (fresh_in m k t.words told) a is la.live enough in
               one_ahead m n k done puts text told x.heard y.heard t ts number (omega (arith, below, same))
-              (λ none. let f = wants_more g view m k done t.words puts text (heard_in m k t.words told) a is la.live none enough in omega (arith, f, same))
+              (λ none. let f = took.0 none in omega (arith, f, same))
+              (let f = took.1 in omega (arith, f, same))
+              ly.1
               ly.2
-              (live_goes g view m n (k + 1) all (puts ++ put_of t ∷ []) (read_all text t.pieces) (told_behind m k t told) ts y e is (omega (arith, long, length-append puts (put_of t ∷ []))) longer (sym same ∙ many) (omega (arith, below, same)) (tells_snoc [] done t tells ly.1) ly.0 more)
+              ly.3
+              (live_goes g view m n (k + 1) all (puts ++ put_of t ∷ []) (read_all text t.pieces) (told_behind m k t told) ts y e is (omega (arith, long, length-append puts (put_of t ∷ []))) longer (sym same ∙ many) (omega (arith, below, same)) ly.0 more)
         ]
       ]
     ]
@@ -540,7 +578,7 @@ live_goes g view m n k done puts text told (t ∷ ts) x e is long size words low
 ran : (M : Type 0) (g : Motion M) (view : M → Planner) (n : ℕ) (p : M) (ts : List MotionTurn) (e : Seat M) → IsPlanning g view → IsPlannerOf (view p) nothing_seen
     → Goes (MotionStep g n) 0 (seated g p) ts e → Ran (view p).machine n 0 [] [] nothing_read None 0 ts
 ran M g view n p ts e is fresh h =
-    let l : Live view (view p).machine 0 [] [] [] nothing_read None (seated g p) = record {
+    let l : Live view (view p).machine 0 [] [] [] nothing_read None [] (seated g p) = record {
       halted = refl;
       quiet = refl;
       seen = nothing_seen;
@@ -551,9 +589,9 @@ ran M g view n p ts e is fresh h =
       text_is = refl;
       ended_is = refl;
       told_is = refl;
-      lines_are = refl;
+      fresh_are = refl;
     } in
-    live_goes g view (view p).machine n 0 [] [] nothing_read None ts (seated g p) e is refl refl refl (omega arith) tt l h
+    live_goes g view (view p).machine n 0 [] [] nothing_read None ts (seated g p) e is refl refl refl (omega arith) l h
 
 pub plans : (M : Type 0) (g : Motion M) (view : M → Planner) (n : ℕ) (p : M) (ts : List MotionTurn) (e : Seat M) (text : List ℕ) → IsPlanning g view → IsPlannerOf (view p) nothing_seen
     → Goes (MotionStep g n) 0 (seated g p) ts e → AreRead nothing_read ts text → ∥ ((made : Plans (view p).machine n ts) × (made.seen.text ≡ text)) ∥₁

@@ -18,7 +18,7 @@ use Rattle.motion_stream.proofs.Planning.{are_planned}
 use Rattle.session_work.specs.declared.table.MotionTurn.{MotionTurn}
 use Rattle.run_plans.specs.Answers.{TookNoneAhead}
 use Rattle.run_plans.proofs.Answering.{HaveHeard, Homes, all_end, all_wait}
-use Rattle.run_plans.specs.Planned.{AllInRange, AnyWaits, AreBare, AreKnown, AreRead, AreToldBy, Plans, StopsAt, TellHeard, Text, TookInTime, nothing_read, puts_of, read_by, told_of, words_in}
+use Rattle.run_plans.specs.Planned.{AllInRange, AnyWaits, AreBare, AreKnown, AreRead, AreToldBy, Plans, StopsAt, TakeUpLines, Text, TookInTime, nothing_read, puts_of, read_by, told_of, words_in}
 
 -- Turns of a planner from turn k on, behind these turns, these that were put, this text, this that was told and so many words.
 pub record Ran (m : Machine) (n k : ℕ) (done : List MotionTurn) (before : List Put) (text : Text) (told : Option Told) (taken : ℕ) (ts : List MotionTurn) : Type 0 where
@@ -33,7 +33,7 @@ pub record Ran (m : Machine) (n k : ℕ) (done : List MotionTurn) (before : List
   pub text_is : seen.text ≡ (read_by text made).bytes
   pub ended_is : seen.ended ≡ (read_by text made).ended
   pub told_is : seen.told ≡ told_of m k made told
-  pub heard : TellHeard [] (done ++ made)
+  pub lines : TakeUpLines m k made told
   pub in_time : TookInTime m k taken made told
   pub in_range : AllInRange m k made told
   pub ahead : TookNoneAhead k taken made
@@ -93,7 +93,7 @@ whole_plans m n ts text r read =
         known = known;
         put = a.put;
         sent = subst (λ i. AreSentIn m r.seen.told i w.0) (sym count) a.sent;
-        heard = r.heard;
+        lines = r.lines;
         started = subst (λ i. All (λ (s : Started). s.start < i + 260) w.0) (sym count) a.started;
         small = omega (arith, count, next, small);
         told_is = r.told_is;

@@ -2,6 +2,7 @@
 use Rattle.std.specs.Prelude.{◌≡◌, ◌⊎◌, ℕ, ◌+◌, ◌^◌, ◌<◌, ◌≤◌, Bool, true, false, All, List, [], ◌∷◌, ◌++◌, length, map, Option, None, Some}
 use Rattle.gcode_program.specs.Programs.{program_sections}
 use Rattle.msg_code.specs.declared.talk.Note.{Note}
+use Rattle.msg_code.specs.declared.talk.NoteNews.{NoteNews}
 use Rattle.msg_code.specs.declared.talk.Piece.{Piece}
 use Rattle.msg_code.specs.declared.talk.WordMsg.{WordMsg}
 use Rattle.msg_code.specs.declared.unit.Batch.{Batch}
@@ -17,8 +18,9 @@ use Rattle.motion_work.specs.declared.told.BoardLine.{BoardLine}
 use Rattle.motion_work.specs.Further.{WereHeard, told_on}
 use Rattle.motion_work.specs.Told.{Told, heard, lines_in}
 use Rattle.motion_stream.specs.Motions as motion
-use Rattle.motion_stream.specs.Motions.{Can, Hears, Makes, Planner, Reads}
+use Rattle.motion_stream.specs.Motions.{Can, Hears, Makes, Planner, Reads, lines_kept}
 use Rattle.motion_stream.specs.Texts.{MayBecome}
+use Rattle.motion_stream.specs.Uptakes.{IsNotLost}
 use Rattle.motion_stream.specs.Wholes.{AreSentIn}
 use Rattle.session_work.specs.declared.machines.MotionMachine.{Ghosts as Motion}
 use Rattle.session_work.specs.declared.table.MotionTurn.{MotionTurn}
@@ -91,12 +93,12 @@ abbrev pub told_of : Machine → ℕ → List MotionTurn → Option Told → Opt
 told_of m k [] told = told
 told_of m k (t ∷ ts) told = told_of m (k + 1) ts (told_behind m k t told)
 
--- In turns from a number on, before which so many words were taken: where nothing is known of connecting yet, the word of the same
--- turn is taken in each, as far as one has the number of its place.
+-- In turns from a number on, before which so many words were taken, as far as a word has the number of its place: the word of 64 turns
+-- before or a later one is taken in each; and where nothing is known of connecting yet, that of the same turn.
 abbrev pub TookInTime : Machine → ℕ → ℕ → List MotionTurn → Option Told → Type 0
 TookInTime m k taken [] told = Unit {0}
 TookInTime m k taken (t ∷ ts) told =
-    (heard_in m k t.words told ≡ None → k < taken + length t.words) × TookInTime m (k + 1) (taken + length t.words) ts (told_behind m k t told)
+    (heard_in m k t.words told ≡ None → k < taken + length t.words) × (k < taken + length t.words + 64) × TookInTime m (k + 1) (taken + length t.words) ts (told_behind m k t told)
 
 -- where the boards' clock lines are known, their ticks begin in range
 abbrev pub BeginInRange : Machine → Option Told → Type 0
@@ -173,21 +175,31 @@ StopsAt k taken told begun (t ∷ ts) = AnyEnds t.words ⊎ ((t.note.out ≡ tru
 abbrev pub words_in : List MotionTurn → List WordMsg
 words_in ts = gather (λ t. t.words) ts
 
--- the further clock lines that some words tell
-abbrev pub lines_heard : List WordMsg → List BoardLine
-lines_heard [] = []
-lines_heard (w ∷ ws) = lines_in w.news ++ lines_heard ws
+-- The further clock lines that some words tell which are taken in a turn, those of the word by which connecting ended and of the words
+-- behind it among them. Those of words before it are passed over.
+abbrev pub fresh_in : Machine → ℕ → List WordMsg → Option Told → List BoardLine
+fresh_in m k [] told = []
+fresh_in m k (w ∷ ws) told = lines_kept (heard m k w told) (lines_in w.news) ++ fresh_in m k ws (heard m k w told)
 
--- the further clock lines that the notes of some turns tell are of the words that were taken by then, these before them among those
-abbrev pub TellHeard : List WordMsg → List MotionTurn → Type 0
-TellHeard before [] = Unit {0}
-TellHeard before (t ∷ ts) = WereHeard (lines_heard (before ++ t.words)) t.note.news × TellHeard (before ++ t.words) ts
+-- once the boards' clock lines are known: of each board of which one of some further lines was told that the board may have in a turn, the news
+-- of its note tell one as taken up
+abbrev pub LoseNone : Machine → ℕ → List NoteNews → List BoardLine → Option Told → Type 0
+LoseNone m k news fresh None = Unit {0}
+LoseNone m k news fresh (Some told) = All (IsNotLost m told.clocks k news) fresh
+
+-- In each of some turns, of which this is the first one's number: the further lines that the note tells as taken up are of those that words told
+-- which were taken in that turn, and of each board of which these tell one that it may have, one is taken up.
+abbrev pub TakeUpLines : Machine → ℕ → List MotionTurn → Option Told → Type 0
+TakeUpLines m k [] told = Unit {0}
+TakeUpLines m k (t ∷ ts) told =
+    WereHeard (fresh_in m k t.words told) t.note.news × LoseNone m k t.note.news (fresh_in m k t.words told) (heard_in m k t.words told) × TakeUpLines m (k + 1) ts (told_behind m k t told)
 
 -- Turns of a planner from turn k on, behind these that were put, this text, this that was told and so many words. The first turns
 -- are those of the planner: all that was put by their end is told by a text that goes on with what was read of it, and its first
 -- sections, each of which was begun in one of these turns, and of which those that home end by the word that tells of their answer; what
 -- was put of a section is in order, with triples that cover as many steps as one can; no
--- word is taken ahead of its turn, and the further clock lines that the notes tell are of words that were taken by then. From the first turn on in which
+-- word is taken ahead of its turn; further clock lines are taken up in the turn in which the word that tells them is taken, and of each board
+-- of which one is told that it may have, one is taken up. From the first turn on in which
 -- memory was wanted, or no text could be read, or nothing was to follow, all is bare.
 pub record PlansFrom (m : Machine) (n k : ℕ) (before : List Put) (text : Text) (told : Option Told) (taken : ℕ) (ts : List MotionTurn) : Type 0 where
   pub seen : Seen
@@ -200,7 +212,7 @@ pub record PlansFrom (m : Machine) (n k : ℕ) (before : List Put) (text : Text)
   pub known : AreKnown m seen.told
   pub put : ArePut m seen.text seen.begun 0 (before ++ puts_of made)
   pub sent : AreSentIn m seen.told (length (before ++ puts_of made)) seen.begun
-  pub heard : TellHeard [] made
+  pub lines : TakeUpLines m k made told
   pub started : All (λ s. s.start < length (before ++ puts_of made) + 260) seen.begun
   pub small : length (before ++ puts_of made) ≤ 2 ^ 42
   pub told_is : seen.told ≡ told_of m k made told

@@ -1,3 +1,4 @@
+pub mod clock_ages
 pub mod run_ends
 pub mod run_headline
 pub mod run_lines

@@ -1,4 +1,3 @@
-pub mod Sends
 pub mod Expiry
 pub mod First
 pub mod Closes

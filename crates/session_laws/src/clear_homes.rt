@@ -8,6 +8,7 @@ ghost use Rattle.plan_types.specs.Machines.{IsValidMachine, board_at};
 ghost use Rattle.wire_scene.specs.declared.scene.Scene.{Scene};
 ghost use Rattle.host_reactor.specs.Reactor.{Run};
 ghost use Rattle.host_reactor.specs.Rows.{IsOwn};
+ghost use Rattle.cause_runs.specs.Short.{HaveShortDictionaries};
 ghost use Rattle.session_lanes.specs.declared.near.Told.{Told};
 ghost use Rattle.session_work.specs.declared.table.MotionTurn.{MotionTurn};
 ghost use Rattle.session_desk.specs.declared.tell.Kept.{Kept};
@@ -19,7 +20,7 @@ ghost use Rattle.session_laws.specs.clear_homes.Closes.{AllClose, MissesSwitch, 
 ghost use Rattle.session_laws.specs.home_wholes.Own.{AllHearSoon};
 ghost use Rattle.session_laws.specs.clear_homes.Expiry.{IsExpired};
 ghost use Rattle.session_laws.specs.clear_homes.First.{IsFirstExpired};
-ghost use Rattle.session_laws.specs.clear_homes.Sends.{SendsAllSoon};
+ghost use Rattle.session_laws.specs.clear_runs.Clear.{SendsAllSoon};
 
 use io_core::{Files, Sink};
 use plan_types::Cause;
@@ -32,22 +33,22 @@ pub fn soon_sends_all_in_time()
 {}
 
 /// The law of clear runs in which axes home: in whatever threads a run went, in a scene without entries, of a text without an order to
-/// stop, whose units are all sent in time (`SendsAllSoon`), where it ends for a cause of its own other than want of memory it went through,
+/// stop, whose units are all sent soon (`SendsAllSoon`), where it ends for a cause of its own other than want of memory it went through,
 /// or an axis homed to its end and no switch closed: no board is late, none gives no answer, and no board of a homing section hears nothing
 /// for too long.
 pub fn clear_homing_runs_go_through<F: Files, S: Sink>()
     ensures { (m : Machine) (s : Scene) (name : List ℕ) (files files' : F) (out out' : S) (kept kept' : Kept) (t : Told Run) →
-        (r : RunsOver F.Files S.Sink m s name files out kept t files' out' kept') → IsValidMachine m → (text : List ℕ) → F.told files name ≡ Some text → kept.at ≡ 0 →
+        (r : RunsOver F.Files S.Sink m s name files out kept t files' out' kept') → IsValidMachine m → HaveShortDictionaries m → (text : List ℕ) → F.told files name ≡ Some text → kept.at ≡ 0 →
         s.entries ≡ [] → IsOwn t.cause → (t.cause ≡ Cause.Memory → ⊥) → ((line : ℕ) → (program_end m text).stop ≡ Stop line → ⊥) → SendsAllSoon m text r.runs.0 →
         GoesThrough t.cause ⊎ ((section : ℕ) × (t.cause ≡ Cause.NoSwitch section)) }
 {}
 
 /// The law of missed switches: in whatever threads a run went, in a scene without entries, of a text without an order to stop, whose units are all
-/// sent in time (`SendsAllSoon`), where it ends since no switch closed in a section, that section homes, and its switch, by the levels of its pin and
+/// sent soon (`SendsAllSoon`), where it ends since no switch closed in a section, that section homes, and its switch, by the levels of its pin and
 /// the section's readings from its start on, triggers at no tick before that of the turn behind its last planned step (`MissesSwitch`).
 pub fn clear_runs_miss_no_switch<F: Files, S: Sink>()
     ensures { (m : Machine) (s : Scene) (name : List ℕ) (files files' : F) (out out' : S) (kept kept' : Kept) (t : Told Run) →
-        (r : RunsOver F.Files S.Sink m s name files out kept t files' out' kept') → IsValidMachine m → (text : List ℕ) → F.told files name ≡ Some text → kept.at ≡ 0 →
+        (r : RunsOver F.Files S.Sink m s name files out kept t files' out' kept') → IsValidMachine m → HaveShortDictionaries m → (text : List ℕ) → F.told files name ≡ Some text → kept.at ≡ 0 →
         s.entries ≡ [] → ((line : ℕ) → (program_end m text).stop ≡ Stop line → ⊥) → SendsAllSoon m text r.runs.0 →
         ∥ ((made : IsMade m s r.runs.0 r.runs.1) × (made.plans.seen.text ≡ text) × ((section : ℕ) → t.cause ≡ Cause.NoSwitch section → MissesSwitch m s made.plans.seen section)) ∥₁ }
 {}
@@ -56,7 +57,7 @@ pub fn clear_runs_miss_no_switch<F: Files, S: Sink>()
 /// tick of the turn behind its last planned step (`AllClose`), and it ends for a cause of its own other than want of memory.
 pub fn clear_runs_with_switches_go_through<F: Files, S: Sink>()
     ensures { (m : Machine) (s : Scene) (name : List ℕ) (files files' : F) (out out' : S) (kept kept' : Kept) (t : Told Run) →
-        (r : RunsOver F.Files S.Sink m s name files out kept t files' out' kept') → IsValidMachine m → (text : List ℕ) → F.told files name ≡ Some text → kept.at ≡ 0 →
+        (r : RunsOver F.Files S.Sink m s name files out kept t files' out' kept') → IsValidMachine m → HaveShortDictionaries m → (text : List ℕ) → F.told files name ≡ Some text → kept.at ≡ 0 →
         s.entries ≡ [] → IsOwn t.cause → (t.cause ≡ Cause.Memory → ⊥) → ((line : ℕ) → (program_end m text).stop ≡ Stop line → ⊥) → SendsAllSoon m text r.runs.0 → AllClose m s text r.runs.0 →
         GoesThrough t.cause }
 {}
@@ -66,7 +67,7 @@ pub fn clear_runs_with_switches_go_through<F: Files, S: Sink>()
 /// it pressed (`TellFirst`), where what a board's trigger does in a section is heard of within half a round of its 32-bit clock (`AllHearSoon`).
 pub fn clear_runs_are_cut_at_first_ticks<F: Files, S: Sink>()
     ensures { (m : Machine) (s : Scene) (name : List ℕ) (files files' : F) (out out' : S) (kept kept' : Kept) (t : Told Run) →
-        (r : RunsOver F.Files S.Sink m s name files out kept t files' out' kept') → IsValidMachine m → (text : List ℕ) → F.told files name ≡ Some text → kept.at ≡ 0 →
+        (r : RunsOver F.Files S.Sink m s name files out kept t files' out' kept') → IsValidMachine m → HaveShortDictionaries m → (text : List ℕ) → F.told files name ≡ Some text → kept.at ≡ 0 →
         s.entries ≡ [] → IsOwn t.cause → (t.cause ≡ Cause.Memory → ⊥) → ((line : ℕ) → (program_end m text).stop ≡ Stop line → ⊥) → SendsAllSoon m text r.runs.0 →
         AllHearSoon m s text r.runs.0 (r.runs.1 ++ r.runs.2 ∷ []) →
         ∥ ((made : IsMade m s r.runs.0 r.runs.1) × (made.plans.seen.text ≡ text) × TellFirst m s made.plans.seen [] r.runs.1) ∥₁ }

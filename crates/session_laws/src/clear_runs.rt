@@ -16,6 +16,7 @@ ghost use Rattle.host_reactor.specs.Rows.{IsOwn};
 ghost use Rattle.host_reactor.specs.Runs.{Came, known_by};
 ghost use Rattle.board_runs.specs.Turns.{BoardTurn};
 ghost use Rattle.clock_runs.specs.Runs.{IsInRun, UnitsFit};
+ghost use Rattle.cause_runs.specs.Short.{HaveShortDictionaries};
 ghost use Rattle.cause_runs.specs.Causes.{IsHindered};
 ghost use Rattle.session_lanes.specs.declared.near.Told.{Told};
 ghost use Rattle.session_work.specs.declared.table.MotionTurn.{MotionTurn};
@@ -24,7 +25,7 @@ ghost use Rattle.session_desk.specs.declared.tell.Kept.{Kept};
 ghost use Rattle.session_run.specs.Runs.{RunsOver};
 ghost use Rattle.session_laws.specs.run_ends.Ends.{GoesThrough};
 ghost use Rattle.session_laws.specs.run_headline.Timely.{AreOfMoves, HoldsNothingLong};
-ghost use Rattle.session_laws.specs.clear_runs.Clear.{SendsInTime};
+ghost use Rattle.session_laws.specs.clear_runs.Clear.{SendsAllSoon};
 
 use io_core::{Files, Sink};
 use plan_types::Cause;
@@ -39,17 +40,17 @@ pub fn clear_links_hinder_nothing()
 {}
 
 /// The law of links that hold nothing long: in a scene without entries no line holds a command for half a round of the 32-bit clock,
-/// in any turns of a run whose units are all sent in time.
+/// in any turns of a run.
 pub fn clear_links_hold_nothing_long()
-    ensures { (m : Machine) (s : Scene) (text : List ℕ) (planned : List MotionTurn) (turns : List ReactorTurn) → s.entries ≡ [] → SendsInTime m text planned → HoldsNothingLong m s text planned turns }
+    ensures { (m : Machine) (s : Scene) (text : List ℕ) (planned : List MotionTurn) (turns : List ReactorTurn) → s.entries ≡ [] → HoldsNothingLong m s text planned turns }
 {}
 
 /// The law of clear runs: in whatever threads a run went, in a scene without entries, of sections of moves, of a text without an
-/// order to stop, whose units are all sent in time (`SendsInTime`), where it ends for a cause of its own other than want of memory it
+/// order to stop, whose units are all sent soon (`SendsAllSoon`), where it ends for a cause of its own other than want of memory it
 /// went through: no board is late, none gives no answer, and none homes.
 pub fn clear_runs_go_through<F: Files, S: Sink>()
     ensures { (m : Machine) (s : Scene) (name : List ℕ) (files files' : F) (out out' : S) (kept kept' : Kept) (t : Told Run) →
-        (r : RunsOver F.Files S.Sink m s name files out kept t files' out' kept') → IsValidMachine m → (text : List ℕ) → F.told files name ≡ Some text → kept.at ≡ 0 →
+        (r : RunsOver F.Files S.Sink m s name files out kept t files' out' kept') → IsValidMachine m → HaveShortDictionaries m → (text : List ℕ) → F.told files name ≡ Some text → kept.at ≡ 0 →
         s.entries ≡ [] → IsOwn t.cause → (t.cause ≡ Cause.Memory → ⊥) → AreOfMoves (program_sections m text) →
-        ((line : ℕ) → (program_end m text).stop ≡ Stop line → ⊥) → SendsInTime m text r.runs.0 → GoesThrough t.cause }
+        ((line : ℕ) → (program_end m text).stop ≡ Stop line → ⊥) → SendsAllSoon m text r.runs.0 → GoesThrough t.cause }
 {}

@@ -24,6 +24,7 @@ ghost use Rattle.host_reactor.specs.Reactor.{Run};
 ghost use Rattle.host_reactor.specs.Runs.{Came};
 ghost use Rattle.board_runs.specs.Turns.{BoardTurn};
 ghost use Rattle.clock_runs.specs.Runs.{IsInRun, orders_in};
+ghost use Rattle.cause_runs.specs.Short.{HaveShortDictionaries};
 ghost use Rattle.motion_work.specs.Seen.{Started};
 ghost use Rattle.run_plans.specs.Homed.{stops_of};
 ghost use Rattle.homing_laws.specs.home_runs.Settled.{AreHomed};
@@ -81,7 +82,7 @@ pub fn homing_runs_are_whole<F: Files, S: Sink>()
     ensures { (m : Machine) (s : Scene) (name : List ℕ) (files files' : F) (out out' : S) (kept kept' : Kept) (t : Told Run) →
         (r : RunsOver F.Files S.Sink m s name files out kept t files' out' kept') → IsValidMachine m → (text : List ℕ) → F.told files name ≡ Some text → kept.at ≡ 0 →
         ∥ ((made : IsMade m s r.runs.0 r.runs.1) × (made.plans.seen.text ≡ text) ×
-        ((t.cause ≡ Cause.Memory → ⊥) → ReadsOn m text r.runs.0 t.cause → AllHomeLittle m s text r.runs.0 (r.runs.1 ++ r.runs.2 ∷ []) →
+        ((t.cause ≡ Cause.Memory → ⊥) → ReadsOn m text r.runs.0 t.cause → HaveShortDictionaries m → AllHomeLittle m s text r.runs.0 (r.runs.1 ++ r.runs.2 ∷ []) →
         AllShowHomes m made.plans.seen (clocks_heard made.plans.seen.told) (ready_heard made.plans.seen.told) t.cause (r.runs.1 ++ r.runs.2 ∷ []) ×
         AllWholeHomes m made.plans.seen (clocks_heard made.plans.seen.told) t.cause (r.runs.1 ++ r.runs.2 ∷ [])) ×
         ((t.cause ≡ Cause.Memory → ⊥) → ReadsOn m text r.runs.0 t.cause → TellEnds m s.switches made.plans.seen.begun 0 (r.runs.1 ++ r.runs.2 ∷ []))) ∥₁ }
@@ -95,7 +96,7 @@ pub fn homing_runs_are_whole<F: Files, S: Sink>()
 /// a round of its 32-bit clock (`AllHearSoon`).
 pub fn homing_runs_are_cut_by_their_own_readings<F: Files, S: Sink>()
     ensures { (m : Machine) (s : Scene) (name : List ℕ) (files files' : F) (out out' : S) (kept kept' : Kept) (t : Told Run) →
-        (r : RunsOver F.Files S.Sink m s name files out kept t files' out' kept') → IsValidMachine m → (text : List ℕ) → F.told files name ≡ Some text → kept.at ≡ 0 →
+        (r : RunsOver F.Files S.Sink m s name files out kept t files' out' kept') → IsValidMachine m → HaveShortDictionaries m → (text : List ℕ) → F.told files name ≡ Some text → kept.at ≡ 0 →
         (t.cause ≡ Cause.Memory → ⊥) → ReadsOn m text r.runs.0 t.cause → AllHomeLittle m s text r.runs.0 (r.runs.1 ++ r.runs.2 ∷ []) → AllHearSoon m s text r.runs.0 (r.runs.1 ++ r.runs.2 ∷ []) →
         ∥ TellOwn m s.switches [] r.runs.1 ∥₁ }
 {}

@@ -3,6 +3,7 @@
 
 pub mod clear_homes;
 pub mod clear_runs;
+pub mod clock_ages;
 pub mod home_headline;
 pub mod home_wholes;
 pub mod run_causes;

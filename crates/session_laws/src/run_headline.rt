@@ -18,6 +18,7 @@ ghost use Rattle.session_work.specs.declared.table.ReactorTurn.{ReactorTurn};
 ghost use Rattle.session_desk.specs.declared.tell.Kept.{Kept};
 ghost use Rattle.session_run.specs.Runs.{RunsOver};
 ghost use Rattle.host_reactor.specs.Rows.{IsOwn};
+ghost use Rattle.cause_runs.specs.Short.{HaveShortDictionaries};
 ghost use Rattle.session_laws.specs.run_headline.Made.{IsMade, IsNamed, NoneSo, SendsSections};
 ghost use Rattle.session_laws.specs.run_headline.Timely.{AllTakeNear, AllShowPlans, AreOfMoves, HoldsNothingLong, clocks_heard, ready_heard};
 ghost use Rattle.session_laws.specs.run_headline.Told.{AreTold};
@@ -61,7 +62,7 @@ pub fn runs_follow_their_plans<F: Files, S: Sink>()
 /// section where any pulse of its board is told behind that section's turns.
 pub fn runs_show_their_plans<F: Files, S: Sink>()
     ensures { (m : Machine) (s : Scene) (name : List ℕ) (files files' : F) (out out' : S) (kept kept' : Kept) (t : Told Run) →
-        (r : RunsOver F.Files S.Sink m s name files out kept t files' out' kept') → IsValidMachine m → (text : List ℕ) → F.told files name ≡ Some text → kept.at ≡ 0 →
+        (r : RunsOver F.Files S.Sink m s name files out kept t files' out' kept') → IsValidMachine m → HaveShortDictionaries m → (text : List ℕ) → F.told files name ≡ Some text → kept.at ≡ 0 →
         ∥ ((made : IsMade m s r.runs.0 r.runs.1) × (made.plans.seen.text ≡ text) ×
         ((t.cause ≡ Cause.Memory → ⊥) → AreOfMoves (program_sections m text) → HoldsNothingLong m s text r.runs.0 (r.runs.1 ++ r.runs.2 ∷ []) →
         AllShowPlans m made.plans.seen (clocks_heard made.plans.seen.told) (ready_heard made.plans.seen.told) t.cause (r.runs.1 ++ r.runs.2 ∷ []))) ∥₁ }
@@ -73,12 +74,12 @@ pub fn runs_show_their_plans<F: Files, S: Sink>()
 /// no line holds a command for long (`HoldsNothingLong`).
 pub fn near_runs_fit_their_plans<F: Files, S: Sink>()
     ensures shown { (m : Machine) (s : Scene) (name : List ℕ) (files files' : F) (out out' : S) (kept kept' : Kept) (t : Told Run) →
-        (r : RunsOver F.Files S.Sink m s name files out kept t files' out' kept') → IsValidMachine m → (text : List ℕ) → F.told files name ≡ Some text → kept.at ≡ 0 →
+        (r : RunsOver F.Files S.Sink m s name files out kept t files' out' kept') → IsValidMachine m → HaveShortDictionaries m → (text : List ℕ) → F.told files name ≡ Some text → kept.at ≡ 0 →
         ∥ ((made : IsMade m s r.runs.0 r.runs.1) × (made.plans.seen.text ≡ text) ×
         ((t.cause ≡ Cause.Memory → ⊥) → AreOfMoves (program_sections m text) → AllTakeNear m s text r.runs.0 (r.runs.1 ++ r.runs.2 ∷ []) →
         AllShowPlans m made.plans.seen (clocks_heard made.plans.seen.told) (ready_heard made.plans.seen.told) t.cause (r.runs.1 ++ r.runs.2 ∷ []))) ∥₁ }
     ensures near { (m : Machine) (s : Scene) (name : List ℕ) (files files' : F) (out out' : S) (kept kept' : Kept) (t : Told Run) →
-        (r : RunsOver F.Files S.Sink m s name files out kept t files' out' kept') → IsValidMachine m → (text : List ℕ) → (t.cause ≡ Cause.Memory → ⊥) → AreOfMoves (program_sections m text) →
+        (r : RunsOver F.Files S.Sink m s name files out kept t files' out' kept') → IsValidMachine m → HaveShortDictionaries m → (text : List ℕ) → (t.cause ≡ Cause.Memory → ⊥) → AreOfMoves (program_sections m text) →
         HoldsNothingLong m s text r.runs.0 (r.runs.1 ++ r.runs.2 ∷ []) → AllTakeNear m s text r.runs.0 (r.runs.1 ++ r.runs.2 ∷ []) }
 {}
 

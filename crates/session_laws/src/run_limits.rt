@@ -6,6 +6,7 @@ ghost use Rattle.plan_types.specs.declared.machine.Machine.{Machine};
 ghost use Rattle.plan_types.specs.Machines.{IsValidMachine};
 ghost use Rattle.wire_scene.specs.declared.scene.Scene.{Scene};
 ghost use Rattle.host_reactor.specs.Reactor.{Run};
+ghost use Rattle.cause_runs.specs.Short.{HaveShortDictionaries};
 ghost use Rattle.session_lanes.specs.declared.near.Told.{Told};
 ghost use Rattle.session_work.specs.Rows.{gather};
 ghost use Rattle.session_desk.specs.declared.tell.Kept.{Kept};
@@ -21,7 +22,7 @@ use io_core::{Files, Sink};
 /// have by then, and the numbers of what was read are those of a file's first 2^30 bytes.
 pub fn runs_keep_limits<F: Files, S: Sink>()
     ensures { (m : Machine) (s : Scene) (name : List ℕ) (files files' : F) (out out' : S) (kept kept' : Kept) (t : Told Run) →
-        (r : RunsOver F.Files S.Sink m s name files out kept t files' out' kept') → IsValidMachine m → (text : List ℕ) → F.told files name ≡ Some text → kept.at ≡ 0 →
+        (r : RunsOver F.Files S.Sink m s name files out kept t files' out' kept') → IsValidMachine m → HaveShortDictionaries m → (text : List ℕ) → F.told files name ≡ Some text → kept.at ≡ 0 →
         AreOfMoves (program_sections m text) → program_sections m text ≢ [] → HoldsNothingLong m s text r.runs.0 (r.runs.1 ++ r.runs.2 ∷ []) → GoesThrough t.cause →
         ∥ AreLow (gather (λ t. t.lines) (r.runs.1 ++ r.runs.2 ∷ [])) ∥₁ }
 {}

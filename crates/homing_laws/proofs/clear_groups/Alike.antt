@@ -37,8 +37,8 @@ tracked_alike own known lines ready most k a =
     (x, refl)
 
 -- a board that they follow, until a turn before the last of those that begin alike
-pub followed_alike : (m : Machine) (b : ℕ) (known lines : Clocks) (ready start last near most : ℕ) → IsFollowed m b lines ready start last → IsAlike (most + 1) known lines → start ≤ near → near ≤ last → near + 1 ≤ most → IsFollowed m b known ready start near
-followed_alike m b known lines ready start last near most f a goes_so near_so far =
+pub followed_alike : (m : Machine) (b : ℕ) (known lines : Clocks) (ready start last till near most : ℕ) → IsFollowed m b lines ready start last till → IsAlike (most + 1) known lines → start ≤ near → near ≤ last → near + 1 ≤ most → IsFollowed m b known ready start near till
+followed_alike m b known lines ready start last till near most f a goes_so near_so far =
     let x = tracked_alike _ known lines ready most f.tracked a in
     let is = x.1 in
     let ends = f.ends in

@@ -115,8 +115,8 @@ same_unseen (m ∷ ms) = ap (λ (xs : List Member). m ∷ xs) (same_unseen ms)
 -- a board's turn
 module _ (m : Machine) (b : ℕ) (pins : List (List Level)) (entries : List Entry) (t : BoardTurn) (before : List BoardTurn) (none : entries ≡ [])
     (are : AreBoardTurns (clock_of (board_at m b)) (first_state (board_at m b) pins b entries) (t ∷ before)) (limits : AllKeepLimits (orders_in (t ∷ before))) (shut : t.state.shut ≡ None)
-    (in_range : board_tick (clock_of (board_at m b)) (length before) < 2 ^ 63) (lines : Clocks) (ready start last : ℕ) (f : IsFollowed m b lines ready start last) (low_so : ready ≤ length before) (far : length before + 2 ≤ start)
-    (near : start ≤ length before + 300) where
+    (in_range : board_tick (clock_of (board_at m b)) (length before) < 2 ^ 63) (lines : Clocks) (ready start last till : ℕ) (f : IsFollowed m b lines ready start last till) (low_so : ready ≤ length before) (far : length before + 2 ≤ start)
+    (near : start ≤ length before + 300) (reach : start + 25 ≤ till) where
   abbrev own : ℕ → ℕ
   own = λ k. board_tick (clock_of (board_at m b)) k
 
@@ -147,10 +147,10 @@ module _ (m : Machine) (b : ℕ) (pins : List (List Level)) (entries : List Entr
   at_tick : Start.controller.tick ≡ own (length before)
   at_tick = tick_is (board_at m b) pins b entries before are.1
 
-  ahead_of : (timeout : ℕ) → length before + 2 ≤ timeout → timeout ≤ last + 1 → timeout ≤ length before + 400 → IsAhead own lines (length before) timeout
+  ahead_of : (timeout : ℕ) → length before + 2 ≤ timeout → timeout ≤ last + 1 → timeout ≤ start + 25 → IsAhead own lines (length before) timeout
   ahead_of timeout more most close =
       let ends = f.ends in
-      timeout_ahead own lines ready (length before) timeout f.ticks f.tracked low_so (omega (arith, most, ends)) more (omega (arith, close)) (f.rises (length before)) in_range
+      timeout_ahead own lines ready (length before) timeout f.ticks f.tracked low_so (omega (arith, most, close, reach, ends)) more (omega (arith, close, near)) (f.rises (length before)) in_range
 
   armed_after : (A tail : List Cmd) → Commands ≡ A ++ tail → ((clock : ℕ) → AreBehind (trigger_of m b) clock tail) → RelayNone tail → ((takes_all Start A).rig.controller.state ≡ Running → Armed (takes_all Start A).rig) → Armed (passes Taken (own (length before + 1))).rig
   armed_after A tail e behind calm mid =
@@ -161,9 +161,9 @@ module _ (m : Machine) (b : ℕ) (pins : List (List Level)) (entries : List Entr
       let rigs : Taken ≡ (takes_all q tail).rig = ap (λ (cs : List Cmd). (takes_all Start cs).rig) e ∙ takes_both Start A tail in
       let runs_tail : (takes_all q tail).rig.controller.state ≡ Running = ap (λ (z : Rig). z.controller.state) (sym rigs) ∙ runs in
       let armed : Armed Taken = subst Armed (sym rigs) (others (trigger_of m b) Base (report_ticks m b) q tail (Some Limit) runs_tail behind calm (mid (ran q tail runs_tail))) in
-      let limit = ahead_of Timeout (omega (arith, far, order)) (omega arith) (omega (arith, near)) in
-      let base_low : own (length before + 1) ≤ Base = line_ahead own lines ready (length before + 1) start f.tracked (omega (arith, low_so)) (omega (arith, far, order, ends)) (omega (arith, far)) in
-      let limit_low : own (length before + 1) ≤ Limit = line_ahead own lines ready (length before + 1) Timeout f.tracked (omega (arith, low_so)) (omega (arith, far, order, ends)) (omega (arith, far, order)) in
+      let limit = ahead_of Timeout (omega (arith, far, order)) (omega arith) (omega arith) in
+      let base_low : own (length before + 1) ≤ Base = line_ahead own lines ready (length before + 1) start f.tracked (omega (arith, low_so)) (omega (arith, far, order, reach, ends)) (omega (arith, far)) in
+      let limit_low : own (length before + 1) ≤ Limit = line_ahead own lines ready (length before + 1) Timeout f.tracked (omega (arith, low_so)) (omega (arith, far, order, reach, ends)) (omega (arith, far, order)) in
       armed_passes (trigger_of m b) Base (report_ticks m b) Limit Taken (own (length before)) (own (length before + 1)) (low (turn_tick lines Timeout)) armed (all_sound Start Commands (sound_at (board_at m b) pins b entries before are.1)) runs
       (all_tick Start Commands ∙ at_tick) limit.is limit.later (omega (arith, rises)) base_low limit_low
 
@@ -173,8 +173,8 @@ module _ (m : Machine) (b : ℕ) (pins : List (List Level)) (entries : List Entr
       let order = f.goes in
       let A : List Cmd = commands_to m lines b start (axis_at m h.axis) (round_of (Starts Timeout) g.members) in
       let e : Commands ≡ A ++ o.tail = o.are ∙ ap (λ (n : ℕ). commands_to m lines b n (axis_at m h.axis) (orders g turn) ++ o.tail) begins ∙ ap (λ (cs : List Ctl). commands_to m lines b start (axis_at m h.axis) cs ++ o.tail) sends in
-      let base = ahead_of start far (omega (arith, order)) (omega (arith, near)) in
-      let limit = ahead_of Timeout (omega (arith, far, order)) (omega arith) (omega (arith, near)) in
+      let base = ahead_of start far (omega (arith, order)) (omega arith) in
+      let limit = ahead_of Timeout (omega (arith, far, order)) (omega arith) (omega arith) in
       let low_base = base.later in
       armed_after A o.tail e (λ clock. o.behind (trigger_of m b) clock) o.none
       (λ runs_so. started m lines b start (axis_at m h.axis) Base (report_ticks m b) (own (length before)) Limit Timeout base.is (omega (arith, low_base)) limit.is limit.later f.spaced refl g.members Start at_tick runs_so prep (inr on))
@@ -184,16 +184,16 @@ module _ (m : Machine) (b : ℕ) (pins : List (List Level)) (entries : List Entr
       let order = f.goes in
       let A : List Cmd = commands_to m lines b start (axis_at m h.axis) (round_of Homes g.members) in
       let e : Commands ≡ A ++ o.tail = o.are ∙ ap (λ (n : ℕ). commands_to m lines b n (axis_at m h.axis) (orders g turn) ++ o.tail) begins ∙ ap (λ (cs : List Ctl). commands_to m lines b start (axis_at m h.axis) cs ++ o.tail) sends in
-      let base = ahead_of start far (omega (arith, order)) (omega (arith, near)) in
-      let limit = ahead_of Timeout (omega (arith, far, order)) (omega arith) (omega (arith, near)) in
+      let base = ahead_of start far (omega (arith, order)) (omega arith) in
+      let limit = ahead_of Timeout (omega (arith, far, order)) (omega arith) (omega arith) in
       let low_base = base.later in
       armed_after A o.tail e (λ clock. o.behind (trigger_of m b) clock) o.none
       (λ runs_so. homed m lines b start (axis_at m h.axis) Base (report_ticks m b) (own (length before)) Limit Timeout base.is (omega (arith, low_base)) limit.is limit.later f.spaced refl g.members Start (Some Limit) at_tick runs_so armed)
 
 -- the group and its boards
-module _ (m : Machine) (switches : List Switch) (pins : ℕ → List (List Level)) (entries : List Entry) (none : entries ≡ []) (lines : ℕ → Clocks) (ready from start last : ℕ) (members : List Member)
-    (followed : (b : ℕ) → IsMember b members → IsFollowed m b (lines b) ready start last) (c d e : Came) (past : List Came) (i j : ℕ → BoardTurn) (js : List (ℕ → BoardTurn))
-    (s : IsClearSection m switches pins entries lines from start members c (d ∷ e ∷ past) (i ∷ j ∷ js)) (early : from ≤ length past) (low_so : ready + 4 ≤ length past) (set_up : length past + 251 ≡ start) (order : start ≤ last)
+module _ (m : Machine) (switches : List Switch) (pins : ℕ → List (List Level)) (entries : List Entry) (none : entries ≡ []) (lines : ℕ → Clocks) (ready from start last till : ℕ) (members : List Member)
+    (followed : (b : ℕ) → IsMember b members → IsFollowed m b (lines b) ready start last till) (c d e : Came) (past : List Came) (i j : ℕ → BoardTurn) (js : List (ℕ → BoardTurn))
+    (s : IsClearSection m switches pins entries lines from start members c (d ∷ e ∷ past) (i ∷ j ∷ js)) (early : from ≤ length past) (low_so : ready + 4 ≤ length past) (set_up : length past + 251 ≡ start) (order : start ≤ last) (reach : length past + 276 ≤ till)
     (first : AreOfTurn (length past + 1) d.states) (second : AreOfTurn (length past + 2) c.states) (h : Homing) (is : (noted m e.note (known_by m switches past)).homing ≡ Some h)
     (new : IsNew start last members (hears_all (noted m e.note (known_by m switches past)).clocks e.states h).group) where
   abbrev K : ℕ
@@ -218,10 +218,10 @@ module _ (m : Machine) (switches : List Switch) (pins : ℕ → List (List Level
   Last = hears_all (Clocks_of c (d ∷ e ∷ past)) c.states Second
 
   pub cut_once : IsClearSection m switches pins entries lines from start members d (e ∷ past) (j ∷ js)
-  cut_once = cut m switches pins entries none lines ready from start last start members followed (omega (arith, early, set_up)) (omega (arith, low_so, set_up)) (omega arith) c d (e ∷ past) i (j ∷ js) s
+  cut_once = cut m switches pins entries none lines ready from start last till start members followed (omega (arith, early, set_up)) (omega (arith, low_so, set_up)) (omega arith) c d (e ∷ past) i (j ∷ js) s
 
   pub cut_twice : IsClearSection m switches pins entries lines from start members e past js
-  cut_twice = cut m switches pins entries none lines ready from start last start members followed (omega (arith, early, set_up)) (omega (arith, low_so, set_up)) (omega arith) d e past j js cut_once
+  cut_twice = cut m switches pins entries none lines ready from start last till start members followed (omega (arith, early, set_up)) (omega (arith, low_so, set_up)) (omega arith) d e past j js cut_once
 
   pub known_first : ((noted m d.note (known_by m switches (e ∷ past))).homing ≡ Some First) × (answer_in K h.start Now.group ≡ None)
   known_first = homing_next m switches from start members d e past h cut_once.homes cut_once.begins.0 cut_once.goes_on early is
@@ -300,7 +300,7 @@ module _ (m : Machine) (switches : List Switch) (pins : ℕ → List (List Level
     armed_first =
         let p = cut_once.plain b on in
         let long = long_first in
-        let x = started_turn m b (pins b) entries (j b) (turns_of b js) none p.run.turns_are p.limits p.none_shut.0 (cut_twice.plain b on).in_range (lines b) ready start last (followed b on) (omega (arith, low_so, long)) (omega (arith, set_up, long)) (omega (arith, set_up, long)) h K Now.group ordered_first begins_at
+        let x = started_turn m b (pins b) entries (j b) (turns_of b js) none p.run.turns_are p.limits p.none_shut.0 (cut_twice.plain b on).in_range (lines b) ready start last till (followed b on) (omega (arith, low_so, long)) (omega (arith, set_up, long)) (omega (arith, set_up, long)) (omega (arith, set_up, reach)) h K Now.group ordered_first begins_at
         sends_first (subst (IsMember b) (sym members_are) on) rest in
         subst Set_up (sym (takes_in_turn (board_at m b) (pins b) b entries (j b) (turns_of b js) none p.run.turns_are p.limits)) x
 
@@ -308,7 +308,7 @@ module _ (m : Machine) (switches : List Switch) (pins : ℕ → List (List Level
     armed_second =
         let p = s.plain b on in
         let long : length (turns_of b (j ∷ js)) ≡ K + 1 = (let l = long_first in omega (arith, l)) in
-        let x = homed_turn m b (pins b) entries (i b) (turns_of b (j ∷ js)) none p.run.turns_are p.limits p.none_shut.0 (cut_once.plain b on).in_range (lines b) ready start last (followed b on) (omega (arith, low_so, long)) (omega (arith, set_up, long)) (omega (arith, set_up, long)) First (length (e ∷ past)) Heard.group
+        let x = homed_turn m b (pins b) entries (i b) (turns_of b (j ∷ js)) none p.run.turns_are p.limits p.none_shut.0 (cut_once.plain b on).in_range (lines b) ready start last till (followed b on) (omega (arith, low_so, long)) (omega (arith, set_up, long)) (omega (arith, set_up, long)) (omega (arith, set_up, reach)) First (length (e ∷ past)) Heard.group
         ordered_second begins_at sends_second armed_first in
         subst Set_up (sym (takes_in_turn (board_at m b) (pins b) b entries (i b) (turns_of b (j ∷ js)) none p.run.turns_are p.limits)) x
 
@@ -321,7 +321,7 @@ module _ (m : Machine) (switches : List Switch) (pins : ℕ → List (List Level
         let long = long_first in
         let turn = length (turns_of b (j ∷ js)) in
         let low_base : board_tick (clock_of (board_at m b)) (turn + 1) ≤ First_tick =
-        (let ends = f.ends in line_ahead (λ n. board_tick (clock_of (board_at m b)) n) (lines b) ready (turn + 1) start f.tracked (omega (arith, low_so, long)) (omega (arith, long, set_up, order, ends)) (omega (arith, long, set_up))) in
+        (let ends = f.ends in line_ahead (λ n. board_tick (clock_of (board_at m b)) n) (lines b) ready (turn + 1) start f.tracked (omega (arith, low_so, long)) (omega (arith, long, set_up, order, reach, ends)) (omega (arith, long, set_up))) in
         let same : turn + 1 ≡ k = omega (arith, long) in
         let low_now : board_tick (clock_of (board_at m b)) k ≤ First_tick = subst (λ (n : ℕ). board_tick (clock_of (board_at m b)) n ≤ First_tick) same low_base in
         let alive = armed_alive (trigger_of m b) First_tick (report_ticks m b) (lines_tick (lines b) (Earliest * turn_ns)) r (board_tick (clock_of (board_at m b)) k) armed_second low_now in

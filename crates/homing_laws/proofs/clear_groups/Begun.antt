@@ -59,14 +59,14 @@ new_none m switches start last ms at [] l = tt
 new_none m switches start last ms at (c ∷ before) l = ((λ e. absurd (omega (arith, e, l))), new_none m switches start last ms at before (omega (arith, l)))
 
 -- where a section was begun
-pub record Began (m : Machine) (switches : List Switch) (lines : ℕ → ℕ → Clocks) (ready : ℕ) (c : Came) (before : List Came) (h : Homing) : Type 0 where
+pub record Began (m : Machine) (switches : List Switch) (lines : ℕ → ℕ → Clocks) (ready till : ℕ) (c : Came) (before : List Came) (h : Homing) : Type 0 where
   pub from : ℕ
   pub early : from ≤ length before
   pub late : ready ≤ from
   pub far : ready + 255 ≤ h.start
   pub soon : from + 251 ≤ h.start
   pub order : h.start ≤ h.group.last
-  pub tracked : (b : ℕ) → b < length m.boards → IsTracked m b (lines h.start b) ready h.group.last
+  pub tracked : (b : ℕ) → b < length m.boards → IsTracked m b (lines h.start b) ready h.group.last till
   pub together : h.group.start ≡ h.start
   pub homes : HomesFrom m switches from h.start (members_of h.group) (c ∷ before)
   pub begins : BeginsNoneFrom from (c ∷ before)
@@ -85,9 +85,9 @@ both_notes (news.Done section turn ∷ ns) s n = both_notes ns s n
 both_notes (news.Read x sections ∷ ns) s n = both_notes ns s n
 both_notes (news.Line board line from ∷ ns) s n = both_notes ns s n
 
-module _ (m : Machine) (switches : List Switch) (lines : ℕ → ℕ → Clocks) (ready : ℕ) where
+module _ (m : Machine) (switches : List Switch) (lines : ℕ → ℕ → Clocks) (ready till : ℕ) where
   came_from : (c d : Came) (past : List Came) (h g : Homing) → GoesOn m switches (d ∷ past) → BeginsNone (news_of c.note) → (noted m c.note (known_by m switches (d ∷ past))).homing ≡ Some h → (noted m d.note (known_by m switches past)).homing ≡ Some g
-      → Began m switches lines ready d past g → Began m switches lines ready c (d ∷ past) h
+      → Began m switches lines ready till d past g → Began m switches lines ready till c (d ∷ past) h
   came_from c d past h g on none is was x =
       let n = noted m d.note (known_by m switches past) in
       let k = length past in
@@ -109,7 +109,7 @@ module _ (m : Machine) (switches : List Switch) (lines : ℕ → ℕ → Clocks)
       let order = x.order in
       let Homes : ℕ → List Member → Type 0 = λ s ms. HomesFrom m switches x.from s ms (d ∷ past) in
       let New : ℕ → ℕ → List Member → Type 0 = λ s l ms. IsNewAt m switches s l ms x.from (d ∷ past) in
-      let Tracked : ℕ → ℕ → Type 0 = λ s l. (b : ℕ) → b < length m.boards → IsTracked m b (lines s b) ready l in
+      let Tracked : ℕ → ℕ → Type 0 = λ s l. (b : ℕ) → b < length m.boards → IsTracked m b (lines s b) ready l till in
       let homes : Homes h.start (members_of h.group) = subst (λ (s : ℕ). Homes s (members_of h.group)) start (subst (λ (ms : List Member). Homes g.start ms) members x.homes) in
       let new : New h.start h.group.last (members_of h.group) =
       subst (λ (s : ℕ). New s h.group.last (members_of h.group)) start (subst (λ (l : ℕ). New g.start l (members_of h.group)) last (subst (λ (ms : List Member). New g.start g.group.last ms) members x.new)) in
@@ -128,8 +128,8 @@ module _ (m : Machine) (switches : List Switch) (lines : ℕ → ℕ → Clocks)
         within = λ b on. x.within b (subst (IsMember b) (sym members) on);
       }
 
-  began_here : (c : Came) (before : List Came) (h : Homing) → AllOfTurn (c ∷ before) → BeginsSome (news_of c.note) → (noted m c.note (known_by m switches before)).homing ≡ Some h → IsBegunWell m switches lines ready before h
-      → Began m switches lines ready c before h
+  began_here : (c : Came) (before : List Came) (h : Homing) → AllOfTurn (c ∷ before) → BeginsSome (news_of c.note) → (noted m c.note (known_by m switches before)).homing ≡ Some h → IsBegunWell m switches lines ready till before h
+      → Began m switches lines ready till c before h
   began_here c before h of some is w =
       let x : IsNewly m (Some h) = subst (IsNewly m) is (noted_newly m c.note (known_by m switches before) some) in
       let soon = w.soon in
@@ -164,7 +164,7 @@ module _ (m : Machine) (switches : List Switch) (lines : ℕ → ℕ → Clocks)
             | inr more ↦ elim more [ inl x ↦ subst Not (sym x.is) (λ z. same n.homing e z) is | inr x ↦ subst Not (sym x.is) (λ z. same (homing_after n.clocks (length past) d.states n.homing) later z) is ]
           ])
 
-  began : (c : Came) (before : List Came) → GoesOn m switches before → AllOfTurn (c ∷ before) → BeginsWell m switches lines ready (c ∷ before) → (h : Homing) → (noted m c.note (known_by m switches before)).homing ≡ Some h → Began m switches lines ready c before h
+  began : (c : Came) (before : List Came) → GoesOn m switches before → AllOfTurn (c ∷ before) → BeginsWell m switches lines ready till (c ∷ before) → (h : Homing) → (noted m c.note (known_by m switches before)).homing ≡ Some h → Began m switches lines ready till c before h
   began c [] on of well h is = elim (some_or_none (news_of c.note)) [
     | inl some ↦ began_here c [] h of some is (elim well.0 [ inl calm ↦ absurd (both_notes (news_of c.note) some calm) | inr x ↦ x.1 h is ])
     | inr calm ↦ absurd (let bad : None ≡ Some h = sym (noted_none m c.note (known_by m switches []) calm) ∙ is in cc)
@@ -177,12 +177,12 @@ module _ (m : Machine) (switches : List Switch) (lines : ℕ → ℕ → Clocks)
         came_from c d past h g.0 on calm is g.1 (began d past on.1 of.1 well.1 g.0 g.1)
   ]
 
-  pub well_alone : (came : List Came) → BeginsWell m switches lines ready came → BeginsAlone m switches came
+  pub well_alone : (came : List Came) → BeginsWell m switches lines ready till came → BeginsAlone m switches came
   well_alone [] w = tt
   well_alone (c ∷ before) w = (elim w.0 [ inl calm ↦ inl calm | inr x ↦ inr (x.0, λ h is. (x.1 h is).soon) ], well_alone before w.1)
 
 -- the sections of a run
-module _ (m : Machine) (v : IsValidMachine m) (switches : List Switch) (pins : ℕ → List (List Level)) (entries : List Entry) (none : entries ≡ []) (lines : ℕ → ℕ → Clocks) (ready : ℕ) where
+module _ (m : Machine) (v : IsValidMachine m) (switches : List Switch) (pins : ℕ → List (List Level)) (entries : List Entry) (none : entries ≡ []) (lines : ℕ → ℕ → Clocks) (ready till : ℕ) where
   rises : (b : ℕ) → b < length m.boards → (k : ℕ) → board_tick (clock_of (board_at m b)) k ≤ board_tick (clock_of (board_at m b)) (k + 1)
   rises b l = (valid_ticks (board_at m b) (v.boards b _ l)).up
 
@@ -194,7 +194,7 @@ module _ (m : Machine) (v : IsValidMachine m) (switches : List Switch) (pins : �
       by (Some end) e = absurd (let late = answered_late k start g end e in omega (arith, late, l))
 
   abbrev Clear : Came → List Came → List (ℕ → BoardTurn) → Type 0
-  Clear c before all = IsClearRun m switches pins entries lines ready c before all
+  Clear c before all = IsClearRun m switches pins entries lines ready till c before all
 
   -- the turn before
   pub run_cut : (c d : Came) (past : List Came) (j : ℕ → BoardTurn) (js : List (ℕ → BoardTurn)) → Clear c (d ∷ past) (j ∷ js) → Clear d past js
@@ -215,11 +215,11 @@ module _ (m : Machine) (v : IsValidMachine m) (switches : List Switch) (pins : �
   of_turn c (d ∷ past) [] r = absurd (let size = r.long in omega (arith, size))
   of_turn c (d ∷ past) (j ∷ js) r = (states_of_turn m switches pins entries c (d ∷ past) (j ∷ js) r.have (λ b l. ((r.plain b l).run, r.states b l)), of_turn d past js (run_cut c d past j js r))
 
-  pub began_in : (c : Came) (before : List Came) (all : List (ℕ → BoardTurn)) → Clear c before all → (h : Homing) → (noted m c.note (known_by m switches before)).homing ≡ Some h → Began m switches lines ready c before h
-  began_in c before all r h is = began m switches lines ready c before r.goes_on (of_turn c before all r) r.begins h is
+  pub began_in : (c : Came) (before : List Came) (all : List (ℕ → BoardTurn)) → Clear c before all → (h : Homing) → (noted m c.note (known_by m switches before)).homing ≡ Some h → Began m switches lines ready till c before h
+  began_in c before all r h is = began m switches lines ready till c before r.goes_on (of_turn c before all r) r.begins h is
 
   -- a section that is known
-  pub section_in : (c : Came) (before : List Came) (all : List (ℕ → BoardTurn)) → Clear c before all → (h : Homing) (x : Began m switches lines ready c before h) → IsClearSection m switches pins entries (lines h.start) x.from h.start (members_of h.group) c before all
+  pub section_in : (c : Came) (before : List Came) (all : List (ℕ → BoardTurn)) → Clear c before all → (h : Homing) (x : Began m switches lines ready till c before h) → IsClearSection m switches pins entries (lines h.start) x.from h.start (members_of h.group) c before all
   section_in c before all r h x =
       record {
         goes_on = r.goes_on;
@@ -231,16 +231,16 @@ module _ (m : Machine) (v : IsValidMachine m) (switches : List Switch) (pins : �
         states = λ b on. r.states b (x.within b on);
       }
 
-  pub followed_in : (c : Came) (before : List Came) (all : List (ℕ → BoardTurn)) → Clear c before all → (h : Homing) (x : Began m switches lines ready c before h) → (b : ℕ) → IsMember b (members_of h.group) → IsFollowed m b (lines h.start b) ready h.start h.group.last
+  pub followed_in : (c : Came) (before : List Came) (all : List (ℕ → BoardTurn)) → Clear c before all → (h : Homing) (x : Began m switches lines ready till c before h) → (b : ℕ) → IsMember b (members_of h.group) → IsFollowed m b (lines h.start b) ready h.start h.group.last till
   followed_in c before all r h x b on =
       let l = x.within b on in
       let t = x.tracked b l in
       let early = x.far in
-      board_followed m b (lines h.start b) ready h.start h.group.last v l t.0 (omega (arith, early)) x.order t.1 t.2
+      board_followed m b (lines h.start b) ready h.start h.group.last till v l t.0 (omega (arith, early)) x.order t.1 t.2
 
   -- its set-up
   set_up_here : (c d e : Came) (past : List Came) (i j : ℕ → BoardTurn) (js : List (ℕ → BoardTurn)) → Clear c (d ∷ e ∷ past) (i ∷ j ∷ js) → (h : Homing) → (noted m d.note (known_by m switches (e ∷ past))).homing ≡ Some h → h.group.start ≡ length (e ∷ past) + 250
-      → IsSetUp m switches pins entries (lines h.group.start) ready h.group.start c d e past i j js
+      → IsSetUp m switches pins entries (lines h.group.start) ready till h.group.start c d e past i j js
   set_up_here c d e past i j js r h is at =
       let before = run_cut c d (e ∷ past) i (j ∷ js) r in
       let y = began_in d (e ∷ past) (j ∷ js) before h is in
@@ -266,10 +266,10 @@ module _ (m : Machine) (v : IsValidMachine m) (switches : List Switch) (pins : �
       let one : length past + 1 ≡ length (e ∷ past) = omega arith in
       let two : length past + 2 ≡ length (d ∷ e ∷ past) = omega arith in
       let from_early : x.from ≤ length past = omega (arith, soon, at, together) in
-      let once = cut m switches pins entries none (lines h.start) ready x.from h.start g.group.last h.start (members_of g.group) followed (omega (arith, soon)) (omega (arith, far)) (omega arith) c d (e ∷ past) i (j ∷ js) section in
-      let twice = cut m switches pins entries none (lines h.start) ready x.from h.start g.group.last h.start (members_of g.group) followed (omega (arith, soon)) (omega (arith, far)) (omega arith) d e past j js once in
-      let new = stays_new m switches pins entries none (lines h.start) ready x.from h.start g.group.last (members_of g.group) followed x.far x.soon x.order e past js twice of.1.1 from_early (omega (arith, at, together)) x.new.1.1 in
-      let made : IsSetUp m switches pins entries (lines h.start) ready h.start c d e past i j js = record {
+      let once = cut m switches pins entries none (lines h.start) ready x.from h.start g.group.last till h.start (members_of g.group) followed (omega (arith, soon)) (omega (arith, far)) (omega arith) c d (e ∷ past) i (j ∷ js) section in
+      let twice = cut m switches pins entries none (lines h.start) ready x.from h.start g.group.last till h.start (members_of g.group) followed (omega (arith, soon)) (omega (arith, far)) (omega arith) d e past j js once in
+      let new = stays_new m switches pins entries none (lines h.start) ready x.from h.start g.group.last till (members_of g.group) followed x.far x.soon x.order e past js twice of.1.1 from_early (omega (arith, at, together)) x.new.1.1 in
+      let made : IsSetUp m switches pins entries (lines h.start) ready till h.start c d e past i j js = record {
         from = x.from;
         last = g.group.last;
         members = members_of g.group;
@@ -282,9 +282,9 @@ module _ (m : Machine) (v : IsValidMachine m) (switches : List Switch) (pins : �
         second = subst (λ (k : ℕ). AreOfTurn k c.states) (sym two) of.0;
         new = new;
       } in
-      subst (λ (k : ℕ). IsSetUp m switches pins entries (lines k) ready k c d e past i j js) (sym together) made
+      subst (λ (k : ℕ). IsSetUp m switches pins entries (lines k) ready till k c d e past i j js) (sym together) made
 
-  first_none : (c d : Came) (all : List (ℕ → BoardTurn)) → Clear c (d ∷ []) all → AreSetUp m switches pins entries lines ready (c ∷ d ∷ []) all
+  first_none : (c d : Came) (all : List (ℕ → BoardTurn)) → Clear c (d ∷ []) all → AreSetUp m switches pins entries lines ready till (c ∷ d ∷ []) all
   first_none c d [] r = absurd (let size = r.long in omega (arith, size))
   first_none c d (i ∷ js) r = λ h is at. (
       let x = began_in d [] js (run_cut c d [] i js r) h is in
@@ -292,7 +292,7 @@ module _ (m : Machine) (v : IsValidMachine m) (switches : List Switch) (pins : �
       let together = x.together in
       omega (arith, far, together, at))
 
-  pub set_up_all : (c : Came) (before : List Came) (all : List (ℕ → BoardTurn)) → Clear c before all → AreSetUp m switches pins entries lines ready (c ∷ before) all
+  pub set_up_all : (c : Came) (before : List Came) (all : List (ℕ → BoardTurn)) → Clear c before all → AreSetUp m switches pins entries lines ready till (c ∷ before) all
   set_up_all c [] all r = tt
   set_up_all c (d ∷ []) all r = first_none c d all r
   set_up_all c (d ∷ e ∷ past) [] r = absurd (let size = r.long in omega (arith, size))
@@ -300,8 +300,8 @@ module _ (m : Machine) (v : IsValidMachine m) (switches : List Switch) (pins : �
   set_up_all c (d ∷ e ∷ past) (i ∷ j ∷ js) r = (λ h is at. set_up_here c d e past i j js r h is at, set_up_all d (e ∷ past) (j ∷ js) (run_cut c d (e ∷ past) i (j ∷ js) r))
 
   -- so no group answers that a board expired
-  pub run_answers : (c : Came) (before : List Came) (all : List (ℕ → BoardTurn)) → Clear c before all → (h : Homing) → (noted m c.note (known_by m switches before)).homing ≡ Some h → (b turn : ℕ)
+  pub run_answers : (c : Came) (before : List Came) (all : List (ℕ → BoardTurn)) → Clear c before all → length before + 276 ≤ till → (h : Homing) → (noted m c.note (known_by m switches before)).homing ≡ Some h → (b turn : ℕ)
       → answer_in (length before) h.start (hears_all (noted m c.note (known_by m switches before)).clocks c.states h).group ≡ Some (end.Expired b turn) → ⊥
-  run_answers c before all r h is b turn ends =
+  run_answers c before all r reach h is b turn ends =
       let x = began_in c before all r h is in
-      run_never m switches pins entries none lines ready v x.from h.start (members_of h.group) x.soon c before all (section_in c before all r h x) (well_alone m switches lines ready before r.begins.1) (set_up_all c before all r) x.early h is b turn ends
+      run_never m switches pins entries none lines ready till v x.from h.start (members_of h.group) x.soon c before all (section_in c before all r h x) (well_alone m switches lines ready till before r.begins.1) (set_up_all c before all r) reach x.early h is b turn ends

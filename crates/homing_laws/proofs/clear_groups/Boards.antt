@@ -159,21 +159,21 @@ module _ (m : Machine) (b : ℕ) (pins : List (List Level)) (entries : List Entr
         never clock limit behind small (renewed 0).sole turned,
       )
 
-  ahead_of : (lines : Clocks) (ready start last next : ℕ) (f : IsFollowed m b lines ready start last) → ready ≤ length before → length before + 2 ≤ next → next ≤ last + 1 → next ≤ length before + 1_000 → IsAhead own lines (length before) next
-  ahead_of lines ready start last next f low_so far most near =
+  ahead_of : (lines : Clocks) (ready start last till next : ℕ) (f : IsFollowed m b lines ready start last till) → ready ≤ length before → length before + 276 ≤ till → length before + 2 ≤ next → next ≤ last + 1 → next ≤ length before + 276 → IsAhead own lines (length before) next
+  ahead_of lines ready start last till next f low_so reach far most near =
       let ends = f.ends in
-      timeout_ahead own lines ready (length before) next f.ticks f.tracked low_so (omega (arith, most, ends)) far near (f.rises (length before)) in_range
+      timeout_ahead own lines ready (length before) next f.ticks f.tracked low_so (omega (arith, most, near, reach, ends)) far (omega (arith, near)) (f.rises (length before)) in_range
 
   -- one that is sent a timeout in time, whatever else
-  pub ahead_step : (lines : Clocks) (ready start last sent next : ℕ) (f : IsFollowed m b lines ready start last) → ready ≤ length before → length before + 2 ≤ next → next ≤ last + 1 → next ≤ length before + 1_000
+  pub ahead_step : (lines : Clocks) (ready start last till sent next : ℕ) (f : IsFollowed m b lines ready start last till) → ready ≤ length before → length before + 276 ≤ till → length before + 2 ≤ next → next ≤ last + 1 → next ≤ length before + 276
       → AreBehind Oid (low (turn_tick lines next)) Commands → (sent ≡ next) ⊎ SetsOne Commands → AllSmall Start → IsRenewed Oid lines sent Start
       → AllSmall After × IsRenewed Oid lines next After × TellsNone
-  ahead_step lines ready start last sent next f low_so far most near behind sets small renewed =
+  ahead_step lines ready start last till sent next f low_so reach far most near behind sets small renewed =
       let clock = low (turn_tick lines next) in
       let limit = lines_tick lines (next * turn_ns) in
       let ends = f.ends in
-      let ahead = ahead_of lines ready start last next f low_so far most near in
-      let until_low : own (length before + 1) ≤ limit = line_ahead own lines ready (length before + 1) next f.tracked (omega (arith, low_so)) (omega (arith, far, most, ends)) (omega (arith, far)) in
+      let ahead = ahead_of lines ready start last till next f low_so reach far most near in
+      let until_low : own (length before + 1) ≤ limit = line_ahead own lines ready (length before + 1) next f.tracked (omega (arith, low_so)) (omega (arith, far, most, reach, ends)) (omega (arith, far)) in
       let renew : (lines_tick lines (sent * turn_ns) ≡ limit) ⊎ SetsOne Commands = elim sets [ inl e ↦ inl (ap (λ (n : ℕ). lines_tick lines (n * turn_ns)) e) | inr s ↦ inr s ] in
       let turned : (tick : ℕ) → IsTurnedTo Oid tick limit (own (length before + 1)) Start Commands =
       (λ tick. turn_ahead Oid tick (lines_tick lines (sent * turn_ns)) limit clock (own (length before)) (own (length before + 1)) Start Commands at_tick ahead.is ahead.later runs behind renew (inl until_low) (renewed tick)) in (
@@ -205,17 +205,17 @@ module _ (m : Machine) (b : ℕ) (pins : List (List Level)) (entries : List Entr
       k))
 
   -- what it told of its trigger counts by the next turn
-  able_now : (lines : Clocks) (clock base every sent ready start last : ℕ) (f : IsFollowed m b lines ready start last) → ready + 4 ≤ length before → length before + 1 ≤ last + 1 → own (length before) < nearest (own (length before)) clock → AreBehind Oid clock Commands → RelayNone Commands
+  able_now : (lines : Clocks) (clock base every sent ready start last till : ℕ) (f : IsFollowed m b lines ready start last till) → ready + 4 ≤ length before → length before + 276 ≤ till → length before + 1 ≤ last + 1 → own (length before) < nearest (own (length before)) clock → AreBehind Oid clock Commands → RelayNone Commands
       → AllSmall Start → IsRenewed Oid lines sent Start → IsAlive Oid base every (own (length before)) Start → AllAbleBy lines (length before) (length before + 1 + 249) t.state.news
-  able_now lines clock base every sent ready start last f low_so soon later behind relays small renewed a =
+  able_now lines clock base every sent ready start last till f low_so reach soon later behind relays small renewed a =
       let ends = f.ends in
       let until = own (length before + 1) in
       let early = turn_early (own (length before)) until Start Commands (sound_tells Start Commands sound) (due_all lines clock base every sent later behind relays renewed a) in
       let k = f.tracked in
-      let next_low = k.behind (length before + 1) (omega (arith, low_so)) (omega (arith, soon, ends)) in
+      let next_low = k.behind (length before + 1) (omega (arith, low_so)) (omega (arith, soon, reach, ends)) in
       able_by (board_at m b) pins b entries t before none are limits lines (length before + 1 + 249) (own (length before)) until (turn_small Oid clock until Start Commands behind small).1 (numbered clock behind (renewed 0).sole) early
       (λ at w from_so before_so is. (
-      let c = report_counts own lines ready (length before) (length before) at f.ticks k low_so (omega arith) (omega arith) (omega (arith, soon, ends)) f.in_run in_range from_so before_so in
+      let c = report_counts own lines ready (length before) (length before) at f.ticks k low_so (omega arith) (omega arith) (omega (arith, soon, reach, ends)) f.in_run in_range from_so before_so in
       let same = same_when (turn_in_run lines (nearest (turn_tick lines (length before)) (at % 2 ^ 32))) c.when w c.in_run is in
       let low_when = c.ends (length before + 1) (omega (arith, before_so, next_low)) in
       omega (arith, same, low_when)))
@@ -232,14 +232,14 @@ module _ (m : Machine) (b : ℕ) (pins : List (List Level)) (entries : List Entr
       (x.0, x.1, inr (x.2, hears_still b last all states h on), x.3)
 
   -- the group hears it by the lines that are known then
-  pub watched_step : (all : List Clocks) (states : List State) (h : Homing) (lines : Clocks) (clock ready start last sent : ℕ) (f : IsFollowed m b lines ready start last) → IsAlike (length before + 277) (clocks_at all b) lines → b < length all → state_at b states ≡ t.state ∷ [] → h.start ≡ start
-      → h.group.start ≡ start → h.group.last ≡ last → ready + 4 ≤ length before → start ≤ length before + 249 → length before + 2 ≤ h.group.sent → h.group.sent ≤ last + 1
+  pub watched_step : (all : List Clocks) (states : List State) (h : Homing) (lines : Clocks) (clock ready start last till sent : ℕ) (f : IsFollowed m b lines ready start last till) → IsAlike (length before + 277) (clocks_at all b) lines → b < length all → state_at b states ≡ t.state ∷ [] → h.start ≡ start
+      → h.group.start ≡ start → h.group.last ≡ last → ready + 4 ≤ length before → length before + 276 ≤ till → start ≤ length before + 249 → length before + 2 ≤ h.group.sent → h.group.sent ≤ last + 1
       → (HeardUntil start b (length before + 249) h.group.members → sent ≤ length before + 274 → h.group.sent ≤ length before + 274)
       → AreBehind Oid clock Commands → (h.group.sent ≤ length before + 274 → clock ≡ low (turn_tick lines h.group.sent)) → RelayNone Commands → (sent ≡ h.group.sent) ⊎ SetsOne Commands → AllSmall Start → IsRenewed Oid lines sent Start
       → IsWatched m lines b (length before) start last sent h.group.members Start → Watched lines start last h.group.sent (hears_all all states h).group.members
-  watched_step all states h lines clock ready start last sent f alike here is begins group_begins group_ends low_so far_start far most near behind_so clock_is relays sets small renewed (inr known) =
+  watched_step all states h lines clock ready start last till sent f alike here is begins group_begins group_ends low_so reach far_start far most near behind_so clock_is relays sets small renewed (inr known) =
       known_step all states h lines clock sent h.group.sent start last behind_so small renewed known.0 known.1
-  watched_step all states h lines clock ready start last sent f alike here is begins group_begins group_ends low_so far_start far most near behind_so clock_is relays sets small renewed (inl w) = elim w.0 [
+  watched_step all states h lines clock ready start last till sent f alike here is begins group_begins group_ends low_so reach far_start far most near behind_so clock_is relays sets small renewed (inl w) = elim w.0 [
     | inr known ↦ known_step all states h lines clock sent h.group.sent start last behind_so small renewed known.0 known.1
     | inl alive ↦
         let known = clocks_at all b in
@@ -252,7 +252,7 @@ module _ (m : Machine) (b : ℕ) (pins : List (List Level)) (entries : List Entr
         let sent_soon = w.2 in
         let limit = lines_tick lines (next * turn_ns) in
         let upto = min last (length before + 274) in
-        let k = followed_alike m b known lines ready start last upto (length before + 276) f (subst (λ (n : ℕ). IsAlike n known lines) (let e : length before + 277 ≡ length before + 276 + 1 = omega arith in e) alike) (omega (arith, order, far_start)) (omega arith) (omega arith) in
+        let k = followed_alike m b known lines ready start last till upto (length before + 276) f (subst (λ (n : ℕ). IsAlike n known lines) (let e : length before + 277 ≡ length before + 276 + 1 = omega arith in e) alike) (omega (arith, order, far_start)) (omega arith) (omega arith) in
         let ends = k.ends in
         let next_low : next ≤ upto + 1 = omega (arith, soon, most) in
         let limit_is : lines_tick known (next * turn_ns) ≡ limit = alike.ticks next (omega (arith, soon)) in
@@ -262,12 +262,12 @@ module _ (m : Machine) (b : ℕ) (pins : List (List Level)) (entries : List Entr
         let heard = subst (λ (n : ℕ). IsHeardOf own base every n b alive.0.next h.group.members) (sym group_begins) alive.1 in
         let on = goes_on (board_at m b) pins b entries t before none are limits all states h Oid base every ready sent next k.ticks k.tracked here is (begins ∙ sym group_begins)
         (ap (λ (n : ℕ). lines_tick known (n * turn_ns)) begins ∙ alike.ticks start (omega (arith, far_start)))
-        (omega (arith, early, begins)) low_so (omega (arith, far, next_low, ends)) (omega (arith, begins, ends, order, far_start)) (omega (arith, next_low, ends)) k.in_run in_range (k.rises (length before)) k.reports far (omega (arith, soon)) (omega (arith, most, group_ends)) k.trigger few at_tick runs
+        (omega (arith, early, begins)) low_so (omega (arith, far, next_low, reach, ends)) (omega (arith, begins, ends, order, reach, far_start)) (omega (arith, next_low, soon, reach, ends)) k.in_run in_range (k.rises (length before)) k.reports far (omega (arith, soon)) (omega (arith, most, group_ends)) k.trigger few at_tick runs
         behind relays sets by_known sound alive.0 heard alive.3 in
         let turned : (tick : ℕ) → IsTurnedTo Oid tick limit (own (length before + 1)) Start Commands = λ tick. subst (λ (n : ℕ). IsTurnedTo Oid tick n (own (length before + 1)) Start Commands) limit_is (on.0 tick) in
-        let ahead = ahead_of known ready start upto next k (omega (arith, low_so)) far next_low (omega (arith, soon)) in
+        let ahead = ahead_of known ready start upto till next k (omega (arith, low_so)) reach far next_low (omega (arith, soon)) in
         let later : own (length before) < nearest (own (length before)) (low (turn_tick known next)) = (let is_it = ahead.is in let more = ahead.later in omega (arith, is_it, more)) in
-        let able = able_now known (low (turn_tick known next)) base every sent ready start upto k low_so (omega (arith, far, next_low)) later behind relays small by_known alive.0 in
+        let able = able_now known (low (turn_tick known next)) base every sent ready start upto till k low_so reach (omega (arith, far, next_low)) later behind relays small by_known alive.0 in
         let turn_so = turn_is (board_at m b) pins b entries t before none are limits in
         let until = hears_until start (length before + 1 + 249) b all states h
         (λ s there. (
@@ -284,9 +284,9 @@ module _ (m : Machine) (b : ℕ) (pins : List (List Level)) (entries : List Entr
   ]
 
   -- one whose timeout is the one behind the section's last turn
-  past_tick : (lines : Clocks) (ready start last : ℕ) (f : IsFollowed m b lines ready start last) → ready + 1 ≤ length before → lines_tick lines ((last + 1) * turn_ns) < own (length before + 1)
+  past_tick : (lines : Clocks) (ready start last till : ℕ) (f : IsFollowed m b lines ready start last till) → ready + 1 ≤ length before → length before + 276 ≤ till → lines_tick lines ((last + 1) * turn_ns) < own (length before + 1)
       → lines_tick lines ((last + 1) * turn_ns) ≤ turn_tick lines (length before) + 2 ^ 31
-  past_tick lines ready start last f low_so past =
+  past_tick lines ready start last till f low_so reach past =
       let k = f.tracked in
       let ends = f.ends in
       let next = ticks_most own f.ticks 1 (length before) in
@@ -295,19 +295,19 @@ module _ (m : Machine) (b : ℕ) (pins : List (List Level)) (entries : List Entr
         | inr p ↦
             let soon = p.1 in
             let e : length before - 1 + 1 ≡ length before = omega (arith, low_so) in
-            let back : own (length before - 1) ≤ lines_tick lines (length before * turn_ns) = subst (λ (n : ℕ). own (length before - 1) ≤ lines_tick lines (n * turn_ns)) e (k.behind (length before - 1) (omega (arith, low_so)) (omega (arith, soon, ends))) in
+            let back : own (length before - 1) ≤ lines_tick lines (length before * turn_ns) = subst (λ (n : ℕ). own (length before - 1) ≤ lines_tick lines (n * turn_ns)) e (k.behind (length before - 1) (omega (arith, low_so)) (omega (arith, soon, reach, ends))) in
             let one : own (length before) ≤ own (length before - 1) + 1_000_000 = subst (λ (n : ℕ). own n ≤ own (length before - 1) + 1_000_000) e (f.ticks.most (length before - 1)) in
             omega (arith, back, one, next, past, in_range)
       ]
 
   -- its turn is near
-  last_by : (lines : Clocks) (ready start last : ℕ) (f : IsFollowed m b lines ready start last) → ready + 1 ≤ length before → lines_tick lines ((last + 1) * turn_ns) < own (length before + 1) → last + 1 ≤ length before + 277
-  last_by lines ready start last f low_so past = elim (leb_tells (last + 1) (length before + 277)) [
+  last_by : (lines : Clocks) (ready start last till : ℕ) (f : IsFollowed m b lines ready start last till) → ready + 1 ≤ length before → length before + 276 ≤ till → lines_tick lines ((last + 1) * turn_ns) < own (length before + 1) → last + 1 ≤ length before + 277
+  last_by lines ready start last till f low_so reach past = elim (leb_tells (last + 1) (length before + 277)) [
     | inl p ↦ p.1
     | inr p ↦
         let far = p.1 in
         let ends = f.ends in
-        let next = f.tracked.behind (length before + 1) (omega (arith, low_so)) (omega (arith, far, ends)) in
+        let next = f.tracked.behind (length before + 1) (omega (arith, low_so)) (omega (arith, far, reach, ends)) in
         let up = lines_up lines (length before + 1 + 1) (last + 1) (omega (arith, far)) in
         omega (arith, next, up, past)
   ]
@@ -316,27 +316,27 @@ module _ (m : Machine) (b : ℕ) (pins : List (List Level)) (entries : List Entr
   abbrev pub TellsLate : Clocks → ℕ → Type 0
   TellsLate lines last = (known : Clocks) → IsAlike (length before + 277) known lines → (when : ℕ) → TellExpiry known (length before) when t.state.news → last < when
 
-  late_by : (lines : Clocks) (clock ready start last : ℕ) (f : IsFollowed m b lines ready start last) → ready + 1 ≤ length before → lines_tick lines ((last + 1) * turn_ns) < own (length before + 1) → AreBehind Oid clock Commands → AllSmall Start → IsSole Oid Start
+  late_by : (lines : Clocks) (clock ready start last till : ℕ) (f : IsFollowed m b lines ready start last till) → ready + 1 ≤ length before → length before + 276 ≤ till → lines_tick lines ((last + 1) * turn_ns) < own (length before + 1) → AreBehind Oid clock Commands → AllSmall Start → IsSole Oid Start
       → AllTellOnly (lines_tick lines ((last + 1) * turn_ns)) Answers → TellsLate lines last
-  late_by lines clock ready start last f low_so past behind small sole only = λ known alike when tells. (
+  late_by lines clock ready start last till f low_so reach past behind small sole only = λ known alike when tells. (
       let tick = lines_tick lines ((last + 1) * turn_ns) in
       let now = turn_tick known (length before) in
       let near = nearest now (tick % 2 ^ 32) in
       let now_is = turn_alike known lines (length before + 277) (length before) alike (omega arith) in
-      let far = past_tick lines ready start last f low_so past in
+      let far = past_tick lines ready start last till f low_so reach past in
       let late = near_late now tick (omega (arith, far, now_is)) in
       let same : tick % 2 ^ 32 ≡ near % 2 ^ 32 = (let e = near_same now (tick % 2 ^ 32) in omega (arith, e)) in
       let is : nearest now (near % 2 ^ 32) ≡ near = ap (nearest now) (sym same) in
       let e : length before + 277 ≡ length before + 276 + 1 = omega arith in
       let k = tracked_alike own known lines ready (length before + 276) f.tracked (subst (λ (n : ℕ). IsAlike n known lines) e alike) in
-      let tick_is = alike.ticks (last + 1) (last_by lines ready start last f low_so past) in
+      let tick_is = alike.ticks (last + 1) (last_by lines ready start last till f low_so reach past) in
       let low_when = late_expiry (board_at m b) pins b entries t before none are limits own known ready near when (last + 1) k.0 (only_same tick near Answers same only) (turn_small Oid clock (own (length before + 1)) Start Commands behind small).1
       (numbered clock behind sole) is (omega (arith, late, tick_is)) tells in
       omega (arith, low_when))
 
-  pub last_step : (lines : Clocks) (clock ready start last : ℕ) (f : IsFollowed m b lines ready start last) → ready + 1 ≤ length before → AreBehind Oid clock Commands → SetsNone Commands → AllSmall Start → IsLast m lines b (length before) last Start
+  pub last_step : (lines : Clocks) (clock ready start last till : ℕ) (f : IsFollowed m b lines ready start last till) → ready + 1 ≤ length before → length before + 276 ≤ till → AreBehind Oid clock Commands → SetsNone Commands → AllSmall Start → IsLast m lines b (length before) last Start
       → AllSmall After × IsLast m lines b (length before + 1) last After × TellsLate lines last
-  last_step lines clock ready start last f low_so behind unset small k =
+  last_step lines clock ready start last till f low_so reach behind unset small k =
       let tick = lines_tick lines ((last + 1) * turn_ns) in
       let until = own (length before + 1) in
       let rises = f.rises (length before) in
@@ -344,7 +344,7 @@ module _ (m : Machine) (b : ℕ) (pins : List (List Level)) (entries : List Entr
       let once : IsLimited Oid tick tick Start → tick < until → AllSmall After × IsLast m lines b (length before + 1) last After × TellsLate lines last =
       (λ limited past. (
       let turned = turn_far Oid tick tick clock until Start Commands runs behind unset (inr refl) limited in
-      (small_after.0, inr (turned.limited, past), late_by lines clock ready start last f low_so past behind small limited.sole turned.tells))) in
+      (small_after.0, inr (turned.limited, past), late_by lines clock ready start last till f low_so reach past behind small limited.sole turned.tells))) in
       elim k [
         | inr past ↦ (let before_so = past.1 in once past.0 (omega (arith, before_so, rises)))
         | inl renewed ↦ elim (leb_tells until tick) [

@@ -107,9 +107,9 @@ none_at b x (y ∷ ys) c on k = elim (either y x ys c) [
   | inr more ↦ none_at b x ys more on k.1
 ]
 
-module _ (m : Machine) (switches : List Switch) (pins : ℕ → List (List Level)) (entries : List Entry) (none : entries ≡ []) (lines : ℕ → Clocks) (ready from start last : ℕ) (members : List Member)
-    (followed : (b : ℕ) → IsMember b members → IsFollowed m b (lines b) ready start last) (c d : Came) (past : List Came) (j : ℕ → BoardTurn) (js : List (ℕ → BoardTurn))
-    (s : IsClearSection m switches pins entries lines from start members c (d ∷ past) (j ∷ js)) (early : from ≤ length past) (low_so : ready + 4 ≤ length past) (far : start ≤ length past + 249)
+module _ (m : Machine) (switches : List Switch) (pins : ℕ → List (List Level)) (entries : List Entry) (none : entries ≡ []) (lines : ℕ → Clocks) (ready from start last till : ℕ) (members : List Member)
+    (followed : (b : ℕ) → IsMember b members → IsFollowed m b (lines b) ready start last till) (c d : Came) (past : List Came) (j : ℕ → BoardTurn) (js : List (ℕ → BoardTurn))
+    (s : IsClearSection m switches pins entries lines from start members c (d ∷ past) (j ∷ js)) (early : from ≤ length past) (low_so : ready + 4 ≤ length past) (far : start ≤ length past + 249) (reach : length past + 276 ≤ till)
     (h : Homing) (is : (noted m d.note (known_by m switches past)).homing ≡ Some h) where
   abbrev K : ℕ
   K = length past
@@ -233,7 +233,7 @@ module _ (m : Machine) (switches : List Switch) (pins : ℕ → List (List Level
     last_on : G.start ≡ start → G.sent ≡ G.last + 1 → AllSmall (Rigs b) → IsLast m (lines b) b K last (Rigs b) → AllSmall (Later b) × IsLast m (lines b) b (K + 1) last (Later b) × TellsLate b K
     last_on e ended small k =
         let o = sent e in
-        let x = last_step m b (pins b) entries (j b) (turns_of b js) none plain.run.turns_are plain.limits plain.none_shut.0 few in_range (lines b) Clock ready start last (followed b on) (omega (arith, low_so, long)) o.behind (o.far ended) small
+        let x = last_step m b (pins b) entries (j b) (turns_of b js) none plain.run.turns_are plain.limits plain.none_shut.0 few in_range (lines b) Clock ready start last till (followed b on) (omega (arith, low_so, long)) (omega (arith, reach, long)) o.behind (o.far ended) small
         (subst (λ (n : ℕ). IsLast m (lines b) b n last (Rigs b)) long k) in
         out (λ n r. AllSmall r × IsLast m (lines b) b (n + 1) last r × TellsLate b n) x
 
@@ -241,7 +241,7 @@ module _ (m : Machine) (switches : List Switch) (pins : ℕ → List (List Level
         → AllSmall (Later b) × IsRenewed (trigger_of m b) (lines b) (after G K).sent (Later b) × TellsLate b K
     ahead_on e next most near small renewed =
         let o = sent e in
-        let x = ahead_step m b (pins b) entries (j b) (turns_of b js) none plain.run.turns_are plain.limits plain.none_shut.0 few in_range (lines b) ready start last G.sent (after G K).sent (followed b on) (omega (arith, low_so, long)) (omega (arith, next, long)) most (omega (arith, near, long)) (subst (λ (n : ℕ). AreBehind (trigger_of m b) n (Commands b)) (clock_is near) o.behind)
+        let x = ahead_step m b (pins b) entries (j b) (turns_of b js) none plain.run.turns_are plain.limits plain.none_shut.0 few in_range (lines b) ready start last till G.sent (after G K).sent (followed b on) (omega (arith, low_so, long)) (omega (arith, reach, long)) (omega (arith, next, long)) most (omega (arith, near, long)) (subst (λ (n : ℕ). AreBehind (trigger_of m b) n (Commands b)) (clock_is near) o.behind)
         (o.sets seen.0 seen.1 seen.2) small renewed in
         out (λ n r. AllSmall r × IsRenewed (trigger_of m b) (lines b) (after G K).sent r × TellsLate b n) (x.0, x.1, λ known k when t. absurd (x.2 known when t))
 
@@ -265,8 +265,8 @@ module _ (m : Machine) (switches : List Switch) (pins : ℕ → List (List Level
         let ends : Next.group.last ≡ last = after_last G K ∙ f in
         let old : IsWatched m (lines b) b (length turns) start last G.sent (after G K).members (Rigs b) =
         subst (λ (xs : List Seen). IsWatched m (lines b) b (length turns) start last G.sent xs (Rigs b)) (sym same_members) (subst (λ (n : ℕ). IsWatched m (lines b) b n start last G.sent G.members (Rigs b)) long watched) in
-        let x = watched_step m b (pins b) entries (j b) turns none plain.run.turns_are plain.limits plain.none_shut.0 few in_range All c.states Next (lines b) Clock ready start last G.sent (followed b on) (subst (λ (n : ℕ). IsAlike n (clocks_at All b) (lines b)) same knows.1) knows.0 (s.states b on)
-        next_of.0 next_of.1 ends (omega (arith, low_so, long)) (omega (arith, far, long)) (omega (arith, next, long)) most
+        let x = watched_step m b (pins b) entries (j b) turns none plain.run.turns_are plain.limits plain.none_shut.0 few in_range All c.states Next (lines b) Clock ready start last till G.sent (followed b on) (subst (λ (n : ℕ). IsAlike n (clocks_at All b) (lines b)) same knows.1) knows.0 (s.states b on)
+        next_of.0 next_of.1 ends (omega (arith, low_so, long)) (omega (arith, reach, long)) (omega (arith, far, long)) (omega (arith, next, long)) most
         (λ until soon. (
         let heard : HeardUntil start b (K + 249) G.members = subst (λ (n : ℕ). HeardUntil start b (n + 249) G.members) (sym long) (subst (λ (xs : List Seen). HeardUntil start b (length turns + 249) xs) same_members until) in
         let near = near_on e heard (omega (arith, soon, long)) in

@@ -47,10 +47,10 @@ relay_in_phase (Sends r) g turn n = refl
 relay_in_phase Rests g turn n = refl
 relay_in_phase Goes g turn n = absurd (n refl)
 
-module _ (m : Machine) (switches : List Switch) (pins : ℕ → List (List Level)) (entries : List Entry) (none : entries ≡ []) (lines : ℕ → Clocks) (ready from start last : ℕ) (members : List Member)
-    (followed : (b : ℕ) → IsMember b members → IsFollowed m b (lines b) ready start last) (low_so : ready + 255 ≤ start) (set_up : from + 251 ≤ start) (order : start ≤ last) where
+module _ (m : Machine) (switches : List Switch) (pins : ℕ → List (List Level)) (entries : List Entry) (none : entries ≡ []) (lines : ℕ → Clocks) (ready from start last till : ℕ) (members : List Member)
+    (followed : (b : ℕ) → IsMember b members → IsFollowed m b (lines b) ready start last till) (low_so : ready + 255 ≤ start) (set_up : from + 251 ≤ start) (order : start ≤ last) where
   earlier : (c d : Came) (past : List Came) (j : ℕ → BoardTurn) (js : List (ℕ → BoardTurn)) → IsClearSection m switches pins entries lines from start members c (d ∷ past) (j ∷ js) → IsClearSection m switches pins entries lines from start members d past js
-  earlier c d past j js s = cut m switches pins entries none lines ready from start last start members followed (omega (arith, set_up)) (omega (arith, low_so, set_up)) (omega arith) c d past j js s
+  earlier c d past j js s = cut m switches pins entries none lines ready from start last till start members followed (omega (arith, set_up)) (omega (arith, low_so, set_up)) (omega arith) c d past j js s
 
   new_next : (c d : Came) (past : List Came) (j : ℕ → BoardTurn) (js : List (ℕ → BoardTurn)) → IsClearSection m switches pins entries lines from start members c (d ∷ past) (j ∷ js) → from ≤ length past → length past + 252 ≤ start
       → AreOfTurn (length (d ∷ past)) c.states → IsNewIn m switches start last members d past → IsNewIn m switches start last members c (d ∷ past)
@@ -91,11 +91,11 @@ module _ (m : Machine) (switches : List Switch) (pins : ℕ → List (List Level
   At = start - 249
 
   safe_at : (c : Came) (before : List Came) (all : List (ℕ → BoardTurn)) → IsClearSection m switches pins entries lines from start members c before all → AllOfTurn (c ∷ before) → IsNewAt m switches start last members from (c ∷ before)
-      → ArePreparedAt m pins entries lines start members (start - 251) all → IsSafeAt m switches pins entries lines start last members At (c ∷ before) all
-  safe_at c [] [] s of new k = ((λ e. absurd (omega (arith, e, low_so, set_up))), tt)
-  safe_at c [] (j ∷ js) s of new k = absurd (let size = s.long in omega (arith, size))
-  safe_at c (d ∷ past) [] s of new k = absurd (let size = s.long in omega (arith, size))
-  safe_at c (d ∷ past) (j ∷ js) s of new k = (λ e. here past js s of new k e, safe_at d past js (earlier c d past j js s) of.1 new.1 k.1)
+      → ArePreparedAt m pins entries lines start members (start - 251) all → start + 25 ≤ till → IsSafeAt m switches pins entries lines start last members At (c ∷ before) all
+  safe_at c [] [] s of new k r = ((λ e. absurd (omega (arith, e, low_so, set_up))), tt)
+  safe_at c [] (j ∷ js) s of new k r = absurd (let size = s.long in omega (arith, size))
+  safe_at c (d ∷ past) [] s of new k r = absurd (let size = s.long in omega (arith, size))
+  safe_at c (d ∷ past) (j ∷ js) s of new k r = (λ e. here past js s of new k e, safe_at d past js (earlier c d past j js s) of.1 new.1 k.1 r)
     where
       here : (past : List Came) (js : List (ℕ → BoardTurn)) → IsClearSection m switches pins entries lines from start members c (d ∷ past) (j ∷ js) → AllOfTurn (c ∷ d ∷ past) → IsNewAt m switches start last members from (c ∷ d ∷ past)
           → ArePreparedAt m pins entries lines start members (start - 251) (j ∷ js) → length (d ∷ past) ≡ At → IsSafeIn m switches pins entries lines start last members c (d ∷ past) (j ∷ js)
@@ -108,14 +108,14 @@ module _ (m : Machine) (switches : List Switch) (pins : ℕ → List (List Level
           let size = s.long in
           let first : length past + 1 ≡ length (x ∷ past) = omega arith in
           let second : length past + 2 ≡ length (d ∷ x ∷ past) = omega arith in
-          begins_safe m switches pins entries none lines ready from start last members followed c d x past j i js s (omega (arith, e, set_up)) (omega (arith, e, low_so, set_up)) (omega (arith, e, set_up)) order
+          begins_safe m switches pins entries none lines ready from start last till members followed c d x past j i js s (omega (arith, e, set_up)) (omega (arith, e, low_so, set_up)) (omega (arith, e, set_up)) order (omega (arith, e, set_up, r))
           (subst (λ (n : ℕ). AreOfTurn n d.states) (sym first) of.1.0) (subst (λ (n : ℕ). AreOfTurn n c.states) (sym second) of.0) known.0 known.1 known.2
           (prepared_here (start - 251) js (omega (arith, e, size, set_up)) k.1.1)
 
-  pub begun_never : (c : Came) (before : List Came) (all : List (ℕ → BoardTurn)) → IsClearSection m switches pins entries lines from start members c before all → AllOfTurn (c ∷ before) → from ≤ length before
+  pub begun_never : (c : Came) (before : List Came) (all : List (ℕ → BoardTurn)) → IsClearSection m switches pins entries lines from start members c before all → AllOfTurn (c ∷ before) → length before + 276 ≤ till → from ≤ length before
       → IsNewAt m switches start last members from (c ∷ before) → ArePreparedAt m pins entries lines start members (start - 251) all
       → (h : Homing) → (noted m c.note (known_by m switches before)).homing ≡ Some h → (b turn : ℕ) → answer_in (length before) h.start (hears_all (noted m c.note (known_by m switches before)).clocks c.states h).group ≡ Some (end.Expired b turn) → ⊥
-  begun_never c before all s of l new k h is b turn ends =
+  begun_never c before all s of reach l new k h is b turn ends =
       let begins = (of_known start members (noted m c.note (known_by m switches before)).homing h (s.homes.0 l).1 is).0 in
       let late = answered_late (length before) h.start (hears_all (noted m c.note (known_by m switches before)).clocks c.states h).group (end.Expired b turn) ends in
-      never_any m switches pins entries lines ready from start last At members none followed (omega (arith, set_up)) (omega (arith, low_so, set_up)) (omega arith) (omega (arith, set_up)) c before all s (omega (arith, late, begins, set_up)) (safe_at c before all s of new k) h is b turn ends
+      never_any m switches pins entries lines ready from start last till At members none followed (omega (arith, set_up)) (omega (arith, low_so, set_up)) (omega arith) (omega (arith, set_up)) c before all s reach (omega (arith, late, begins, set_up)) (safe_at c before all s of new k (omega (arith, late, begins, reach))) h is b turn ends

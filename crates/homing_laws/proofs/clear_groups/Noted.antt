@@ -1,5 +1,5 @@
 -- A homing section that a note begins is new, and its boards are followed.
-use Rattle.std.proofs.Common.{◌≡◌, ℕ, zero, suc, ◌+◌, ◌<◌, ◌≤◌, ◌⊎◌, inl, inr, pos, negsuc, Bool, true, false, cond, List, [], ◌∷◌, length, map, Option, Some, None, refl, ap, sym, ◌∙◌, subst, arith, ℤ, ◌≤ℤ◌, ◌++◌, ◌==◌}
+use Rattle.std.proofs.Common.{◌≡◌, ℕ, zero, suc, ◌+◌, ◌<◌, ◌≤◌, ◌⊎◌, min, inl, inr, pos, negsuc, Bool, true, false, cond, List, [], ◌∷◌, length, map, Option, Some, None, refl, ap, sym, ◌∙◌, subst, arith, ℤ, ◌≤ℤ◌, ◌++◌, ◌==◌}
 use Rattle.std.proofs.lemmas.Int.{ints}
 use Rattle.plan_types.specs.declared.clock.BoardClock.{BoardClock}
 use Rattle.plan_types.specs.declared.levels.Level.{Level}
@@ -122,9 +122,9 @@ drift_small : (d : ℤ) → negsuc 199 ≤ℤ d → d ≤ℤ pos 200 → ppm_siz
 drift_small (pos n) low high = omega (arith, ints, high)
 drift_small (negsuc n) low high = omega (arith, ints, low)
 
-pub board_followed : (m : Machine) (b : ℕ) (clocks : Clocks) (ready start last : ℕ) → IsValidMachine m → b < length m.boards → (k : AreTracked (λ n. board_tick (clock_of (board_at m b)) n) clocks ready) → ready + 5 ≤ start → start ≤ last → last + 1 ≤ k.until → k.until < run_turns
-    → IsFollowed m b clocks ready start last
-board_followed m b clocks ready start last v within k begins goes ends in_run =
+pub board_followed : (m : Machine) (b : ℕ) (clocks : Clocks) (ready start last till : ℕ) → IsValidMachine m → b < length m.boards → (k : AreTracked (λ n. board_tick (clock_of (board_at m b)) n) clocks ready) → ready + 5 ≤ start → start ≤ last → min (last + 1) till ≤ k.until → k.until < run_turns
+    → IsFollowed m b clocks ready start last till
+board_followed m b clocks ready start last till v within k begins goes ends in_run =
     let valid = v.boards b _ within in
     let freq = valid.freq in
     let low = freq.low in

@@ -85,9 +85,9 @@ prepared_by oid base r h quiet sound =
       so = record { told = so.told; moves = so.moves; sampled = λ y is. absurd (let bad : None ≡ Some y = sym none ∙ is in cc) };
     }
 
-module _ (m : Machine) (switches : List Switch) (pins : ℕ → List (List Level)) (entries : List Entry) (none : entries ≡ []) (lines : ℕ → ℕ → Clocks) (ready : ℕ) (v : IsValidMachine m) where
+module _ (m : Machine) (switches : List Switch) (pins : ℕ → List (List Level)) (entries : List Entry) (none : entries ≡ []) (lines : ℕ → ℕ → Clocks) (ready till : ℕ) (v : IsValidMachine m) where
   -- the boards whose set-up it is
-  pub prepared_all : (start : ℕ) (c d e : Came) (past : List Came) (i j : ℕ → BoardTurn) (js : List (ℕ → BoardTurn)) (x : IsSetUp m switches pins entries (lines start) ready start c d e past i j js) → start ≡ length past + 251 → (b : ℕ)
+  pub prepared_all : (start : ℕ) (c d e : Came) (past : List Came) (i j : ℕ → BoardTurn) (js : List (ℕ → BoardTurn)) (x : IsSetUp m switches pins entries (lines start) ready till start c d e past i j js) → start ≡ length past + 251 → (b : ℕ)
       → ((k : ℕ) → board_tick (clock_of (board_at m b)) k ≤ board_tick (clock_of (board_at m b)) (k + 1)) → IsPlain m switches (pins b) entries b past (turns_of b js) → BeginsAlone m switches (e ∷ past)
       → IsQuiet (rig_at m pins entries js b) → HoldsOf (trigger_of m b) (λ ps s. IsPrepared (lines_tick (lines start b) (start * turn_ns)) ps s) (rig_at m pins entries js b)
   prepared_all start c d e past i j js x at b rise known alone quiet =
@@ -104,13 +104,13 @@ module _ (m : Machine) (switches : List Switch) (pins : ℕ → List (List Level
     empty_quiet oid s at off = absurd (none_some (slot_at (rig_at m pins entries [] b) oid) s (none_at 256 oid) at)
 
     -- as a turn begins, and as the one before it did
-    pub quiet_all : (c : Came) (before : List Came) (all : List (ℕ → BoardTurn)) → length all ≡ length before → IsPlain m switches (pins b) entries b before (turns_of b all) → BeginsAlone m switches before → AreSetUp m switches pins entries lines ready (c ∷ before) all
+    pub quiet_all : (c : Came) (before : List Came) (all : List (ℕ → BoardTurn)) → length all ≡ length before → IsPlain m switches (pins b) entries b before (turns_of b all) → BeginsAlone m switches before → AreSetUp m switches pins entries lines ready till (c ∷ before) all → length before + 276 ≤ till
         → IsQuiet (rig_at m pins entries all b) × IsQuiet (rig_at m pins entries (rest_of all) b)
-    quiet_all c before [] size known alone set_up = (empty_quiet, empty_quiet)
-    quiet_all c [] (i ∷ js) size known alone set_up = absurd (omega (arith, size))
-    quiet_all c (d ∷ []) (i ∷ j ∷ js) size known alone set_up = absurd (omega (arith, size))
-    quiet_all c (d ∷ e ∷ past) (i ∷ []) size known alone set_up = absurd (omega (arith, size))
-    quiet_all c (d ∷ []) (i ∷ []) size known alone set_up = (
+    quiet_all c before [] size known alone set_up reach = (empty_quiet, empty_quiet)
+    quiet_all c [] (i ∷ js) size known alone set_up reach = absurd (omega (arith, size))
+    quiet_all c (d ∷ []) (i ∷ j ∷ js) size known alone set_up reach = absurd (omega (arith, size))
+    quiet_all c (d ∷ e ∷ past) (i ∷ []) size known alone set_up reach = absurd (omega (arith, size))
+    quiet_all c (d ∷ []) (i ∷ []) size known alone set_up reach = (
       elim (reads_either m switches (pins b) entries b d [] (i b) [] known.run) [
         | inl blind ↦
             subst IsQuiet (sym (takes_in_turn (board_at m b) (pins b) b entries (i b) [] none known.run.turns_are known.limits))
@@ -119,9 +119,9 @@ module _ (m : Machine) (switches : List Switch) (pins : ℕ → List (List Level
       ],
       empty_quiet,
     )
-    quiet_all c (d ∷ e ∷ past) (i ∷ j ∷ js) size known alone set_up =
+    quiet_all c (d ∷ e ∷ past) (i ∷ j ∷ js) size known alone set_up reach =
         let first = turn_before m switches (pins b) entries b d (e ∷ past) (i b) (turns_of b (j ∷ js)) rise known in
-        let was = quiet_all d (e ∷ past) (j ∷ js) (omega (arith, size)) first alone.1 set_up.1 in (
+        let was = quiet_all d (e ∷ past) (j ∷ js) (omega (arith, size)) first alone.1 set_up.1 (omega (arith, reach)) in (
           elim (reads_either m switches (pins b) entries b d (e ∷ past) (i b) (turns_of b (j ∷ js)) known.run) [
             | inl blind ↦
                 subst IsQuiet (sym (takes_in_turn (board_at m b) (pins b) b entries (i b) (turns_of b (j ∷ js)) none known.run.turns_are known.limits))
@@ -136,7 +136,7 @@ module _ (m : Machine) (switches : List Switch) (pins : ℕ → List (List Level
                 let at = x.at in
                 let rest = prepared_all start c d e past i j js y (omega (arith, at)) b rise second alone.1 was.1 in
                 let armed =
-                armed_second m switches pins entries none (lines start) ready y.from start y.last y.members y.followed c d e past i j js y.section y.early y.begins (omega (arith, at)) y.goes y.first y.second y.new.0 y.new.1 y.new.2 b on rest in
+                armed_second m switches pins entries none (lines start) ready y.from start y.last till y.members y.followed c d e past i j js y.section y.early y.begins (omega (arith, at)) y.goes (omega (arith, reach)) y.first y.second y.new.0 y.new.1 y.new.2 b on rest in
                 armed_quiet (trigger_of m b) (lines_tick (lines start b) (start * turn_ns)) (report_ticks m b) _ (rig_at m pins entries (i ∷ j ∷ js) b) armed
           ],
           was.0,
@@ -167,18 +167,18 @@ module _ (m : Machine) (switches : List Switch) (pins : ℕ → List (List Level
     -- its last turn, and where it is safe
     record Found (came : List Came) (all : List (ℕ → BoardTurn)) : Type 0 where
       last : ℕ
-      followed : (b : ℕ) → IsMember b members → IsFollowed m b (lines start b) ready start last
+      followed : (b : ℕ) → IsMember b members → IsFollowed m b (lines start b) ready start last till
       low_so : ready + 255 ≤ start
       safe : IsSafeAt m switches pins entries (lines start) start last members (start - 249) came all
 
-    here : (c d e : Came) (past : List Came) (i j : ℕ → BoardTurn) (js : List (ℕ → BoardTurn)) → IsClearSection m switches pins entries (lines start) from start members c (d ∷ e ∷ past) (i ∷ j ∷ js) → BeginsAlone m switches (d ∷ e ∷ past) → AreSetUp m switches pins entries lines ready (c ∷ d ∷ e ∷ past) (i ∷ j ∷ js)
-        → length (d ∷ e ∷ past) + 249 ≡ start → Found (c ∷ d ∷ e ∷ past) (i ∷ j ∷ js)
-    here c d e past i j js s alone set_up at =
+    here : (c d e : Came) (past : List Came) (i j : ℕ → BoardTurn) (js : List (ℕ → BoardTurn)) → IsClearSection m switches pins entries (lines start) from start members c (d ∷ e ∷ past) (i ∷ j ∷ js) → BeginsAlone m switches (d ∷ e ∷ past) → AreSetUp m switches pins entries lines ready till (c ∷ d ∷ e ∷ past) (i ∷ j ∷ js)
+        → length (d ∷ e ∷ past) + 276 ≤ till → length (d ∷ e ∷ past) + 249 ≡ start → Found (c ∷ d ∷ e ∷ past) (i ∷ j ∷ js)
+    here c d e past i j js s alone set_up reach at =
         let known = some_known start members (noted m d.note (known_by m switches (e ∷ past))).homing (s.homes.1.0 (omega (arith, at, begun))).1 in
         let h = known.0 in
         let of = of_known start members (noted m d.note (known_by m switches (e ∷ past))).homing h (s.homes.1.0 (omega (arith, at, begun))).1 known.1 in
         let begins = of.1 in
-        let x : IsSetUp m switches pins entries (lines start) ready start c d e past i j js = subst (λ (n : ℕ). IsSetUp m switches pins entries (lines n) ready n c d e past i j js) begins (set_up.0 h known.1 (omega (arith, begins, at))) in
+        let x : IsSetUp m switches pins entries (lines start) ready till start c d e past i j js = subst (λ (n : ℕ). IsSetUp m switches pins entries (lines n) ready till n c d e past i j js) begins (set_up.0 h known.1 (omega (arith, begins, at))) in
         let soon = x.early in
         let low_so = x.begins in
         let known_members : members_of h.group ≡ x.members = (of_known start x.members (noted m d.note (known_by m switches (e ∷ past))).homing h (x.section.homes.1.0 (omega (arith, soon))).1 known.1).2 in
@@ -187,10 +187,10 @@ module _ (m : Machine) (switches : List Switch) (pins : ℕ → List (List Level
         let prepared : (b : ℕ) → IsMember b x.members → HoldsOf (trigger_of m b) (λ ps y. IsPrepared (lines_tick (lines start b) (start * turn_ns)) ps y) (rig_at m pins entries js b) = (λ b on. (
         let rise = rises b (x.section.plain b on).run.board in
         let first = turn_before m switches (pins b) entries b d (e ∷ past) (i b) (turns_of b (j ∷ js)) rise (x.section.plain b on) in
-        prepared_all start c d e past i j js x (omega (arith, at)) b rise (turn_before m switches (pins b) entries b e past (j b) (turns_of b js) rise first) alone.1 (quiet_all b rise d (e ∷ past) (j ∷ js) (omega (arith, size)) first alone.1 set_up.1).1)) in
+        prepared_all start c d e past i j js x (omega (arith, at)) b rise (turn_before m switches (pins b) entries b e past (j b) (turns_of b js) rise first) alone.1 (quiet_all b rise d (e ∷ past) (j ∷ js) (omega (arith, size)) first alone.1 set_up.1 (omega (arith, reach))).1)) in
         let safe_in =
-        begins_safe m switches pins entries none (lines start) ready x.from start x.last x.members x.followed c d e past i j js x.section x.early x.begins (omega (arith, at)) x.goes x.first x.second x.new.0 x.new.1 x.new.2 prepared in
-        let Both : List Member → Type 0 = λ ms. ((b : ℕ) → IsMember b ms → IsFollowed m b (lines start b) ready start x.last) × IsSafeIn m switches pins entries (lines start) start x.last ms c (d ∷ e ∷ past) (i ∷ j ∷ js) in
+        begins_safe m switches pins entries none (lines start) ready x.from start x.last till x.members x.followed c d e past i j js x.section x.early x.begins (omega (arith, at)) x.goes (omega (arith, reach)) x.first x.second x.new.0 x.new.1 x.new.2 prepared in
+        let Both : List Member → Type 0 = λ ms. ((b : ℕ) → IsMember b ms → IsFollowed m b (lines start b) ready start x.last till) × IsSafeIn m switches pins entries (lines start) start x.last ms c (d ∷ e ∷ past) (i ∷ j ∷ js) in
         let both : Both members = subst Both same (x.followed, safe_in) in
         record {
           last = x.last;
@@ -199,24 +199,24 @@ module _ (m : Machine) (switches : List Switch) (pins : ℕ → List (List Level
           safe = ((λ z. both.1), safe_none (start - 249) x.last (d ∷ e ∷ past) (j ∷ js) (omega (arith, at)));
         }
 
-    find : (c : Came) (before : List Came) (all : List (ℕ → BoardTurn)) → IsClearSection m switches pins entries (lines start) from start members c before all → BeginsAlone m switches before → AreSetUp m switches pins entries lines ready (c ∷ before) all → start ≤ length before + 249 → Found (c ∷ before) all
-    find c [] all s alone set_up l = absurd (omega (arith, l, begun))
-    find c (d ∷ []) all s alone set_up l = absurd (omega (arith, l, begun))
-    find c (d ∷ e ∷ past) [] s alone set_up l = absurd (let size = s.long in omega (arith, size))
-    find c (d ∷ e ∷ past) (i ∷ []) s alone set_up l = absurd (let size = s.long in omega (arith, size))
-    find c (d ∷ e ∷ past) (i ∷ j ∷ js) s alone set_up l = elim (leb_tells start (length (e ∷ past) + 249)) [
+    find : (c : Came) (before : List Came) (all : List (ℕ → BoardTurn)) → IsClearSection m switches pins entries (lines start) from start members c before all → BeginsAlone m switches before → AreSetUp m switches pins entries lines ready till (c ∷ before) all → length before + 276 ≤ till → start ≤ length before + 249 → Found (c ∷ before) all
+    find c [] all s alone set_up reach l = absurd (omega (arith, l, begun))
+    find c (d ∷ []) all s alone set_up reach l = absurd (omega (arith, l, begun))
+    find c (d ∷ e ∷ past) [] s alone set_up reach l = absurd (let size = s.long in omega (arith, size))
+    find c (d ∷ e ∷ past) (i ∷ []) s alone set_up reach l = absurd (let size = s.long in omega (arith, size))
+    find c (d ∷ e ∷ past) (i ∷ j ∷ js) s alone set_up reach l = elim (leb_tells start (length (e ∷ past) + 249)) [
       | inl p ↦
           let reached = p.1 in
-          let x = find d (e ∷ past) (j ∷ js) (earlier c d (e ∷ past) i (j ∷ js) s) alone.1 set_up.1 reached in
+          let x = find d (e ∷ past) (j ∷ js) (earlier c d (e ∷ past) i (j ∷ js) s) alone.1 set_up.1 (omega (arith, reach)) reached in
           record { last = x.last; followed = x.followed; low_so = x.low_so; safe = ((λ z. absurd (omega (arith, z, reached))), x.safe) }
-      | inr p ↦ let below = p.1 in here c d e past i j js s alone set_up (omega (arith, l, below))
+      | inr p ↦ let below = p.1 in here c d e past i j js s alone set_up reach (omega (arith, l, below))
     ]
 
-    pub run_never : (c : Came) (before : List Came) (all : List (ℕ → BoardTurn)) → IsClearSection m switches pins entries (lines start) from start members c before all → BeginsAlone m switches before → AreSetUp m switches pins entries lines ready (c ∷ before) all → from ≤ length before
+    pub run_never : (c : Came) (before : List Came) (all : List (ℕ → BoardTurn)) → IsClearSection m switches pins entries (lines start) from start members c before all → BeginsAlone m switches before → AreSetUp m switches pins entries lines ready till (c ∷ before) all → length before + 276 ≤ till → from ≤ length before
         → (h : Homing) → (noted m c.note (known_by m switches before)).homing ≡ Some h → (b turn : ℕ) → answer_in (length before) h.start (hears_all (noted m c.note (known_by m switches before)).clocks c.states h).group ≡ Some (end.Expired b turn) → ⊥
-    run_never c before all s alone set_up l h is b turn ends =
+    run_never c before all s alone set_up reach l h is b turn ends =
         let begins = (of_known start members (noted m c.note (known_by m switches before)).homing h (s.homes.0 l).1 is).0 in
         let late = answered_late (length before) h.start (hears_all (noted m c.note (known_by m switches before)).clocks c.states h).group (end.Expired b turn) ends in
-        let x = find c before all s alone set_up (omega (arith, late, begins)) in
+        let x = find c before all s alone set_up reach (omega (arith, late, begins)) in
         let low_so = x.low_so in
-        never_any m switches pins entries (lines start) ready from start x.last (start - 249) members none x.followed (omega (arith, begun)) (omega (arith, low_so)) (omega arith) (omega (arith, begun)) c before all s (omega (arith, late, begins)) x.safe h is b turn ends
+        never_any m switches pins entries (lines start) ready from start x.last till (start - 249) members none x.followed (omega (arith, begun)) (omega (arith, low_so)) (omega arith) (omega (arith, begun)) c before all s reach (omega (arith, late, begins)) x.safe h is b turn ends

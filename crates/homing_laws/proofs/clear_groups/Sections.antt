@@ -51,8 +51,8 @@ none_yet : (clocks : Clocks) (last at : ℕ) (turns : List BoardTurn) → length
 none_yet clocks last at [] l = tt
 none_yet clocks last at (t ∷ before) l = (λ far. absurd (omega (arith, l, far)), none_yet clocks last at before (omega (arith, l)))
 
-module _ (m : Machine) (switches : List Switch) (pins : ℕ → List (List Level)) (entries : List Entry) (none : entries ≡ []) (lines : ℕ → Clocks) (ready from start last at : ℕ) (members : List Member)
-    (followed : (b : ℕ) → IsMember b members → IsFollowed m b (lines b) ready start last) (early : from ≤ at) (low_so : ready + 4 ≤ at) (far : start ≤ at + 249) where
+module _ (m : Machine) (switches : List Switch) (pins : ℕ → List (List Level)) (entries : List Entry) (none : entries ≡ []) (lines : ℕ → Clocks) (ready from start last till at : ℕ) (members : List Member)
+    (followed : (b : ℕ) → IsMember b members → IsFollowed m b (lines b) ready start last till) (early : from ≤ at) (low_so : ready + 4 ≤ at) (far : start ≤ at + 249) where
   -- the turn before
   pub cut : (c d : Came) (past : List Came) (j : ℕ → BoardTurn) (js : List (ℕ → BoardTurn)) → IsClearSection m switches pins entries lines from start members c (d ∷ past) (j ∷ js) → IsClearSection m switches pins entries lines from start members d past js
   cut c d past j js s =
@@ -86,22 +86,23 @@ module _ (m : Machine) (switches : List Switch) (pins : ℕ → List (List Level
   abbrev Late : List (ℕ → BoardTurn) → Type 0
   Late all = (b : ℕ) → IsMember b members → AllLate (lines b) last at (turns_of b all)
 
-  goes : (c : Came) (before : List Came) (all : List (ℕ → BoardTurn)) → IsClearSection m switches pins entries lines from start members c before all → at ≤ length before
+  goes : (c : Came) (before : List Came) (all : List (ℕ → BoardTurn)) → IsClearSection m switches pins entries lines from start members c before all → length before + 276 ≤ till → at ≤ length before
       → IsSafeAt m switches pins entries lines start last members at (c ∷ before) all → IsSafeIn m switches pins entries lines start last members c before all × Late all
-  goes c [] [] s l k = (k.0 (omega (arith, l)), λ b on. tt)
-  goes c [] (j ∷ js) s l k = absurd (let size = s.long in omega (arith, size))
-  goes c (d ∷ past) [] s l k = absurd (let size = s.long in omega (arith, size))
-  goes c (d ∷ past) (j ∷ js) s l k = elim (leb_tells at (length past)) [
+  goes c [] [] s r l k = (k.0 (omega (arith, l)), λ b on. tt)
+  goes c [] (j ∷ js) s r l k = absurd (let size = s.long in omega (arith, size))
+  goes c (d ∷ past) [] s r l k = absurd (let size = s.long in omega (arith, size))
+  goes c (d ∷ past) (j ∷ js) s r l k = elim (leb_tells at (length past)) [
     | inl p ↦
         let old = cut c d past j js s in
-        let was = goes d past js old p.1 k.1 in
+        let reach : length past + 276 ≤ till = omega (arith, r) in
+        let was = goes d past js old reach p.1 k.1 in
         let x = was.0 in
         let reached = p.1 in
         let early_so : from ≤ length past = omega (arith, early, reached) in
         let low_here : ready + 4 ≤ length past = omega (arith, low_so, reached) in
         let far_here : start ≤ length past + 249 = omega (arith, far, reached) in (
-          step_in m switches pins entries none lines ready from start last members followed c d past j js s early_so low_here far_here x.0 x.1 x.2,
-          λ b on. (λ late. step_late m switches pins entries none lines ready from start last members followed c d past j js s early_so low_here far_here x.0 x.1 x.2 b on, was.1 b on),
+          step_in m switches pins entries none lines ready from start last till members followed c d past j js s early_so low_here far_here reach x.0 x.1 x.2,
+          λ b on. (λ late. step_late m switches pins entries none lines ready from start last till members followed c d past j js s early_so low_here far_here reach x.0 x.1 x.2 b on, was.1 b on),
         )
     | inr p ↦
         let below = p.1 in (
@@ -113,9 +114,9 @@ module _ (m : Machine) (switches : List Switch) (pins : ℕ → List (List Level
         )
   ]
 
-  pub stays_safe : (c : Came) (before : List Came) (all : List (ℕ → BoardTurn)) → IsClearSection m switches pins entries lines from start members c before all → at ≤ length before → IsSafeAt m switches pins entries lines start last members at (c ∷ before) all
+  pub stays_safe : (c : Came) (before : List Came) (all : List (ℕ → BoardTurn)) → IsClearSection m switches pins entries lines from start members c before all → length before + 276 ≤ till → at ≤ length before → IsSafeAt m switches pins entries lines start last members at (c ∷ before) all
       → IsSafeIn m switches pins entries lines start last members c before all × ((b : ℕ) → IsMember b members → AllLate (lines b) last at (turns_of b all))
-  stays_safe c before all s l k = goes c before all s l k
+  stays_safe c before all s r l k = goes c before all s r l k
 
   -- no state that came tells of an early expiry
   never_told : (b : ℕ) (on : IsMember b members) (when : ℕ) → when ≤ last → at + 1 ≤ start → (c : Came) (before : List Came) (all : List (ℕ → BoardTurn)) → IsClearSection m switches pins entries lines from start members c before all
@@ -152,11 +153,11 @@ module _ (m : Machine) (switches : List Switch) (pins : ℕ → List (List Level
       never_told b on when low_when first x more js (cut c x more j js k) late.1 later d past (heads c y (x ∷ more) (later ++ d ∷ past) e).1 s is begun tells
 
   -- the group answers of none of its boards that it expired
-  pub never_answers : (c : Came) (before : List Came) (all : List (ℕ → BoardTurn)) → IsClearSection m switches pins entries lines from start members c before all → at ≤ length before → at + 1 ≤ start
+  pub never_answers : (c : Came) (before : List Came) (all : List (ℕ → BoardTurn)) → IsClearSection m switches pins entries lines from start members c before all → length before + 276 ≤ till → at ≤ length before → at + 1 ≤ start
       → IsSafeAt m switches pins entries lines start last members at (c ∷ before) all → (h : Homing) → (noted m c.note (known_by m switches before)).homing ≡ Some h → h.start ≡ start → (b turn : ℕ) → IsMember b members
       → answer_in (length before) h.start (hears_all (noted m c.note (known_by m switches before)).clocks c.states h).group ≡ Some (end.Expired b turn) → ⊥
-  never_answers c before all k l first safe h is begins b turn on ends =
-      let x = goes c before all k l safe in
+  never_answers c before all k r l first safe h is begins b turn on ends =
+      let x = goes c before all k r l safe in
       let clocks = (noted m c.note (known_by m switches before)).clocks in
       let same : x.0.0 ≡ h = some_same x.0.0 h (sym x.0.1 ∙ is) in
       let last_is : (hears_all clocks c.states x.0.0).group.last ≡ last = x.0.2.ends in

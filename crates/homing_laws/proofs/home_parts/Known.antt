@@ -1,6 +1,6 @@
 -- While the reactor knows a homing section no word tells of an answer; and one that tells of it is that of a section that was begun.
 use Rattle.std.proofs.Common.{◌≡◌, ℕ, zero, suc, ◌+◌, ◌<◌, ◌≤◌, ◌⊎◌, true, false, List, [], ◌∷◌, ◌++◌, length, Option, Some, None, refl, ap, sym, ◌∙◌, subst, arith, inl, inr}
-use Rattle.std.proofs.lemmas.Bool.Decides.{eqb_tells, leb_tells}
+use Rattle.std.proofs.lemmas.Bool.Decides.{leb_tells}
 use Rattle.plan_types.specs.declared.machine.Machine.{Machine}
 use Rattle.plan_types.specs.declared.plan.SectionKind.{SectionKind}
 use Rattle.plan_types.specs.declared.plan.SectionKind.TheVariants.{Home, Moves}
@@ -20,21 +20,19 @@ use Rattle.trigger_group.specs.Group.{GroupState, after}
 use Rattle.trigger_group.specs.Kept.{group_where}
 use Rattle.axis_homing.specs.declared.homing.Homing.{Homing}
 use Rattle.axis_homing.specs.Homing.{answer_in, by_answer, goes_on_homing, hears_all, homing_after, homing_of, homing_turn, homing_with, members_from}
-use Rattle.motion_work.specs.Puts.{begun_notes}
 use Rattle.motion_work.specs.Seen.{Started}
 use Rattle.motion_work.specs.Told.{tells_homed}
-use Rattle.motion_work.specs.Turns.{done_notes}
 use Rattle.host_reactor.specs.declared.ordered.Known.{Known}
-use Rattle.host_reactor.specs.Notes.{noted, told, told_all}
+use Rattle.host_reactor.specs.Notes.{news_of, noted, told, told_all}
 use Rattle.host_reactor.specs.Reactor.{Reacted}
 use Rattle.host_reactor.specs.Runs.{Came, GoesOn, known_by, last_turn}
 use Rattle.clock_runs.proofs.Turning.{goes}
 use Rattle.session_work.specs.Rows.{item}
-use Rattle.homing_laws.specs.home_runs.Words.{BeginsNone, TellsHomed}
+use Rattle.homing_laws.specs.home_runs.Words.{TellsHomed}
 use Rattle.homing_laws.proofs.home_runs.Knowing.{cut_of, switch_answer}
 use Rattle.homing_laws.specs.home_plans.Notes.{CameNotes, IsNoteOf, WasBegun}
 use Rattle.homing_laws.proofs.home_plans.Knowing.{now_was}
-use Rattle.homing_laws.proofs.home_plans.Noting.{done_none}
+use Rattle.homing_laws.proofs.home_plans.Starting.{StartAt, note_starts}
 use Rattle.homing_laws.specs.home_parts.Answers.{AreOfTurns, TellNone, TellsIn}
 
 -- words that tell of an answer
@@ -50,31 +48,7 @@ so_tells (word.Homed ∷ ns) t = refl
 so_tells (word.Lines lines ∷ ns) t = so_tells ns t
 so_tells (word.Line b line ∷ ns) t = so_tells ns t
 
--- news that begin sections of one start alone
-abbrev StartAt : ℕ → List NoteNews → Type 0
-StartAt at [] = Unit {0}
-StartAt at (news.Start section kind turn last moving ∷ ns) = (turn ≡ at) × StartAt at ns
-StartAt at (n ∷ ns) = StartAt at ns
-
-none_start : (at : ℕ) (ns : List NoteNews) → BeginsNone ns → StartAt at ns
-none_start at [] b = tt
-none_start at (news.Start section kind turn last moving ∷ ns) b = absurd b
-none_start at (news.Done section turn ∷ ns) b = none_start at ns b
-none_start at (news.Read end sections ∷ ns) b = none_start at ns b
-none_start at (news.Line board line from ∷ ns) b = none_start at ns b
-
-start_both : (at : ℕ) (xs ys : List NoteNews) → StartAt at xs → StartAt at ys → StartAt at (xs ++ ys)
-start_both at [] ys a b = b
-start_both at (news.Start section kind turn last moving ∷ xs) ys a b = (a.0, start_both at xs ys a.1 b)
-start_both at (news.Done section turn ∷ xs) ys a b = start_both at xs ys a b
-start_both at (news.Read end sections ∷ xs) ys a b = start_both at xs ys a b
-start_both at (news.Line board line from ∷ xs) ys a b = start_both at xs ys a b
-
-begun_start : (k i : ℕ) (ss : List Started) → StartAt (k + 260) (begun_notes k i ss)
-begun_start k i [] = tt
-begun_start k i (s ∷ ss) = elim (eqb_tells s.start (k + 260)) [ inl p ↦ rw p.0 (p.1, begun_start k (i + 1) ss) | inr p ↦ rw p.0 (begun_start k (i + 1) ss) ]
-
--- what such news make known
+-- what news that begin sections of one start make known
 homing_start : (m : Machine) (section turn last moving : ℕ) (kind : SectionKind) (h : Homing) → homing_of m section kind turn last moving ≡ Some h → h.start ≡ turn
 homing_start m section turn last moving Moves h e = absurd (let f : None ≡ Some h = e in cc)
 homing_start m section turn last moving (Home axis) h e = by (group_where (members_from m (axis_at m axis) moving 0 m.boards) turn last) e
@@ -96,10 +70,8 @@ told_start m at (news.Line board line from ∷ ns) r h a e = told_start m at ns 
 noted_start : (m : Machine) (begun : List Started) (k : ℕ) (given : Option Note) (r : Known) (h : Homing) → IsNoteOf begun k given → (noted m given r).homing ≡ Some h → (h.start ≡ k + 259) ⊎ (r.homing ≡ Some h)
 noted_start m begun zero given r h is e = inr (subst (λ (o : Option Note). (noted m o r).homing ≡ Some h) is e)
 noted_start m begun (suc k) given r h is e =
-    let starts = begun_notes k 0 begun in
-    let all = start_both (k + 260) (done_notes k 0 begun) (starts ++ is.1) (none_start (k + 260) (done_notes k 0 begun) (done_none k 0 begun)) (start_both (k + 260) starts is.1 (begun_start k 0 begun) (none_start (k + 260) is.1 is.4)) in
     let here : (told_all m is.0.news r).homing ≡ Some h = subst (λ (o : Option Note). (noted m o r).homing ≡ Some h) is.2 e in
-    elim (told_start m (k + 260) is.0.news r h (subst (StartAt (k + 260)) (sym is.3) all) here) [ inl at ↦ inl (omega (arith, at)) | inr old ↦ inr old ]
+    elim (told_start m (k + 260) is.0.news r h (subst (λ (o : Option Note). StartAt (k + 260) (news_of o)) is.2 (note_starts begun k given is)) here) [ inl at ↦ inl (omega (arith, at)) | inr old ↦ inr old ]
 
 -- the section behind a turn
 after_by : (k : ℕ) (g h : Homing) (o : Option End) → goes_on_homing k g o ≡ Some h → (g.start ≡ h.start) × ((by_answer k g o).cut ≡ None)

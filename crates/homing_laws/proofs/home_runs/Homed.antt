@@ -11,6 +11,7 @@ use Rattle.wire_scene.specs.declared.scene.Switch.{Switch}
 use Rattle.link_work.specs.Stands.{first_state}
 use Rattle.link_work.specs.Turn.{LinkState, Orders}
 use Rattle.board_world.specs.World.{start}
+use Rattle.run_laws.specs.Events.{AreOwn}
 use Rattle.run_laws.specs.Homes.{AreOrdersIn, IsHomeBoard, IsHomeRun, RunSection}
 use Rattle.run_laws.specs.Links.{AreTold, steps_of, turns_told}
 use Rattle.run_laws.specs.Timely.{AllTimely}
@@ -100,26 +101,28 @@ all_homed m switches pins entries b freq slots ready own clocks stops ss turns r
       one_homed m switches pins entries b freq slots ready end own clocks stops x.0 s x.2 turns (subst (λ (y : List RunSection). IsHomeRun own clocks freq slots ready stops y (orders_in turns)) x.3 run) x.4 x.5 x.8,
     )
 
-pub home_board : (m : Machine) (switches : List Switch) (pins : List (List Level)) (entries : List Entry) (b ready : ℕ) (clocks : Clocks) (stops : ℕ → Option ℕ) (ss : List RunSection) (turns : List BoardTurn) (states : List State) (end : LinkState)
+pub home_board : (m : Machine) (switches : List Switch) (pins : List (List Level)) (entries : List Entry) (b ready : ℕ) (own : ℕ → ℕ) (clocks : Clocks) (stops : ℕ → Option ℕ) (ss : List RunSection) (turns : List BoardTurn) (states : List State) (end : LinkState)
     (told : AreTold (clock_of (board_at m b)) 0 (orders_in turns) states (first_state (board_at m b) pins b entries) end) → IsValidMachine m → b < length m.boards
     → AreBoardTurns (clock_of (board_at m b)) (first_state (board_at m b) pins b entries) turns
-    → IsHomeRun (board_tick (clock_of (board_at m b))) clocks (board_at m b).freq (board_at m b).slots ready stops ss (orders_in turns)
+    → AreOwn (board_at m b) (length turns) own → IsHomeRun own clocks (board_at m b).freq (board_at m b).slots ready stops ss (orders_in turns)
     → AllTimely (start (board_at m b) pins) (steps_of (clock_of (board_at m b)) 0 (orders_in turns) (first_state (board_at m b) pins b entries) end
     (turns_told (clock_of (board_at m b)) 0 (orders_in turns) states (first_state (board_at m b) pins b entries) end told))
     → AreToldIn m switches pins entries b stops ss turns
     → IsHomeBoard b entries ready (length turns) ss (record { board = board_at m b; pins = pins; clocks = clocks; sections = map (λ s. s.section) ss; orders = orders_in turns; states = states })
-home_board m switches pins entries b ready clocks stops ss turns states end told v l are run timely sections =
+home_board m switches pins entries b ready own clocks stops ss turns states end told v l are own_is run timely sections =
     let d = board_at m b in
     let clock = clock_of d in
     let first = first_state d pins b entries in
     record {
       valid = v.boards b _ l;
       stops = stops;
+      own = own;
+      own_is = own_is;
       run_is = run;
       count = order_length turns;
       end = end;
       told = told;
       timely = timely;
       settled = all_settled m switches pins entries b turns stops end (turns_told clock 0 (orders_in turns) states first end told) v are
-          (all_homed m switches pins entries b d.freq d.slots ready (board_tick clock) clocks stops ss turns run sections);
+          (all_homed m switches pins entries b d.freq d.slots ready own clocks stops ss turns run sections);
     }

@@ -64,24 +64,25 @@ MindsAt m switches pins entries lines start last members near at (c ∷ before) 
     (length before ≡ at → MindsIn m switches pins entries lines start last members near c before all) × MindsAt m switches pins entries lines start last members near at before (rest_of all)
 
 -- over the turns of a section
-module _ (m : Machine) (v : IsValidMachine m) (switches : List Switch) (pins : ℕ → List (List Level)) (entries : List Entry) (none : entries ≡ []) (lines : ℕ → Clocks) (ready from start last at : ℕ) (members : List Member)
-    (followed : (b : ℕ) → IsMember b members → IsFollowed m b (lines b) ready start last) (early : from ≤ at) (low_so : ready + 4 ≤ at) (far : start ≤ at + 249) (near : Type 0) where
+module _ (m : Machine) (v : IsValidMachine m) (switches : List Switch) (pins : ℕ → List (List Level)) (entries : List Entry) (none : entries ≡ []) (lines : ℕ → Clocks) (ready from start last till at : ℕ) (members : List Member)
+    (followed : (b : ℕ) → IsMember b members → IsFollowed m b (lines b) ready start last till) (early : from ≤ at) (low_so : ready + 4 ≤ at) (far : start ≤ at + 249) (near : Type 0) where
   abbrev Soon : Came → List Came → List (ℕ → BoardTurn) → Type 0
   Soon c before all = near → (b : ℕ) → IsReader b members → HearSoon m switches b start (c ∷ before) (turns_of b all)
 
-  goes_minding : (c : Came) (before : List Came) (all : List (ℕ → BoardTurn)) → Soon c before all → IsClearSection m switches pins entries lines from start members c before all → at ≤ length before
+  goes_minding : (c : Came) (before : List Came) (all : List (ℕ → BoardTurn)) → Soon c before all → IsClearSection m switches pins entries lines from start members c before all → length before + 276 ≤ till → at ≤ length before
       → IsSafeAt m switches pins entries lines start last members at (c ∷ before) all → MindsAt m switches pins entries lines start last members near at (c ∷ before) all → MindsIn m switches pins entries lines start last members near c before all
-  goes_minding c [] [] so s l safe mind = mind.0 (omega (arith, l))
-  goes_minding c [] (j ∷ js) so s l safe mind = absurd (let size = s.long in omega (arith, size))
-  goes_minding c (d ∷ past) [] so s l safe mind = absurd (let size = s.long in omega (arith, size))
-  goes_minding c (d ∷ past) (j ∷ js) so s l safe mind = elim (leb_tells at (length past)) [
+  goes_minding c [] [] so s r l safe mind = mind.0 (omega (arith, l))
+  goes_minding c [] (j ∷ js) so s r l safe mind = absurd (let size = s.long in omega (arith, size))
+  goes_minding c (d ∷ past) [] so s r l safe mind = absurd (let size = s.long in omega (arith, size))
+  goes_minding c (d ∷ past) (j ∷ js) so s r l safe mind = elim (leb_tells at (length past)) [
     | inl p ↦
         let reached = p.1 in
-        let old = cut m switches pins entries none lines ready from start last at members followed early low_so far c d past j js s in
-        let was = goes_minding d past js (λ n b reads. (so n b reads).1) old reached safe.1 mind.1 in
+        let old = cut m switches pins entries none lines ready from start last till at members followed early low_so far c d past j js s in
+        let reach : length past + 276 ≤ till = omega (arith, r) in
+        let was = goes_minding d past js (λ n b reads. (so n b reads).1) old reach reached safe.1 mind.1 in
         let h = was.0 in
-        let x = (stays_safe m switches pins entries none lines ready from start last at members followed early low_so far d past js old reached safe.1).0 in
-        let next = (stays_safe m switches pins entries none lines ready from start last at members followed early low_so far c (d ∷ past) (j ∷ js) s l safe).0 in
+        let x = (stays_safe m switches pins entries none lines ready from start last till at members followed early low_so far d past js old reach reached safe.1).0 in
+        let next = (stays_safe m switches pins entries none lines ready from start last till at members followed early low_so far c (d ∷ past) (j ∷ js) s r l safe).0 in
         let clocks = (noted m d.note (known_by m switches past)).clocks in
         let same : x.0 ≡ h = some_same x.0 h (sym x.1 ∙ was.1) in
         let Safe : Homing → Type 0 = λ z. IsSafe m lines start last members (length past) (hears_all clocks d.states z).group (rig_at m pins entries js) in
@@ -91,8 +92,8 @@ module _ (m : Machine) (v : IsValidMachine m) (switches : List Switch) (pins : �
         let far_here : start ≤ length past + 249 = omega (arith, far, reached) in
         let small : (b : ℕ) → IsMember b members → AllSmall (rig_at m pins entries (j ∷ js) b) = next.2.small in
         let own = (axis_at m h.axis).board in
-        let known = step_known m v switches pins entries none lines ready from start last members followed h.axis own near c d past j js s early_so low_here far_here h was.1 safe_now was.2 small (λ n b reads on. (so n b reads).0) in
-        let step = step_mindful m v switches pins entries none lines ready from start last members followed h.axis own near c d past j js s early_so low_here far_here h was.1 safe_now was.2 small (λ n b reads on. (so n b reads).0) in
+        let known = step_known m v switches pins entries none lines ready from start last till members followed h.axis own near c d past j js s early_so low_here far_here reach h was.1 safe_now was.2 small (λ n b reads on. (so n b reads).0) in
+        let step = step_mindful m v switches pins entries none lines ready from start last till members followed h.axis own near c d past j js s early_so low_here far_here reach h was.1 safe_now was.2 small (λ n b reads on. (so n b reads).0) in
         let e : length past + 1 ≡ length (d ∷ past) = omega arith in
         let Next : Homing = behind_turn (hears_all clocks d.states h) (length past) in
         let At : ℕ → Type 0 = λ n. IsMindful m pins lines start last members h.axis own near n (hears_all (noted m c.note (known_by m switches (d ∷ past))).clocks c.states Next).group (rig_at m pins entries (j ∷ js)) in
@@ -122,19 +123,19 @@ module _ (m : Machine) (v : IsValidMachine m) (switches : List Switch) (pins : �
   reader_member b (x ∷ ms) (inr k) = inr (reader_member b ms k)
 
   -- what its group answers
-  pub answers_late : (c : Came) (before : List Came) (all : List (ℕ → BoardTurn)) → Soon c before all → IsClearSection m switches pins entries lines from start members c before all → at ≤ length before
+  pub answers_late : (c : Came) (before : List Came) (all : List (ℕ → BoardTurn)) → Soon c before all → IsClearSection m switches pins entries lines from start members c before all → length before + 276 ≤ till → at ≤ length before
       → IsSafeAt m switches pins entries lines start last members at (c ∷ before) all → MindsAt m switches pins entries lines start last members near at (c ∷ before) all → (h : Homing) → (noted m c.note (known_by m switches before)).homing ≡ Some h
       → IsReader (axis_at m h.axis).board members → answer_in (length before) h.start (hears_all (noted m c.note (known_by m switches before)).clocks c.states h).group ≡ Some end.NoSwitch
       → (tick : ℕ) → IsSwitchTick m (pins (axis_at m h.axis).board) (axis_at m h.axis).board (axis_at m h.axis) (lines_tick (lines (axis_at m h.axis).board) (start * turn_ns)) tick
       → lines_tick (lines (axis_at m h.axis).board) ((last + 1) * turn_ns) ≤ tick
-  answers_late c before all so s l safe_at mind_at h is reads answers tick hit =
+  answers_late c before all so s r l safe_at mind_at h is reads answers tick hit =
       let clocks = (noted m c.note (known_by m switches before)).clocks in
       let g = (hears_all clocks c.states h).group in
       let rigs = rig_at m pins entries all in
       let b = (axis_at m h.axis).board in
       let oid = trigger_of m b in
-      let x = (stays_safe m switches pins entries none lines ready from start last at members followed early low_so far c before all s l safe_at).0 in
-      let y = goes_minding c before all so s l safe_at mind_at in
+      let x = (stays_safe m switches pins entries none lines ready from start last till at members followed early low_so far c before all s r l safe_at).0 in
+      let y = goes_minding c before all so s r l safe_at mind_at in
       let same_x : x.0 ≡ h = some_same x.0 h (sym x.1 ∙ is) in
       let same_y : y.0 ≡ h = some_same y.0 h (sym y.1 ∙ is) in
       let Safe : Homing → Type 0 = λ z. IsSafe m lines start last members (length before) (hears_all clocks c.states z).group rigs in
@@ -177,16 +178,16 @@ module _ (m : Machine) (v : IsValidMachine m) (switches : List Switch) (pins : �
       ]
 
   -- and where it answers that the switch closed, that is the tick
-  pub answers_first : (c : Came) (before : List Came) (all : List (ℕ → BoardTurn)) → Soon c before all → IsClearSection m switches pins entries lines from start members c before all → at ≤ length before
+  pub answers_first : (c : Came) (before : List Came) (all : List (ℕ → BoardTurn)) → Soon c before all → IsClearSection m switches pins entries lines from start members c before all → length before + 276 ≤ till → at ≤ length before
       → IsSafeAt m switches pins entries lines start last members at (c ∷ before) all → MindsAt m switches pins entries lines start last members near at (c ∷ before) all → near → (h : Homing) → (noted m c.note (known_by m switches before)).homing ≡ Some h
       → (tick : ℕ) → answer_in (length before) h.start (hears_all (noted m c.note (known_by m switches before)).clocks c.states h).group ≡ Some (end.Endstop tick)
       → (b : ℕ) × IsReader b members × IsSwitchTick m (pins b) b (axis_at m h.axis) (lines_tick (lines b) (start * turn_ns)) tick
-  answers_first c before all so s l safe_at mind_at is_near h is tick answers =
+  answers_first c before all so s r l safe_at mind_at is_near h is tick answers =
       let clocks = (noted m c.note (known_by m switches before)).clocks in
       let g = (hears_all clocks c.states h).group in
       let rigs = rig_at m pins entries all in
       let own = (axis_at m h.axis).board in
-      let y = goes_minding c before all so s l safe_at mind_at in
+      let y = goes_minding c before all so s r l safe_at mind_at in
       let same_y : y.0 ≡ h = some_same y.0 h (sym y.1 ∙ is) in
       let Mind : Homing → Type 0 = λ z. IsMindful m pins lines start last members z.axis (axis_at m z.axis).board near (length before) (hears_all clocks c.states z).group rigs in
       let mind : Mind h = subst Mind same_y y.2 in
@@ -211,9 +212,9 @@ module _ (m : Machine) (v : IsValidMachine m) (switches : List Switch) (pins : �
       ]
 
 -- over the turns of a run
-module _ (m : Machine) (v : IsValidMachine m) (switches : List Switch) (pins : ℕ → List (List Level)) (entries : List Entry) (none : entries ≡ []) (lines : ℕ → ℕ → Clocks) (ready : ℕ) (near : Type 0) where
+module _ (m : Machine) (v : IsValidMachine m) (switches : List Switch) (pins : ℕ → List (List Level)) (entries : List Entry) (none : entries ≡ []) (lines : ℕ → ℕ → Clocks) (ready till : ℕ) (near : Type 0) where
   -- the boards whose set-up it is rest before it
-  rests_all : (start : ℕ) (c d e : Came) (past : List Came) (i j : ℕ → BoardTurn) (js : List (ℕ → BoardTurn)) (x : IsSetUp m switches pins entries (lines start) ready start c d e past i j js) → start ≡ length past + 251 → (b : ℕ)
+  rests_all : (start : ℕ) (c d e : Came) (past : List Came) (i j : ℕ → BoardTurn) (js : List (ℕ → BoardTurn)) (x : IsSetUp m switches pins entries (lines start) ready till start c d e past i j js) → start ≡ length past + 251 → (b : ℕ)
       → ((k : ℕ) → board_tick (clock_of (board_at m b)) k ≤ board_tick (clock_of (board_at m b)) (k + 1)) → IsPlain m switches (pins b) entries b past (turns_of b js) → BeginsAlone m switches (e ∷ past)
       → IsQuiet (rig_at m pins entries js b) → RestsOf (trigger_of m b) (rig_at m pins entries js b)
   rests_all start c d e past i j js x at b rise known alone quiet =
@@ -237,31 +238,31 @@ module _ (m : Machine) (v : IsValidMachine m) (switches : List Switch) (pins : �
 
     record Found (came : List Came) (all : List (ℕ → BoardTurn)) : Type 0 where
       last : ℕ
-      followed : (b : ℕ) → IsMember b members → IsFollowed m b (lines start b) ready start last
+      followed : (b : ℕ) → IsMember b members → IsFollowed m b (lines start b) ready start last till
       low_so : ready + 255 ≤ start
       safe : IsSafeAt m switches pins entries (lines start) start last members (start - 249) came all
       minds : MindsAt m switches pins entries (lines start) start last members near (start - 249) came all
 
-    here : (c d e : Came) (past : List Came) (i j : ℕ → BoardTurn) (js : List (ℕ → BoardTurn)) → IsClearSection m switches pins entries (lines start) from start members c (d ∷ e ∷ past) (i ∷ j ∷ js) → BeginsAlone m switches (d ∷ e ∷ past) → AreSetUp m switches pins entries lines ready (c ∷ d ∷ e ∷ past) (i ∷ j ∷ js)
-        → AxesLow m switches (c ∷ d ∷ e ∷ past) → length (d ∷ e ∷ past) + 249 ≡ start → Found (c ∷ d ∷ e ∷ past) (i ∷ j ∷ js)
-    here c d e past i j js s alone set_up low at =
+    here : (c d e : Came) (past : List Came) (i j : ℕ → BoardTurn) (js : List (ℕ → BoardTurn)) → IsClearSection m switches pins entries (lines start) from start members c (d ∷ e ∷ past) (i ∷ j ∷ js) → BeginsAlone m switches (d ∷ e ∷ past) → AreSetUp m switches pins entries lines ready till (c ∷ d ∷ e ∷ past) (i ∷ j ∷ js)
+        → AxesLow m switches (c ∷ d ∷ e ∷ past) → length (d ∷ e ∷ past) + 276 ≤ till → length (d ∷ e ∷ past) + 249 ≡ start → Found (c ∷ d ∷ e ∷ past) (i ∷ j ∷ js)
+    here c d e past i j js s alone set_up low reach at =
         let known = some_known start members (noted m d.note (known_by m switches (e ∷ past))).homing (s.homes.1.0 (omega (arith, at, begun_so))).1 in
         let h = known.0 in
         let of = of_known start members (noted m d.note (known_by m switches (e ∷ past))).homing h (s.homes.1.0 (omega (arith, at, begun_so))).1 known.1 in
         let begins = of.1 in
-        let x : IsSetUp m switches pins entries (lines start) ready start c d e past i j js = subst (λ (n : ℕ). IsSetUp m switches pins entries (lines n) ready n c d e past i j js) begins (set_up.0 h known.1 (omega (arith, begins, at))) in
+        let x : IsSetUp m switches pins entries (lines start) ready till start c d e past i j js = subst (λ (n : ℕ). IsSetUp m switches pins entries (lines n) ready till n c d e past i j js) begins (set_up.0 h known.1 (omega (arith, begins, at))) in
         let soon = x.early in
         let low_so = x.begins in
         let known_members : members_of h.group ≡ x.members = (of_known start x.members (noted m d.note (known_by m switches (e ∷ past))).homing h (x.section.homes.1.0 (omega (arith, soon))).1 known.1).2 in
         let same : x.members ≡ members = sym known_members ∙ of.2 in
         let size = x.section.long in
         let rise : (b : ℕ) → IsMember b x.members → (k : ℕ) → board_tick (clock_of (board_at m b)) k ≤ board_tick (clock_of (board_at m b)) (k + 1) =
-        (λ b on. rises m switches pins entries none lines ready v from start members begun_so b (x.section.plain b on).run.board) in
+        (λ b on. rises m switches pins entries none lines ready till v from start members begun_so b (x.section.plain b on).run.board) in
         let mid : (b : ℕ) → IsMember b x.members → IsPlain m switches (pins b) entries b (e ∷ past) (turns_of b (j ∷ js)) = (λ b on. turn_before m switches (pins b) entries b d (e ∷ past) (i b) (turns_of b (j ∷ js)) (rise b on) (x.section.plain b on)) in
         let first : (b : ℕ) → IsMember b x.members → IsPlain m switches (pins b) entries b past (turns_of b js) = (λ b on. turn_before m switches (pins b) entries b e past (j b) (turns_of b js) (rise b on) (mid b on)) in
-        let quiet : (b : ℕ) → IsMember b x.members → IsQuiet (rig_at m pins entries js b) = (λ b on. (quiet_all m switches pins entries none lines ready v b (rise b on) d (e ∷ past) (j ∷ js) (omega (arith, size)) (mid b on) alone.1 set_up.1).1) in
+        let quiet : (b : ℕ) → IsMember b x.members → IsQuiet (rig_at m pins entries js b) = (λ b on. (quiet_all m switches pins entries none lines ready till v b (rise b on) d (e ∷ past) (j ∷ js) (omega (arith, size)) (mid b on) alone.1 set_up.1 (omega (arith, reach))).1) in
         let prepared : (b : ℕ) → IsMember b x.members → HoldsOf (trigger_of m b) (λ ps y. IsPrepared (lines_tick (lines start b) (start * turn_ns)) ps y) (rig_at m pins entries js b) =
-        (λ b on. prepared_all m switches pins entries none lines ready v start c d e past i j js x (omega (arith, at)) b (rise b on) (first b on) alone.1 (quiet b on)) in
+        (λ b on. prepared_all m switches pins entries none lines ready till v start c d e past i j js x (omega (arith, at)) b (rise b on) (first b on) alone.1 (quiet b on)) in
         let rests : (b : ℕ) → IsMember b x.members → RestsOf (trigger_of m b) (rig_at m pins entries js b) = (λ b on. rests_all start c d e past i j js x (omega (arith, at)) b (rise b on) (first b on) alone.1 (quiet b on)) in
         let goes = x.section.goes_on in
         let noticed = of_axis m switches e past goes.1.1 x.new.0 x.new.1 in
@@ -269,12 +270,13 @@ module _ (m : Machine) (v : IsValidMachine m) (switches : List Switch) (pins : �
         let low_axis = low.1.1.0 x.new.0 x.new.1 in
         let of_board : OfBoard (axis_at m x.new.0.axis).board (length m.boards) x.members = subst (OfBoard (axis_at m x.new.0.axis).board (length m.boards)) noticed_members noticed in
         let set : length past + 251 ≡ start = omega (arith, at) in
-        let safe_in = beginning.begins_safe m switches pins entries none (lines start) ready x.from start x.last x.members x.followed c d e past i j js x.section x.early x.begins set x.goes x.first x.second x.new.0 x.new.1 x.new.2 prepared in
-        let is_known = begins_known m v switches pins entries none (lines start) ready x.from start x.last x.members x.followed c d e past i j js x.section x.early x.begins set x.goes x.first x.second x.new.0 x.new.1 x.new.2 low_axis of_board near in
-        let mindful = begins_mindful m v switches pins entries none (lines start) ready x.from start x.last x.members x.followed c d e past i j js x.section x.early x.begins set x.goes x.first x.second x.new.0 x.new.1 x.new.2 low_axis of_board near prepared rests in
-        let Second : Homing = beginning.Second m switches pins entries none (lines start) ready x.from start x.last x.members x.followed c d e past i j js x.section x.early x.begins set x.goes x.first x.second x.new.0 x.new.1 x.new.2 in
+        let first_reach : length past + 276 ≤ till = omega (arith, reach) in
+        let safe_in = beginning.begins_safe m switches pins entries none (lines start) ready x.from start x.last till x.members x.followed c d e past i j js x.section x.early x.begins set x.goes first_reach x.first x.second x.new.0 x.new.1 x.new.2 prepared in
+        let is_known = begins_known m v switches pins entries none (lines start) ready x.from start x.last till x.members x.followed c d e past i j js x.section x.early x.begins set x.goes first_reach x.first x.second x.new.0 x.new.1 x.new.2 low_axis of_board near in
+        let mindful = begins_mindful m v switches pins entries none (lines start) ready x.from start x.last till x.members x.followed c d e past i j js x.section x.early x.begins set x.goes first_reach x.first x.second x.new.0 x.new.1 x.new.2 low_axis of_board near prepared rests in
+        let Second : Homing = beginning.Second m switches pins entries none (lines start) ready x.from start x.last till x.members x.followed c d e past i j js x.section x.early x.begins set x.goes first_reach x.first x.second x.new.0 x.new.1 x.new.2 in
         let minds_in : MindsIn m switches pins entries (lines start) start x.last x.members near c (d ∷ e ∷ past) (i ∷ j ∷ js) = (Second, is_known, mindful) in
-        let All : List Member → Type 0 = λ ms. ((b : ℕ) → IsMember b ms → IsFollowed m b (lines start b) ready start x.last) × IsSafeIn m switches pins entries (lines start) start x.last ms c (d ∷ e ∷ past) (i ∷ j ∷ js)
+        let All : List Member → Type 0 = λ ms. ((b : ℕ) → IsMember b ms → IsFollowed m b (lines start b) ready start x.last till) × IsSafeIn m switches pins entries (lines start) start x.last ms c (d ∷ e ∷ past) (i ∷ j ∷ js)
         × MindsIn m switches pins entries (lines start) start x.last ms near c (d ∷ e ∷ past) (i ∷ j ∷ js) in
         let all : All members = subst All same (x.followed, safe_in, minds_in) in
         record {
@@ -285,88 +287,88 @@ module _ (m : Machine) (v : IsValidMachine m) (switches : List Switch) (pins : �
           minds = ((λ z. all.2), minds_none (start - 249) x.last (d ∷ e ∷ past) (j ∷ js) (omega (arith, at)));
         }
 
-    find : (c : Came) (before : List Came) (all : List (ℕ → BoardTurn)) → IsClearSection m switches pins entries (lines start) from start members c before all → BeginsAlone m switches before → AreSetUp m switches pins entries lines ready (c ∷ before) all → AxesLow m switches (c ∷ before)
-        → start ≤ length before + 249 → Found (c ∷ before) all
-    find c [] all s alone set_up low l = absurd (omega (arith, l, begun_so))
-    find c (d ∷ []) all s alone set_up low l = absurd (omega (arith, l, begun_so))
-    find c (d ∷ e ∷ past) [] s alone set_up low l = absurd (let size = s.long in omega (arith, size))
-    find c (d ∷ e ∷ past) (i ∷ []) s alone set_up low l = absurd (let size = s.long in omega (arith, size))
-    find c (d ∷ e ∷ past) (i ∷ j ∷ js) s alone set_up low l = elim (leb_tells start (length (e ∷ past) + 249)) [
+    find : (c : Came) (before : List Came) (all : List (ℕ → BoardTurn)) → IsClearSection m switches pins entries (lines start) from start members c before all → BeginsAlone m switches before → AreSetUp m switches pins entries lines ready till (c ∷ before) all → AxesLow m switches (c ∷ before)
+        → length before + 276 ≤ till → start ≤ length before + 249 → Found (c ∷ before) all
+    find c [] all s alone set_up low reach l = absurd (omega (arith, l, begun_so))
+    find c (d ∷ []) all s alone set_up low reach l = absurd (omega (arith, l, begun_so))
+    find c (d ∷ e ∷ past) [] s alone set_up low reach l = absurd (let size = s.long in omega (arith, size))
+    find c (d ∷ e ∷ past) (i ∷ []) s alone set_up low reach l = absurd (let size = s.long in omega (arith, size))
+    find c (d ∷ e ∷ past) (i ∷ j ∷ js) s alone set_up low reach l = elim (leb_tells start (length (e ∷ past) + 249)) [
       | inl p ↦
           let reached = p.1 in
-          let x = find d (e ∷ past) (j ∷ js) (earlier m switches pins entries none lines ready v from start members begun_so c d (e ∷ past) i (j ∷ js) s) alone.1 set_up.1 low.1 reached in
+          let x = find d (e ∷ past) (j ∷ js) (earlier m switches pins entries none lines ready till v from start members begun_so c d (e ∷ past) i (j ∷ js) s) alone.1 set_up.1 low.1 (omega (arith, reach)) reached in
           record { last = x.last; followed = x.followed; low_so = x.low_so; safe = ((λ z. absurd (omega (arith, z, reached))), x.safe); minds = ((λ z. absurd (omega (arith, z, reached))), x.minds) }
-      | inr p ↦ let below = p.1 in here c d e past i j js s alone set_up low (omega (arith, l, below))
+      | inr p ↦ let below = p.1 in here c d e past i j js s alone set_up low reach (omega (arith, l, below))
     ]
 
   -- what a group answers in a run
-  run_late : (c : Came) (before : List Came) (all : List (ℕ → BoardTurn)) → IsClearRun m switches pins entries lines ready c before all → AxesLow m switches (c ∷ before) → (h : Homing) → (noted m c.note (known_by m switches before)).homing ≡ Some h
+  run_late : (c : Came) (before : List Came) (all : List (ℕ → BoardTurn)) → IsClearRun m switches pins entries lines ready till c before all → length before + 276 ≤ till → AxesLow m switches (c ∷ before) → (h : Homing) → (noted m c.note (known_by m switches before)).homing ≡ Some h
       → (near → (b : ℕ) → IsReader b (members_of h.group) → HearSoon m switches b h.start (c ∷ before) (turns_of b all))
       → answer_in (length before) h.start (hears_all (noted m c.note (known_by m switches before)).clocks c.states h).group ≡ Some end.NoSwitch
       → (tick : ℕ) → IsSwitchTick m (pins (axis_at m h.axis).board) (axis_at m h.axis).board (axis_at m h.axis) (lines_tick (lines h.start (axis_at m h.axis).board) (h.start * turn_ns)) tick
       → lines_tick (lines h.start (axis_at m h.axis).board) ((h.group.last + 1) * turn_ns) ≤ tick
-  run_late c before all r low h is so answers tick hit =
-      let y = begun.began_in m v switches pins entries none lines ready c before all r h is in
-      let s = begun.section_in m v switches pins entries none lines ready c before all r h y in
+  run_late c before all r reach low h is so answers tick hit =
+      let y = begun.began_in m v switches pins entries none lines ready till c before all r h is in
+      let s = begun.section_in m v switches pins entries none lines ready till c before all r h y in
       let soon = y.soon in
       let from = y.from in
       let start = h.start in
       let members = members_of h.group in
       let b = (axis_at m h.axis).board in
       let late = answered_late (length before) h.start (hears_all (noted m c.note (known_by m switches before)).clocks c.states h).group end.NoSwitch answers in
-      let x = find from start members soon c before all s (begun.well_alone m switches lines ready before r.begins.1) (begun.set_up_all m v switches pins entries none lines ready c before all r) low (omega (arith, late)) in
+      let x = find from start members soon c before all s (begun.well_alone m switches lines ready till before r.begins.1) (begun.set_up_all m v switches pins entries none lines ready till c before all r) low reach (omega (arith, late)) in
       let low_so = x.low_so in
       let of = of_axis m switches c before r.goes_on h is in
       let valid : IsValidAxis m (axis_at m h.axis) = v.axes h.axis _ (low.0 h is) in
       let reads : IsReader b members = of.1 valid.board in
-      let late_so = answers_late m v switches pins entries none (lines start) ready from start x.last (start - 249) members x.followed (omega (arith, soon)) (omega (arith, low_so)) (omega arith) near c before all so s (omega (arith, late, soon)) x.safe x.minds h is reads answers tick hit in
-      let safe = (stays_safe m switches pins entries none (lines start) ready from start x.last (start - 249) members x.followed (omega (arith, soon)) (omega (arith, low_so)) (omega arith) c before all s (omega (arith, late, soon)) x.safe).0 in
+      let late_so = answers_late m v switches pins entries none (lines start) ready from start x.last till (start - 249) members x.followed (omega (arith, soon)) (omega (arith, low_so)) (omega arith) near c before all so s reach (omega (arith, late, soon)) x.safe x.minds h is reads answers tick hit in
+      let safe = (stays_safe m switches pins entries none (lines start) ready from start x.last till (start - 249) members x.followed (omega (arith, soon)) (omega (arith, low_so)) (omega arith) c before all s reach (omega (arith, late, soon)) x.safe).0 in
       let clocks = (noted m c.note (known_by m switches before)).clocks in
       let same : safe.0 ≡ h = some_same safe.0 h (sym safe.1 ∙ is) in
       let ends : h.group.last ≡ x.last = sym (hears_keep clocks c.states h).last ∙ ap (λ (z : Homing). (hears_all clocks c.states z).group.last) (sym same) ∙ safe.2.ends in
       subst (λ (n : ℕ). lines_tick (lines start b) ((n + 1) * turn_ns) ≤ tick) (sym ends) late_so
 
-  run_near : (c : Came) (before : List Came) (all : List (ℕ → BoardTurn)) → IsClearRun m switches pins entries lines ready c before all → AxesLow m switches (c ∷ before) → near → (h : Homing) → (noted m c.note (known_by m switches before)).homing ≡ Some h
+  run_near : (c : Came) (before : List Came) (all : List (ℕ → BoardTurn)) → IsClearRun m switches pins entries lines ready till c before all → length before + 276 ≤ till → AxesLow m switches (c ∷ before) → near → (h : Homing) → (noted m c.note (known_by m switches before)).homing ≡ Some h
       → HearSoon m switches (axis_at m h.axis).board h.start (c ∷ before) (turns_of (axis_at m h.axis).board all)
       → (tick : ℕ) → answer_in (length before) h.start (hears_all (noted m c.note (known_by m switches before)).clocks c.states h).group ≡ Some (end.Endstop tick)
       → IsSwitchTick m (pins (axis_at m h.axis).board) (axis_at m h.axis).board (axis_at m h.axis) (lines_tick (lines h.start (axis_at m h.axis).board) (h.start * turn_ns)) tick
-  run_near c before all r low is_near h is hear tick answers =
-      let y = begun.began_in m v switches pins entries none lines ready c before all r h is in
-      let s = begun.section_in m v switches pins entries none lines ready c before all r h y in
+  run_near c before all r reach low is_near h is hear tick answers =
+      let y = begun.began_in m v switches pins entries none lines ready till c before all r h is in
+      let s = begun.section_in m v switches pins entries none lines ready till c before all r h y in
       let soon = y.soon in
       let from = y.from in
       let start = h.start in
       let members = members_of h.group in
       let own = (axis_at m h.axis).board in
       let late = answered_late (length before) h.start (hears_all (noted m c.note (known_by m switches before)).clocks c.states h).group (end.Endstop tick) answers in
-      let x = find from start members soon c before all s (begun.well_alone m switches lines ready before r.begins.1) (begun.set_up_all m v switches pins entries none lines ready c before all r) low (omega (arith, late)) in
+      let x = find from start members soon c before all s (begun.well_alone m switches lines ready till before r.begins.1) (begun.set_up_all m v switches pins entries none lines ready till c before all r) low reach (omega (arith, late)) in
       let low_so = x.low_so in
       let of = of_axis m switches c before r.goes_on h is in
       let so : near → (b : ℕ) → IsReader b members → HearSoon m switches b start (c ∷ before) (turns_of b all) = λ n b reads. subst (λ (z : ℕ). HearSoon m switches z start (c ∷ before) (turns_of z all)) (of.0 b reads) hear in
-      let hit = answers_first m v switches pins entries none (lines start) ready from start x.last (start - 249) members x.followed (omega (arith, soon)) (omega (arith, low_so)) (omega arith) near c before all so s (omega (arith, late, soon)) x.safe x.minds is_near h is tick answers in
+      let hit = answers_first m v switches pins entries none (lines start) ready from start x.last till (start - 249) members x.followed (omega (arith, soon)) (omega (arith, low_so)) (omega arith) near c before all so s reach (omega (arith, late, soon)) x.safe x.minds is_near h is tick answers in
       subst (λ (z : ℕ). IsSwitchTick m (pins z) z (axis_at m h.axis) (lines_tick (lines start z) (start * turn_ns)) tick) (sym (of.0 hit.0 hit.1)) hit.2
 
 -- over the turns of a run
-module _ (m : Machine) (v : IsValidMachine m) (switches : List Switch) (pins : ℕ → List (List Level)) (entries : List Entry) (none : entries ≡ []) (lines : ℕ → ℕ → Clocks) (ready : ℕ) where
+module _ (m : Machine) (v : IsValidMachine m) (switches : List Switch) (pins : ℕ → List (List Level)) (entries : List Entry) (none : entries ≡ []) (lines : ℕ → ℕ → Clocks) (ready till : ℕ) where
   -- it answers that no switch closed only where its readings are complete at no tick before that behind its last turn
-  pub run_misses : (c : Came) (before : List Came) (all : List (ℕ → BoardTurn)) → IsClearRun m switches pins entries lines ready c before all → AxesLow m switches (c ∷ before) → (h : Homing) → (noted m c.note (known_by m switches before)).homing ≡ Some h
+  pub run_misses : (c : Came) (before : List Came) (all : List (ℕ → BoardTurn)) → IsClearRun m switches pins entries lines ready till c before all → length before + 276 ≤ till → AxesLow m switches (c ∷ before) → (h : Homing) → (noted m c.note (known_by m switches before)).homing ≡ Some h
       → answer_in (length before) h.start (hears_all (noted m c.note (known_by m switches before)).clocks c.states h).group ≡ Some end.NoSwitch
       → (tick : ℕ) → IsSwitchTick m (pins (axis_at m h.axis).board) (axis_at m h.axis).board (axis_at m h.axis) (lines_tick (lines h.start (axis_at m h.axis).board) (h.start * turn_ns)) tick
       → lines_tick (lines h.start (axis_at m h.axis).board) ((h.group.last + 1) * turn_ns) ≤ tick
-  run_misses c before all r low h is answers tick hit = run_late m v switches pins entries none lines ready ⊥ c before all r low h is (λ n b reads. absurd n) answers tick hit
+  run_misses c before all r reach low h is answers tick hit = run_late m v switches pins entries none lines ready till ⊥ c before all r reach low h is (λ n b reads. absurd n) answers tick hit
 
   -- and where they are complete before it, it answers that the switch closed
-  pub run_closes : (c : Came) (before : List Came) (all : List (ℕ → BoardTurn)) → IsClearRun m switches pins entries lines ready c before all → AxesLow m switches (c ∷ before) → (h : Homing) → (noted m c.note (known_by m switches before)).homing ≡ Some h
+  pub run_closes : (c : Came) (before : List Came) (all : List (ℕ → BoardTurn)) → IsClearRun m switches pins entries lines ready till c before all → length before + 276 ≤ till → AxesLow m switches (c ∷ before) → (h : Homing) → (noted m c.note (known_by m switches before)).homing ≡ Some h
       → (tick : ℕ) → IsSwitchTick m (pins (axis_at m h.axis).board) (axis_at m h.axis).board (axis_at m h.axis) (lines_tick (lines h.start (axis_at m h.axis).board) (h.start * turn_ns)) tick
       → tick < lines_tick (lines h.start (axis_at m h.axis).board) ((h.group.last + 1) * turn_ns) → (x : End)
       → answer_in (length before) h.start (hears_all (noted m c.note (known_by m switches before)).clocks c.states h).group ≡ Some x → (at : ℕ) × (x ≡ end.Endstop at)
-  run_closes c before all r low h is tick hit early (end.Endstop at) answers = (at, refl)
-  run_closes c before all r low h is tick hit early end.NoSwitch answers = absurd (let late = run_misses c before all r low h is answers tick hit in omega (arith, late, early))
-  run_closes c before all r low h is tick hit early (end.Expired b turn) answers = absurd (begun.run_answers m v switches pins entries none lines ready c before all r h is b turn answers)
+  run_closes c before all r reach low h is tick hit early (end.Endstop at) answers = (at, refl)
+  run_closes c before all r reach low h is tick hit early end.NoSwitch answers = absurd (let late = run_misses c before all r reach low h is answers tick hit in omega (arith, late, early))
+  run_closes c before all r reach low h is tick hit early (end.Expired b turn) answers = absurd (begun.run_answers m v switches pins entries none lines ready till c before all r reach h is b turn answers)
 
   -- and that is at the first tick at which they are complete, where its board's report is heard within half a round of its clock
-  pub run_switches : (c : Came) (before : List Came) (all : List (ℕ → BoardTurn)) → IsClearRun m switches pins entries lines ready c before all → AxesLow m switches (c ∷ before) → (h : Homing) → (noted m c.note (known_by m switches before)).homing ≡ Some h
+  pub run_switches : (c : Came) (before : List Came) (all : List (ℕ → BoardTurn)) → IsClearRun m switches pins entries lines ready till c before all → length before + 276 ≤ till → AxesLow m switches (c ∷ before) → (h : Homing) → (noted m c.note (known_by m switches before)).homing ≡ Some h
       → HearSoon m switches (axis_at m h.axis).board h.start (c ∷ before) (turns_of (axis_at m h.axis).board all)
       → (tick : ℕ) → answer_in (length before) h.start (hears_all (noted m c.note (known_by m switches before)).clocks c.states h).group ≡ Some (end.Endstop tick)
       → IsSwitchTick m (pins (axis_at m h.axis).board) (axis_at m h.axis).board (axis_at m h.axis) (lines_tick (lines h.start (axis_at m h.axis).board) (h.start * turn_ns)) tick
-  run_switches c before all r low h is hear tick answers = run_near m v switches pins entries none lines ready (Unit {0}) c before all r low tt h is hear tick answers
+  run_switches c before all r reach low h is hear tick answers = run_near m v switches pins entries none lines ready till (Unit {0}) c before all r reach low tt h is hear tick answers

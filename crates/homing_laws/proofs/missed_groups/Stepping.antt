@@ -144,9 +144,9 @@ module _ (m : Machine) (pins : ℕ → List (List Level)) (lines : ℕ → Clock
     pub told : Each (Stood rigs) own g.members
 
 -- over a turn
-module _ (m : Machine) (v : IsValidMachine m) (switches : List Switch) (pins : ℕ → List (List Level)) (entries : List Entry) (none : entries ≡ []) (lines : ℕ → Clocks) (ready from start last : ℕ) (members : List Member)
-    (followed : (b : ℕ) → IsMember b members → IsFollowed m b (lines b) ready start last) (axis own : ℕ) (near : Type 0) (c d : Came) (past : List Came) (j : ℕ → BoardTurn) (js : List (ℕ → BoardTurn))
-    (s : IsClearSection m switches pins entries lines from start members c (d ∷ past) (j ∷ js)) (early : from ≤ length past) (low_so : ready + 4 ≤ length past) (far : start ≤ length past + 249)
+module _ (m : Machine) (v : IsValidMachine m) (switches : List Switch) (pins : ℕ → List (List Level)) (entries : List Entry) (none : entries ≡ []) (lines : ℕ → Clocks) (ready from start last till : ℕ) (members : List Member)
+    (followed : (b : ℕ) → IsMember b members → IsFollowed m b (lines b) ready start last till) (axis own : ℕ) (near : Type 0) (c d : Came) (past : List Came) (j : ℕ → BoardTurn) (js : List (ℕ → BoardTurn))
+    (s : IsClearSection m switches pins entries lines from start members c (d ∷ past) (j ∷ js)) (early : from ≤ length past) (low_so : ready + 4 ≤ length past) (far : start ≤ length past + 249) (reach : length past + 276 ≤ till)
     (h : Homing) (is : (noted m d.note (known_by m switches past)).homing ≡ Some h) where
   abbrev K : ℕ
   K = length past
@@ -248,7 +248,8 @@ module _ (m : Machine) (v : IsValidMachine m) (switches : List Switch) (pins : �
         let order = f.goes in
         let begins = f.begins in
         let soon = (sound (trigger_of m b) u there).timeout limit timed in
-        let ahead = f.tracked.ahead (last + 1) (omega (arith, begins, order)) f.ends in
+        let ends = f.ends in
+        let ahead = f.tracked.ahead (last + 1) (omega (arith, begins, order)) (omega (arith, ends, late, reach)) in
         let size = long in
         let next : last + 1 + 4 ≡ last + 5 = omega arith in
         let ahead_so : lines_tick (lines b) ((last + 1) * turn_ns) < Own b (last + 5) = subst (λ (n : ℕ). lines_tick (lines b) ((last + 1) * turn_ns) < Own b n) next ahead in

@@ -1,5 +1,5 @@
 -- A homing section over the turns of a run in a scene without entries, by the reactor and all boards together.
-use Rattle.std.specs.Prelude.{◌≡◌, ◌<◌, ◌≤◌, ◌+◌, ◌*◌, ◌/◌, ◌^◌, ℕ, List, [], ◌∷◌, None, Some, length}
+use Rattle.std.specs.Prelude.{◌≡◌, ◌<◌, ◌≤◌, ◌+◌, ◌*◌, ◌/◌, ◌^◌, ℕ, List, [], ◌∷◌, None, Some, length, min}
 use Rattle.plan_types.specs.declared.levels.Level.{Level}
 use Rattle.plan_types.specs.declared.machine.Machine.{Machine}
 use Rattle.plan_types.specs.Clock.{board_tick, clock_of, turn_ns}
@@ -62,12 +62,13 @@ KnowsLines m switches start lines (c ∷ before) =
 abbrev pub report_ticks : Machine → ℕ → ℕ
 report_ticks m b = (board_at m b).freq * 5 / 1_000
 
--- A board whose clock lines follow it, from five turns before a section's start on until the turn behind its last one at least.
-pub record IsFollowed (m : Machine) (b : ℕ) (clocks : Clocks) (ready start last : ℕ) : Type 0 where
+-- A board whose clock lines follow it, from five turns before a section's start on until a turn at least, or until the turn behind the section's last one,
+-- where that is sooner.
+pub record IsFollowed (m : Machine) (b : ℕ) (clocks : Clocks) (ready start last until : ℕ) : Type 0 where
   pub tracked : AreTracked (λ k. board_tick (clock_of (board_at m b)) k) clocks ready
   pub begins : ready + 5 ≤ start
   pub goes : start ≤ last
-  pub ends : last + 1 ≤ tracked.until
+  pub ends : min (last + 1) until ≤ tracked.until
   pub in_run : tracked.until < run_turns
   pub ticks : AreTicks (λ k. board_tick (clock_of (board_at m b)) k)
   pub rises : (u : ℕ) → board_tick (clock_of (board_at m b)) u < board_tick (clock_of (board_at m b)) (u + 1)

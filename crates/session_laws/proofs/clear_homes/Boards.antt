@@ -1,8 +1,8 @@
 -- Each board of a whole run in which axes home, as the laws of boards ask for it.
-use Rattle.std.proofs.Common.{◌≡◌, ℕ, ◌+◌, ◌^◌, ◌<◌, ◌≤◌, List, [], ◌∷◌, ◌++◌, length, map, Some, refl, subst, arith, length-append}
+use Rattle.std.proofs.Common.{◌≡◌, ℕ, ◌^◌, ◌<◌, ◌≤◌, List, [], ◌∷◌, ◌++◌, length, map, Some, refl, subst, arith, length-append}
 use Rattle.plan_types.specs.declared.cause.Cause.{Cause}
 use Rattle.plan_types.specs.declared.machine.Machine.{Machine}
-use Rattle.plan_types.specs.Clock.{board_tick, clock_of}
+use Rattle.plan_types.specs.Clock.{clock_of}
 use Rattle.plan_types.specs.Machines.{IsValidMachine, board_at}
 use Rattle.plan_types.specs.Sections.{clocks_at}
 use Rattle.wire_scene.specs.declared.scene.Scene.{Scene}
@@ -30,14 +30,18 @@ use Rattle.homing_laws.proofs.home_plans.Noting.{begun_row}
 use Rattle.homing_laws.specs.home_parts.Answers.{ArePastConnecting, IsPlannedBy, MayHome}
 use Rattle.homing_laws.specs.home_parts.Cuts.{cuts_on}
 use Rattle.homing_laws.specs.home_parts.Known.{KnowsLately, StartInRange}
+use Rattle.cause_runs.specs.Short.{HaveShortDictionaries}
+use Rattle.session_laws.specs.clock_ages.Renewed.{StayYoung}
+use Rattle.session_laws.proofs.clock_ages.Own.{Own}
+use Rattle.session_laws.proofs.clock_ages.Renews.{renews}
 use Rattle.session_laws.specs.home_headline.Little.{HomesLittle}
 use Rattle.session_laws.proofs.home_headline.Board.{Followed, boarded, here, lines_of}
 use Rattle.session_laws.proofs.home_headline.Clocks.{run_knows}
 use Rattle.session_laws.proofs.home_headline.Planned.{planned_by}
-use Rattle.session_laws.proofs.home_headline.Ranges.{may_all, own_small, range_all, starts_soon}
+use Rattle.session_laws.proofs.home_headline.Ranges.{may_all, on_small, range_all, starts_soon}
 
 module _ (m : Machine) (v : IsValidMachine m) (s : Scene) (ts : List MotionTurn) (p : Plans m (length m.boards) ts) (t : Told) (first : ReactorTurn) (rest : List ReactorTurn) (end : ReactorTurn) (c : Cause) (told : p.seen.told ≡ Some t) (f : Facts m s ts (first ∷ rest) end c)
-    (long : length (rest ++ end ∷ []) ≤ length p.made)
+    (long : length (rest ++ end ∷ []) ≤ length p.made) (short : HaveShortDictionaries m)
     (little : (b : ℕ) → b < length m.boards → (w : IsInWhole m s.switches b (clock_of (board_at m b)) (link_of m s b) ts first (rest ++ end ∷ [])) → HomesLittle m s b ts first (rest ++ end ∷ []) (length p.made) t p.seen.begun w) where
   notes : TookNotes (map (λ d. d.note) p.made) (first ∷ rest)
   notes = front_notes m v s ts p end c first rest f (took_notes m v s ts p end c first rest f long)
@@ -67,8 +71,11 @@ module _ (m : Machine) (v : IsValidMachine m) (s : Scene) (ts : List MotionTurn)
   abbrev pub Here : (b : ℕ) → b < length m.boards → OnBoard
   Here b h = here m v s ts p t first rest end told b (whole b h)
 
-  pub lines : (b : ℕ) → b < length m.boards → Followed m b t.clocks By p.seen.begun
-  lines b h = lines_of m v s ts p t first rest end told b (whole b h) turn h (little b h (whole b h)).near
+  pub renewed : (b : ℕ) → b < length m.boards → StayYoung m b (clocks_at t.clocks b) (length rest)
+  renewed b h = let size = length-append rest (end ∷ []) in renews m v short s ts p t first rest end c told f notes (omega (arith, size, long)) b h
+
+  pub lines : (b : ℕ) → b < length m.boards → Followed m b (length rest) t.clocks By p.seen.begun
+  lines b h = lines_of m v s ts p t first rest end told b (whole b h) turn h (renewed b h)
 
   pub row : AreInARow t.first p.seen.begun
   row = begun_row m t.clocks t.first p.seen.begun (started_in m ts p t told)
@@ -76,14 +83,11 @@ module _ (m : Machine) (v : IsValidMachine m) (s : Scene) (ts : List MotionTurn)
   pub sound : AreSound m t.clocks t.first
   sound = sound_of m v s ts p t first rest end told turn whole
 
-  own : (b : ℕ) → b < length m.boards → (k : ℕ) → k < 2 ^ 42 + 300 → board_tick (clock_of (board_at m b)) k < 2 ^ 62
-  own b h k soon = own_small (board_at m b) (valid_at m.boards b h v.boards) k soon
-
   range : (b : ℕ) → b < length m.boards → StartInRange (clocks_at t.clocks b) p.seen.begun
   range b h =
       let l = lines b h in
       let early = turn.early in
-      range_all m t.clocks (board_tick (clock_of (board_at m b))) (clocks_at t.clocks b) By t.first p.seen.begun l.tracked (own b h) (omega (arith, early)) row l.over (starts_soon m (length m.boards) ts p)
+      range_all m t.clocks (Own m b (length rest)) (clocks_at t.clocks b) By t.first p.seen.begun l.tracked (on_small m b (length rest) (valid_at m.boards b h v.boards)) (omega (arith, early)) row l.over (starts_soon m (length m.boards) ts p)
 
   pub clock : (b : ℕ) → b < length m.boards → (clocks_at t.clocks b).first.clock < 2 ^ 62
   clock b h = first_in_range m v s ts p t first rest end told b turn h

@@ -21,7 +21,8 @@ use Rattle.session_laws.specs.run_headline.Made.{IsMade}
 use Rattle.session_laws.proofs.run_headline.Making.{run_made}
 use Rattle.session_laws.proofs.run_headline.Runs.{facts}
 use Rattle.session_laws.proofs.run_headline.Showing.{Facts}
-use Rattle.session_laws.specs.clear_homes.Sends.{SendsAllSoon}
+use Rattle.cause_runs.specs.Short.{HaveShortDictionaries}
+use Rattle.session_laws.specs.clear_runs.Clear.{SendsAllSoon}
 use Rattle.session_laws.specs.clear_homes.Closes.{AllClose, MissesSwitch, TellFirst}
 use Rattle.session_laws.specs.home_headline.Cuts.{TellEnds}
 use Rattle.session_laws.specs.home_wholes.Own.{AllHearSoon}
@@ -54,7 +55,7 @@ ends_front : (m : Machine) (switches : List Switch) (begun : List Started) (k : 
 ends_front m switches begun k [] ys ends = tt
 ends_front m switches begun k (x ∷ xs) ys ends = (ends.0, ends_front m switches begun (k + 1) xs ys ends.1)
 
-module _ {F S : Type 0} (f : Files F) (o : Sink S) (m : Machine) (s : Scene) (name : List ℕ) (files files' : F) (out out' : S) (kept kept' : Kept) (t : Told Run) (r : RunsOver f o m s name files out kept t files' out' kept') (v : IsValidMachine m) where
+module _ {F S : Type 0} (f : Files F) (o : Sink S) (m : Machine) (s : Scene) (name : List ℕ) (files files' : F) (out out' : S) (kept kept' : Kept) (t : Told Run) (r : RunsOver f o m s name files out kept t files' out' kept') (v : IsValidMachine m) (short : HaveShortDictionaries m) where
   pub run_through : (text : List ℕ) → f.told files name ≡ Some text → kept.at ≡ 0 → s.entries ≡ [] → IsOwn t.cause → (t.cause ≡ cause.Memory → ⊥)
       → ((line : ℕ) → (program_end m text).stop ≡ read.Stop line → ⊥) → SendsAllSoon m text r.runs.0 → GoesOr t.cause
   run_through text told at clear own other goes sends =
@@ -69,14 +70,14 @@ module _ {F S : Type 0} (f : Files F) (o : Sink S) (m : Machine) (s : Scene) (na
     where
       by : (made : IsMade m s r.runs.0 r.runs.1) → ((line : ℕ) → (program_end m made.plans.seen.text).stop ≡ read.Stop line → ⊥)
           → SendsAllSoon m made.plans.seen.text r.runs.0 → (rs : List ReactorTurn) → Facts m s r.runs.0 rs r.runs.2 t.cause → GoesOr t.cause
-      by made on soon [] x = inl (through_alone m v s r.runs.0 made.plans r.runs.2 t.cause clear on soon x own)
-      by made on soon (first ∷ rest) x = through_all m v s r.runs.0 made.plans r.runs.2 t.cause clear on soon first rest x own
+      by made on soon [] x = inl (through_alone m v short s r.runs.0 made.plans r.runs.2 t.cause clear on soon x own)
+      by made on soon (first ∷ rest) x = through_all m v short s r.runs.0 made.plans r.runs.2 t.cause clear on soon first rest x own
 
   misses : (made : IsMade m s r.runs.0 r.runs.1) → s.entries ≡ [] → ((line : ℕ) → (program_end m made.plans.seen.text).stop ≡ read.Stop line → ⊥) → SendsAllSoon m made.plans.seen.text r.runs.0 → (rs : List ReactorTurn)
       → Facts m s r.runs.0 rs r.runs.2 t.cause → (section : ℕ) → t.cause ≡ cause.NoSwitch section → MissesSwitch m s made.plans.seen section
   misses made clear on soon [] x section e =
-      absurd (subst GoesThrough e (through_alone m v s r.runs.0 made.plans r.runs.2 t.cause clear on soon x (subst IsOwn (sym e) tt)))
-  misses made clear on soon (first ∷ rest) x section e = missed_all m v s r.runs.0 made.plans r.runs.2 t.cause clear on soon first rest x (subst IsOwn (sym e) tt) section e
+      absurd (subst GoesThrough e (through_alone m v short s r.runs.0 made.plans r.runs.2 t.cause clear on soon x (subst IsOwn (sym e) tt)))
+  misses made clear on soon (first ∷ rest) x section e = missed_all m v short s r.runs.0 made.plans r.runs.2 t.cause clear on soon first rest x (subst IsOwn (sym e) tt) section e
 
   -- a run that ends since no switch closed
   pub run_misses : (text : List ℕ) → f.told files name ≡ Some text → kept.at ≡ 0 → s.entries ≡ [] → ((line : ℕ) → (program_end m text).stop ≡ read.Stop line → ⊥) → SendsAllSoon m text r.runs.0
@@ -113,7 +114,7 @@ module _ {F S : Type 0} (f : Files F) (o : Sink S) (m : Machine) (s : Scene) (na
       → Ended m s r.runs.0 rs r.runs.2 t.cause → AllHearSoon m s made.plans.seen.text r.runs.0 (rs ++ r.runs.2 ∷ []) → TellFirst m s made.plans.seen [] rs
   firsts made clear own on sends [] x soon = tt
   firsts made clear own on sends (first ∷ rest) x soon =
-      first_all m v s r.runs.0 made.plans r.runs.2 t.cause clear on sends first rest x.facts own soon
+      first_all m v short s r.runs.0 made.plans r.runs.2 t.cause clear on sends first rest x.facts own soon
       (ends_front m s.switches made.plans.seen.begun 0 (first ∷ rest) (r.runs.2 ∷ []) (all_ends m v s r.runs.0 made.plans r.runs.2 t.cause (first ∷ rest) x (inl own)))
 
   -- each tick that it tells of is the first one

@@ -1,4 +1,4 @@
--- The clock lines of a board in a run in which axes home: they track it until behind a section's last planned step, and turns begin by those that the
+-- The clock lines of a board in a run in which axes home: they track it until any turn before that up to which they do, and turns begin by those that the
 -- reactor knows as by all.
 use Rattle.std.proofs.Common.{◌≡◌, ℕ, ◌+◌, ◌<◌, ◌≤◌, List, [], ◌∷◌, length, map, refl, ap, sym, ◌∙◌, subst, arith}
 use Rattle.std.proofs.lemmas.List.{length-map}
@@ -15,10 +15,10 @@ use Rattle.motion_work.specs.Known.{lines_by}
 use Rattle.homing_laws.proofs.home_parts.Held.{clocks_by, kept_by, tick_known}
 use Rattle.homing_laws.specs.clear_groups.Sections.{KnowsLines}
 
-pub tracked_by : (own : ℕ → ℕ) (clocks : Clocks) (ready last : ℕ) (k : AreTracked own clocks ready) → last + 1 ≤ k.until → (x : AreTracked own clocks ready) × (x.until ≡ last + 1)
-tracked_by own clocks ready last k far =
+pub tracked_by : (own : ℕ → ℕ) (clocks : Clocks) (ready until : ℕ) (k : AreTracked own clocks ready) → until ≤ k.until → (x : AreTracked own clocks ready) × (x.until ≡ until)
+tracked_by own clocks ready until k far =
     let x : AreTracked own clocks ready = record {
-      until = last + 1;
+      until = until;
       kept = k.kept;
       behind = λ n low soon. k.behind n low (omega (arith, soon, far));
       ahead = λ n low soon. k.ahead n low (omega (arith, soon, far));

@@ -4,7 +4,7 @@ use Rattle.std.specs.List.{flat_map}
 use Rattle.std.proofs.lemmas.Bool.Decides.{leb_tells}
 use Rattle.std.proofs.lemmas.List.Elements.{All-head, All-tail}
 use Rattle.plan_types.specs.declared.machine.Machine.{Machine}
-use Rattle.plan_types.specs.Clock.{board_tick, clock_of, turn_ns}
+use Rattle.plan_types.specs.Clock.{clock_of, turn_ns}
 use Rattle.plan_types.specs.Lines.{Clocks, lines_tick}
 use Rattle.msg_code.specs.declared.cmd.Cmd.{Cmd}
 use Rattle.msg_code.specs.declared.cmd.Cmd.TheVariants as cmd
@@ -29,12 +29,11 @@ use Rattle.run_laws.specs.Links.{ends_of, steps_of, turns_told}
 use Rattle.run_laws.specs.Parts.{AreTracked}
 use Rattle.run_laws.proofs.Entering.{all_inside, begun_inside, early_fits}
 use Rattle.run_laws.proofs.Halted.{all_fair}
-use Rattle.run_laws.proofs.Linking.{valid_ticks}
 use Rattle.run_laws.proofs.Releasing.{from_down, paced_from}
 use Rattle.run_laws.proofs.Waiting.{Frame}
 use Rattle.homing_laws.specs.home_parts.Cuts.{cuts_on}
 use Rattle.session_laws.proofs.home_headline.Good.{board_good}
-use Rattle.session_laws.proofs.clear_runs.Punctual.{AllFrom, AllInTime, AllLed, AreAhead, AreLed, AreNear, InTime, ahead_in, batch_from, fair_turns, from_both, not_late, time_both, time_of, units_time}
+use Rattle.session_laws.proofs.clear_runs.Punctual.{AllFrom, AllInTime, AllLed, AreAhead, AreLed, AreNear, InTime, ahead_in, batch_from, fair_turns, from_both, led_less, not_late, time_both, time_of, units_time}
 
 abbrev AllAhead : ℕ → (ℕ → ℕ) → List RunSection → Type 0
 AllAhead turns own [] = Unit {0}
@@ -43,6 +42,10 @@ AllAhead turns own (s ∷ ss) = AreAhead turns own s.section.releases × AllAhea
 abbrev pub RunsLed : ℕ → ℕ → List RunSection → Type 0
 RunsLed turns n [] = Unit {0}
 RunsLed turns n (s ∷ ss) = AreLed turns n s.section.releases × RunsLed turns n ss
+
+runs_led_less : (turns fewer n : ℕ) (ss : List RunSection) → fewer ≤ turns → RunsLed turns n ss → RunsLed fewer n ss
+runs_led_less turns fewer n [] h s = tt
+runs_led_less turns fewer n (x ∷ ss) h s = (led_less turns fewer n x.section.releases h s.0, runs_led_less turns fewer n ss h s.1)
 
 -- those of the units that were released before a turn
 led_front : (turns n turn : ℕ) (rs : List Release) → AreLed turns n rs → AreLed turns n (before_turn turn rs)
@@ -54,7 +57,7 @@ cuts_led m clocks turns n turn b [] s = tt
 cuts_led m clocks turns n turn b (x ∷ begun) s = (led_front turns n turn (part_on m clocks x b).releases s.0, cuts_led m clocks turns n turn b begun s.1)
 
 -- a section's
-section_ahead : (own : ℕ → ℕ) (clocks : Clocks) (freq slots ready turns n : ℕ) (stops : ℕ → Option ℕ) (homes : Bool) (s : BoardSection) → AreTicks own → (tracked : AreTracked own clocks ready) → AreNear own clocks ready tracked.until n
+section_ahead : (own : ℕ → ℕ) (clocks : Clocks) (freq slots ready turns n : ℕ) (stops : ℕ → Option ℕ) (homes : Bool) (s : BoardSection) → AreTicks own → (tracked : AreTracked own clocks ready) → AreNear own clocks ready turns tracked.until n
     → IsSectionBy homes clocks freq slots tracked.until stops s → ready + 260 ≤ s.start → s.start ≤ s.end → AreLed turns n s.releases → AreAhead turns own s.releases
 section_ahead own clocks freq slots ready turns n stops true s ticks tracked near i after order led =
     let f : Frame = record { own = own; clocks = clocks; slots = slots; ready = ready; start = s.start; end = i.last; ticks = ticks; tracked = tracked; after = after; order = i.order; limit = i.limit } in
@@ -71,7 +74,7 @@ section_ahead own clocks freq slots ready turns n stops false s ticks tracked ne
     let from = from_down (ready + 1) i.is.from s.releases (omega (arith, after, soon)) (paced_from clocks slots i.is.from [] s.releases i.is.paced) in
     ahead_in f turns n s.releases near inside led from
 
-all_ahead : (own : ℕ → ℕ) (clocks : Clocks) (freq slots ready e turns n : ℕ) (stops : ℕ → Option ℕ) (ss : List RunSection) → AreTicks own → (tracked : AreTracked own clocks ready) → AreNear own clocks ready tracked.until n → ready ≤ e
+all_ahead : (own : ℕ → ℕ) (clocks : Clocks) (freq slots ready e turns n : ℕ) (stops : ℕ → Option ℕ) (ss : List RunSection) → AreTicks own → (tracked : AreTracked own clocks ready) → AreNear own clocks ready turns tracked.until n → ready ≤ e
     → All (λ s. IsSectionBy s.homes clocks freq slots tracked.until stops s.section) ss → AreInTurn e ss → RunsLed turns n ss → AllAhead turns own ss
 all_ahead own clocks freq slots ready e turns n stops [] ticks tracked near low i row s = tt
 all_ahead own clocks freq slots ready e turns n stops (x ∷ ss) ticks tracked near low i row s =
@@ -113,24 +116,25 @@ board_fair : (place : ℕ) (entries : List Entry) (ready turns : ℕ) (ss : List
     → AllFair (start x.board x.pins) (steps_of (clock_of x.board) 0 x.orders (first_state x.board x.pins place entries) k.end (turns_told (clock_of x.board) 0 x.orders x.states (first_state x.board x.pins place entries) k.end k.told))
 board_fair place entries ready turns ss x k =
     let t = turns_told (clock_of x.board) 0 x.orders x.states (first_state x.board x.pins place entries) k.end k.told in
-    all_fair x.board x.pins (board_tick (clock_of x.board)) k.stops x.orders (steps_of (clock_of x.board) 0 x.orders (first_state x.board x.pins place entries) k.end t) (board_good place entries ready turns ss x k)
+    all_fair x.board x.pins k.own k.stops x.orders (steps_of (clock_of x.board) 0 x.orders (first_state x.board x.pins place entries) k.end t) (board_good place entries ready turns ss x k)
 
 -- where each unit is released as many turns before the one in which it is due as the lines are behind
 pub soon_not_late : (place : ℕ) (entries : List Entry) (ready turns long n : ℕ) (ss : List RunSection) (x : OnBoard) (k : IsHomeBoard place entries ready turns ss x) (tick first : ℕ) → entries ≡ []
-    → AreNear (board_tick (clock_of x.board)) x.clocks ready k.run_is.tracked.until n → RunsLed long n ss → turns ≤ long
+    → AreNear k.own x.clocks ready turns k.run_is.tracked.until n → RunsLed long n ss → turns ≤ long
     → IsLate (clock_of x.board) x.orders (first_state x.board x.pins place entries)
     (ends_of (clock_of x.board) 0 x.orders (first_state x.board x.pins place entries) k.end (turns_told (clock_of x.board) 0 x.orders x.states (first_state x.board x.pins place entries) k.end k.told)) tick first → ⊥
 soon_not_late place entries ready turns long n ss x k tick first e near led within y =
     let clock = clock_of x.board in
-    let own = board_tick clock in
+    let own = k.own in
     let l = first_state x.board x.pins place entries in
     let t = turns_told clock 0 x.orders x.states l k.end k.told in
     let r = k.run_is in
-    let ahead = all_ahead own x.clocks x.board.freq x.board.slots ready ready long n k.stops ss (valid_ticks x.board k.valid) r.tracked near (omega arith) r.sections r.row led in
+    let ahead = all_ahead own x.clocks x.board.freq x.board.slots ready ready turns n k.stops ss k.own_is.ticks r.tracked near (omega arith) r.sections r.row (runs_led_less long turns n ss within led) in
     let In : List Orders → Type 0 = λ z. AreOrdersIn x.clocks ss 0 z in
     let few = ap length y.turns ∙ length-append y.before (y.orders ∷ y.after) in
     let count = k.count in
-    let time = orders_time long own x.clocks ss 0 (length y.before) y.before y.orders y.after ahead (omega (arith, few, within, count)) (omega arith) (subst In y.turns r.orders) in
+    let time = orders_time turns own x.clocks ss 0 (length y.before) y.before y.orders y.after ahead (omega (arith, few, count)) (omega arith) (subst In y.turns r.orders) in
     let Queued : List Meant → Type 0 = λ z. AllInTime (own (length y.before)) z in
     let one = time_of (own (length y.before)) y.front y.command y.rest (subst Queued y.queued time) in
-    not_late x.board x.pins place entries x.orders k.end t tick first e y (one y.steps first (y.own (fair_turns clock 0 x.orders l k.end t (board_fair place entries ready turns ss x k))))
+    let soon = one y.steps first (y.own (fair_turns clock 0 x.orders l k.end t (board_fair place entries ready turns ss x k))) in
+    not_late x.board x.pins place entries x.orders k.end t tick first e y (omega (arith, soon, k.own_is.same (length y.before) (omega (arith, few, count))))

@@ -5,7 +5,7 @@ use Rattle.plan_types.specs.declared.levels.Level.{Level}
 use Rattle.plan_types.specs.declared.machine.BoardDef.{BoardDef}
 use Rattle.plan_types.specs.declared.plan.BoardState.{BoardState}
 use Rattle.plan_types.specs.declared.plan.BoardState.TheVariants.{Running, Shut}
-use Rattle.plan_types.specs.Clock.{board_tick, clock_of}
+use Rattle.plan_types.specs.Clock.{clock_of}
 use Rattle.msg_code.specs.declared.talk.ShutNews.{ShutNews}
 use Rattle.msg_code.specs.declared.talk.State.{State}
 use Rattle.wire_scene.specs.declared.scene.Entry.{Entry}
@@ -46,7 +46,7 @@ end_none place entries ready turns ss x k front last are never late =
     let good = board_good place entries ready turns ss x k in
     let is : k.end.core ≡ run steps (start x.board x.pins) = (turns_are clock 0 x.orders l k.end t).0 in
     let may = board_may place entries ready turns ss x k in
-    let keeps = (at_end x.board x.pins (board_tick clock) k.stops x.orders steps good).1 in
+    let keeps = (at_end x.board x.pins k.own k.stops x.orders steps good).1 in
     let queue : (run steps (start x.board x.pins)).queued ≡ flat_map queued_in x.orders = sym keeps.queued ∙ sent_orders 0 x.orders in
     let stop = λ (tick first : ℕ) (shut : k.end.core.board.controller.state ≡ Shut 5 tick first).
     never_shut x.board x.pins x.orders steps tick first keeps.ordered queue never (ap (λ (h : Core). h.board.controller.state) (sym is) ∙ shut) in

@@ -92,8 +92,8 @@ use Rattle.session_laws.specs.home_headline.Little.{HomesLittle, SendsAllInTime}
 use Rattle.session_laws.proofs.home_headline.Board.{here}
 use Rattle.session_laws.proofs.home_headline.Clear.{clear_little}
 use Rattle.session_laws.proofs.home_headline.Planned.{all_notes}
-use Rattle.run_parts.specs.Renewed.{ComeInTime}
-use Rattle.session_laws.specs.clear_homes.Sends.{AreDueBefore, SendsAllSoon}
+use Rattle.cause_runs.specs.Short.{HaveShortDictionaries}
+use Rattle.session_laws.specs.clear_runs.Clear.{SendsAllSoon}
 use Rattle.session_laws.proofs.clear_homes.Boards.{on}
 use Rattle.session_laws.proofs.clear_homes.Expired.{expired_of, missed_of}
 use Rattle.session_laws.proofs.clear_homes.Punctual.{RunsLed, cuts_led, soon_not_late}
@@ -117,13 +117,13 @@ use Rattle.session_laws.proofs.run_headline.Asked.{whole_by}
 pub soon_all : (m : Machine) (text : List ℕ) (ts : List MotionTurn) → SendsAllSoon m text ts → SendsAllInTime m text ts
 soon_all m text ts sends = λ p t b same told low.
     elim (sends p t b same told low) [
-      | inl x ↦ (x.1, inl x.0)
-      | inr x ↦ (spilled (length p.made) (parts_on m t.clocks p.seen.begun b) x.0, inr (x.1.0, x.1.1, x.1.3))
+      | inl x ↦ x.1
+      | inr x ↦ spilled (length p.made) (parts_on m t.clocks p.seen.begun b) x
     ]
 
 -- where all clocks are exact, units that are sent in time are sent soon
 pub exact_all : (m : Machine) (text : List ℕ) (ts : List MotionTurn) → ((b : ℕ) → b < length m.boards → (board_at m b).drift ≡ pos 0) → SendsAllInTime m text ts → SendsAllSoon m text ts
-exact_all m text ts exact sends = λ p t b same told low. inl (exact b low, (sends p t b same told low).0)
+exact_all m text ts exact sends = λ p t b same told low. inl (exact b low, sends p t b same told low)
 
 -- a line that tells of a switch has one section
 one_line : (m : Machine) (switches : List Switch) (i j : ℕ) (a b : AxisDef) (tick at : ℕ) → cut_line m switches i a (Some tick) ≡ cut_line m switches j b (Some at) → i ≡ j
@@ -136,15 +136,8 @@ no_line m switches i a tick e = cc
 abbrev pub GoesOr : Cause → Type 0
 GoesOr c = GoesThrough c ⊎ ((section : ℕ) × (c ≡ cause.NoSwitch section))
 
-module _ (m : Machine) (v : IsValidMachine m) (s : Scene) (ts : List MotionTurn) (p : Plans m (length m.boards) ts) (end : ReactorTurn) (c : Cause) (clear : s.entries ≡ [])
+module _ (m : Machine) (v : IsValidMachine m) (short : HaveShortDictionaries m) (s : Scene) (ts : List MotionTurn) (p : Plans m (length m.boards) ts) (end : ReactorTurn) (c : Cause) (clear : s.entries ≡ [])
     (goes : (line : ℕ) → (program_end m p.seen.text).stop ≡ read.Stop line → ⊥) (sends : SendsAllSoon m p.seen.text ts) where
-  -- the clock lines of a board come in time for the last steps that were told
-  due : (t : Told) → p.seen.told ≡ Some t → (b : ℕ) → b < length m.boards → ((board_at m b).drift ≡ pos 0) ⊎ ((until : ℕ) × AreDueBefore until p.seen.begun × ComeInTime (board_at m b).drift (clocks_at t.clocks b).first (clocks_at t.clocks b).held until)
-  due t told b low = elim (sends p t b refl told low) as (λ _. ((board_at m b).drift ≡ pos 0) ⊎ ((until : ℕ) × AreDueBefore until p.seen.begun × ComeInTime (board_at m b).drift (clocks_at t.clocks b).first (clocks_at t.clocks b).held until)) [
-    | inl x ↦ inl x.0
-    | inr x ↦ inr (x.1.0, x.1.2, x.1.3)
-  ]
-
   -- a run of one turn
   module _ (f : Facts m s ts [] end c) (own : IsOwn c) where
     phase_alone : (noted m end.note f.known).phase ≡ Connecting
@@ -280,11 +273,11 @@ module _ (m : Machine) (v : IsValidMachine m) (s : Scene) (ts : List MotionTurn)
 
         home : IsHomeBoard b s.entries (length (came_from [] Ready_in.past)) (length (rest ++ end ∷ [])) (cuts_on m t.clocks (length (rest ++ end ∷ [])) p.seen.begun b) (here m v s ts p t first rest end told b w)
         unfolding w
-        home = on m v s ts p t first rest end c told f long (little t told) b low
+        home = on m v s ts p t first rest end c told f long short (little t told) b low
 
         told_fits : UnitsFit (behind [] w.made)
         told_fits =
-            turns_fit (board_tick (clock_of (board_at m b))) (clocks_at t.clocks b) (board_at m b).freq (board_at m b).slots (length (came_from [] Ready_in.past)) home.stops (cuts_on m t.clocks (length (rest ++ end ∷ [])) p.seen.begun b) (behind [] w.made) home.run_is
+            turns_fit home.own (clocks_at t.clocks b) (board_at m b).freq (board_at m b).slots (length (came_from [] Ready_in.past)) home.stops (cuts_on m t.clocks (length (rest ++ end ∷ [])) p.seen.begun b) (behind [] w.made) home.run_is
 
         -- the line of an exact clock
         exact : (board_at m b).drift ≡ pos 0 → (k : ℕ) → length (came_from [] Ready_in.past) ≤ k → board_tick (clock_of (board_at m b)) k ≤ lines_tick (clocks_at t.clocks b) ((k + 0) * turn_ns)
@@ -362,11 +355,11 @@ module _ (m : Machine) (v : IsValidMachine m) (s : Scene) (ts : List MotionTurn)
               let ready_at = length (came_from [] (Ready_in t e).past) in
               let Keep : List Orders → Type 0 = λ z. AllKeepLimits z in
               let y = late_of (orders_in (behind [] w.made)) k.end k.told (subst Keep (sym w.in_order) limits) in
-              let late = λ (n' : ℕ). λ (near : AreNear (board_tick clock) (clocks_at t.clocks b) ready_at k.run_is.tracked.until n'). λ (led : RunsLed (length p.made) n' cuts).
+              let late = λ (n' : ℕ). λ (near : AreNear k.own (clocks_at t.clocks b) ready_at size k.run_is.tracked.until n'). λ (led : RunsLed (length p.made) n' cuts).
               soon_not_late b s.entries ready_at size (length p.made) n' cuts (here m v s ts p t first rest end e b w) k n.tick n.first clear near led long y in
               elim (sends p t b refl e low) [
-                | inl x ↦ late 0 (λ j from to. exact t e x.0 j from) (cuts_led m t.clocks (length p.made) 0 size b p.seen.begun (all_spilled_led (length p.made) (parts_on m t.clocks p.seen.begun b) x.1))
-                | inr x ↦ late 1 k.run_is.tracked.behind (cuts_led m t.clocks (length p.made) 1 size b p.seen.begun (all_soon_led (length p.made) (parts_on m t.clocks p.seen.begun b) x.0))
+                | inl x ↦ late 0 (λ j from low to. (let near = exact t e x.0 j from in omega (arith, near, k.own_is.same j (omega (arith, low))))) (cuts_led m t.clocks (length p.made) 0 size b p.seen.begun (all_spilled_led (length p.made) (parts_on m t.clocks p.seen.begun b) x.1))
+                | inr x ↦ late 1 (λ j from low to. k.run_is.tracked.behind j from to) (cuts_led m t.clocks (length p.made) 1 size b p.seen.begun (all_soon_led (length p.made) (parts_on m t.clocks p.seen.begun b) x))
               ]
 
     -- no board was told clock lines while the reactor connects
@@ -446,7 +439,7 @@ module _ (m : Machine) (v : IsValidMachine m) (s : Scene) (ts : List MotionTurn)
             in_none begun.0 begun.1 begun.2 p.seen.begun (not_told m v s ts p end c none) begun.4
         by (Some t) some =
             let is = expired_of Now.clocks (length All_came) board turn end.states Now.homing e in
-            never_expired m v s ts p t first rest end c some f long (little t some) clear not_stopping (have 0 v.boards_some) (λ b low. in_time b low) notes (due t some) is.0 is.1 board turn is.2
+            never_expired m v s ts p t first rest end c some f long short (little t some) clear not_stopping (have 0 v.boards_some) (λ b low. in_time b low) notes is.0 is.1 board turn is.2
 
     -- where one answers that no switch closed, none did in time
     missed_so : (section : ℕ) → (homing_turn Now.clocks (length All_came) end.states Now.homing).end ≡ Some (cause.NoSwitch section) → MissesSwitch m s p.seen section
@@ -463,7 +456,7 @@ module _ (m : Machine) (v : IsValidMachine m) (s : Scene) (ts : List MotionTurn)
                 → WasBegun p.seen.begun (Some h) → MissesSwitch m s p.seen section
             by_told None told h is answers number was = absurd (in_none was.0 was.1 was.2 p.seen.begun (not_told m v s ts p end c told) was.4)
             by_told (Some t) told h is answers number was =
-                let late = never_missed m v s ts p t first rest end c told f long (little t told) clear not_stopping (have 0 v.boards_some) (λ b low. in_time b low) notes (due t told) h is answers in
+                let late = never_missed m v s ts p t first rest end c told f long short (little t told) clear not_stopping (have 0 v.boards_some) (λ b low. in_time b low) notes h is answers in
                 let Late : ℕ → ℕ → ℕ → Type 0 = λ axis start last. (tick : ℕ) → IsSwitchTick m (pins_of (board_at m (axis_at m axis).board) (axis_at m axis).board s.switches) (axis_at m axis).board (axis_at m axis)
                 (lines_tick (clocks_at t.clocks (axis_at m axis).board) (start * turn_ns)) tick → lines_tick (clocks_at t.clocks (axis_at m axis).board) ((last + 1) * turn_ns) ≤ tick in
                 let at_last : Late h.axis h.start was.1.last = subst (λ (n : ℕ). Late h.axis h.start n) was.10 late in
@@ -514,7 +507,7 @@ module _ (m : Machine) (v : IsValidMachine m) (s : Scene) (ts : List MotionTurn)
           subst (λ (n : ℕ). HearSoon m s.switches (axis_at m h.axis).board n (y ∷ before) turns) (sym was.6)
           (soon p (axis_at m h.axis).board refl low (f.boards (axis_at m h.axis).board first rest low refl) was.0 was.1 was.2 was.3 was.4 was.5 (ap (λ (n : ℕ). (axis_at m n).board) (sym was.9))
           (came_in end ∷ ahead) y before later turns (came_snoc (came_in first ∷ []) rest end ∙ at_end) made (sym ends) (long_so ∙ sym ends))) in
-          let closes = closes_first m v s ts p t first rest end c told f long (little t told) clear not_stopping (have 0 v.boards_some) (λ b low. in_time b low) notes (due t told) (came_in end ∷ ahead) y before at_end h x.known hear x.tick x.answer in
+          let closes = closes_first m v s ts p t first rest end c told f long short (little t told) clear not_stopping (have 0 v.boards_some) (λ b low. in_time b low) notes (came_in end ∷ ahead) y before at_end h x.known hear x.tick x.answer in
           let At : ℕ → ℕ → Type 0 = λ axis start. IsSwitchTick m (pins_of (board_at m (axis_at m axis).board) (axis_at m axis).board s.switches) (axis_at m axis).board (axis_at m axis)
           (lines_tick (clocks_at t.clocks (axis_at m axis).board) (start * turn_ns)) x.tick in
           let at_start : At h.axis was.1.start = subst (λ (n : ℕ). At h.axis n) was.6 closes in

@@ -1,5 +1,5 @@
 -- A whole run in which axes home, in a scene without entries, is a clear run of all boards, and so none of its homing groups answers of an expiry.
-use Rattle.std.proofs.Common.{◌≡◌, ◌⊎◌, ℕ, ◌+◌, ◌*◌, ◌<◌, ◌≤◌, List, [], ◌∷◌, ◌++◌, length, map, Some, pos, refl, ap, sym, ◌∙◌, subst, arith, inl, inr, length-append}
+use Rattle.std.proofs.Common.{◌≡◌, ◌⊎◌, ℕ, ◌+◌, ◌*◌, ◌<◌, ◌≤◌, List, [], ◌∷◌, ◌++◌, length, map, Some, refl, ap, sym, ◌∙◌, subst, arith, inl, inr, length-append}
 use Rattle.std.proofs.Props.{props}
 use Rattle.std.proofs.lemmas.Bool.Decides.{leb_tells}
 use Rattle.plan_types.specs.declared.cause.Cause.{Cause}
@@ -33,7 +33,7 @@ use Rattle.run_boards.proofs.Items.{item_state}
 use Rattle.run_plans.specs.Lines.{TookNotes}
 use Rattle.run_plans.specs.Planned.{Plans, put_of}
 use Rattle.session_laws.specs.run_headline.Timely.{link_of}
-use Rattle.session_laws.proofs.run_headline.Boarded.{Ready, came_split, ready, took, valid_at}
+use Rattle.session_laws.proofs.run_headline.Boarded.{Ready, came_split, lines_renewed, ready, took, valid_at}
 use Rattle.session_laws.proofs.run_headline.Going.{Lasts, lasts}
 use Rattle.session_laws.proofs.run_headline.Showing.{Facts, came_long}
 use Rattle.homing_laws.specs.home_plans.Notes.{CameNotes, WasBegun}
@@ -62,11 +62,10 @@ use Rattle.session_laws.proofs.home_wholes.Axes.{axis_low}
 use Rattle.session_laws.proofs.run_headline.Joining.{of_sections}
 use Rattle.gcode_program.specs.Programs.{outcome_of}
 use Rattle.homing_laws.proofs.clear_groups.Joined.{join, tracked_later}
-use Rattle.run_parts.specs.Renewed.{ComeInTime}
-use Rattle.session_laws.specs.clear_homes.Sends.{AreDueBefore}
-use Rattle.session_laws.proofs.home_headline.Board.{lines_to}
+use Rattle.cause_runs.specs.Short.{HaveShortDictionaries}
+use Rattle.session_laws.proofs.clock_ages.Own.{follow_to}
 use Rattle.session_laws.proofs.clear_homes.Boards as boards
-use Rattle.session_laws.proofs.clear_homes.Bounds.{all_soon, last_in, lasts_by, lasts_low}
+use Rattle.session_laws.proofs.clear_homes.Bounds.{starts_by}
 use Rattle.session_laws.proofs.clear_homes.Lines.{lines_known, tracked_by}
 use Rattle.session_laws.proofs.clear_homes.Opened.{begin_well}
 use Rattle.session_laws.proofs.clear_homes.Running.{all_none, end_none}
@@ -100,32 +99,31 @@ turns_long b (x ∷ xs) = let rest = turns_long b xs in omega (arith, rest)
 one_came : (c y : Came) (past before : List Came) → c ∷ past ≡ y ∷ before → (c ≡ y) × (past ≡ before)
 one_came c y past before e = (cc, cc)
 
-module _ (m : Machine) (v : IsValidMachine m) (switches : List Switch) (pins : ℕ → List (List Level)) (entries : List Entry) (none : entries ≡ []) (lines : ℕ → ℕ → Clocks) (ready : ℕ) (y : Came) (before : List Came) where
+module _ (m : Machine) (v : IsValidMachine m) (switches : List Switch) (pins : ℕ → List (List Level)) (entries : List Entry) (none : entries ≡ []) (lines : ℕ → ℕ → Clocks) (ready till : ℕ) (y : Came) (before : List Came) where
   record CutTo (all : List (ℕ → BoardTurn)) : Type 0 where
     later : List (ℕ → BoardTurn)
     made : List (ℕ → BoardTurn)
     are : all ≡ later ++ made
-    run : IsClearRun m switches pins entries lines ready y before made
+    run : IsClearRun m switches pins entries lines ready till y before made
 
-  cut_to : (ahead : List Came) (c : Came) (past : List Came) (all : List (ℕ → BoardTurn)) → IsClearRun m switches pins entries lines ready c past all → c ∷ past ≡ ahead ++ y ∷ before → CutTo all
+  cut_to : (ahead : List Came) (c : Came) (past : List Came) (all : List (ℕ → BoardTurn)) → IsClearRun m switches pins entries lines ready till c past all → c ∷ past ≡ ahead ++ y ∷ before → CutTo all
   cut_to [] c past all r e =
       let same = one_came c y past before e in
-      record { later = []; made = all; are = refl; run = subst (λ (z : Came). IsClearRun m switches pins entries lines ready z before all) same.0 (subst (λ (z : List Came). IsClearRun m switches pins entries lines ready c z all) same.1 r) }
+      record { later = []; made = all; are = refl; run = subst (λ (z : Came). IsClearRun m switches pins entries lines ready till z before all) same.0 (subst (λ (z : List Came). IsClearRun m switches pins entries lines ready till c z all) same.1 r) }
   cut_to (a ∷ ahead) c [] all r e =
       let size = ap length (one_came c a [] (ahead ++ y ∷ before) e).1 in
       let more = length-append ahead (y ∷ before) in
       absurd (omega (arith, size, more))
   cut_to (a ∷ ahead) c (d ∷ past) [] r e = absurd (let size = r.long in omega (arith, size))
   cut_to (a ∷ ahead) c (d ∷ past) (j ∷ js) r e =
-      let x = cut_to ahead d past js (run_cut m v switches pins entries none lines ready c d past j js r) (one_came c a (d ∷ past) (ahead ++ y ∷ before) e).1 in
+      let x = cut_to ahead d past js (run_cut m v switches pins entries none lines ready till c d past j js r) (one_came c a (d ∷ past) (ahead ++ y ∷ before) e).1 in
       record { later = j ∷ x.later; made = x.made; are = ap (λ (z : List (ℕ → BoardTurn)). j ∷ z) x.are; run = x.run }
 
 module _ (m : Machine) (v : IsValidMachine m) (s : Scene) (ts : List MotionTurn) (p : Plans m (length m.boards) ts) (t : Told) (first : ReactorTurn) (rest : List ReactorTurn) (end : ReactorTurn) (c : Cause) (told : p.seen.told ≡ Some t) (f : Facts m s ts (first ∷ rest) end c)
-    (long : length (rest ++ end ∷ []) ≤ length p.made)
+    (long : length (rest ++ end ∷ []) ≤ length p.made) (short : HaveShortDictionaries m)
     (little : (b : ℕ) → b < length m.boards → (w : IsInWhole m s.switches b (clock_of (board_at m b)) (link_of m s b) ts first (rest ++ end ∷ [])) → HomesLittle m s b ts first (rest ++ end ∷ []) (length p.made) t p.seen.begun w)
     (clear : s.entries ≡ []) (stop : (line : ℕ) → (known_by m s.switches (came_from [] (first ∷ rest))).phase ≡ Stopping line → ⊥) (have : HaveStates m (came_in end ∷ came_from [] (first ∷ rest)))
-    (in_time : (b : ℕ) → b < length m.boards → (state : State) (n : ShutNews) → item b end.states ≡ state ∷ [] → state.shut ≡ Some n → n.reason ≡ 1 → ⊥) (notes : TookNotes (map (λ d. d.note) p.made) (first ∷ (rest ++ end ∷ [])))
-    (due : (b : ℕ) → b < length m.boards → ((board_at m b).drift ≡ pos 0) ⊎ ((until : ℕ) × AreDueBefore until p.seen.begun × ComeInTime (board_at m b).drift (clocks_at t.clocks b).first (clocks_at t.clocks b).held until)) where
+    (in_time : (b : ℕ) → b < length m.boards → (state : State) (n : ShutNews) → item b end.states ≡ state ∷ [] → state.shut ≡ Some n → n.reason ≡ 1 → ⊥) (notes : TookNotes (map (λ d. d.note) p.made) (first ∷ (rest ++ end ∷ []))) where
   abbrev Came_all : List Came
   Came_all = came_from [] (first ∷ rest)
 
@@ -151,18 +149,18 @@ module _ (m : Machine) (v : IsValidMachine m) (s : Scene) (ts : List MotionTurn)
   latest b h = latest_behind [] (Whole b h).made (last b h).front (last b h).last (last b h).are
 
   count : (b : ℕ) (h : b < length m.boards) → length (Turns b h) ≡ length (rest ++ end ∷ [])
-  count b h = boards.count m v s ts p t first rest end c told f long little b h
+  count b h = boards.count m v s ts p t first rest end c told f long short little b h
 
   many : length Came_all ≡ length (rest ++ end ∷ [])
   many = let size = came_long [] (first ∷ rest) in let more = length-append rest (end ∷ []) in omega (arith, size, more)
 
   plain : (b : ℕ) (h : b < length m.boards) → IsPlain m s.switches (Pins b) s.entries b Came_all (Turns b h)
   plain b h =
-      let run = boards.run_of m v s ts p t first rest end c told f long little b h in
-      let home = boards.on m v s ts p t first rest end c told f long little b h in
-      let units = turns_fit (board_tick (clock_of (board_at m b))) (clocks_at t.clocks b) (board_at m b).freq (board_at m b).slots From home.stops (cuts_on m t.clocks (length (rest ++ end ∷ [])) p.seen.begun b) (Turns b h) home.run_is in
+      let run = boards.run_of m v s ts p t first rest end c told f long short little b h in
+      let home = boards.on m v s ts p t first rest end c told f long short little b h in
+      let units = turns_fit home.own (clocks_at t.clocks b) (board_at m b).freq (board_at m b).slots From home.stops (cuts_on m t.clocks (length (rest ++ end ∷ [])) p.seen.begun b) (Turns b h) home.run_is in
       let limits = all_limits m s.switches (Pins b) s.entries b Came_all (Turns b h) v run stop units in
-      let none = end_none b s.entries From (length (rest ++ end ∷ [])) (cuts_on m t.clocks (length (rest ++ end ∷ [])) p.seen.begun b) (boards.Here m v s ts p t first rest end c told f long little b h) home (last b h).front (last b h).last (last b h).are
+      let none = end_none b s.entries From (length (rest ++ end ∷ [])) (cuts_on m t.clocks (length (rest ++ end ∷ [])) p.seen.begun b) (boards.Here m v s ts p t first rest end c told f long short little b h) home (last b h).front (last b h).last (last b h).are
       (never_stop m s.switches (Pins b) s.entries b Came_all (Turns b h) run stop) (λ n shut one. in_time b h (last b h).last n (last b h).at shut one) in
       let size = count b h in
       let small = p.small in
@@ -181,44 +179,50 @@ module _ (m : Machine) (v : IsValidMachine m) (s : Scene) (ts : List MotionTurn)
       subst Notes (came_split [] (first ∷ rest) end []) (all_notes m p.seen.text p.seen.begun p.made first (rest ++ end ∷ []) p.put notes)
 
   knows : ((known_by m s.switches Came_all).phase ≡ Connecting → ⊥) × ((noted m end.note (known_by m s.switches Came_all)).clocks ≡ map (lines_by (length Came_all + 276)) t.clocks)
-  knows = end_knows m v s ts p t first rest end told Turn f.turns (boards.sound m v s ts p t first rest end c told f long little) notes
+  knows = end_knows m v s ts p t first rest end told Turn f.turns (boards.sound m v s ts p t first rest end c told f long short little) notes
 
   -- each section's own clock lines, which are all
   abbrev Lines : ℕ → ℕ → Clocks
   Lines start b = clocks_at t.clocks b
 
+  -- they track the boards until here
+  abbrev Till : ℕ
+  Till = length Came_all + 276
+
+  reach : length Came_all + 276 ≤ Till
+  reach = omega arith
+
   tracked : (past : List Started) (x : Started) (later : List Started) (axis : ℕ) → p.seen.begun ≡ past ++ x ∷ later → x.section.kind ≡ Home axis
-      → (x.start ≤ x.last) × ((b : ℕ) → b < length m.boards → IsTracked m b (Lines x.start b) (From + 1) x.last)
-  tracked past x later axis cut home =
-      let both = last_in m ts p t told past x later axis cut home in
-      let soon = all_soon m ts p t told in
-      let last = both.1 in (
-        both.0,
-        λ b h. (
-            let own : ℕ → ℕ = λ n. board_tick (clock_of (board_at m b)) n in
-            let Near : Type 0 = ((board_at m b).drift ≡ pos 0) ⊎ ((until : ℕ) × (lasts_by p.seen.begun ≤ until) × ComeInTime (board_at m b).drift (clocks_at t.clocks b).first (clocks_at t.clocks b).held until) in
-            let near = elim (due b h) as (λ _. Near) [ inl exact ↦ inl exact | inr come ↦ inr (come.0, lasts_low come.0 p.seen.begun come.1, come.2) ] in
-            let l = lines_to m v s ts p t first rest end told b (lasts_by p.seen.begun) (Whole b h) Turn h near in
-            let low = l.1 in
-            let late = tracked_later own (clocks_at t.clocks b) From (From + 1) (omega arith) l.0 in
-            let same = late.1 in
-            let y = tracked_by own (clocks_at t.clocks b) (From + 1) x.last late.0 (omega (arith, low, same, last)) in
-            let is = y.1 in
-            (y.0, omega (arith, is), omega (arith, is, soon, last))),
-      )
+      → (x.start ≤ x.last) × ((b : ℕ) → b < length m.boards → IsTracked m b (Lines x.start b) (From + 1) x.last Till)
+  tracked past x later axis cut home = (
+    starts_by m ts p t told past x later axis cut home,
+    λ b h. (
+        let own : ℕ → ℕ = λ n. board_tick (clock_of (board_at m b)) n in
+        let l = follow_to m b (length rest) From (clocks_at t.clocks b) (lines_renewed m v s ts p t first rest end told b Turn (Whole b h) h (boards.renewed m v s ts p t first rest end c told f long short little b h)) in
+        let low = l.1 in
+        let all = many in
+        let more = length-append rest (end ∷ []) in
+        let late = tracked_later own (clocks_at t.clocks b) From (From + 1) (omega arith) l.0 in
+        let same = late.1 in
+        let y = tracked_by own (clocks_at t.clocks b) (From + 1) Till late.0 (omega (arith, low, same, all, more)) in
+        let is = y.1 in
+        let few = p.small in
+        let size = length-map p.made put_of in
+        (y.0, omega (arith, is), omega (arith, is, few, size, all, long))),
+  )
 
   is_clear : (all : List (ℕ → BoardTurn)) → length all ≡ length Came_all → ((b : ℕ) (h : b < length m.boards) → turns_of b all ≡ Turns b h)
-      → IsClearRun m s.switches Pins s.entries Lines (From + 1) (came_in end) Came_all all
+      → IsClearRun m s.switches Pins s.entries Lines (From + 1) Till (came_in end) Came_all all
   is_clear all size same =
-      let by = boards.by m v s ts p t first rest end c told f long little in
-      let sound = boards.sound m v s ts p t first rest end c told f long little in
-      let row = boards.row m v s ts p t first rest end c told f long little in
-      let known = boards.known m v s ts p t first rest end c told f long little in
+      let by = boards.by m v s ts p t first rest end c told f long short little in
+      let sound = boards.sound m v s ts p t first rest end c told f long short little in
+      let row = boards.row m v s ts p t first rest end c told f long short little in
+      let known = boards.known m v s ts p t first rest end c told f long short little in
       record {
         goes_on = by.goes_on;
         long = size;
         have = have;
-        begins = begin_well m s.switches ts p Lines From t.first Turn.early row tracked Came_all by known.1 (came_in end) given.0 knows.0;
+        begins = begin_well m s.switches ts p Lines From Till t.first Turn.early row tracked Came_all by known.1 (came_in end) given.0 knows.0;
         knows = λ start. lines_known m s.switches t.clocks start (came_in end ∷ Came_all) sound.clocks_are.count sound.kept ((λ past. knows.1), known.0);
         plain = λ b h. subst (λ (turns : List BoardTurn). IsPlain m s.switches (Pins b) s.entries b Came_all turns) (sym (same b h)) (plain b h);
         states = λ b h. item_state b end.states ∙ (last b h).at ∙ sym (latest b h) ∙ ap latest_state (sym (same b h));
@@ -236,7 +240,7 @@ module _ (m : Machine) (v : IsValidMachine m) (s : Scene) (ts : List MotionTurn)
       let d = some_turn (Turns 0 some) (omega (arith, own, more)) in
       let all = join n (length Came_all) d (λ i. turns_by i n Turns (is_low i n)) (λ i low. ap length (turns_same i n Turns (is_low i n) low) ∙ count i low ∙ sym size) in
       let r = is_clear all.0 all.1 (λ i low. all.2 i low ∙ turns_same i n Turns (is_low i n) low) in
-      run_answers m v s.switches Pins s.entries clear Lines (From + 1) (came_in end) Came_all all.0 r h is b turn answers
+      run_answers m v s.switches Pins s.entries clear Lines (From + 1) Till (came_in end) Came_all all.0 r reach h is b turn answers
 
   -- the homing sections that are known are of axes of the machine
   axis_known : (d : Came) (before : List Came) → GoesOn m s.switches before → CameNotes p.seen.begun (d ∷ before) → (h : Homing) → (noted m d.note (known_by m s.switches before)).homing ≡ Some h → h.axis < length m.axes
@@ -265,7 +269,7 @@ module _ (m : Machine) (v : IsValidMachine m) (s : Scene) (ts : List MotionTurn)
       let d = some_turn (Turns 0 some) (omega (arith, own, more)) in
       let all = join n (length Came_all) d (λ i. turns_by i n Turns (is_low i n)) (λ i low. ap length (turns_same i n Turns (is_low i n) low) ∙ count i low ∙ sym size) in
       let r = is_clear all.0 all.1 (λ i low. all.2 i low ∙ turns_same i n Turns (is_low i n) low) in
-      run_misses m v s.switches Pins s.entries clear Lines (From + 1) (came_in end) Came_all all.0 r (axes_known (came_in end) Came_all r.goes_on given) h is answers tick hit
+      run_misses m v s.switches Pins s.entries clear Lines (From + 1) Till (came_in end) Came_all all.0 r reach (axes_known (came_in end) Came_all r.goes_on given) h is answers tick hit
 
   -- one of an earlier turn answers that a switch closed, at the first tick at which its readings are complete
   pub closes_first : (ahead : List Came) (y : Came) (before : List Came) → came_in end ∷ Came_all ≡ ahead ++ y ∷ before → (h : Homing) → (noted m y.note (known_by m s.switches before)).homing ≡ Some h
@@ -281,7 +285,11 @@ module _ (m : Machine) (v : IsValidMachine m) (s : Scene) (ts : List MotionTurn)
       let d = some_turn (Turns 0 some) (omega (arith, own, more)) in
       let all = join n (length Came_all) d (λ i. turns_by i n Turns (is_low i n)) (λ i low. ap length (turns_same i n Turns (is_low i n) low) ∙ count i low ∙ sym size) in
       let r = is_clear all.0 all.1 (λ i low. all.2 i low ∙ turns_same i n Turns (is_low i n) low) in
-      let cut = cut_to m v s.switches Pins s.entries clear Lines (From + 1) y before ahead (came_in end) Came_all all.0 r are in
+      let cut = cut_to m v s.switches Pins s.entries clear Lines (From + 1) Till y before ahead (came_in end) Came_all all.0 r are in
+      let front = ap length are in
+      let parts = length-append ahead (y ∷ before) in
+      let soon = reach in
+      let near_end : length before + 276 ≤ Till = omega (arith, front, parts, soon) in
       let Notes : List Came → Type 0 = λ z. CameNotes p.seen.begun z in
       let notes_so = notes_behind p.seen.begun ahead (y ∷ before) (subst Notes are given) in
       let b = (axis_at m h.axis).board in
@@ -289,5 +297,5 @@ module _ (m : Machine) (v : IsValidMachine m) (s : Scene) (ts : List MotionTurn)
       let valid : IsValidAxis m (axis_at m h.axis) = v.axes h.axis _ low in
       let there : b < length m.boards = valid.board in
       let turns_are : Turns b there ≡ turns_of b cut.later ++ turns_of b cut.made = sym (all.2 b there ∙ turns_same b n Turns (is_low b n) there) ∙ ap (turns_of b) cut.are ∙ turns_append b cut.later cut.made in
-      run_switches m v s.switches Pins s.entries clear Lines (From + 1) y before cut.made cut.run (axes_known y before cut.run.goes_on notes_so) h is
+      run_switches m v s.switches Pins s.entries clear Lines (From + 1) Till y before cut.made cut.run near_end (axes_known y before cut.run.goes_on notes_so) h is
       (hear there (turns_of b cut.later) (turns_of b cut.made) turns_are (turns_long b cut.made ∙ cut.run.long)) tick answers

@@ -28,7 +28,7 @@ use Rattle.link_work.specs.Runs.{AreTurns, queued_in}
 use Rattle.link_work.specs.Stands.{first_state}
 use Rattle.link_work.specs.Turn.{IsTurn, LinkState, Orders, after_board, after_host, come, host_steps}
 use Rattle.link_work.proofs.Shut.{unit_begins}
-use Rattle.run_laws.specs.Events.{AreTicks}
+use Rattle.run_laws.specs.Events.{AreOwn, AreTicks}
 use Rattle.run_laws.specs.Links.{ends_of, steps_of, steps_of_turn}
 use Rattle.run_laws.specs.Parts.{AreInARow, AreOrdersOf, AreTracked, IsControl, IsRun}
 use Rattle.run_laws.specs.Runs.{AreSpilled, IsSpilled}
@@ -70,19 +70,27 @@ pub all_spilled_led : (turns : ℕ) (ss : List BoardSection) → AreSpilled turn
 all_spilled_led turns [] a = tt
 all_spilled_led turns (s ∷ ss) a = (spilled_led turns s.releases a.0, all_spilled_led turns ss a.1)
 
--- the board's lines are at most so many turns behind it
-abbrev pub AreNear : (own : ℕ → ℕ) (clocks : Clocks) (ready until n : ℕ) → Type 0
-AreNear own clocks ready until n = (k : ℕ) → ready ≤ k → k ≤ until → own k ≤ lines_tick clocks ((k + n) * turn_ns)
+pub led_less : (turns fewer n : ℕ) (rs : List Release) → fewer ≤ turns → AreLed turns n rs → AreLed fewer n rs
+led_less turns fewer n [] h s = tt
+led_less turns fewer n (r ∷ rs) h s = ((λ low. s.0 (omega (arith, low, h))), led_less turns fewer n rs h s.1)
 
-pub ahead_in : (f : Frame) (turns n : ℕ) (rs : List Release) → AreNear f.own f.clocks f.ready f.tracked.until n → AreInside f rs → AreLed turns n rs → AreFrom (f.ready + 1) rs → AreAhead turns f.own rs
+pub all_led_less : (turns fewer n : ℕ) (ss : List BoardSection) → fewer ≤ turns → AllLed turns n ss → AllLed fewer n ss
+all_led_less turns fewer n [] h s = tt
+all_led_less turns fewer n (x ∷ ss) h s = (led_less turns fewer n x.releases h s.0, all_led_less turns fewer n ss h s.1)
+
+-- in a run of so many turns the board's lines are at most n turns behind it
+abbrev pub AreNear : (own : ℕ → ℕ) (clocks : Clocks) (ready turns until n : ℕ) → Type 0
+AreNear own clocks ready turns until n = (k : ℕ) → ready ≤ k → k < turns → k ≤ until → own k ≤ lines_tick clocks ((k + n) * turn_ns)
+
+pub ahead_in : (f : Frame) (turns n : ℕ) (rs : List Release) → AreNear f.own f.clocks f.ready turns f.tracked.until n → AreInside f rs → AreLed turns n rs → AreFrom (f.ready + 1) rs → AreAhead turns f.own rs
 ahead_in f turns n [] near i s a = tt
-ahead_in f turns n (r ∷ rs) near i s a = (λ low. here (s.0 low), ahead_in f turns n rs near i.1 s.1 a.1)
+ahead_in f turns n (r ∷ rs) near i s a = (λ low. here low (s.0 low), ahead_in f turns n rs near i.1 s.1 a.1)
   where
-    here : r.turn + n ≤ r.unit.due → f.own r.turn ≤ r.unit.first
-    here led =
+    here : r.turn < turns → r.turn + n ≤ r.unit.due → f.own r.turn ≤ r.unit.first
+    here low led =
         let first : r.unit.first < lines_tick f.clocks ((f.end + 1) * turn_ns) = omega (arith, i.0.up, i.0.high) in
         let last = turn-below f.clocks r.unit.first f.end first in
-        let behind = near r.turn (omega (arith, a.0)) (omega (arith, led, i.0.due, last, f.limit)) in
+        let behind = near r.turn (omega (arith, a.0)) low (omega (arith, led, i.0.due, last, f.limit)) in
         let before = r.turn + n - 1 in
         let next : before + 1 ≡ r.turn + n = omega (arith, a.0) in
         let time = ap (λ x. lines_tick f.clocks (x * turn_ns)) next in
@@ -95,7 +103,7 @@ abbrev AllAhead : ℕ → (ℕ → ℕ) → List BoardSection → Type 0
 AllAhead turns own [] = Unit {0}
 AllAhead turns own (s ∷ ss) = AreAhead turns own s.releases × AllAhead turns own ss
 
-all_ahead : (own : ℕ → ℕ) (clocks : Clocks) (freq slots ready e turns n : ℕ) (ss : List BoardSection) → AreTicks own → (tracked : AreTracked own clocks ready) → AreNear own clocks ready tracked.until n → ready ≤ e
+all_ahead : (own : ℕ → ℕ) (clocks : Clocks) (freq slots ready e turns n : ℕ) (ss : List BoardSection) → AreTicks own → (tracked : AreTracked own clocks ready) → AreNear own clocks ready turns tracked.until n → ready ≤ e
     → All (IsSection clocks freq slots) ss → AreInARow tracked.until e ss → AllLed turns n ss → AllAhead turns own ss
 all_ahead own clocks freq slots ready e turns n [] ticks tracked near low i row s = tt
 all_ahead own clocks freq slots ready e turns n (x ∷ ss) ticks tracked near low i row s =
@@ -232,20 +240,20 @@ not_late b pins place entries os m t tick first e y low =
     omega (arith, none, many)
 
 -- where each unit is released as many turns before the one in which it is due as the lines are behind
-pub soon_not_late : (b : BoardDef) (pins : List (List Level)) (place : ℕ) (entries : List Entry) (clocks : Clocks) (ready turns n : ℕ) (ss : List BoardSection) (os : List Orders) (m : LinkState) (t : AreTurns (clock_of b) 0 os (first_state b pins place entries) m)
-    (tick first : ℕ) → entries ≡ [] → AreTicks (board_tick (clock_of b)) → (r : IsRun (board_tick (clock_of b)) clocks b.freq b.slots ready ss os) → AreNear (board_tick (clock_of b)) clocks ready r.tracked.until n → AllLed turns n ss → length os ≤ turns
+pub soon_not_late : (b : BoardDef) (pins : List (List Level)) (place : ℕ) (entries : List Entry) (own : ℕ → ℕ) (clocks : Clocks) (ready turns n : ℕ) (ss : List BoardSection) (os : List Orders) (m : LinkState) (t : AreTurns (clock_of b) 0 os (first_state b pins place entries) m)
+    (tick first : ℕ) → entries ≡ [] → AreOwn b (length os) own → (r : IsRun own clocks b.freq b.slots ready ss os) → AreNear own clocks ready (length os) r.tracked.until n → AllLed turns n ss → length os ≤ turns
     → AllFair (first_state b pins place entries).core (steps_of (clock_of b) 0 os (first_state b pins place entries) m t)
     → IsLate (clock_of b) os (first_state b pins place entries) (ends_of (clock_of b) 0 os (first_state b pins place entries) m t) tick first → ⊥
-soon_not_late b pins place entries clocks ready turns n ss os m t tick first e ticks r near led within fair y =
+soon_not_late b pins place entries own clocks ready turns n ss os m t tick first e o r near led within fair y =
     let clock = clock_of b in
-    let own = board_tick clock in
-    let ahead = all_ahead own clocks b.freq b.slots ready ready turns n ss ticks r.tracked near (omega arith) r.sections r.row led in
+    let ahead = all_ahead own clocks b.freq b.slots ready ready (length os) n ss o.ticks r.tracked near (omega arith) r.sections r.row (all_led_less turns (length os) n ss within led) in
     let Of : List Orders → Type 0 = λ x. AreOrdersOf ss 0 x in
     let few = ap length y.turns ∙ length-append y.before (y.orders ∷ y.after) in
-    let time = orders_time turns own ss 0 (length y.before) y.before y.orders y.after ahead (omega (arith, few, within)) (omega arith) (subst Of y.turns r.orders) in
+    let time = orders_time (length os) own ss 0 (length y.before) y.before y.orders y.after ahead (omega (arith, few)) (omega arith) (subst Of y.turns r.orders) in
     let Queued : List Meant → Type 0 = λ x. AllInTime (own (length y.before)) x in
     let one = time_of (own (length y.before)) y.front y.command y.rest (subst Queued y.queued time) in
-    not_late b pins place entries os m t tick first e y (one y.steps first (y.own (fair_turns clock 0 os (first_state b pins place entries) m t fair)))
+    let soon = one y.steps first (y.own (fair_turns clock 0 os (first_state b pins place entries) m t fair)) in
+    not_late b pins place entries os m t tick first e y (omega (arith, soon, o.same (length y.before) (omega (arith, few))))
 
 -- nor is a board to which no units are sent
 abbrev pub NoUnits : List Orders → Type 0

@@ -51,7 +51,7 @@ use Rattle.motion_work.specs.Told.{Told}
 use Rattle.session_work.specs.declared.table.MotionTurn.{MotionTurn}
 use Rattle.session_work.specs.declared.table.ReactorTurn.{ReactorTurn}
 use Rattle.session_run.specs.Boards.{AreReactorTurns, came_from, came_in}
-use Rattle.run_laws.specs.Events.{AreTicks}
+use Rattle.run_laws.specs.Events.{AreOwn}
 use Rattle.run_laws.specs.Links.{AreTold, ends_of, steps_of, turns_told}
 use Rattle.run_laws.specs.Parts.{AreOrdersOf, IsRun}
 use Rattle.run_laws.specs.Runs.{AreSpilled, IsSpilled}
@@ -60,7 +60,7 @@ use Rattle.run_laws.proofs.Calm.{calm_links}
 use Rattle.run_laws.proofs.Each.{shut_as}
 use Rattle.run_laws.proofs.Finding.{all_fair}
 use Rattle.run_laws.proofs.Limiting as limiting
-use Rattle.run_laws.proofs.Linking.{link_runs, valid_ticks}
+use Rattle.run_laws.proofs.Linking.{link_runs, own_front}
 use Rattle.run_laws.proofs.Spoiled.{few_timely}
 use Rattle.run_boards.specs.Boards.{IsInWhole, behind, orders_of, states_of}
 use Rattle.run_boards.proofs.Items.{item_state}
@@ -85,7 +85,8 @@ use Rattle.session_laws.proofs.run_headline.Plain.{AllMoves, NotesMoves, all_mov
 use Rattle.session_laws.proofs.run_headline.Runs.{row_full}
 use Rattle.session_laws.proofs.run_headline.Showing as showing
 use Rattle.session_laws.proofs.run_headline.Showing.{Facts, ends_own}
-use Rattle.session_laws.specs.clear_runs.Clear.{AllSoon, AreSoon, SendsInTime}
+use Rattle.cause_runs.specs.Short.{HaveShortDictionaries}
+use Rattle.session_laws.specs.clear_runs.Clear.{AllSoon, AreSoon, SendsAllSoon}
 use Rattle.session_laws.proofs.clear_runs.Bare.{few_turns, goes_of, have_more, late_at, latest_behind, listened, no_steps, stale_low, unbegun_units, units_fit}
 use Rattle.session_laws.proofs.clear_runs.Clearing.{run_unhindered}
 use Rattle.session_laws.proofs.clear_runs.Exact.{not_behind}
@@ -126,16 +127,12 @@ pub spilled : (turns : ℕ) (ss : List BoardSection) → AllSoon turns ss → Ar
 spilled turns [] a = tt
 spilled turns (s ∷ ss) a = (spilled_in turns s.releases a.0, spilled turns ss a.1)
 
-pub sends_hold : (m : Machine) (s : Scene) (text : List ℕ) (ts : List MotionTurn) → s.entries ≡ [] → SendsInTime m text ts → (all : List ReactorTurn) → HoldsNothingLong m s text ts all
-sends_hold m s text ts clear sends [] = tt
-sends_hold m s text ts clear sends (first ∷ rest) = λ p t b of told low long w.
-    elim (sends p t b of told low) [
-      | inl x ↦ record { few = inl clear; near = inl x.0 }
-      | inr x ↦ record { few = inl clear; near = inr x.1 }
-    ]
+pub sends_hold : (m : Machine) (s : Scene) (text : List ℕ) (ts : List MotionTurn) → s.entries ≡ [] → (all : List ReactorTurn) → HoldsNothingLong m s text ts all
+sends_hold m s text ts clear [] = tt
+sends_hold m s text ts clear (first ∷ rest) = λ p t b of told low long w. record { few = inl clear }
 
-module _ (m : Machine) (v : IsValidMachine m) (s : Scene) (ts : List MotionTurn) (p : Plans m (length m.boards) ts) (end : ReactorTurn) (c : Cause) (clear : s.entries ≡ []) (moves : AreOfMoves (program_sections m p.seen.text))
-    (goes : (line : ℕ) → (program_end m p.seen.text).stop ≡ read.Stop line → ⊥) (sends : SendsInTime m p.seen.text ts) where
+module _ (m : Machine) (v : IsValidMachine m) (short : HaveShortDictionaries m) (s : Scene) (ts : List MotionTurn) (p : Plans m (length m.boards) ts) (end : ReactorTurn) (c : Cause) (clear : s.entries ≡ []) (moves : AreOfMoves (program_sections m p.seen.text))
+    (goes : (line : ℕ) → (program_end m p.seen.text).stop ≡ read.Stop line → ⊥) (sends : SendsAllSoon m p.seen.text ts) where
   -- a run of one turn
   module _ (f : Facts m s ts [] end c) (own : IsOwn c) where
     phase_alone : (noted m end.note f.known).phase ≡ Connecting
@@ -175,12 +172,12 @@ module _ (m : Machine) (v : IsValidMachine m) (s : Scene) (ts : List MotionTurn)
     Now = noted m end.note (known_by m s.switches (came_from [] (first ∷ rest)))
 
     holds : HoldsNothingLong m s p.seen.text ts (first ∷ (rest ++ end ∷ []))
-    holds = sends_hold m s p.seen.text ts clear sends (first ∷ (rest ++ end ∷ []))
+    holds = sends_hold m s p.seen.text ts clear (first ∷ (rest ++ end ∷ []))
 
     near : AllTakeNear m s p.seen.text ts (first ∷ (rest ++ end ∷ []))
     near = λ q t b same told low long w.
         let Moves : List ℕ → Type 0 = λ z. AreOfMoves (program_sections m z) in
-        showing.near_little m v s ts q end c first rest f (subst Moves (sym same) moves) t told b low long w (holds q t b same told low long w)
+        showing.near_little m v s ts q end c first rest f (subst Moves (sym same) moves) short t told b low long w (holds q t b same told low long w)
 
     ended : (reacts m s.switches (known_by m s.switches All_came) (length All_came) end.states end.note).ordered.end ≡ Some c
     ended =
@@ -279,39 +276,39 @@ module _ (m : Machine) (v : IsValidMachine m) (s : Scene) (ts : List MotionTurn)
         homes = showing.none_homes p.seen.begun (showing.kinds m v s ts p end c first rest f moves)
 
         ready : ℕ
-        ready = length (came_from [] (showing.turn m v s ts p end c first rest f moves t told near l).past)
+        ready = length (came_from [] (showing.turn m v s ts p end c first rest f moves t told short near l).past)
 
-        is_in : IsBoardIn m s ts p.seen t (rest ++ end ∷ []) (length (came_from [] (showing.turn m v s ts p end c first rest f moves t told near l).past)) b (boarded.column m v s ts p t first rest end told b w)
+        is_in : IsBoardIn m s ts p.seen t (rest ++ end ∷ []) (length (came_from [] (showing.turn m v s ts p end c first rest f moves t told short near l).past)) b (boarded.column m v s ts p t first rest end told b w)
         is_in =
-            boarded.boarded m v s ts p t first rest end told b (showing.turn m v s ts p end c first rest f moves t told near l) w low homes
-            (all_moves m p.seen.text p.seen.begun p.made first rest (showing.kinds m v s ts p end c first rest f moves) p.put (showing.front_notes m v s ts p end c first rest f (notes l))) l (near p t b refl told low l w)
+            boarded.boarded m v s ts p t first rest end told b (showing.turn m v s ts p end c first rest f moves t told short near l) w low homes
+            (all_moves m p.seen.text p.seen.begun p.made first rest (showing.kinds m v s ts p end c first rest f moves) p.put (showing.front_notes m v s ts p end c first rest f (notes l))) l (showing.renews_by m v s ts p end c first rest f t told short l b low) (near p t b refl told low l w)
 
-        run_so : IsRun (board_tick (clock_of (board_at m b))) (clocks_at t.clocks b) (board_at m b).freq (board_at m b).slots (length (came_from [] (showing.turn m v s ts p end c first rest f moves t told near l).past)) (parts_on m t.clocks p.seen.begun b) (orders_of w.made)
+        run_so : IsRun is_in.own (clocks_at t.clocks b) (board_at m b).freq (board_at m b).slots (length (came_from [] (showing.turn m v s ts p end c first rest f moves t told short near l).past)) (parts_on m t.clocks p.seen.begun b) (orders_of w.made)
         run_so =
             let a = is_in in
-            let r = showing.turn m v s ts p end c first rest f moves t told near l in
-            run_is m ts p t b (length (came_from [] r.past)) (board_tick (clock_of (board_at m b))) (orders_of w.made) low told homes (omega (arith, count, l)) a.batches a.controls a.tracked r.early a.over a.made
+            let r = showing.turn m v s ts p end c first rest f moves t told short near l in
+            run_is m ts p t b (length (came_from [] r.past)) a.own (orders_of w.made) low told homes (omega (arith, count, l)) a.batches a.controls a.tracked r.early a.over a.made
 
-        ticks : AreTicks (board_tick (clock_of (board_at m b)))
-        ticks = valid_ticks (board_at m b) (boarded.valid_at m.boards b low v.boards)
+        own_so : AreOwn (board_at m b) (length (orders_of w.made)) is_in.own
+        own_so = own_front (board_at m b) (length (orders_of w.made)) (length (rest ++ end ∷ [])) is_in.own (omega (arith, count)) is_in.own_is
 
         -- the line of an exact clock
-        exact : (board_at m b).drift ≡ pos 0 → (k : ℕ) → length (came_from [] (showing.turn m v s ts p end c first rest f moves t told near l).past) ≤ k
+        exact : (board_at m b).drift ≡ pos 0 → (k : ℕ) → length (came_from [] (showing.turn m v s ts p end c first rest f moves t told short near l).past) ≤ k
             → board_tick (clock_of (board_at m b)) k ≤ lines_tick (clocks_at t.clocks b) ((k + 0) * turn_ns)
         exact drift k from =
-            let r = showing.turn m v s ts p end c first rest f moves t told near l in
+            let r = showing.turn m v s ts p end c first rest f moves t told short near l in
             let own = boarded.lined m v s ts p t first rest end told b r w low in
             not_behind (clock_of (board_at m b)) (behind [] w.made) (clocks_at t.clocks b) (length (came_from [] r.past)) k (boarded.valid_at m.boards b low v.boards).freq drift own.kept own.line.sampled own.sampled own.line.early from
 
         unspilled : AreSpilled (length p.made) 0 (parts_on m t.clocks p.seen.begun b)
-        unspilled = elim (sends p t b refl told low) [ inl x ↦ x.1 | inr x ↦ spilled (length p.made) (parts_on m t.clocks p.seen.begun b) x.0 ]
+        unspilled = elim (sends p t b refl told low) [ inl x ↦ x.1 | inr x ↦ spilled (length p.made) (parts_on m t.clocks p.seen.begun b) x ]
 
         told_fits : UnitsFit (behind [] w.made)
         told_fits =
             let Fit : List Orders → Type 0 = λ x. boarded.AllFit x in
             let fits = boarded.all_fit (length p.made) 0 (orders_of w.made) (parts_on m t.clocks p.seen.begun b)
-            (λ k soon. limiting.units_fit (board_tick (clock_of (board_at m b))) (clocks_at t.clocks b) (board_at m b).freq (board_at m b).slots (length (came_from [] (showing.turn m v s ts p end c first rest f moves t told near l).past)) (length p.made)
-            (parts_on m t.clocks p.seen.begun b) k ticks run_so.tracked run_so.sections run_so.row unspilled soon) (omega (arith, count, l)) run_so.orders in
+            (λ k soon. limiting.units_fit is_in.own (clocks_at t.clocks b) (board_at m b).freq (board_at m b).slots (length (came_from [] (showing.turn m v s ts p end c first rest f moves t told short near l).past)) (length p.made)
+            (parts_on m t.clocks p.seen.begun b) k own_so.ticks run_so.tracked run_so.sections run_so.row unspilled soon) (omega (arith, count, l)) run_so.orders in
             boarded.fit_of (behind [] w.made) (subst Fit (sym w.in_order) fits)
 
         fair : AllFair (link_of m s b).core (steps_of (clock_of (board_at m b)) 0 (orders_of w.made) (link_of m s b) (stands_after (link_of m s b) (behind [] w.made))
@@ -319,17 +316,16 @@ module _ (m : Machine) (v : IsValidMachine m) (s : Scene) (ts : List MotionTurn)
         fair =
             let def = board_at m b in
             let pins = pins_of (board_at m b) b s.switches in
-            let valid = boarded.valid_at m.boards b low v.boards in
             let after = stands_after (link_of m s b) (behind [] w.made) in
             let turns = turns_told (clock_of def) 0 (orders_of w.made) (states_of w.made) (link_of m s b) after w.told in
             let parts = parts_on m t.clocks p.seen.begun b in
-            let ready = length (came_from [] (showing.turn m v s ts p end c first rest f moves t told near l).past) in
+            let ready = length (came_from [] (showing.turn m v s ts p end c first rest f moves t told short near l).past) in
             let few = λ (k : ℕ). let n = calm_links (clock_of def) def pins b s.entries (orders_of w.made) after turns k clear in let done : spoiled (take k (ends_of (clock_of def) 0 (orders_of w.made) (link_of m s b) after turns)) ≤ 0 = omega (arith, n) in done in
             let Limits : List Orders → Type 0 = λ x. AllKeepLimits x in
             let limits = subst Limits w.in_order (all_limits m s.switches pins s.entries b (came_from [] (first ∷ rest)) (behind [] w.made) v run not_stopping told_fits) in
-            let timely = few_timely def pins b s.entries (clocks_at t.clocks b) ready 0 0 (length p.made) parts (orders_of w.made) after turns valid run_so unspilled (omega (arith, count, l)) limits few (omega arith) in
-            all_fair def pins (board_tick (clock_of def)) (clocks_at t.clocks b) ready parts (orders_of w.made) (steps_of (clock_of def) 0 (orders_of w.made) (link_of m s b) after turns)
-            (link_runs def pins b s.entries (clocks_at t.clocks b) ready parts (orders_of w.made) after turns valid run_so timely)
+            let timely = few_timely def pins b s.entries is_in.own (clocks_at t.clocks b) ready 0 0 (length p.made) parts (orders_of w.made) after turns own_so run_so unspilled (omega (arith, count, l)) limits few (omega arith) in
+            all_fair def pins is_in.own (clocks_at t.clocks b) ready parts (orders_of w.made) (steps_of (clock_of def) 0 (orders_of w.made) (link_of m s b) after turns)
+            (link_runs def pins b s.entries is_in.own (clocks_at t.clocks b) ready parts (orders_of w.made) after turns own_so run_so timely)
 
       -- the units of its turns keep their limit
       fits_by : (o : Option Told) → p.seen.told ≡ o → UnitsFit (behind [] w.made)
@@ -394,13 +390,13 @@ module _ (m : Machine) (v : IsValidMachine m) (s : Scene) (ts : List MotionTurn)
               let def = board_at m b in
               let end_link = stands_after (link_of m s b) (behind [] w.made) in
               let parts = parts_on m t.clocks p.seen.begun b in
-              let ready = length (came_from [] (showing.turn m v s ts p end c first rest f moves t e near l).past) in
-              let late = λ (n' : ℕ). λ (near : AreNear (board_tick (clock_of def)) (clocks_at t.clocks b) ready (run_so t e l).tracked.until n'). λ (led : AllLed (length p.made) n' parts).
-              soon_not_late def (pins_of def b s.switches) b s.entries (clocks_at t.clocks b) ready (length p.made) n' parts (orders_of w.made) end_link
-              (turns_told (clock_of def) 0 (orders_of w.made) (states_of w.made) (link_of m s b) end_link w.told) n.tick n.first clear (ticks t e l) (run_so t e l) near led (omega (arith, count, l)) (fair t e l) is_late in
+              let ready = length (came_from [] (showing.turn m v s ts p end c first rest f moves t e short near l).past) in
+              let late = λ (n' : ℕ). λ (near : AreNear (is_in t e l).own (clocks_at t.clocks b) ready (length (orders_of w.made)) (run_so t e l).tracked.until n'). λ (led : AllLed (length p.made) n' parts).
+              soon_not_late def (pins_of def b s.switches) b s.entries (is_in t e l).own (clocks_at t.clocks b) ready (length p.made) n' parts (orders_of w.made) end_link
+              (turns_told (clock_of def) 0 (orders_of w.made) (states_of w.made) (link_of m s b) end_link w.told) n.tick n.first clear (own_so t e l) (run_so t e l) near led (omega (arith, count, l)) (fair t e l) is_late in
               elim (sends p t b refl e low) [
-                | inl x ↦ late 0 (λ k from to. exact t e l x.0 k from) (all_spilled_led (length p.made) parts x.1)
-                | inr x ↦ late 1 (run_so t e l).tracked.behind (all_soon_led (length p.made) parts x.0)
+                | inl x ↦ late 0 (λ k from soon to. (let near = exact t e l x.0 k from in omega (arith, near, (own_so t e l).same k (omega (arith, soon))))) (all_spilled_led (length p.made) parts x.1)
+                | inr x ↦ late 1 (λ k from soon to. (run_so t e l).tracked.behind k from to) (all_soon_led (length p.made) parts x)
               ]
 
     -- no board was told clock lines while the reactor connects

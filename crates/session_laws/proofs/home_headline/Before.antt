@@ -18,6 +18,7 @@ use Rattle.session_laws.specs.run_headline.Timely.{clocks_heard, ready_heard}
 use Rattle.session_laws.proofs.run_headline.Cutting.{run_front}
 use Rattle.session_laws.proofs.run_headline.Making.{front_made}
 use Rattle.session_laws.specs.home_headline.Follow.{AllShowBegun, AllShowHomes}
+use Rattle.cause_runs.specs.Short.{HaveShortDictionaries}
 use Rattle.session_laws.specs.home_headline.Little.{AllHomeLittle}
 use Rattle.session_laws.proofs.home_headline.Sections.{all_begun}
 use Rattle.session_laws.proofs.home_headline.Shows.{all_shows}
@@ -26,7 +27,7 @@ pub run_before : {F S : Type 0} (f : Files F) (o : Sink S) (m : Machine) (s : Sc
     → f.told files name ≡ Some text → kept.at ≡ 0 → (turns : List ReactorTurn) (last : ReactorTurn) → r.runs.1 ≡ turns ++ last ∷ []
     → ∥ ((front : List MotionTurn) × (later : List MotionTurn) × (r.runs.0 ≡ front ++ later) × (length front ≡ length turns) × (p : Plans m (length m.boards) front) × (p.seen.text ≡ text)
     × AllShowBegun m p.seen (clocks_heard p.seen.told) (ready_heard p.seen.told) cause.ReadFault (turns ++ last ∷ [])
-    × (AllHomeLittle m s text front (turns ++ last ∷ []) → AllShowHomes m p.seen (clocks_heard p.seen.told) (ready_heard p.seen.told) cause.ReadFault (turns ++ last ∷ []))) ∥₁
+    × (HaveShortDictionaries m → AllHomeLittle m s text front (turns ++ last ∷ []) → AllShowHomes m p.seen (clocks_heard p.seen.told) (ready_heard p.seen.told) cause.ReadFault (turns ++ last ∷ []))) ∥₁
 run_before f o m s name files files' out out' kept kept' t r v text told at turns last cut =
     let part = run_front f o m s name files files' out out' kept kept' t r turns last cut in
     ∥∥₁_map (front_made f o m s name files files' out out' kept kept' t r text told at part.planned part.later part.are) (λ w.
@@ -38,5 +39,5 @@ run_before f o m s name files files' out out' kept kept' t r v text told at turn
       w.0,
       w.1,
       all_begun m v s part.planned w.0 last cause.ReadFault turns part.facts,
-      λ little. all_shows m v s part.planned w.0 last cause.ReadFault turns part.facts (subst Little (sym w.1) little),
+      λ short little. all_shows m v s part.planned w.0 last cause.ReadFault turns part.facts short (subst Little (sym w.1) little),
     ))

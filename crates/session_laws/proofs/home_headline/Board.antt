@@ -1,17 +1,15 @@
 -- Each board of a whole run in which axes home, as the law of its lines asks for it.
-use Rattle.std.proofs.Common.{◌≡◌, ℕ, ◌+◌, ◌-◌, ◌*◌, ◌<◌, ◌≤◌, ◌⊎◌, List, [], ◌∷◌, ◌++◌, All, map, take, length, Some, ap, sym, ◌∙◌, subst, arith, inl, inr, length-append, pos}
+use Rattle.std.proofs.Common.{◌≡◌, ℕ, ◌+◌, ◌-◌, ◌<◌, ◌≤◌, ◌⊎◌, List, [], ◌∷◌, ◌++◌, All, map, take, length, Some, ap, sym, ◌∙◌, subst, arith, inl, inr, length-append}
 use Rattle.std.proofs.lemmas.List.Elements.{All-cons, All-nil}
 use Rattle.plan_types.specs.declared.clock.BoardClock.{BoardClock}
 use Rattle.plan_types.specs.declared.machine.Machine.{Machine}
-use Rattle.plan_types.specs.Clock.{board_tick, clock_of, turn_ns}
+use Rattle.plan_types.specs.Clock.{clock_of}
 use Rattle.plan_types.specs.Lines.{Clocks}
-use Rattle.plan_types.specs.Machines.{IsValidFreq, IsValidMachine, board_at, stepper_at}
-use Rattle.plan_types.specs.Sections.{clocks_at, section_end}
+use Rattle.plan_types.specs.Machines.{IsValidMachine, board_at, stepper_at}
+use Rattle.plan_types.specs.Sections.{clocks_at}
 use Rattle.msg_code.specs.declared.talk.State.{State}
 use Rattle.msg_code.specs.declared.talk.WordMsg.{WordMsg}
 use Rattle.wire_scene.specs.declared.scene.Scene.{Scene}
-use Rattle.clock_line.specs.Kept.{AreKept}
-use Rattle.clock_line.specs.Samples.{ppm_size}
 use Rattle.link_work.specs.Ends.{spoiled}
 use Rattle.link_work.specs.Limits.{AllKeepLimits}
 use Rattle.link_work.specs.Runs.{AreTurns}
@@ -20,7 +18,6 @@ use Rattle.link_work.specs.Turn.{LinkState, Orders}
 use Rattle.host_reactor.specs.Runs.{Came}
 use Rattle.board_runs.specs.Turns.{AreBoardTurns, BoardTurn, stands_after}
 use Rattle.clock_runs.specs.Runs.{IsInRun, orders_in}
-use Rattle.clock_runs.specs.Samples.{IsSampled}
 use Rattle.clock_runs.proofs.Lines.{as_long}
 use Rattle.clock_runs.proofs.Orders.{order_length}
 use Rattle.motion_work.specs.Boards.{parts_on}
@@ -41,10 +38,8 @@ use Rattle.run_laws.specs.Parts.{AreTracked, MakesIn}
 use Rattle.run_laws.specs.Runs.{AreSpilled}
 use Rattle.run_laws.proofs.Calm.{calm_links}
 use Rattle.run_laws.proofs.HomeTimes.{home_timely}
-use Rattle.run_laws.proofs.Linking.{valid_ticks}
 use Rattle.run_laws.proofs.Released.{out_before, spilled_before}
-use Rattle.run_parts.specs.Renewed.{ComeInTime, AreSampled, NoneBefore}
-use Rattle.run_parts.proofs.Followed.{lines_in_time}
+use Rattle.run_parts.proofs.Going.{own_on}
 use Rattle.run_boards.specs.Boards.{IsInWhole, behind, orders_of, states_of}
 use Rattle.run_plans.specs.Given.{TookBatches}
 use Rattle.run_plans.specs.Homed.{runs_on, stops_of}
@@ -52,7 +47,7 @@ use Rattle.run_plans.specs.Lines.{TookNotes}
 use Rattle.run_plans.specs.Planned.{Plans}
 use Rattle.run_plans.proofs.Running.{started_in}
 use Rattle.session_laws.specs.run_headline.Timely.{AreSound, link_of}
-use Rattle.session_laws.proofs.run_headline.Boarded.{Ready, drift_few, lined, ready, run_of, valid_at}
+use Rattle.session_laws.proofs.run_headline.Boarded.{Ready, lines_renewed, ready, run_of, valid_at}
 use Rattle.session_laws.proofs.run_headline.Fronts.{front_of, limited, one_less, stepper_made}
 use Rattle.session_laws.proofs.run_headline.Showing.{came_long}
 use Rattle.homing_laws.specs.home_runs.Words.{AreToldIn}
@@ -68,7 +63,9 @@ use Rattle.homing_laws.proofs.home_parts.Limits.{turns_fit}
 use Rattle.homing_laws.proofs.home_parts.Movers.{all_movers}
 use Rattle.homing_laws.proofs.home_parts.Set.{all_set}
 use Rattle.homing_laws.proofs.home_parts.Told.{all_told}
-use Rattle.session_laws.specs.home_headline.Little.{HomesLittle, PlansAreNear}
+use Rattle.session_laws.specs.clock_ages.Renewed.{StayYoung}
+use Rattle.session_laws.proofs.clock_ages.Own.{AreRenewed, Own, follow_on}
+use Rattle.session_laws.specs.home_headline.Little.{HomesLittle}
 use Rattle.session_laws.proofs.home_headline.Clear.{clear_set_ups}
 use Rattle.session_laws.proofs.home_headline.Clocks.{run_knows}
 use Rattle.session_laws.proofs.home_headline.Good.{may_at}
@@ -95,36 +92,19 @@ plans_before m clocks (s ∷ begun) n =
     let e : n + (end + 1) + Total m clocks begun ≡ n + (end + 1 + Total m clocks begun) = omega arith in
     (omega arith, subst (λ (k : ℕ). AreOverBefore m clocks k begun) e (plans_before m clocks begun (n + (end + 1))))
 
-pub record Followed (m : Machine) (b : ℕ) (clocks : List Clocks) (ready : ℕ) (begun : List Started) : Type 0 where
-  pub tracked : AreTracked (board_tick (clock_of (board_at m b))) (clocks_at clocks b) ready
+pub record Followed (m : Machine) (b turns : ℕ) (clocks : List Clocks) (ready : ℕ) (begun : List Started) : Type 0 where
+  pub tracked : AreTracked (Own m b turns) (clocks_at clocks b) ready
   pub over : AreOverBefore m clocks tracked.until begun
 
-followed : (m : Machine) (b : ℕ) (turns : List BoardTurn) (ready : ℕ) (clocks : List Clocks) (begun : List Started) → IsSampled (clock_of (board_at m b)) turns (clocks_at clocks b).first → (clocks_at clocks b).first.at ≤ ready * turn_ns → AreKept (clocks_at clocks b)
-    → AreSampled (clock_of (board_at m b)) turns (clocks_at clocks b).held → NoneBefore ready (clocks_at clocks b).held → IsValidFreq (board_at m b).freq → ppm_size (board_at m b).drift ≤ 200 → PlansAreNear m b clocks begun → Followed m b clocks ready begun
-followed m b turns ready clocks begun first early kept sampled none freq drift near =
-    let clock = clock_of (board_at m b) in
-    let own = clocks_at clocks b in
+followed : (m : Machine) (b turns ready : ℕ) (clocks : List Clocks) (begun : List Started) → AreRenewed m b turns ready (clocks_at clocks b) → Followed m b turns clocks ready begun
+followed m b turns ready clocks begun r =
     let Until : ℕ → Type 0 = λ n. AreOverBefore m clocks n begun in
-    elim near [
-      | inl exact ↦
-          let y = lines_in_time clock turns own ready (0 + Total m clocks begun) freq kept first sampled early none (inl exact) in
-          record { tracked = y.0; over = subst Until (sym y.1) (plans_before m clocks begun 0) }
-      | inr come ↦
-          let y = lines_in_time clock turns own ready come.0 freq kept first sampled early none (inr (drift, come.2)) in
-          record { tracked = y.0; over = subst Until (sym y.1) come.1 }
-    ]
-
--- a board's clock lines track it up to a turn, where they come in time up to it or a later one
-tracked_to : (m : Machine) (b : ℕ) (turns : List BoardTurn) (ready low : ℕ) (clocks : Clocks) → IsSampled (clock_of (board_at m b)) turns clocks.first → clocks.first.at ≤ ready * turn_ns → AreKept clocks → AreSampled (clock_of (board_at m b)) turns clocks.held → NoneBefore ready clocks.held
-    → IsValidFreq (board_at m b).freq → ppm_size (board_at m b).drift ≤ 200 → ((board_at m b).drift ≡ pos 0) ⊎ ((until : ℕ) × (low ≤ until) × ComeInTime (board_at m b).drift clocks.first clocks.held until) → (k : AreTracked (board_tick (clock_of (board_at m b))) clocks ready) × (low ≤ k.until)
-tracked_to m b turns ready low clocks first early kept sampled none freq drift near = elim near [
-  | inl exact ↦ (let y = lines_in_time (clock_of (board_at m b)) turns clocks ready low freq kept first sampled early none (inl exact) in (y.0, let is = y.1 in omega (arith, is)))
-  | inr come ↦ (let y = lines_in_time (clock_of (board_at m b)) turns clocks ready come.0 freq kept first sampled early none (inr (drift, come.2)) in (y.0, let is = y.1 in let most = come.1 in omega (arith, is, most)))
-]
+    let y = follow_on m b turns ready (0 + Total m clocks begun) (clocks_at clocks b) r in
+    record { tracked = y.0; over = subst Until (sym y.1) (plans_before m clocks begun 0) }
 
 -- a board in turns that its link told of, where few of them were spoiled
-module _ (m : Machine) (v : IsValidMachine m) (s : Scene) (b ready until : ℕ) (ts : List MotionTurn) (p : Plans m (length m.boards) ts) (t : Told) (turns : List BoardTurn) (states : List State) (end : LinkState) (small : b < length m.boards)
-    (ss : List RunSection) (are : AreBoardTurns (clock_of (board_at m b)) (link_of m s b) turns) (run : IsHomeRun (board_tick (clock_of (board_at m b))) (clocks_at t.clocks b) (board_at m b).freq (board_at m b).slots ready (stops_of p.seen.begun) ss (orders_in turns))
+module _ (m : Machine) (v : IsValidMachine m) (s : Scene) (b ready until lasts : ℕ) (ts : List MotionTurn) (p : Plans m (length m.boards) ts) (t : Told) (turns : List BoardTurn) (states : List State) (end : LinkState) (small : b < length m.boards)
+    (ss : List RunSection) (are : AreBoardTurns (clock_of (board_at m b)) (link_of m s b) turns) (upto : length turns ≤ lasts + 349) (run : IsHomeRun (Own m b lasts) (clocks_at t.clocks b) (board_at m b).freq (board_at m b).slots ready (stops_of p.seen.begun) ss (orders_in turns))
     (limits : (done : List Orders) (o : Orders) (more : List Orders) → orders_in turns ≡ done ++ (o ∷ more) → AllKeepLimits done)
     (sections : AreToldIn m s.switches (pins_of (board_at m b) b s.switches) s.entries b (stops_of p.seen.begun) ss turns) where
   abbrev Clock : BoardClock
@@ -158,10 +138,10 @@ module _ (m : Machine) (v : IsValidMachine m) (s : Scene) (b ready until : ℕ) 
         | inr t ↦ t
         | inl x ↦
             let (late, most, spills, few) = x in
-            home_timely def pins b s.entries (clocks_at t.clocks b) ready (10_700 - late) late (length (orders_in turns)) (stops_of p.seen.begun) ss (orders_in turns) end (turns_told Clock 0 (orders_in turns) states (link_of m s b) end told) valid run
+            home_timely def pins b s.entries (Own m b lasts) (clocks_at t.clocks b) ready (10_700 - late) late (length (orders_in turns)) (stops_of p.seen.begun) ss (orders_in turns) end (turns_told Clock 0 (orders_in turns) states (link_of m s b) end told) (own_on def (length (orders_in turns)) (lasts + 349) valid (let size = order_length turns in omega (arith, size, upto))) run
             spills (omega arith) limits few (omega (arith, most))
       ] in
-      home_board m s.switches pins s.entries b ready (clocks_at t.clocks b) (stops_of p.seen.begun) ss turns states end told v small are run timely sections
+      home_board m s.switches pins s.entries b ready (Own m b lasts) (clocks_at t.clocks b) (stops_of p.seen.begun) ss turns states end told v small are (own_on def (length turns) (lasts + 349) valid upto) run timely sections
 
   home_by : (os : List Orders) → orders_in turns ≡ os → (told : AreTold Clock 0 os states (link_of m s b) end) → Near os told → Result
   home_by os same told near =
@@ -185,20 +165,9 @@ module _ (m : Machine) (v : IsValidMachine m) (s : Scene) (ts : List MotionTurn)
   here b w = here_by (length (rest ++ end ∷ [])) b w
 
   -- its clock lines follow it
-  pub lines_of : (b : ℕ) (w : IsInWhole m s.switches b (clock_of (board_at m b)) (link_of m s b) ts first (rest ++ end ∷ [])) (r : Ready m v s ts p t first rest end told) → b < length m.boards → PlansAreNear m b t.clocks p.seen.begun
-      → Followed m b t.clocks (length (came_from [] r.past)) p.seen.begun
-  lines_of b w r h near =
-      let valid = valid_at m.boards b h v.boards in
-      let own = lined m v s ts p t first rest end told b r w h in
-      followed m b (behind [] w.made) (length (came_from [] r.past)) t.clocks p.seen.begun own.line.sampled own.line.early own.kept own.sampled own.none valid.freq (drift_few (board_at m b).drift valid.drift_low valid.drift_high) near
-
-  pub lines_to : (b low : ℕ) (w : IsInWhole m s.switches b (clock_of (board_at m b)) (link_of m s b) ts first (rest ++ end ∷ [])) (r : Ready m v s ts p t first rest end told) → b < length m.boards
-      → ((board_at m b).drift ≡ pos 0) ⊎ ((until : ℕ) × (low ≤ until) × ComeInTime (board_at m b).drift (clocks_at t.clocks b).first (clocks_at t.clocks b).held until)
-      → (k : AreTracked (board_tick (clock_of (board_at m b))) (clocks_at t.clocks b) (length (came_from [] r.past))) × (low ≤ k.until)
-  lines_to b low w r h near =
-      let valid = valid_at m.boards b h v.boards in
-      let own = lined m v s ts p t first rest end told b r w h in
-      tracked_to m b (behind [] w.made) (length (came_from [] r.past)) low (clocks_at t.clocks b) own.line.sampled own.line.early own.kept own.sampled own.none valid.freq (drift_few (board_at m b).drift valid.drift_low valid.drift_high) near
+  pub lines_of : (b : ℕ) (w : IsInWhole m s.switches b (clock_of (board_at m b)) (link_of m s b) ts first (rest ++ end ∷ [])) (r : Ready m v s ts p t first rest end told) → b < length m.boards → StayYoung m b (clocks_at t.clocks b) (length rest)
+      → Followed m b (length rest) t.clocks (length (came_from [] r.past)) p.seen.begun
+  lines_of b w r h renewed = followed m b (length rest) (length (came_from [] r.past)) t.clocks p.seen.begun (lines_renewed m v s ts p t first rest end told b r w h renewed)
 
   -- what a board was sent in a run in which axes home, of the sections as far as their units are released before a turn, and that it took the
   -- set-ups of those that home in time
@@ -207,7 +176,7 @@ module _ (m : Machine) (v : IsValidMachine m) (s : Scene) (ts : List MotionTurn)
     pub known : KnowsLately m s.switches t.clocks (came_from [] (first ∷ rest)) × ArePastConnecting m s.switches (length (came_from [] r.past)) (came_from [] (first ∷ rest))
     pub run : IsInRun m s.switches (pins_of (board_at m b) b s.switches) s.entries b (came_from [] (first ∷ rest)) turns
     pub count : length (orders_in turns) ≡ length (rest ++ end ∷ [])
-    pub home : IsHomeRun (board_tick (clock_of (board_at m b))) (clocks_at t.clocks b) (board_at m b).freq (board_at m b).slots (length (came_from [] r.past)) (stops_of p.seen.begun)
+    pub home : IsHomeRun (Own m b (length rest)) (clocks_at t.clocks b) (board_at m b).freq (board_at m b).slots (length (came_from [] r.past)) (stops_of p.seen.begun)
         (cuts_on m t.clocks until p.seen.begun b) (orders_in turns)
     pub limits : (done : List Orders) (o : Orders) (more : List Orders) → orders_in turns ≡ done ++ (o ∷ more) → AllKeepLimits done
     pub set_ups : TakeSetUps m (pins_of (board_at m b) b s.switches) s.entries b p.seen.begun turns
@@ -216,11 +185,10 @@ module _ (m : Machine) (v : IsValidMachine m) (s : Scene) (ts : List MotionTurn)
   module _ (until n b : ℕ) (left : List WordMsg) (w : IsInWhole m s.switches b (clock_of (board_at m b)) (link_of m s b) ts first (rest ++ end ∷ [])) (r : Ready m v s ts p t first rest end told) (h : b < length m.boards) (turns_are : AreReactorTurns m s.switches [] (first ∷ rest))
       (words : gather (λ x. x.word ∷ []) (first ∷ rest) ++ last_words (length (first ∷ rest)) n ≡ gather (λ x. x.words) ts ++ left) (notes : TookNotes (map (λ d. d.note) p.made) (first ∷ rest)) (low : until ≤ length p.made)
       (far : (length (rest ++ end ∷ []) ≤ until) ⊎ (length p.made ≤ until)) (few : length (rest ++ end ∷ []) ≤ length p.made + 1) (little : HomesLittle m s b ts first (rest ++ end ∷ []) (length p.made) t p.seen.begun w)
-      (lines : Followed m b t.clocks (length (came_from [] r.past)) p.seen.begun) (sound : AreSound m t.clocks t.first) (formed : MayHome m p.seen.begun) (range : StartInRange (clocks_at t.clocks b) p.seen.begun) where
+      (lines : Followed m b (length rest) t.clocks (length (came_from [] r.past)) p.seen.begun) (sound : AreSound m t.clocks t.first) (formed : MayHome m p.seen.begun) (range : StartInRange (clocks_at t.clocks b) p.seen.begun) where
     -- what the board was sent
     pub homing_by : Homing until b r (behind [] w.made)
     homing_by =
-        let clock = clock_of (board_at m b) in
         let pins = pins_of (board_at m b) b s.switches in
         let turns = behind [] w.made in
         let valid = valid_at m.boards b h v.boards in
@@ -256,8 +224,8 @@ module _ (m : Machine) (v : IsValidMachine m) (s : Scene) (ts : List MotionTurn)
         let Batches : List Orders → Type 0 = λ os. TookBatches b ts os in
         let outs = out_before until (length p.made) (runs_on m t.clocks p.seen.begun b) low little.out in
         let behind_all : (length (orders_in turns) ≤ until) ⊎ (length p.made ≤ until) = elim far [ inl a ↦ inl (omega (arith, a, count)) | inr a ↦ inr a ] in
-        let home = home_run m ts p t b (length before) until (board_tick clock) (orders_in turns) h told low behind_all (subst Batches (sym w.in_order) w.batches) controls (valid_ticks (board_at m b) valid) lines.tracked r.early lines.over outs set (λ ready_by. used) in
-        let units = turns_fit (board_tick clock) (clocks_at t.clocks b) (board_at m b).freq (board_at m b).slots (length before) (stops_of p.seen.begun) (cuts_on m t.clocks until p.seen.begun b) turns home in
+        let home = home_run m ts p t b (length before) until (Own m b (length rest)) (orders_in turns) h told low behind_all (subst Batches (sym w.in_order) w.batches) controls (own_on (board_at m b) 0 (length rest + 349) valid (omega arith)).ticks lines.tracked r.early lines.over outs set (λ ready_by. used) in
+        let units = turns_fit (Own m b (length rest)) (clocks_at t.clocks b) (board_at m b).freq (board_at m b).slots (length before) (stops_of p.seen.begun) (cuts_on m t.clocks until p.seen.begun b) turns home in
         let limits = limited m v s.switches pins s.entries b whole turns run units in
         let first_low = r.early in
         let set_ups : TakeSetUps m pins s.entries b p.seen.begun turns = elim little.set_up [
@@ -293,7 +261,7 @@ module _ (m : Machine) (v : IsValidMachine m) (s : Scene) (ts : List MotionTurn)
               inl (late, most, cuts_spilled m t.clocks (length (orders_in turns)) until late b p.seen.begun spills, few)
           | inr g ↦ inr g
         ] in
-        subst Long many (home_by m v s b (length before) until ts p t turns (states_of w.made) (stands_after (link_of m s b) turns) h (cuts_on m t.clocks until p.seen.begun b) w.turns_are x.home x.limits
+        subst Long many (home_by m v s b (length before) until (length rest) ts p t turns (states_of w.made) (stands_after (link_of m s b) turns) h (cuts_on m t.clocks until p.seen.begun b) w.turns_are (let size = length-append rest (end ∷ []) in omega (arith, many, size)) x.home x.limits
         sections (orders_of w.made) w.in_order w.told near)
 
     -- behind its last turn it runs, or shut down for one of the two reasons
@@ -308,7 +276,7 @@ module _ (m : Machine) (v : IsValidMachine m) (s : Scene) (ts : List MotionTurn)
   -- where the planner made as many turns as the run has
   pub boarded : (n b : ℕ) (left : List WordMsg) (w : IsInWhole m s.switches b (clock_of (board_at m b)) (link_of m s b) ts first (rest ++ end ∷ [])) (r : Ready m v s ts p t first rest end told) → b < length m.boards → AreReactorTurns m s.switches [] (first ∷ rest)
       → gather (λ x. x.word ∷ []) (first ∷ rest) ++ last_words (length (first ∷ rest)) n ≡ gather (λ x. x.words) ts ++ left → TookNotes (map (λ d. d.note) p.made) (first ∷ rest) → length (rest ++ end ∷ []) ≤ length p.made
-      → HomesLittle m s b ts first (rest ++ end ∷ []) (length p.made) t p.seen.begun w → Followed m b t.clocks (length (came_from [] r.past)) p.seen.begun → AreSound m t.clocks t.first → MayHome m p.seen.begun → StartInRange (clocks_at t.clocks b) p.seen.begun
+      → HomesLittle m s b ts first (rest ++ end ∷ []) (length p.made) t p.seen.begun w → Followed m b (length rest) t.clocks (length (came_from [] r.past)) p.seen.begun → AreSound m t.clocks t.first → MayHome m p.seen.begun → StartInRange (clocks_at t.clocks b) p.seen.begun
       → IsHomeBoard b s.entries (length (came_from [] r.past)) (length (rest ++ end ∷ [])) (cuts_on m t.clocks (length (rest ++ end ∷ [])) p.seen.begun b) (here b w)
   boarded n b left w r h turns_are words notes long little lines sound formed range =
       boarded_by (length (rest ++ end ∷ [])) n b left w r h turns_are words notes long (inl (omega arith)) (omega (arith, long)) little lines sound formed range

@@ -91,13 +91,13 @@ parts_out m clocks turns n b (x ∷ begun) s =
 
 pub time_out : (m : Machine) (text : List ℕ) (planned : List MotionTurn) → SendsAllInTime m text planned → SendsAllOut m text planned
 time_out m text planned sends = λ p t b same told low.
-    (let x = sends p t b same told low in let y = parts_out m t.clocks (length p.made) 10_700 b p.seen.begun x.0 in (y.0, y.1, x.1))
+    (let x = sends p t b same told low in let y = parts_out m t.clocks (length p.made) 10_700 b p.seen.begun x in y)
 
 -- where all units are sent in time, or so late at most, nothing is held long
 pub out_little : (m : Machine) (s : Scene) (text : List ℕ) (planned : List MotionTurn) (turns : List ReactorTurn) → s.entries ≡ [] → SendsAllOut m text planned → AllHomeLittle m s text planned turns
 out_little m s text planned [] e sends = tt
 out_little m s text planned (first ∷ rest) e sends = λ p t b same told low w.
-    (let x = sends p t b same told low in record { out = x.0; few = inl (10_700, omega arith, x.1, inl e); near = x.2; set_up = inl e })
+    (let x = sends p t b same told low in record { out = x.0; few = inl (10_700, omega arith, x.1, inl e); set_up = inl e })
 
 pub clear_little : (m : Machine) (s : Scene) (text : List ℕ) (planned : List MotionTurn) (turns : List ReactorTurn) → s.entries ≡ [] → SendsAllInTime m text planned → AllHomeLittle m s text planned turns
 clear_little m s text planned turns e sends = out_little m s text planned turns e (time_out m text planned sends)

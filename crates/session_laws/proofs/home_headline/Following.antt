@@ -1,11 +1,11 @@
 -- Why the lines of a whole run in which axes home follow the plans of its sections.
-use Rattle.std.proofs.Common.{◌≡◌, inr, ℕ, ◌+◌, ◌^◌, ◌<◌, List, [], ◌∷◌, ◌++◌, length, map, Some, append_assoc, length-append, refl, ap, sym, ◌∙◌, subst, arith}
+use Rattle.std.proofs.Common.{◌≡◌, inr, ℕ, ◌<◌, List, [], ◌∷◌, ◌++◌, length, map, Some, append_assoc, length-append, refl, ap, sym, ◌∙◌, subst, arith}
 use Rattle.std.proofs.Math.Logic.{∥∥₁_map}
 use Rattle.std.proofs.lemmas.List.{length-map}
 use Rattle.plan_types.specs.declared.cause.Cause.{Cause}
 use Rattle.plan_types.specs.declared.cause.Cause.TheVariants as cause
 use Rattle.plan_types.specs.declared.machine.Machine.{Machine}
-use Rattle.plan_types.specs.Clock.{board_tick, clock_of}
+use Rattle.plan_types.specs.Clock.{clock_of}
 use Rattle.plan_types.specs.Machines.{IsValidMachine, board_at, stepper_at}
 use Rattle.plan_types.specs.Sections.{clocks_at}
 use Rattle.msg_code.specs.declared.talk.Note.{Note}
@@ -42,9 +42,12 @@ use Rattle.homing_laws.specs.home_parts.Reports.{IsHomeStepper}
 use Rattle.homing_laws.proofs.home_parts.Lines.{home_fits, home_none}
 use Rattle.homing_laws.proofs.home_parts.Told.{row_from}
 use Rattle.session_laws.specs.home_headline.Follow.{FollowHomes}
+use Rattle.cause_runs.specs.Short.{HaveShortDictionaries}
+use Rattle.session_laws.proofs.clock_ages.Own.{Own}
+use Rattle.session_laws.proofs.clock_ages.Renews.{renews}
 use Rattle.session_laws.specs.home_headline.Little.{HomesLittle}
 use Rattle.session_laws.proofs.home_headline.Board.{Followed, boarded_by, here_by, lines_of}
-use Rattle.session_laws.proofs.home_headline.Ranges.{may_all, own_small, range_all, starts_soon}
+use Rattle.session_laws.proofs.home_headline.Ranges.{may_all, on_small, range_all, starts_soon}
 use Rattle.session_laws.proofs.home_headline.Sections.{all_lines, few}
 use Rattle.session_laws.proofs.home_headline.Soon.{home_early}
 use Rattle.session_laws.proofs.home_headline.Uncut.{planned_at}
@@ -63,7 +66,7 @@ notes_both [] ys = refl
 notes_both (x ∷ xs) ys = ap (λ z. option_items x.note ++ z) (notes_both xs ys) ∙ sym (append_assoc (option_items x.note) (notes_of xs) (notes_of ys))
 
 module _ (m : Machine) (v : IsValidMachine m) (s : Scene) (ts : List MotionTurn) (p : Plans m (length m.boards) ts) (t : Told) (first : ReactorTurn) (rest : List ReactorTurn) (end : ReactorTurn) (c : Cause) (told : p.seen.told ≡ Some t) (f : Facts m s ts (first ∷ rest) end c)
-    (little : (b : ℕ) → b < length m.boards → (w : IsInWhole m s.switches b (clock_of (board_at m b)) (link_of m s b) ts first (rest ++ end ∷ [])) → HomesLittle m s b ts first (rest ++ end ∷ []) (length p.made) t p.seen.begun w) where
+    (short : HaveShortDictionaries m) (little : (b : ℕ) → b < length m.boards → (w : IsInWhole m s.switches b (clock_of (board_at m b)) (link_of m s b) ts first (rest ++ end ∷ [])) → HomesLittle m s b ts first (rest ++ end ∷ []) (length p.made) t p.seen.begun w) where
   -- the notes before the last
   front_notes : TookNotes (map (λ d. d.note) p.made) (first ∷ rest)
   front_notes =
@@ -85,8 +88,8 @@ module _ (m : Machine) (v : IsValidMachine m) (s : Scene) (ts : List MotionTurn)
   whole : (b : ℕ) → b < length m.boards → IsInWhole m s.switches b (clock_of (board_at m b)) (link_of m s b) ts first (rest ++ end ∷ [])
   whole b h = f.boards b first rest h refl
 
-  lines : (b : ℕ) → b < length m.boards → Followed m b t.clocks (length (came_from [] turn.past)) p.seen.begun
-  lines b h = lines_of m v s ts p t first rest end told b (whole b h) turn h (little b h (whole b h)).near
+  lines : (b : ℕ) → b < length m.boards → Followed m b (length rest) t.clocks (length (came_from [] turn.past)) p.seen.begun
+  lines b h = lines_of m v s ts p t first rest end told b (whole b h) turn h (let size = length-append rest (end ∷ []) in let most = few m v s ts p end c first rest f in renews m v short s ts p t first rest end c told f front_notes (omega (arith, size, most)) b h)
 
   row : AreInARow t.first p.seen.begun
   row = begun_row m t.clocks t.first p.seen.begun (started_in m ts p t told)
@@ -94,14 +97,11 @@ module _ (m : Machine) (v : IsValidMachine m) (s : Scene) (ts : List MotionTurn)
   sound : AreSound m t.clocks t.first
   sound = sound_of m v s ts p t first rest end told turn whole
 
-  own : (b : ℕ) → b < length m.boards → (k : ℕ) → k < 2 ^ 42 + 300 → board_tick (clock_of (board_at m b)) k < 2 ^ 62
-  own b h k soon = own_small (board_at m b) (valid_at m.boards b h v.boards) k soon
-
   range : (b : ℕ) → b < length m.boards → StartInRange (clocks_at t.clocks b) p.seen.begun
   range b h =
       let l = lines b h in
       let early = turn.early in
-      range_all m t.clocks (board_tick (clock_of (board_at m b))) (clocks_at t.clocks b) (length (came_from [] turn.past)) t.first p.seen.begun l.tracked (own b h) (omega (arith, early)) row l.over (starts_soon m (length m.boards) ts p)
+      range_all m t.clocks (Own m b (length rest)) (clocks_at t.clocks b) (length (came_from [] turn.past)) t.first p.seen.begun l.tracked (on_small m b (length rest) (valid_at m.boards b h v.boards)) (omega (arith, early)) row l.over (starts_soon m (length m.boards) ts p)
 
   formed : MayHome m p.seen.begun
   formed = may_all m v ts p t told
@@ -148,16 +148,16 @@ module _ (m : Machine) (v : IsValidMachine m) (s : Scene) (ts : List MotionTurn)
             home_none m v t.clocks p.seen.begun (rest ++ end ∷ []) s.entries from_ready (length p.made) n from to place (here_by m v s ts p t first rest end told (length p.made) (stepper_at m place).board (whole (stepper_at m place).board (v.steppers place h).board)) past later tells.1 cut (on_stepper place h) order within ended next;
       }
 
-pub run_follows : {F S : Type 0} (f : Files F) (o : Sink S) (m : Machine) (s : Scene) (name : List ℕ) (files files' : F) (out out' : S) (kept kept' : Kept) (t : near.Told Run) (r : RunsOver f o m s name files out kept t files' out' kept') → IsValidMachine m → (text : List ℕ)
+pub run_follows : {F S : Type 0} (f : Files F) (o : Sink S) (m : Machine) (s : Scene) (name : List ℕ) (files files' : F) (out out' : S) (kept kept' : Kept) (t : near.Told Run) (r : RunsOver f o m s name files out kept t files' out' kept') → IsValidMachine m → HaveShortDictionaries m → (text : List ℕ)
     → f.told files name ≡ Some text → kept.at ≡ 0 → ∥ ((made : IsMade m s r.runs.0 r.runs.1) × (made.plans.seen.text ≡ text) × ((heard : Told) (first : ReactorTurn) (rest : List ReactorTurn) → (t.cause ≡ cause.Memory → ⊥) → r.runs.1 ≡ first ∷ rest
     → made.plans.seen.told ≡ Some heard
     → ((b : ℕ) → b < length m.boards → (w : IsInWhole m s.switches b (clock_of (board_at m b)) (link_of m s b) r.runs.0 first (rest ++ r.runs.2 ∷ [])) → HomesLittle m s b r.runs.0 first (rest ++ r.runs.2 ∷ []) (length made.plans.made) heard made.plans.seen.begun w)
     → FollowHomes m heard made.plans.seen first (rest ++ r.runs.2 ∷ []))) ∥₁
-run_follows f o m s name files files' out out' kept kept' t r v text told at =
+run_follows f o m s name files files' out out' kept kept' t r v short text told at =
     ∥∥₁_map (run_made f o m s name files files' out out' kept kept' t r text told at) (λ w. (
       w.0,
       w.1,
       λ heard first rest other are heard_is little.
           let Of : List ReactorTurn → Type 0 = λ z. Facts m s r.runs.0 z r.runs.2 t.cause in
-          follows m v s r.runs.0 w.0.plans heard first rest r.runs.2 t.cause heard_is (subst Of are (facts f o m s name files files' out out' kept kept' t r other)) little,
+          follows m v s r.runs.0 w.0.plans heard first rest r.runs.2 t.cause heard_is (subst Of are (facts f o m s name files files' out out' kept kept' t r other)) short little,
     ))

@@ -1,7 +1,7 @@
 -- A board of a run in which axes home keeps what the laws of a run ask for, so it may shut down for two reasons alone.
-use Rattle.std.proofs.Common.{◌≡◌, ℕ, ◌+◌, List, [], ◌∷◌, sym, ◌∙◌, subst}
+use Rattle.std.proofs.Common.{◌≡◌, ℕ, ◌+◌, ◌≤◌, List, [], ◌∷◌, length, sym, ◌∙◌, subst, arith}
 use Rattle.plan_types.specs.declared.clock.BoardClock.{BoardClock}
-use Rattle.plan_types.specs.Clock.{board_tick, clock_of}
+use Rattle.plan_types.specs.Clock.{clock_of}
 use Rattle.wire_scene.specs.declared.scene.Entry.{Entry}
 use Rattle.board_world.specs.World.{Core, run, start}
 use Rattle.link_work.specs.Runs.{AreTurns}
@@ -14,28 +14,31 @@ use Rattle.run_laws.specs.Homes.{IsHomeBoard, RunSection}
 use Rattle.run_laws.specs.Links.{steps_of, turns_told}
 use Rattle.run_laws.proofs.Halted.{reason_is}
 use Rattle.run_laws.proofs.HomeAll.{run_good}
-use Rattle.run_laws.proofs.Linking.{first_tick, turns_are, valid_ticks}
-use Rattle.run_laws.proofs.HomeBoards.{settled_head}
+use Rattle.run_laws.proofs.Linking.{own_first, turns_are, turns_owned}
+use Rattle.run_laws.proofs.HomeBoards.{settled_head, settled_owned}
 use Rattle.homing_laws.proofs.home_runs.Along.{one_end}
 
 -- a board of such a run
 pub board_good : (place : ℕ) (entries : List Entry) (ready turns : ℕ) (ss : List RunSection) (x : OnBoard) (k : IsHomeBoard place entries ready turns ss x)
-    → IsGoodRun x.board x.pins (board_tick (clock_of x.board)) k.stops x.orders
+    → IsGoodRun x.board x.pins k.own k.stops x.orders
     (steps_of (clock_of x.board) 0 x.orders (first_state x.board x.pins place entries) k.end (turns_told (clock_of x.board) 0 x.orders x.states (first_state x.board x.pins place entries) k.end k.told))
 board_good place entries ready turns ss x k =
     let clock = clock_of x.board in
     let l = first_state x.board x.pins place entries in
     let t = turns_told clock 0 x.orders x.states l k.end k.told in
-    let own = board_tick clock in
-    let ticks = valid_ticks x.board k.valid in
+    let own = k.own in
+    let count = k.count in
+    let within : 0 + length x.orders ≤ turns = omega (arith, count) in
+    let steps = steps_of clock 0 x.orders l k.end t in
+    let taken = (turns_are clock 0 x.orders l k.end t).1 in
     record {
-      ticks = ticks;
-      first = first_tick x.board;
+      ticks = k.own_is.ticks;
+      first = own_first x.board turns own k.own_is;
       ahead = k.run_is.ahead;
-      good = run_good own x.clocks x.board.freq x.board.slots ready k.stops ss x.orders ticks k.run_is;
-      turns = (turns_are clock 0 x.orders l k.end t).1;
+      good = run_good own x.clocks x.board.freq x.board.slots ready k.stops ss x.orders k.own_is.ticks k.run_is;
+      turns = turns_owned x.board own turns 0 x.orders steps k.own_is within taken;
       timely = k.timely;
-      settled = settled_head k.stops clock 0 [] x.orders l k.end t k.settled;
+      settled = settled_owned x.board k.stops own turns 0 [] x.orders steps (start x.board x.pins) k.own_is within taken (settled_head k.stops clock 0 [] x.orders l k.end t k.settled);
     }
 
 -- so at its end it runs, or shut down as a unit came too late or as it was told to stop
@@ -47,7 +50,7 @@ board_may place entries ready turns ss x k =
     let steps = steps_of clock 0 x.orders l k.end t in
     let is : k.end.core ≡ run steps (start x.board x.pins) = (turns_are clock 0 x.orders l k.end t).0 in
     let May : Core → Type 0 = λ h. MayBe h.board.controller.state in
-    subst May (sym is) (reason_is x.board x.pins (board_tick clock) k.stops x.orders steps (board_good place entries ready turns ss x k))
+    subst May (sym is) (reason_is x.board x.pins k.own k.stops x.orders steps (board_good place entries ready turns ss x k))
 
 -- turns of the same orders have one end
 same_end : (clock : BoardClock) (turn : ℕ) (os : List Orders) (l m n : LinkState) → AreTurns clock turn os l m → AreTurns clock turn os l n → m ≡ n

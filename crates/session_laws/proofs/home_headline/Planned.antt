@@ -19,7 +19,7 @@ use Rattle.session_run.specs.Boards.{AreReactorTurns, came_from, came_in}
 use Rattle.run_plans.specs.Lines.{TookEach, TookNotes}
 use Rattle.run_plans.specs.Planned.{Plans, puts_of, words_in}
 use Rattle.session_laws.proofs.run_headline.Words.{gather_words}
-use Rattle.session_laws.proofs.run_headline.Showing.{came_long}
+use Rattle.session_laws.proofs.run_headline.Facts.{came_long}
 use Rattle.homing_laws.specs.home_runs.Words.{BeginsNone}
 use Rattle.homing_laws.specs.home_plans.Notes.{CameNotes, IsNoteOf}
 use Rattle.homing_laws.specs.home_parts.Answers.{AreOfTurns, IsPlannedBy}

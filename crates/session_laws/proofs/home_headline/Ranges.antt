@@ -1,36 +1,27 @@
 -- The ticks at which sections start are in range, and the groups of those that home may be formed.
-use Rattle.std.proofs.Common.{◌≡◌, ℕ, suc, ◌+◌, ◌*◌, ◌^◌, ◌<◌, ◌≤◌, ℤ, pos, negsuc, ◌≤ℤ◌, true, List, [], ◌∷◌, ◌++◌, All, length, map, Some, refl, subst, arith, inl, inr}
+use Rattle.std.proofs.Common.{◌≡◌, ℕ, zero, suc, ◌+◌, ◌*◌, ◌^◌, ◌<◌, ◌≤◌, ℤ, true, List, [], ◌∷◌, All, length, map, Some, refl, ◌∙◌, subst, arith, inl, inr}
 use Rattle.std.proofs.lemmas.Bool.Decides.{leb_tells}
-use Rattle.std.proofs.lemmas.Int.{ints}
 use Rattle.std.proofs.lemmas.List.Elements.{All-head, All-tail}
-use Rattle.std.proofs.Math.Nat.{mul-le-mul_left}
-use Rattle.gcode_program.specs.Held.{IsNear}
-use Rattle.gcode_program.specs.Programs.{program_sections}
-use Rattle.gcode_program.proofs.Plannable.{sections_plannable}
 use Rattle.plan_types.specs.declared.machine.BoardDef.{BoardDef}
 use Rattle.plan_types.specs.declared.machine.Machine.{Machine}
-use Rattle.plan_types.specs.declared.plan.Section.{Section}
-use Rattle.plan_types.specs.Clock.{board_tick, clock_of, own_tick, rate}
+use Rattle.plan_types.specs.Clock.{board_tick, clock_of, own_tick}
 use Rattle.plan_types.specs.Lines.{Clocks}
-use Rattle.plan_types.specs.Machines.{IsValidBoard, IsValidMachine, axis_at}
-use Rattle.plan_types.specs.Sections.{clocks_at, section_end}
-use Rattle.plan_types.specs.Valid.{IsValidMove}
+use Rattle.plan_types.specs.Machines.{IsValidBoard, IsValidMachine, axis_at, board_at}
 use Rattle.trigger_group.specs.declared.seen.Seen.{Seen}
 use Rattle.trigger_group.specs.Group.{unseen}
 use Rattle.trigger_group.specs.Kept.{may_be, movers}
 use Rattle.axis_homing.specs.Homing.{members_from}
-use Rattle.motion_work.specs.Seen.{AreBoardClocks, AreStarted, IsHomed, Started}
+use Rattle.motion_work.specs.Seen.{AreStarted, IsHomed, Started}
 use Rattle.motion_work.specs.Told.{Told}
-use Rattle.motion_work.proofs.Homing.{near_short}
-use Rattle.motion_work.proofs.Turning.{end_after}
-use Rattle.motion_stream.proofs.Bounding.{section_known}
-use Rattle.motion_stream.proofs.Wholing.{at_place}
-use Rattle.motion_stream.proofs.Taking.{may_start}
 use Rattle.session_work.specs.declared.table.MotionTurn.{MotionTurn}
+use Rattle.run_laws.specs.Events.{AreOwn}
 use Rattle.run_laws.specs.Parts.{AreTracked}
+use Rattle.run_laws.proofs.Linking.{own_ticks}
+use Rattle.run_parts.proofs.Going.{own_on}
 use Rattle.run_plans.specs.Planned.{AreKnown, Plans}
 use Rattle.run_plans.proofs.Cutting.{homed_of}
 use Rattle.run_plans.proofs.Running.{started_in}
+use Rattle.session_laws.proofs.clock_ages.Own.{Own}
 use Rattle.homing_laws.specs.home_plans.Notes.{AreInARow}
 use Rattle.homing_laws.specs.home_parts.Answers.{MayHome}
 use Rattle.homing_laws.specs.home_parts.Cuts.{AreOverBefore}
@@ -39,19 +30,30 @@ use Rattle.homing_laws.specs.home_parts.Known.{StartInRange}
 use Rattle.homing_laws.proofs.home_parts.Bits.{movers_few}
 
 -- a board's own ticks
-rate_low : (d : ℤ) → d ≤ℤ pos 200 → rate d ≤ 1_000_200
-rate_low (pos n) low = omega (arith, ints, low)
-rate_low (negsuc n) low = omega arith
-
-own_low : (start freq k : ℕ) (d : ℤ) → start ≤ 2 ^ 40 → freq ≤ 200_000_000 → d ≤ℤ pos 200 → k < 2 ^ 42 + 300 → own_tick start freq d k < 2 ^ 62
+own_first : (start freq : ℕ) (d : ℤ) → own_tick start freq d 0 ≡ start
 unfolding own_tick
-own_low start freq k d low few drift soon =
-    let one : k * freq ≤ k * 200_000_000 = mul-le-mul_left k few in
-    let all : k * freq * rate d ≤ k * freq * 1_000_200 = mul-le-mul_left (k * freq) (rate_low d drift) in
-    omega (arith, low, one, all, soon)
+own_first start freq d = omega arith
+
+own_far : (own : ℕ → ℕ) (k : ℕ) → ((j : ℕ) → own (j + 1) ≤ own j + 200_041) → own k ≤ own 0 + k * 200_041
+own_far own zero few = omega arith
+own_far own (suc k) few =
+    let next : k + 1 ≡ suc k = omega arith in
+    let one = subst (λ (n : ℕ). own n ≤ own k + 200_041) next (few k) in
+    let rec = own_far own k few in
+    omega (arith, one, rec)
+
+all_small : (d : BoardDef) (turns : ℕ) (own : ℕ → ℕ) → IsValidBoard d → AreOwn d turns own → (k : ℕ) → k < 2 ^ 42 + 300 → own k < 2 ^ 62
+all_small d turns own v o k soon =
+    let first = o.same 0 (omega arith) ∙ own_first d.start d.freq d.drift in
+    let start = v.start in
+    let far = own_far own k o.few in
+    omega (arith, first, start, far, soon)
 
 pub own_small : (d : BoardDef) → IsValidBoard d → (k : ℕ) → k < 2 ^ 42 + 300 → board_tick (clock_of d) k < 2 ^ 62
-own_small d v k soon = own_low d.start d.freq k d.drift v.start v.freq.high v.drift_high soon
+own_small d v k soon = all_small d 0 (board_tick (clock_of d)) v (own_ticks d 0 v) k soon
+
+pub on_small : (m : Machine) (b turns : ℕ) → IsValidBoard (board_at m b) → (k : ℕ) → k < 2 ^ 42 + 300 → Own m b turns k < 2 ^ 62
+on_small m b turns v k soon = all_small (board_at m b) 0 (Own m b turns) v (own_on (board_at m b) 0 (turns + 349) v (omega arith)) k soon
 
 -- the ticks of the starts
 pub range_all : (m : Machine) (all : List Clocks) (own : ℕ → ℕ) (clocks : Clocks) (ready at : ℕ) (begun : List Started) → (k : AreTracked own clocks ready) → ((j : ℕ) → j < 2 ^ 42 + 300 → own j < 2 ^ 62) → ready ≤ at → AreInARow at begun → AreOverBefore m all k.until begun

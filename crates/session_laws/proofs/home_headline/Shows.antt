@@ -49,15 +49,16 @@ use Rattle.homing_laws.specs.home_plans.Notes.{AreInARow}
 use Rattle.homing_laws.proofs.home_plans.Noting.{begun_row}
 use Rattle.homing_laws.proofs.home_parts.Told.{row_from}
 use Rattle.session_laws.specs.home_headline.Follow.{AllShowHomes, FollowHomes, ShowHomes}
+use Rattle.cause_runs.specs.Short.{HaveShortDictionaries}
 use Rattle.session_laws.specs.home_headline.Little.{AllHomeLittle}
 use Rattle.session_laws.specs.home_headline.Reading.{ReadsOn}
 use Rattle.session_laws.proofs.home_headline.Following.{follows}
 use Rattle.session_laws.proofs.home_headline.Sections.{all_lines}
 
 module _ (m : Machine) (v : IsValidMachine m) (s : Scene) (ts : List MotionTurn) (p : Plans m (length m.boards) ts) (end : ReactorTurn) (c : Cause) where
-  module _ (first : ReactorTurn) (rest : List ReactorTurn) (f : Facts m s ts (first ∷ rest) end c) (little : AllHomeLittle m s p.seen.text ts (first ∷ (rest ++ end ∷ []))) where
+  module _ (first : ReactorTurn) (rest : List ReactorTurn) (f : Facts m s ts (first ∷ rest) end c) (short : HaveShortDictionaries m) (little : AllHomeLittle m s p.seen.text ts (first ∷ (rest ++ end ∷ []))) where
     by_told : (t : Told) → p.seen.told ≡ Some t → FollowHomes m t p.seen first (rest ++ end ∷ [])
-    by_told t told = follows m v s ts p t first rest end c told f (λ b h w. little p t b refl told h w)
+    by_told t told = follows m v s ts p t first rest end c told f short (λ b h w. little p t b refl told h w)
 
     lines : TellTurns m p.seen.begun 0 (first ∷ (rest ++ end ∷ []))
     lines = all_lines m v s ts p end c first rest f
@@ -189,15 +190,15 @@ module _ (m : Machine) (v : IsValidMachine m) (s : Scene) (ts : List MotionTurn)
       spread : Spread 260 p.seen.begun
       spread = plans_spread m (length m.boards) ts p
 
-  pub all_shows : (rs : List ReactorTurn) → Facts m s ts rs end c → AllHomeLittle m s p.seen.text ts (rs ++ end ∷ []) → AllShowHomes m p.seen (clocks_heard p.seen.told) (ready_heard p.seen.told) c (rs ++ end ∷ [])
-  all_shows [] f little = shows_alone f
-  all_shows (first ∷ rest) f little = shows first rest f little
+  pub all_shows : (rs : List ReactorTurn) → Facts m s ts rs end c → HaveShortDictionaries m → AllHomeLittle m s p.seen.text ts (rs ++ end ∷ []) → AllShowHomes m p.seen (clocks_heard p.seen.told) (ready_heard p.seen.told) c (rs ++ end ∷ [])
+  all_shows [] f short little = shows_alone f
+  all_shows (first ∷ rest) f short little = shows first rest f short little
 
-pub run_shows : {F S : Type 0} (f : Files F) (o : Sink S) (m : Machine) (s : Scene) (name : List ℕ) (files files' : F) (out out' : S) (kept kept' : Kept) (t : near.Told Run) (r : RunsOver f o m s name files out kept t files' out' kept') → IsValidMachine m → (text : List ℕ)
+pub run_shows : {F S : Type 0} (f : Files F) (o : Sink S) (m : Machine) (s : Scene) (name : List ℕ) (files files' : F) (out out' : S) (kept kept' : Kept) (t : near.Told Run) (r : RunsOver f o m s name files out kept t files' out' kept') → IsValidMachine m → HaveShortDictionaries m → (text : List ℕ)
     → f.told files name ≡ Some text → kept.at ≡ 0 → ∥ ((made : IsMade m s r.runs.0 r.runs.1) × (made.plans.seen.text ≡ text) × ((t.cause ≡ cause.Memory → ⊥) → AllHomeLittle m s text r.runs.0 (r.runs.1 ++ r.runs.2 ∷ [])
     → AllShowHomes m made.plans.seen (clocks_heard made.plans.seen.told) (ready_heard made.plans.seen.told) t.cause (r.runs.1 ++ r.runs.2 ∷ []))) ∥₁
-run_shows f o m s name files files' out out' kept kept' t r v text told at =
+run_shows f o m s name files files' out out' kept kept' t r v short text told at =
     ∥∥₁_map (run_made f o m s name files files' out out' kept kept' t r text told at) (λ w.
     let made = w.0 in
     let Little : List ℕ → Type 0 = λ z. AllHomeLittle m s z r.runs.0 (r.runs.1 ++ r.runs.2 ∷ []) in
-    (made, w.1, λ other little. all_shows m v s r.runs.0 made.plans r.runs.2 t.cause r.runs.1 (facts f o m s name files files' out out' kept kept' t r other) (subst Little (sym w.1) little)))
+    (made, w.1, λ other little. all_shows m v s r.runs.0 made.plans r.runs.2 t.cause r.runs.1 (facts f o m s name files files' out out' kept kept' t r other) short (subst Little (sym w.1) little)))

@@ -1,7 +1,6 @@
 -- The pulses of each section of a run in which axes home are before the board's tick of a turn behind its end.
-use Rattle.std.proofs.Common.{◌≡◌, ℕ, suc, ◌+◌, ◌-◌, ◌*◌, ◌<◌, ◌≤◌, Bool, true, false, All, List, [], ◌∷◌, ◌++◌, length, map, take, ap, sym, add-one, ◌∙◌, subst, arith, inl, inr}
+use Rattle.std.proofs.Common.{◌≡◌, ℕ, ◌+◌, ◌-◌, ◌*◌, ◌<◌, ◌≤◌, true, All, List, [], ◌∷◌, ◌++◌, length, map, take, ap, sym, ◌∙◌, subst, arith}
 use Rattle.std.specs.Prelude.{◌/◌, Option, min, slice_index_or}
-use Rattle.std.proofs.lemmas.Bool.Decides.{eqb_tells, leb_tells}
 use Rattle.std.proofs.lemmas.List.{map-append}
 use Rattle.std.proofs.lemmas.List.Elements.{All-cons, All-head, All-nil, All-tail}
 use Rattle.plan_types.specs.declared.machine.BoardDef.{BoardDef}
@@ -10,18 +9,16 @@ use Rattle.plan_types.specs.declared.plan.Planned.{Planned}
 use Rattle.plan_types.specs.declared.plan.Pulse.{Pulse}
 use Rattle.plan_types.specs.declared.plan.SectionKind.{SectionKind}
 use Rattle.plan_types.specs.declared.plan.SectionKind.TheVariants.{Home, Moves}
-use Rattle.plan_types.specs.Board.{TicksRise, last_of, steps_of}
 use Rattle.plan_types.specs.Clock.{turn_ns}
 use Rattle.plan_types.specs.Lines.{Clocks, lines_tick}
 use Rattle.plan_types.specs.Machines.{IsValidMachine, board_at, stepper_at}
 use Rattle.plan_types.specs.Plan.{Fits, max_error}
 use Rattle.plan_types.specs.Sections.{clocks_at}
 use Rattle.clock_line.proofs.Turns.{tick_over-mono}
-use Rattle.step_feed.specs.Pacing.{Release, units_of}
-use Rattle.step_feed.specs.Units.{StepUnit}
+use Rattle.step_feed.specs.Pacing.{units_of}
 use Rattle.section_units.specs.Merged.{plan_at}
 use Rattle.section_units.specs.Plans.{plans_on}
-use Rattle.section_units.specs.Sections.{AreBegunBy, AreChained, base_of, dir_after, of_stepper, pulse_of, section_steps, steps_said, ticks_meant}
+use Rattle.section_units.specs.Sections.{base_of, of_stepper, section_steps}
 use Rattle.section_feed.specs.Boards.{IsLasting}
 use Rattle.wire_scene.specs.declared.scene.Entry.{Entry}
 use Rattle.board_sim.specs.Fair.{only}
@@ -29,8 +26,8 @@ use Rattle.run_laws.specs.Boards.{IsWindow, OnBoard, told_in}
 use Rattle.run_laws.specs.Homes.{IsHomeBoard, IsSectionBy, RunSection}
 use Rattle.run_laws.proofs.Entering.{AreEarly, early_fits}
 use Rattle.run_laws.proofs.HomeBoards.{told_section}
-use Rattle.run_laws.proofs.Spans.{all_split, early_append, early_up}
-use Rattle.motion_work.specs.Homes.{before_turn, no_end}
+use Rattle.run_laws.proofs.Spans.{all_split, early_up}
+use Rattle.motion_work.specs.Homes.{no_end}
 use Rattle.motion_work.specs.Seen.{IsPlanned, Started, part_on}
 use Rattle.session_work.specs.declared.table.ReactorTurn.{ReactorTurn}
 use Rattle.run_plans.specs.Boards.{as_told, lines_between, times_of}

@@ -63,6 +63,7 @@ use Rattle.homing_laws.proofs.home_parts.Known.{known_silent, none_tells, tells_
 use Rattle.homing_laws.proofs.home_parts.Told.{row_from, tells_now, tells_tail}
 use Rattle.session_laws.specs.home_headline.Cuts.{EndsIn, TellEnds, TellsNone, TellsSwitch, cuts_of}
 use Rattle.session_laws.specs.home_headline.Follow.{AllShowHomes}
+use Rattle.cause_runs.specs.Short.{HaveShortDictionaries}
 use Rattle.session_laws.specs.home_headline.Little.{AllHomeLittle}
 use Rattle.session_laws.specs.home_headline.Reading.{ReadsOn}
 use Rattle.session_laws.proofs.home_headline.Cuts.{answer_of, end_of, told_cut, told_section, turn_cuts, uncut, uncut_both}
@@ -421,7 +422,7 @@ run_last f o m s name files files' out out' kept kept' t r v text told at = by t
 
 pub run_ends : {F S : Type 0} (f : Files F) (o : Sink S) (m : Machine) (s : Scene) (name : List ℕ) (files files' : F) (out out' : S) (kept kept' : Kept) (t : near.Told Run) (r : RunsOver f o m s name files out kept t files' out' kept') → IsValidMachine m → (text : List ℕ)
     → f.told files name ≡ Some text → kept.at ≡ 0 → ∥ ((made : IsMade m s r.runs.0 r.runs.1) × (made.plans.seen.text ≡ text)
-    × ((t.cause ≡ cause.Memory → ⊥) → AllHomeLittle m s text r.runs.0 (r.runs.1 ++ r.runs.2 ∷ []) → AllShowHomes m made.plans.seen (clocks_heard made.plans.seen.told) (ready_heard made.plans.seen.told) t.cause (r.runs.1 ++ r.runs.2 ∷ []))
+    × ((t.cause ≡ cause.Memory → ⊥) → HaveShortDictionaries m → AllHomeLittle m s text r.runs.0 (r.runs.1 ++ r.runs.2 ∷ []) → AllShowHomes m made.plans.seen (clocks_heard made.plans.seen.told) (ready_heard made.plans.seen.told) t.cause (r.runs.1 ++ r.runs.2 ∷ []))
     × ((t.cause ≡ cause.Memory → ⊥) → ReadsOn m text r.runs.0 t.cause → TellEnds m s.switches made.plans.seen.begun 0 (r.runs.1 ++ r.runs.2 ∷ []))) ∥₁
 run_ends f o m s name files files' out out' kept kept' t r v text told at =
     ∥∥₁_map (run_made f o m s name files files' out out' kept kept' t r text told at) (λ w.
@@ -430,6 +431,6 @@ run_ends f o m s name files files' out out' kept kept' t r v text told at =
     let Reads : List ℕ → Type 0 = λ z. ReadsOn m z r.runs.0 t.cause in (
       made,
       w.1,
-      λ other little. all_shows m v s r.runs.0 made.plans r.runs.2 t.cause r.runs.1 (facts f o m s name files files' out out' kept kept' t r other) (subst Little (sym w.1) little),
+      λ other short little. all_shows m v s r.runs.0 made.plans r.runs.2 t.cause r.runs.1 (facts f o m s name files files' out out' kept kept' t r other) short (subst Little (sym w.1) little),
       λ other on. all_ends m v s r.runs.0 made.plans r.runs.2 t.cause r.runs.1 (run_ended f o m s name files files' out out' kept kept' t r other) (subst Reads (sym w.1) on),
     ))

@@ -6,7 +6,7 @@ use Rattle.std.proofs.lemmas.List.{append_cancel_left, length-drop, length-take-
 use Rattle.std.proofs.lemmas.List.Elements.{All-head}
 use Rattle.plan_types.specs.declared.plan.BoardState.TheVariants.{Running, Shut}
 use Rattle.plan_types.specs.declared.plan.Pulse.{Pulse}
-use Rattle.plan_types.specs.Clock.{board_tick, clock_of, turn_ns}
+use Rattle.plan_types.specs.Clock.{clock_of, turn_ns}
 use Rattle.plan_types.specs.Lines.{lines_tick}
 use Rattle.msg_code.specs.declared.talk.ShutNews.{ShutNews}
 use Rattle.msg_code.specs.declared.talk.State.{State}
@@ -31,7 +31,6 @@ use Rattle.run_laws.proofs.Entering.{AreEarly}
 use Rattle.run_laws.proofs.Finding.{idle_took}
 use Rattle.run_laws.proofs.HomeBoards.{cut_at, told_section}
 use Rattle.run_laws.proofs.HomeSpans.{halves}
-use Rattle.run_laws.proofs.Linking.{valid_ticks}
 use Rattle.run_laws.proofs.Passes.{AreBetween}
 use Rattle.run_laws.proofs.Spans.{AreLate, all_split, between_early, between_late, early_behind, late_fits, section_early}
 use Rattle.run_laws.proofs.Wholes.{first_of_own}
@@ -41,14 +40,14 @@ use Rattle.session_laws.proofs.home_wholes.Cutting.{cut_board}
 use Rattle.session_laws.proofs.home_wholes.Front.{row_later}
 use Rattle.session_laws.proofs.home_wholes.Phases.{Holds}
 use Rattle.session_laws.proofs.home_wholes.Section.{made_or_early, made_where_taken, never_last, reason_last}
-use Rattle.run_laws.proofs.Passing.{last_runs, still, tells}
+use Rattle.run_laws.proofs.Passing.{last_runs, tells}
 use Rattle.session_laws.proofs.home_headline.Stop.{runs_so}
 
 -- the pulses that a board tells between two turns have ticks of these turns
-between_told : (place : ℕ) (entries : List Entry) (ready turns from to : ℕ) (x : OnBoard) (ss : List RunSection) → IsHomeBoard place entries ready turns ss x → from ≤ to → to ≤ turns → (oid : ℕ)
-    → AreBetween (board_tick (clock_of x.board) from) (board_tick (clock_of x.board) to) (only oid (told_in from to x))
+between_told : (place : ℕ) (entries : List Entry) (ready turns from to : ℕ) (x : OnBoard) (ss : List RunSection) (k : IsHomeBoard place entries ready turns ss x) → from ≤ to → to ≤ turns → (oid : ℕ)
+    → AreBetween (k.own from) (k.own to) (only oid (told_in from to x))
 between_told place entries ready turns from to x ss k order within oid =
-    let own = board_tick (clock_of x.board) in
+    let own = k.own in
     let c = cut_at x place entries ready from to turns ss k order within in
     let q = halves x.board x.pins own x.clocks ready k.stops ss c.before c.during c.behind c.first c.second c.span in
     let h1 = run c.first (start x.board x.pins) in
@@ -109,7 +108,7 @@ none_early low from to (p ∷ ps) qs all some split early late order =
 module _ (place : ℕ) (entries : List Entry) (ready turns from to : ℕ) (x : OnBoard) (past : List RunSection) (s : RunSection) (later : List RunSection) (k : IsHomeBoard place entries ready turns (past ++ s ∷ later) x) (moves : s.homes ≡ false)
     (begins : from + 1 ≡ s.section.start) (order : from ≤ to) (next : NextBehind to later) (over : s.section.end + 5 ≤ to) where
   abbrev Own : ℕ → ℕ
-  Own = board_tick (clock_of x.board)
+  Own = k.own
 
   is_moves : IsMovesIn x.clocks x.board.freq x.board.slots k.run_is.tracked.until k.stops s.section
   is_moves =
@@ -124,7 +123,7 @@ module _ (place : ℕ) (entries : List Entry) (ready turns from to : ℕ) (x : O
       let ss = past ++ s ∷ later in
       let i = is_moves in
       let row = row_later ready past s later k.run_is.row in
-      let ticks = valid_ticks x.board k.valid in
+      let ticks = k.own_is.ticks in
       let a = told_in 0 from x in
       let m = told_in from to x in
       let z = told_in to n x in
@@ -309,5 +308,5 @@ module _ (place : ℕ) (entries : List Entry) (ready turns from to : ℕ) (x : O
               ap pulses_in (states_between y.front (y.state ∷ []) y.behind x.states (length y.front) n y.are refl (omega arith)) in
               absurd (none_early (Own (s.section.end + 5)) (Own (length y.front)) (Own n) y.state.pulses (pulses_in y.front) (pulses_in front) y.some split all
               (λ o. subst (λ (t : List Pulse). AreBetween (Own (length y.front)) (Own n) (only o t)) one (between_told place entries ready turns (length y.front) n x (past ++ s ∷ later) k (omega arith) few o))
-              (ticks_rise Own (valid_ticks x.board k.valid) (s.section.end + 5) (length y.front) (omega (arith, late, over))))
+              (ticks_rise Own (k.own_is.ticks) (s.section.end + 5) (length y.front) (omega (arith, late, over))))
         ]

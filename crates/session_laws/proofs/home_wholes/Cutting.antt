@@ -1,7 +1,7 @@
 -- The turns of a board in a run in which axes home, cut at two turns, with its link there.
-use Rattle.std.proofs.Common.{◌≡◌, ℕ, ◌+◌, List, [], ◌∷◌, ◌++◌, length, Option, refl, ap, sym, ◌∙◌, subst, arith, append_assoc, length-append}
+use Rattle.std.proofs.Common.{◌≡◌, ℕ, ◌+◌, ◌≤◌, List, [], ◌∷◌, ◌++◌, length, Option, refl, ap, sym, ◌∙◌, subst, arith, append_assoc, length-append}
 use Rattle.plan_types.specs.declared.clock.BoardClock.{BoardClock}
-use Rattle.plan_types.specs.Clock.{board_tick, clock_of}
+use Rattle.plan_types.specs.Clock.{clock_of}
 use Rattle.msg_code.specs.declared.talk.State.{State}
 use Rattle.wire_scene.specs.declared.scene.Entry.{Entry}
 use Rattle.board_world.specs.World.{Core, Step, run, start}
@@ -15,9 +15,9 @@ use Rattle.run_laws.specs.Homes.{RunSection, IsHomeRun, IsHomeSpan, AreSettledOn
 use Rattle.run_laws.specs.Known.{Sent, sent_in}
 use Rattle.run_laws.specs.Links.{AreTold, pulses_in, steps_of, turns_told}
 use Rattle.run_laws.specs.Timely.{AllTimely}
-use Rattle.run_laws.proofs.Linking.{first_tick, told_made, turns_are, valid_ticks}
+use Rattle.run_laws.proofs.Linking.{own_first, told_made, turns_are, turns_owned}
 use Rattle.run_laws.proofs.Turning.{timely_front}
-use Rattle.run_laws.proofs.HomeBoards.{settled_head, split_at}
+use Rattle.run_laws.proofs.HomeBoards.{settled_head, settled_owned, split_at}
 
 abbrev steps_told : (clock : BoardClock) (turn : ℕ) (os : List Orders) (states : List State) (l m : LinkState) → AreTold clock turn os states l m → List Step
 steps_told clock turn os states l m t = steps_of clock turn os l m (turns_told clock turn os states l m t)
@@ -26,10 +26,10 @@ abbrev SettledTold : (stops : ℕ → Option ℕ) (clock : BoardClock) (turn : �
 SettledTold stops clock turn sent os states l m t = AreSettledOn stops clock turn sent os l m (turns_told clock turn os states l m t)
 
 -- a board's turns before one, and on to another, with its link there
-pub record Cut (x : OnBoard) (place : ℕ) (entries : List Entry) (ready : ℕ) (stops : ℕ → Option ℕ) (ss : List RunSection) (before during behind : List Orders) : Type 0 where
+pub record Cut (x : OnBoard) (own : ℕ → ℕ) (place : ℕ) (entries : List Entry) (ready : ℕ) (stops : ℕ → Option ℕ) (ss : List RunSection) (before during behind : List Orders) : Type 0 where
   pub first : List Step
   pub second : List Step
-  pub span : IsHomeSpan x.board x.pins (board_tick (clock_of x.board)) x.clocks ready stops ss before during behind first second
+  pub span : IsHomeSpan x.board x.pins own x.clocks ready stops ss before during behind first second
   pub mid : LinkState
   pub mid_turns : AreTurns (clock_of x.board) 0 before (first_state x.board x.pins place entries) mid
   pub mid_is : mid.core ≡ run first (start x.board x.pins)
@@ -54,14 +54,16 @@ told_both clock turn next (x ∷ xs) ys [] ts l m n e a b = absurd a
 told_both clock turn next (x ∷ xs) ys (s ∷ ss) ts l m n e a b = (a.0, a.1, a.2, told_both clock (turn + 1) next xs ys ss ts a.0 m n (omega (arith, e)) a.3 b)
 
 cut_here : (x : OnBoard) (place : ℕ) (entries : List Entry) (ready : ℕ) (ss : List RunSection) (turns : ℕ) (k : IsHomeBoard place entries ready turns ss x) (before during behind : List Orders)
-    → IsHomeRun (board_tick (clock_of x.board)) x.clocks x.board.freq x.board.slots ready k.stops ss (before ++ (during ++ behind))
+    → length (before ++ (during ++ behind)) ≡ turns → IsHomeRun k.own x.clocks x.board.freq x.board.slots ready k.stops ss (before ++ (during ++ behind))
     → (t : AreTold (clock_of x.board) 0 (before ++ (during ++ behind)) x.states (first_state x.board x.pins place entries) k.end)
     → AllTimely (start x.board x.pins) (steps_told (clock_of x.board) 0 (before ++ (during ++ behind)) x.states (first_state x.board x.pins place entries) k.end t)
     → SettledTold k.stops (clock_of x.board) 0 [] (before ++ (during ++ behind)) x.states (first_state x.board x.pins place entries) k.end t
-    → Cut x place entries ready k.stops ss before during behind
-cut_here x place entries ready ss turns k before during behind r t timely settled =
+    → Cut x k.own place entries ready k.stops ss before during behind
+cut_here x place entries ready ss turns k before during behind all_is r t timely settled =
     let clock = clock_of x.board in
-    let own = board_tick clock in
+    let own = k.own in
+    let all = length-append before (during ++ behind) in
+    let rest = length-append during behind in
     let l = first_state x.board x.pins place entries in
     let h = start x.board x.pins in
     let a = length before in
@@ -78,7 +80,10 @@ cut_here x place entries ready ss turns k before during behind r t timely settle
     let early : s.mid.core ≡ run first h = t1.0 in
     let late : u.mid.core ≡ run (first ++ second) h = t2.0 ∙ ap (run second) t1.0 ∙ sym (run_append first second h) in
     let Timely : List Step → Type 0 = λ y. AllTimely h y in
-    let At : Core → Type 0 = λ y. AreSettled k.stops own a (sent_in 0 before) during second y t2.1 in
+    let one_within : 0 + a ≤ turns = omega (arith, all, all_is) in
+    let two_within : a + length during ≤ turns = omega (arith, all, rest, all_is) in
+    let two_turns = turns_owned x.board own turns a during second k.own_is two_within t2.1 in
+    let At : Core → Type 0 = λ y. AreSettled k.stops own a (sent_in 0 before) during second y two_turns in
     let both = told_both clock 0 a before during s.first u.first l s.mid u.mid (omega arith) s.one u.one in
     let one = s.long in
     let two = u.long in
@@ -87,14 +92,16 @@ cut_here x place entries ready ss turns k before during behind r t timely settle
       first = first;
       second = second;
       span = record {
-        ticks = valid_ticks x.board k.valid;
-        begin = first_tick x.board;
+        ticks = k.own_is.ticks;
+        begin = own_first x.board turns own k.own_is;
         run_is = r;
-        first_turns = t1.1;
-        second_turns = t2.1;
+        first_turns = turns_owned x.board own turns 0 before first k.own_is one_within t1.1;
+        second_turns = two_turns;
         timely = timely_front (first ++ second) third h (subst Timely whole timely);
-        first_settled = settled_head k.stops clock 0 [] before l s.mid (turns_told clock 0 before s.first l s.mid s.one) s.settled_one;
-        second_settled = subst At early (settled_head k.stops clock a (sent_in 0 before) during s.mid u.mid (turns_told clock a during u.first s.mid u.mid u.one) u.settled_one);
+        first_settled = settled_owned x.board k.stops own turns 0 [] before first h k.own_is one_within t1.1
+            (settled_head k.stops clock 0 [] before l s.mid (turns_told clock 0 before s.first l s.mid s.one) s.settled_one);
+        second_settled = subst At early (settled_owned x.board k.stops own turns a (sent_in 0 before) during second s.mid.core k.own_is two_within t2.1
+            (settled_head k.stops clock a (sent_in 0 before) during s.mid u.mid (turns_told clock a during u.first s.mid u.mid u.one) u.settled_one));
       };
       mid = s.mid;
       mid_turns = turns_told clock 0 before s.first l s.mid s.one;
@@ -110,10 +117,10 @@ cut_here x place entries ready ss turns k before during behind r t timely settle
     }
 
 pub cut_board : (x : OnBoard) (place : ℕ) (entries : List Entry) (ready turns : ℕ) (ss : List RunSection) (k : IsHomeBoard place entries ready turns ss x) (before during behind : List Orders) → x.orders ≡ before ++ (during ++ behind)
-    → Cut x place entries ready k.stops ss before during behind
+    → Cut x k.own place entries ready k.stops ss before during behind
 cut_board x place entries ready turns ss k before during behind cut =
     let clock = clock_of x.board in
     let l = first_state x.board x.pins place entries in
-    let At : List Orders → Type 0 = λ o. IsHomeRun (board_tick clock) x.clocks x.board.freq x.board.slots ready k.stops ss o → (t : AreTold clock 0 o x.states l k.end)
-    → AllTimely (start x.board x.pins) (steps_told clock 0 o x.states l k.end t) → SettledTold k.stops clock 0 [] o x.states l k.end t → Cut x place entries ready k.stops ss before during behind in
-    subst At (sym cut) (λ r t timely settled. cut_here x place entries ready ss turns k before during behind r t timely settled) k.run_is k.told k.timely k.settled
+    let At : List Orders → Type 0 = λ o. length o ≡ turns → IsHomeRun k.own x.clocks x.board.freq x.board.slots ready k.stops ss o → (t : AreTold clock 0 o x.states l k.end)
+    → AllTimely (start x.board x.pins) (steps_told clock 0 o x.states l k.end t) → SettledTold k.stops clock 0 [] o x.states l k.end t → Cut x k.own place entries ready k.stops ss before during behind in
+    subst At (sym cut) (λ count r t timely settled. cut_here x place entries ready ss turns k before during behind count r t timely settled) k.count k.run_is k.told k.timely k.settled

@@ -1,5 +1,5 @@
 -- What the lines of a whole run tell of a section of moves, where the board of the stepper ran on behind it.
-use Rattle.std.proofs.Common.{◌≡◌, ◌≢◌, ℕ, true, ◌+◌, ◌^◌, ◌<◌, ◌≤◌, List, [], ◌∷◌, ◌++◌, length, map, take, Some, refl, ap, sym, ◌∙◌, subst, arith, inl, inr, length-append}
+use Rattle.std.proofs.Common.{◌≡◌, ◌≢◌, ℕ, true, ◌+◌, ◌<◌, ◌≤◌, List, [], ◌∷◌, ◌++◌, length, map, take, Some, refl, ap, sym, ◌∙◌, subst, arith, inl, inr, length-append}
 use Rattle.std.proofs.lemmas.List.{length-map, map-append}
 use Rattle.plan_types.specs.declared.cause.Cause.{Cause}
 use Rattle.plan_types.specs.declared.machine.Machine.{Machine}
@@ -7,10 +7,10 @@ use Rattle.plan_types.specs.declared.plan.Planned.{Planned}
 use Rattle.plan_types.specs.declared.plan.Pulse.{Pulse}
 use Rattle.plan_types.specs.declared.plan.SectionKind.{SectionKind}
 use Rattle.plan_types.specs.declared.plan.SectionKind.TheVariants.{Moves}
-use Rattle.plan_types.specs.Clock.{board_tick, clock_of}
+use Rattle.plan_types.specs.Clock.{clock_of}
 use Rattle.plan_types.specs.Lines.{Clocks}
 use Rattle.plan_types.specs.Machines.{IsValidMachine, board_at, stepper_at}
-use Rattle.plan_types.specs.Sections.{clocks_at, section_end, stepper_plan}
+use Rattle.plan_types.specs.Sections.{clocks_at, stepper_plan}
 use Rattle.msg_code.specs.declared.talk.ShutNews.{ShutNews}
 use Rattle.msg_code.specs.declared.talk.State.{State}
 use Rattle.wire_scene.specs.declared.scene.Scene.{Scene}
@@ -32,7 +32,7 @@ use Rattle.run_laws.specs.Boards.{IsWindow, OnBoard, told_in}
 use Rattle.run_laws.specs.Ends.{MayBe}
 use Rattle.run_laws.specs.Homes.{AreOut, IsHomeBoard, RunSection}
 use Rattle.run_laws.specs.Stops.{NeverStop}
-use Rattle.run_laws.proofs.Linking.{valid_ticks}
+use Rattle.run_parts.proofs.Going.{own_on}
 use Rattle.run_boards.specs.Boards.{IsInWhole, behind}
 use Rattle.run_boards.specs.Turns.{came_before}
 use Rattle.run_plans.specs.Boards.{TookStates, as_told, lines_between, times_of}
@@ -54,11 +54,14 @@ use Rattle.homing_laws.proofs.home_parts.Told.{all_told, row_from}
 use Rattle.homing_laws.proofs.home_parts.Limits.{turns_fit}
 use Rattle.session_laws.proofs.run_headline.Fronts.{limited}
 use Rattle.session_laws.proofs.home_headline.Clear.{clear_set_ups}
+use Rattle.cause_runs.specs.Short.{HaveShortDictionaries}
+use Rattle.session_laws.proofs.clock_ages.Own.{Own}
+use Rattle.session_laws.proofs.clock_ages.Renews.{renews}
 use Rattle.session_laws.specs.home_headline.Little.{HomesLittle}
 use Rattle.session_laws.proofs.home_headline.Board.{Followed, boarded, here, lines_of, may_by}
 use Rattle.session_laws.proofs.home_headline.Clocks.{run_knows}
 use Rattle.session_laws.proofs.home_headline.Planned.{planned_by}
-use Rattle.session_laws.proofs.home_headline.Ranges.{may_all, own_small, range_all, starts_soon}
+use Rattle.session_laws.proofs.home_headline.Ranges.{may_all, on_small, range_all, starts_soon}
 use Rattle.session_laws.specs.home_wholes.Still.{IsStillIn}
 use Rattle.session_laws.proofs.home_wholes.Between.{still_between}
 use Rattle.session_laws.proofs.home_wholes.Board.{whole_idle, whole_passed}
@@ -71,7 +74,7 @@ end_at m clocks until [] x later h = h.0
 end_at m clocks until (y ∷ xs) x later h = end_at m clocks until xs x later h.1
 
 module _ (m : Machine) (v : IsValidMachine m) (s : Scene) (ts : List MotionTurn) (p : Plans m (length m.boards) ts) (t : Told) (first : ReactorTurn) (rest : List ReactorTurn) (end : ReactorTurn) (c : Cause) (told : p.seen.told ≡ Some t) (f : Facts m s ts (first ∷ rest) end c)
-    (long : length (rest ++ end ∷ []) ≤ length p.made)
+    (long : length (rest ++ end ∷ []) ≤ length p.made) (short : HaveShortDictionaries m)
     (little : (b : ℕ) → b < length m.boards → (w : IsInWhole m s.switches b (clock_of (board_at m b)) (link_of m s b) ts first (rest ++ end ∷ [])) → HomesLittle m s b ts first (rest ++ end ∷ []) (length p.made) t p.seen.begun w) where
   notes : TookNotes (map (λ d. d.note) p.made) (first ∷ rest)
   notes = front_notes m v s ts p end c first rest f (took_notes m v s ts p end c first rest f long)
@@ -101,8 +104,8 @@ module _ (m : Machine) (v : IsValidMachine m) (s : Scene) (ts : List MotionTurn)
   abbrev pub Here : (b : ℕ) → b < length m.boards → OnBoard
   Here b h = here m v s ts p t first rest end told b (whole b h)
 
-  pub lines : (b : ℕ) → b < length m.boards → Followed m b t.clocks By p.seen.begun
-  lines b h = lines_of m v s ts p t first rest end told b (whole b h) turn h (little b h (whole b h)).near
+  pub lines : (b : ℕ) → b < length m.boards → Followed m b (length rest) t.clocks By p.seen.begun
+  lines b h = lines_of m v s ts p t first rest end told b (whole b h) turn h (let size = length-append rest (end ∷ []) in renews m v short s ts p t first rest end c told f notes (omega (arith, size, long)) b h)
 
   pub row : AreInARow t.first p.seen.begun
   row = begun_row m t.clocks t.first p.seen.begun (started_in m ts p t told)
@@ -110,14 +113,11 @@ module _ (m : Machine) (v : IsValidMachine m) (s : Scene) (ts : List MotionTurn)
   sound : AreSound m t.clocks t.first
   sound = sound_of m v s ts p t first rest end told turn whole
 
-  own : (b : ℕ) → b < length m.boards → (k : ℕ) → k < 2 ^ 42 + 300 → board_tick (clock_of (board_at m b)) k < 2 ^ 62
-  own b h k soon = own_small (board_at m b) (valid_at m.boards b h v.boards) k soon
-
   range : (b : ℕ) → b < length m.boards → StartInRange (clocks_at t.clocks b) p.seen.begun
   range b h =
       let l = lines b h in
       let early = turn.early in
-      range_all m t.clocks (board_tick (clock_of (board_at m b))) (clocks_at t.clocks b) By t.first p.seen.begun l.tracked (own b h) (omega (arith, early)) row l.over (starts_soon m (length m.boards) ts p)
+      range_all m t.clocks (Own m b (length rest)) (clocks_at t.clocks b) By t.first p.seen.begun l.tracked (on_small m b (length rest) (valid_at m.boards b h v.boards)) (omega (arith, early)) row l.over (starts_soon m (length m.boards) ts p)
 
   pub formed : MayHome m p.seen.begun
   formed = may_all m v ts p t told
@@ -154,7 +154,7 @@ module _ (m : Machine) (v : IsValidMachine m) (s : Scene) (ts : List MotionTurn)
   set_ups b h =
       let k = on b h in
       let pins = pins_of (board_at m b) b s.switches in
-      let units = turns_fit (board_tick (clock_of (board_at m b))) (clocks_at t.clocks b) (board_at m b).freq (board_at m b).slots By k.stops (cuts_on m t.clocks N p.seen.begun b) (Turns_of b h) k.run_is in
+      let units = turns_fit k.own (clocks_at t.clocks b) (board_at m b).freq (board_at m b).slots By k.stops (cuts_on m t.clocks N p.seen.begun b) (Turns_of b h) k.run_is in
       let limits = limited m v s.switches pins s.entries b Came_all (Turns_of b h) (run_of b h) units in
       let early = turn.early in
       elim (little b h (whole b h)).set_up [
@@ -167,7 +167,7 @@ module _ (m : Machine) (v : IsValidMachine m) (s : Scene) (ts : List MotionTurn)
       let k = on b h in
       let pins = pins_of (board_at m b) b s.switches in
       let told_all = all_told m s.switches pins s.entries b By N ts p t Came_all (Turns_of b h) by told turn.early connected formed (run_of b h) (set_ups b h) in
-      all_homed m s.switches pins s.entries b (board_at m b).freq (board_at m b).slots By (board_tick (clock_of (board_at m b))) (clocks_at t.clocks b) k.stops (stops_of p.seen.begun) (cuts_on m t.clocks N p.seen.begun b) (Turns_of b h) k.run_is told_all
+      all_homed m s.switches pins s.entries b (board_at m b).freq (board_at m b).slots By k.own (clocks_at t.clocks b) k.stops (stops_of p.seen.begun) (cuts_on m t.clocks N p.seen.begun b) (Turns_of b h) k.run_is told_all
 
   pub took_states : (b : ℕ) (h : b < length m.boards) → TookStates b (rest ++ end ∷ []) (Here b h).states
   took_states b h = took b (rest ++ end ∷ []) (Here b h).states (whole b h).states
@@ -213,7 +213,7 @@ module _ (m : Machine) (v : IsValidMachine m) (s : Scene) (ts : List MotionTurn)
         let within = w.within in
         let Ends : List Started → Type 0 = λ ss. AreOverBefore m t.clocks l.tracked.until ss in
         let Out : List Started → Type 0 = λ ss. AreOut (length p.made) (runs_on m t.clocks ss b) in
-        released_by m (board_tick (clock_of (board_at m b))) t.clocks b By (length p.made) x (valid_ticks (board_at m b) (valid_at m.boards b h v.boards)) l.tracked moved h (omega (arith, early, start))
+        released_by m (Own m b (length rest)) t.clocks b By (length p.made) x (own_on (board_at m b) 0 (length rest + 349) (valid_at m.boards b h v.boards) (omega arith)).ticks l.tracked moved h (omega (arith, early, start))
         (subst (λ (k : SectionKind). over_in k m t.clocks x < l.tracked.until) moves (end_at m t.clocks l.tracked.until past x later (subst Ends cut l.over))) (out_at m t.clocks (length p.made) b past x later (subst Out cut (little b h (whole b h)).out) (ap is_home moves)) (omega (arith, over, within, long))
 
     as_planned : (oid : ℕ) → length (Cut.section.plan oid) ≡ length ((part_on m t.clocks x b).plan oid)

@@ -190,7 +190,7 @@ not_running : (stop : Option ℕ) → phase_after stop ≡ Connecting → ⊥
 not_running None e = let f : Running ≡ Connecting = e in cc
 not_running (Some line) e = let f : Stopping line ≡ Connecting = e in cc
 
-was_connecting : (m : Machine) (switches : List Switch) (c : Came) (before : List Came) → (last_turn m switches c before).ordered.end ≡ None → (known_by m switches (c ∷ before)).phase ≡ Connecting → (known_by m switches before).phase ≡ Connecting
+pub was_connecting : (m : Machine) (switches : List Switch) (c : Came) (before : List Came) → (last_turn m switches c before).ordered.end ≡ None → (known_by m switches (c ∷ before)).phase ≡ Connecting → (known_by m switches before).phase ≡ Connecting
 was_connecting m switches c before on e =
     let r = known_by m switches before in
     elim (goes m switches r (length before) c.states c.note on) [

@@ -1,5 +1,5 @@
 -- Each board of a whole run, as the law of its lines asks for it.
-use Rattle.std.proofs.Common.{◌≡◌, ◌≢◌, ℕ, zero, suc, ◌+◌, ◌*◌, ◌^◌, ◌<◌, ◌≤◌, ℤ, pos, negsuc, ◌≤ℤ◌, List, [], ◌∷◌, ◌++◌, All, get_or, map, take, length, Some, refl, ap, sym, ◌∙◌, subst, arith, inl, inr, append_assoc, length-append}
+use Rattle.std.proofs.Common.{◌≡◌, ◌≢◌, ℕ, zero, suc, ◌+◌, ◌*◌, ◌^◌, ◌<◌, ◌≤◌, ℤ, pos, negsuc, ◌≤ℤ◌, List, [], ◌∷◌, ◌++◌, All, get_or, map, take, length, None, Some, refl, ap, sym, ◌∙◌, subst, arith, inl, inr, append_assoc, length-append}
 use Rattle.std.proofs.lemmas.Int.{ints}
 use Rattle.std.proofs.lemmas.List.{length-map}
 use Rattle.std.proofs.lemmas.List.Elements.{All-head, All-tail}
@@ -12,7 +12,7 @@ use Rattle.plan_types.specs.Lines.{Clocks, one_line}
 use Rattle.clock_line.specs.Kept.{AreKept}
 use Rattle.clock_runs.specs.Samples.{IsSampled}
 use Rattle.run_parts.specs.Renewed.{AreSampled, NoneBefore}
-use Rattle.plan_types.specs.Clock.{board_tick, clock_of, turn_ns}
+use Rattle.plan_types.specs.Clock.{clock_of, turn_ns}
 use Rattle.plan_types.specs.Machines.{IsValidBoard, IsValidMachine, board_at, no_board, stepper_at}
 use Rattle.msg_code.specs.declared.talk.State.{State}
 use Rattle.msg_code.specs.declared.talk.WordMsg.{WordMsg}
@@ -44,15 +44,13 @@ use Rattle.step_feed.specs.Pacing.{batch_at, units_of}
 use Rattle.step_feed.specs.Units.{StepUnit}
 use Rattle.link_work.specs.Limits.{bytes_in}
 use Rattle.plan_types.specs.Sections.{clocks_at}
-use Rattle.run_laws.specs.Parts.{AreOrdersOf, AreTracked, IsRun, MakesIn}
+use Rattle.run_laws.specs.Events.{AreOwn}
+use Rattle.run_laws.specs.Parts.{AreOrdersOf, IsRun, MakesIn}
+use Rattle.run_parts.proofs.Going.{own_on}
 use Rattle.run_laws.specs.Links.{turns_told}
 use Rattle.run_laws.proofs.Calm.{calm_links}
-use Rattle.run_laws.proofs.Limiting.{units_fit}
 use Rattle.run_laws.proofs.HeededLinks.{few_heeded}
 use Rattle.run_laws.specs.Timely.{ControlsKeep}
-use Rattle.run_laws.specs.Runs.{AreSpilled}
-use Rattle.run_plans.specs.Given.{EndBefore}
-use Rattle.run_laws.proofs.Linking.{valid_ticks}
 use Rattle.run_laws.specs.Stops.{NeverStop}
 use Rattle.run_boards.specs.Boards.{IsInWhole, TookEach, behind, orders_of, states_of}
 use Rattle.run_boards.specs.Turns.{came_before}
@@ -60,11 +58,13 @@ use Rattle.run_plans.specs.Boards.{TookStates}
 use Rattle.run_plans.specs.Given.{TookControls}
 use Rattle.run_plans.specs.Planned.{AreKnown, Plans, puts_of, words_in}
 use Rattle.run_plans.proofs.Running.{all_sent, run_is, sections_are, sent_on}
-use Rattle.session_laws.specs.run_headline.Timely.{AreNear, AreSound, HoldsLittle, TakesNear, link_of}
+use Rattle.session_laws.specs.clock_ages.Renewed.{StayYoung}
+use Rattle.session_laws.proofs.clock_ages.Own.{AreRenewed, Own}
+use Rattle.session_laws.specs.run_headline.Timely.{AreSound, HoldsLittle, TakesNear, link_of}
 use Rattle.session_laws.proofs.run_headline.Asked.{asked_late}
 use Rattle.session_laws.proofs.run_headline.Holding.{may_each}
 use Rattle.session_laws.specs.run_headline.Whole.{Column, IsBoardIn}
-use Rattle.session_laws.proofs.run_headline.Fronts.{IsFirst, controlled, controls_limited, first_sampled, followed, front_of, limited, one_less, sampled_later, stepper_made}
+use Rattle.session_laws.proofs.run_headline.Fronts.{Followed, IsFirst, controlled, controls_limited, first_sampled, followed, front_of, one_less, sampled_later, stepper_made}
 use Rattle.session_laws.proofs.run_headline.Further.{EachHeld, EachTold, noted_first, noted_grown, noted_long, told_more}
 use Rattle.session_laws.proofs.run_headline.Near.{follow_clock, follows_clock}
 use Rattle.session_laws.proofs.run_headline.Noting.{AllNoted, IsNoted, all_noted, line_among, noted_between, noted_later, word_said}
@@ -82,6 +82,10 @@ came_cut before r (x ∷ more) end = came_cut (came_in r ∷ before) x more end
 pub came_split : (before : List Came) (xs : List ReactorTurn) (r : ReactorTurn) (ys : List ReactorTurn) → came_from before (xs ++ r ∷ ys) ≡ came_from (came_in r ∷ came_from before xs) ys
 came_split before [] r ys = refl
 came_split before (x ∷ xs) r ys = came_split (came_in x ∷ before) xs r ys
+
+pub came_long : (before : List Came) (rs : List ReactorTurn) → length (came_from before rs) ≡ length before + length rs
+came_long before [] = omega arith
+came_long before (r ∷ rs) = let rec = came_long (came_in r ∷ before) rs in omega (arith, rec)
 
 pub took : (b : ℕ) (rs : List ReactorTurn) (states : List State) → TookEach b rs states → TookStates b rs states
 took b [] states t = t
@@ -163,7 +167,7 @@ module _ (m : Machine) (v : IsValidMachine m) (s : Scene) (ts : List MotionTurn)
 
   further_noted : (h : HeardIn m 0 p.made t) → AreNumbered 0 (gather (λ x. x.words) p.made) → EachTold (IsNoted (words_in p.made) (length h.past) (length p.made)) (news_in (h.turn ∷ h.later))
   further_noted h numbered =
-      let told_all = all_noted m p.seen.text p.seen.begun 0 0 [] p.made refl p.put p.heard p.ahead numbered in
+      let told_all = all_noted m p.seen.text p.seen.begun 0 0 None [] p.made refl p.put p.lines p.ahead numbered in
       let all = subst (AllNoted (words_in p.made) 0) h.are told_all in
       let size = ap length h.are ∙ length-append h.past (h.turn ∷ h.later) in
       let e : 0 + length h.past ≡ length h.past = omega arith in
@@ -347,28 +351,40 @@ module _ (m : Machine) (v : IsValidMachine m) (s : Scene) (ts : List MotionTurn)
             follow_clock (clock_of (board_at m b)) (behind [] (whole b h).made) (clocks_at t.clocks b).held valid.freq.whole (drift_few (board_at m b).drift valid.drift_low valid.drift_high) (lined b r (whole b h) h).sampled;
       }
 
-  -- a board's clock lines follow it until its sections are over
-  record Followed (b ready : ℕ) : Type 0 where
-    tracked : AreTracked (board_tick (clock_of (board_at m b))) (clocks_at t.clocks b) ready
-    over : EndBefore tracked.until (parts_on m t.clocks p.seen.begun b)
+  -- where the clock lines of a board are renewed in time, they follow it
+  pub lines_renewed : (b : ℕ) (r : Ready) (w : IsInWhole m s.switches b (clock_of (board_at m b)) (link_of m s b) ts first (rest ++ end ∷ [])) → b < length m.boards → StayYoung m b (clocks_at t.clocks b) (length rest)
+      → AreRenewed m b (length rest) (length (came_from [] r.past)) (clocks_at t.clocks b)
+  lines_renewed b r w h renewed =
+      let own = lined b r w h in
+      let size = ap length r.are ∙ length-append r.past (r.turn ∷ r.later) in
+      let long = came_long [] r.past in
+      record {
+        all = behind [] w.made;
+        freq = (valid_at m.boards b h v.boards).freq;
+        kept = own.kept;
+        first = own.line.sampled;
+        held = own.sampled;
+        early = own.line.early;
+        none = own.none;
+        order = omega (arith, size, long);
+        renewed = renewed;
+      }
 
-  -- what is known of a board whose clock lines are near
+  -- what is known of a board whose clock lines are renewed in time
   record Placed (b ready : ℕ) (w : IsInWhole m s.switches b (clock_of (board_at m b)) (link_of m s b) ts first (rest ++ end ∷ [])) : Type 0 where
     count : length (orders_of w.made) ≡ length (rest ++ end ∷ [])
     controls : TookControls (orders_of w.made)
-    lines : Followed b ready
+    lines : Followed m v s.switches (pins_of (board_at m b) b s.switches) s.entries b (length rest) (clocks_at t.clocks b) ready (parts_on m t.clocks p.seen.begun b)
     made : ready ≤ length (orders_of w.made) → (oid : ℕ) → All (λ x. of_stepper oid (units_of x.releases) ≢ [] → MakesIn oid (take ready (orders_of w.made))) (parts_on m t.clocks p.seen.begun b)
-    is : IsRun (board_tick (clock_of (board_at m b))) (clocks_at t.clocks b) (board_at m b).freq (board_at m b).slots ready (parts_on m t.clocks p.seen.begun b) (orders_of w.made)
+    is : IsRun (Own m b (length rest)) (clocks_at t.clocks b) (board_at m b).freq (board_at m b).slots ready (parts_on m t.clocks p.seen.begun b) (orders_of w.made)
     run : IsInRun m s.switches (pins_of (board_at m b) b s.switches) s.entries b (came_from [] (first ∷ rest)) (behind [] w.made)
 
   placed : (b : ℕ) (r : Ready) (w : IsInWhole m s.switches b (clock_of (board_at m b)) (link_of m s b) ts first (rest ++ end ∷ [])) → b < length m.boards → AreMoves p.seen.begun → AllMoves (came_from [] (first ∷ rest)) → length (rest ++ end ∷ []) ≤ length p.made
-      → AreNear m b (clocks_at t.clocks b) (parts_on m t.clocks p.seen.begun b) → Placed b (length (came_from [] r.past)) w
-  placed b r w h homes moves goes near =
-      let clock = clock_of (board_at m b) in
+      → StayYoung m b (clocks_at t.clocks b) (length rest) → Placed b (length (came_from [] r.past)) w
+  placed b r w h homes moves goes renewed =
       let pins = pins_of (board_at m b) b s.switches in
       let turns = behind [] w.made in
       let parts = parts_on m t.clocks p.seen.begun b in
-      let valid = valid_at m.boards b h v.boards in
       let cut = came_cut [] first rest end in
       let before = came_from [] r.past in
       let run_first : IsInRun m s.switches pins s.entries b (came_before [] (first ∷ rest ++ end ∷ [])) turns = record { board = h; goes_on = w.goes_on; turns_are = w.turns_are; both = w.both; in_range = w.in_range } in
@@ -378,8 +394,7 @@ module _ (m : Machine) (v : IsValidMachine m) (s : Scene) (ts : List MotionTurn)
       let l = one_less m v s.switches pins s.entries b (came_in r.turn) before f.front f.run in
       let long : length before ≡ length l.1 = as_long m s.switches b before l.1 l.4.both in
       let orders_cut : orders_in turns ≡ orders_in (l.0 ∷ l.1) ++ f.more = f.are ∙ ap (λ x. orders_in x ++ f.more) l.2 in
-      let own_lines = lined b r w h in
-      let lines = followed m v s.switches pins s.entries b turns (length before) (clocks_at t.clocks b) parts own_lines.line valid.freq (drift_few (board_at m b).drift valid.drift_low valid.drift_high) own_lines.kept own_lines.sampled own_lines.none near in
+      let lines = followed m v s.switches pins s.entries b (length rest) (length before) (clocks_at t.clocks b) parts (lines_renewed b r w h renewed) in
       let made = λ (j : ℕ) (low : j < length m.steppers) (on : (stepper_at m j).board ≡ b).
       stepper_made m v s.switches pins s.entries b before (came_in r.turn) l.0 l.1 r.heard.clocks (orders_in turns) f.more l.3 r.is orders_cut j low on in
       let Made : List Orders → ℕ → Type 0 = λ os n. (j : ℕ) → j < length m.steppers → (stepper_at m j).board ≡ b → MakesIn (stepper_at m j).oid (take n os) in
@@ -388,14 +403,17 @@ module _ (m : Machine) (v : IsValidMachine m) (s : Scene) (ts : List MotionTurn)
       let count = length-map w.made (λ (x : BoardTurn). orders x.control x.batch) ∙ sym (length-map w.made (λ (x : BoardTurn). x.state)) ∙ took_long b (rest ++ end ∷ []) (states_of w.made) w.states in
       let controls = subst (λ (os : List Orders). TookControls os) w.in_order (controlled m v s.switches pins s.entries b (came_from [] (first ∷ rest)) turns run moves) in
       let all_made_here = λ (_ : length before ≤ length (orders_of w.made)). λ (oid : ℕ). all_made m v t b (take (length before) (orders_of w.made)) made_here p.seen.begun oid (sections_are m ts p t b h told homes) in
-      let is = run_is m ts p t b (length before) (board_tick clock) (orders_of w.made) h told homes (omega (arith, count, goes)) w.batches controls lines.tracked r.early lines.over all_made_here in
-      record { count = count; controls = controls; lines = record { tracked = lines.tracked; over = lines.over }; made = all_made_here; is = is; run = run }
+      let is = run_is m ts p t b (length before) (Own m b (length rest)) (orders_of w.made) h told homes (omega (arith, count, goes)) w.batches controls lines.tracked r.early lines.over all_made_here in
+      record { count = count; controls = controls; lines = lines; made = all_made_here; is = is; run = run }
+
+  own_to : (b : ℕ) → b < length m.boards → AreOwn (board_at m b) (length (rest ++ end ∷ [])) (Own m b (length rest))
+  own_to b h = let size = length-append rest (end ∷ []) in own_on (board_at m b) (length (rest ++ end ∷ [])) (length rest + 349) (valid_at m.boards b h v.boards) (omega (arith, size))
 
   pub boarded : (b : ℕ) (r : Ready) (w : IsInWhole m s.switches b (clock_of (board_at m b)) (link_of m s b) ts first (rest ++ end ∷ [])) → b < length m.boards → AreMoves p.seen.begun → AllMoves (came_from [] (first ∷ rest)) → length (rest ++ end ∷ []) ≤ length p.made
-      → TakesNear m s b ts first (rest ++ end ∷ []) (clocks_at t.clocks b) (parts_on m t.clocks p.seen.begun b) w
+      → StayYoung m b (clocks_at t.clocks b) (length rest) → TakesNear m s b ts first (rest ++ end ∷ []) w
       → IsBoardIn m s ts p.seen t (rest ++ end ∷ []) (length (came_from [] r.past)) b (column b w)
-  boarded b r w h homes moves goes takes =
-      let x = placed b r w h homes moves goes takes.near in
+  boarded b r w h homes moves goes renewed takes =
+      let x = placed b r w h homes moves goes renewed in
       record {
         count = x.count;
         batches = w.batches;
@@ -403,29 +421,13 @@ module _ (m : Machine) (v : IsValidMachine m) (s : Scene) (ts : List MotionTurn)
         end = stands_after (link_of m s b) (behind [] w.made);
         told = w.told;
         states = took b (rest ++ end ∷ []) (states_of w.made) w.states;
+        own = Own m b (length rest);
+        own_is = own_to b h;
         tracked = x.lines.tracked;
         over = x.lines.over;
         made = x.made;
         timely = takes.timely;
       }
-
-  -- where units are sent in time, those of a turn keep their limit, and so does what is queued before the last turn
-  limits_before : (b : ℕ) (r : Ready) (w : IsInWhole m s.switches b (clock_of (board_at m b)) (link_of m s b) ts first (rest ++ end ∷ [])) → b < length m.boards → AreMoves p.seen.begun → AllMoves (came_from [] (first ∷ rest)) → length (rest ++ end ∷ []) ≤ length p.made
-      → AreSpilled (length p.made) 0 (parts_on m t.clocks p.seen.begun b) → Placed b (length (came_from [] r.past)) w → (done : List Orders) (o : Orders) (more : List Orders) → orders_of w.made ≡ done ++ o ∷ more → AllKeepLimits done
-  limits_before b r w h homes moves goes in_time x =
-      let clock = clock_of (board_at m b) in
-      let pins = pins_of (board_at m b) b s.switches in
-      let turns = behind [] w.made in
-      let before = came_from [] r.past in
-      let parts = parts_on m t.clocks p.seen.begun b in
-      let valid = valid_at m.boards b h v.boards in
-      let Fronts : List Orders → Type 0 = λ os. (done : List Orders) (o : Orders) (more : List Orders) → os ≡ done ++ o ∷ more → AllKeepLimits done in
-      let own = valid_ticks (board_at m b) valid in
-      let fits = all_fit (length p.made) 0 (orders_of w.made) parts
-      (λ k soon. units_fit (board_tick clock) (clocks_at t.clocks b) (board_at m b).freq (board_at m b).slots (length before) (length p.made) parts k own x.is.tracked x.is.sections x.is.row in_time soon)
-      (omega (arith, x.count, goes)) x.is.orders in
-      let units = fit_of turns (subst AllFit (sym w.in_order) fits) in
-      subst Fronts w.in_order (limited m v s.switches pins s.entries b (came_from [] (first ∷ rest)) turns x.run units)
 
   -- the control commands that are queued before the last turn keep their limits
   controls_before : (b : ℕ) (r : Ready) (w : IsInWhole m s.switches b (clock_of (board_at m b)) (link_of m s b) ts first (rest ++ end ∷ [])) → Placed b (length (came_from [] r.past)) w
@@ -436,9 +438,9 @@ module _ (m : Machine) (v : IsValidMachine m) (s : Scene) (ts : List MotionTurn)
 
   -- a board that is spoiled little takes all near, whether or not a unit was sent late
   pub few_near : (b : ℕ) (r : Ready) (w : IsInWhole m s.switches b (clock_of (board_at m b)) (link_of m s b) ts first (rest ++ end ∷ [])) → b < length m.boards → AreMoves p.seen.begun → AllMoves (came_from [] (first ∷ rest)) → length (rest ++ end ∷ []) ≤ length p.made
-      → HoldsLittle m s b ts first (rest ++ end ∷ []) (clocks_at t.clocks b) (parts_on m t.clocks p.seen.begun b) w → TakesNear m s b ts first (rest ++ end ∷ []) (clocks_at t.clocks b) (parts_on m t.clocks p.seen.begun b) w
-  few_near b r w h homes moves goes little =
-      let x = placed b r w h homes moves goes little.near in
+      → StayYoung m b (clocks_at t.clocks b) (length rest) → HoldsLittle m s b ts first (rest ++ end ∷ []) w → TakesNear m s b ts first (rest ++ end ∷ []) w
+  few_near b r w h homes moves goes renewed little =
+      let x = placed b r w h homes moves goes renewed in
       let def = board_at m b in
       let clock = clock_of def in
       let pins = pins_of def b s.switches in
@@ -446,10 +448,9 @@ module _ (m : Machine) (v : IsValidMachine m) (s : Scene) (ts : List MotionTurn)
       let after = stands_after (link_of m s b) (behind [] w.made) in
       let all = turns_told clock 0 (orders_of w.made) (states_of w.made) (link_of m s b) after w.told in
       record {
-        timely = few_heeded def pins b s.entries (clocks_at t.clocks b) (length (came_from [] r.past)) 10_000 (length p.made) parts (orders_of w.made) after all (valid_at m.boards b h v.boards) x.is (sent_on m t.clocks (length p.made) b p.seen.begun h homes (all_sent m (length m.boards) ts p t told)) (omega (arith, x.count, goes))
+        timely = few_heeded def pins b s.entries (Own m b (length rest)) (clocks_at t.clocks b) (length (came_from [] r.past)) 10_000 (length p.made) parts (orders_of w.made) after all (subst (λ n. AreOwn def n (Own m b (length rest))) (sym x.count) (own_to b h)) x.is (sent_on m t.clocks (length p.made) b p.seen.begun h homes (all_sent m (length m.boards) ts p t told)) (omega (arith, x.count, goes))
             (controls_before b r w x)
             (λ k. elim little.few [ inl e ↦ omega (arith, calm_links clock def pins b s.entries (orders_of w.made) after all k e) | inr f ↦ f k ]) (omega arith);
-        near = little.near;
       }
 
   homes : (came : List Came) → GoesOn m s.switches came → AllMoves came → NoneHomes m s.switches came

@@ -1,7 +1,6 @@
 -- A board in the turns of a run before the last one.
-use Rattle.std.proofs.Common.{◌≡◌, ◌≢◌, ℕ, suc, ◌+◌, ◌≤◌, List, [], ◌∷◌, ◌++◌, All, drop, length, map, take, refl, ap, sym, ◌∙◌, subst, arith, inl, inr, append_assoc, append-nil, length-append}
+use Rattle.std.proofs.Common.{◌≡◌, ◌≢◌, ℕ, suc, ◌+◌, ◌≤◌, List, [], ◌∷◌, ◌++◌, All, drop, length, map, take, refl, ap, sym, ◌∙◌, subst, arith, append_assoc, append-nil, length-append}
 use Rattle.std.specs.Prelude.{◌-◌}
-use Rattle.std.proofs.lemmas.Bool.Decides.{leb_tells}
 use Rattle.std.proofs.lemmas.List.{drop-append-le, length-drop, take-append-le, take_all}
 use Rattle.std.proofs.lemmas.List.Elements.{All-head, All-tail}
 use Rattle.std.proofs.Math.Seq.{drop-append_seam}
@@ -15,7 +14,6 @@ use Rattle.msg_code.specs.declared.unit.Batch.{Batch}
 use Rattle.wire_scene.specs.declared.scene.Scene.{Scene}
 use Rattle.step_feed.specs.Pacing.{units_of}
 use Rattle.section_units.specs.Sections.{BoardSection, of_stepper}
-use Rattle.link_work.specs.Ends.{Ended, spoiled}
 use Rattle.link_work.specs.Stands.{first_state}
 use Rattle.link_work.specs.Switches.{pins_of}
 use Rattle.link_work.specs.Turn.{LinkState, Orders}
@@ -27,6 +25,7 @@ use Rattle.motion_work.proofs.Turning.{planned_late}
 use Rattle.session_work.specs.declared.table.MotionTurn.{MotionTurn}
 use Rattle.session_work.specs.declared.table.ReactorTurn.{ReactorTurn}
 use Rattle.session_work.specs.Rows.{gather}
+use Rattle.run_laws.proofs.Linking.{own_front}
 use Rattle.run_laws.proofs.Turning.{timely_front}
 use Rattle.run_laws.specs.Timely.{AllTimely}
 use Rattle.board_world.specs.World.{Step, start}
@@ -96,6 +95,8 @@ board_less m s planned seen t rest end ready b c os o cut l a =
       end = less.mid;
       told = less.told;
       states = l.took;
+      own = a.own;
+      own_is = own_front (board_at m b) (length rest) (length (rest ++ end ∷ [])) a.own (omega (arith, length-append rest (end ∷ []))) a.own_is;
       tracked = a.tracked;
       over = a.over;
       made = λ early oid.

@@ -55,6 +55,7 @@ use Rattle.session_laws.specs.run_ends.Boards.{boards_of}
 use Rattle.session_laws.proofs.run_ends.Connecting.{after_boards, boards_append, end_none}
 use Rattle.session_laws.proofs.run_ends.Counting.{IsRead}
 use Rattle.session_laws.proofs.run_headline.Boarded.{ready}
+pub use Rattle.session_laws.proofs.run_headline.Boarded.{came_long}
 use Rattle.session_laws.proofs.run_headline.Heard.{NoneOut}
 
 -- the link of a run, as the laws of boards ask for it
@@ -180,10 +181,6 @@ pub lines_all : (m : Machine) (switches : List Switch) (before : List Came) (rs 
     → ((r : Known) × (r.begun ≡ (known_by m switches (came_from before rs)).begun) × (end.lines ≡ (reacts m switches r (length (came_from before rs)) end.states end.note).ordered.lines)) → AreLinesOf m switches before (rs ++ end ∷ [])
 lines_all m switches before [] end h e = (e, tt)
 lines_all m switches before (r ∷ rs) end h e = ((known_by m switches before, refl, h.0.lines_are), lines_all m switches (came_in r ∷ before) rs end h.1 e)
-
-pub came_long : (before : List Came) (rs : List ReactorTurn) → length (came_from before rs) ≡ length before + length rs
-came_long before [] = omega arith
-came_long before (r ∷ rs) = let e = came_long (came_in r ∷ before) rs in omega (arith, e)
 
 -- turns of the reactor, and those behind some of them
 pub turns_cut : (m : Machine) (switches : List Switch) (before : List Came) (xs ys : List ReactorTurn) → AreReactorTurns m switches before (xs ++ ys) → AreReactorTurns m switches before xs × AreReactorTurns m switches (came_from before xs) ys

@@ -6,9 +6,9 @@ use Rattle.plan_types.specs.declared.levels.Level.{Level}
 use Rattle.plan_types.specs.declared.machine.Machine.{Machine}
 use Rattle.plan_types.specs.declared.plan.Line.{Line}
 use Rattle.plan_types.specs.declared.clock.BoardClock.{BoardClock}
-use Rattle.plan_types.specs.Clock.{board_tick, clock_of, turn_ns}
+use Rattle.plan_types.specs.Clock.{clock_of, turn_ns}
 use Rattle.plan_types.specs.Lines.{Clocks}
-use Rattle.plan_types.specs.Machines.{IsValidFreq, IsValidMachine, board_at, stepper_at}
+use Rattle.plan_types.specs.Machines.{IsValidMachine, board_at, stepper_at}
 use Rattle.plan_types.specs.Sections.{clocks_at}
 use Rattle.msg_code.specs.declared.talk.WordNews.{WordNews}
 use Rattle.wire_scene.specs.declared.scene.Entry.{Entry}
@@ -19,7 +19,6 @@ use Rattle.link_work.specs.Limits.{AllKeepLimits, bytes_in, closing_in}
 use Rattle.link_work.specs.Stands.{orders}
 use Rattle.link_work.specs.Turn.{Orders}
 use Rattle.link_work.proofs.Late.{limits_split}
-use Rattle.clock_line.specs.Samples.{ppm_size}
 use Rattle.host_reactor.specs.declared.ordered.Phase.{Phase}
 use Rattle.host_reactor.specs.declared.ordered.Phase.TheVariants.{Connecting, Running, Stopping}
 use Rattle.host_reactor.specs.Notes.{noted}
@@ -27,7 +26,6 @@ use Rattle.host_reactor.specs.Runs.{Came, known_by, last_turn}
 use Rattle.board_runs.specs.Turns.{BoardTurn}
 use Rattle.clock_runs.specs.Runs.{IsInRun, UnitsFit, orders_in}
 use Rattle.clock_runs.specs.Samples.{IsSampled, lines_told}
-use Rattle.clock_line.specs.Kept.{AreKept}
 use Rattle.clock_runs.proofs.Askings.{sample_more}
 use Rattle.clock_runs.proofs.Clear.{told_before}
 use Rattle.clock_runs.proofs.Lines.{as_long, noted_phase, run_before, told_lines}
@@ -38,14 +36,12 @@ use Rattle.run_laws.specs.Timely.{ControlsKeep}
 use Rattle.run_laws.specs.Parts.{AreTracked, IsControl, MakesIn}
 use Rattle.run_parts.specs.Ready.{is_connecting, ready_turn}
 use Rattle.run_parts.proofs.Controlled.{controls_plain}
-use Rattle.run_parts.specs.Renewed.{AreSampled, NoneBefore}
-use Rattle.run_parts.proofs.Followed.{lines_in_time}
 use Rattle.run_parts.proofs.MadeIn.{made_ready}
 use Rattle.section_units.specs.Sections.{BoardSection}
 use Rattle.session_work.specs.declared.table.ReactorTurn.{ReactorTurn}
 use Rattle.session_run.specs.Boards.{came_from, came_in}
 use Rattle.run_plans.specs.Given.{EndBefore, TookControls}
-use Rattle.session_laws.specs.run_headline.Timely.{AreNear}
+use Rattle.session_laws.proofs.clock_ages.Own.{AreRenewed, Own, follow_on}
 use Rattle.session_laws.proofs.run_headline.Plain.{AllMoves, known_none, noted_none}
 use Rattle.session_laws.proofs.run_headline.Words.{Connected, line_is}
 
@@ -176,8 +172,8 @@ module _ (m : Machine) (v : IsValidMachine m) (switches : List Switch) (pins : L
       let e : n + (s.end + 1) + total ss ≡ n + (s.end + 1 + total ss) = omega arith in
       (omega arith, subst (λ (k : ℕ). EndBefore k ss) e (ends_before ss (n + (s.end + 1))))
 
-  pub record Followed (clocks : Clocks) (ready : ℕ) (parts : List BoardSection) : Type 0 where
-    pub tracked : AreTracked (board_tick (clock_of (board_at m b))) clocks ready
+  pub record Followed (turns : ℕ) (clocks : Clocks) (ready : ℕ) (parts : List BoardSection) : Type 0 where
+    pub tracked : AreTracked (Own m b turns) clocks ready
     pub over : EndBefore tracked.until parts
 
   -- a sample of some turns is one of more
@@ -209,19 +205,11 @@ module _ (m : Machine) (v : IsValidMachine m) (switches : List Switch) (pins : L
       let at = ap (λ (l : Line). l.at) own.2 in
       record { sampled = sampled_later clock later (t ∷ turns) (clocks_at firsts b).first (own.0, sample_more clock t turns own.0 i, own.2); early = omega (arith, at, from, to, got) }
 
-  pub followed : (all : List BoardTurn) (ready : ℕ) (clocks : Clocks) (parts : List BoardSection) → IsFirst all ready clocks.first → IsValidFreq (board_at m b).freq → ppm_size (board_at m b).drift ≤ 200
-      → AreKept clocks → AreSampled (clock_of (board_at m b)) all clocks.held → NoneBefore ready clocks.held → AreNear m b clocks parts → Followed clocks ready parts
-  followed all ready clocks parts first freq drift kept sampled none near =
-      let clock = clock_of (board_at m b) in
+  pub followed : (turns ready : ℕ) (clocks : Clocks) (parts : List BoardSection) → AreRenewed m b turns ready clocks → Followed turns clocks ready parts
+  followed turns ready clocks parts r =
       let Until : ℕ → Type 0 = λ n. EndBefore n parts in
-      elim near [
-        | inl exact ↦
-            let y = lines_in_time clock all clocks ready (0 + total parts) freq kept first.sampled sampled first.early none (inl exact) in
-            record { tracked = y.0; over = subst Until (sym y.1) (ends_before parts 0) }
-        | inr come ↦
-            let y = lines_in_time clock all clocks ready come.0 freq kept first.sampled sampled first.early none (inr (drift, come.2)) in
-            record { tracked = y.0; over = subst Until (sym y.1) come.1 }
-      ]
+      let y = follow_on m b turns ready (0 + total parts) clocks r in
+      record { tracked = y.0; over = subst Until (sym y.1) (ends_before parts 0) }
 
   -- the steppers
   pub stepper_made : (came : List Came) (c : Came) (t : BoardTurn) (turns : List BoardTurn) (clocks : List Clocks) (all more : List Orders) → Run (c ∷ came) (t ∷ turns)

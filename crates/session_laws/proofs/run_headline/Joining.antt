@@ -1,26 +1,21 @@
 -- The lines of a run follow the plans.
 use Rattle.std.proofs.Common.{◌≡◌, ℕ, zero, suc, ◌+◌, ◌<◌, ◌≤◌, All, List, [], ◌∷◌, ◌++◌, get_or, length, map, take, Some, None, refl, ap, sym, ◌∙◌, subst, arith, append_assoc, inl, inr}
 use Rattle.std.proofs.lemmas.List.{length-map}
-use Rattle.std.proofs.lemmas.List.Elements.{All-cons, All-head, All-nil, All-tail}
+use Rattle.std.proofs.lemmas.List.Elements.{All-head, All-tail}
 use Rattle.gcode_program.specs.Programs.{program_sections}
 use Rattle.plan_types.specs.declared.machine.BoardDef.{BoardDef}
 use Rattle.plan_types.specs.declared.machine.Machine.{Machine}
-use Rattle.plan_types.specs.Clock.{board_tick, clock_of}
 use Rattle.plan_types.specs.Lines.{Clocks}
 use Rattle.plan_types.specs.Machines.{IsValidBoard, IsValidMachine, board_at, no_board, stepper_at}
-use Rattle.plan_types.specs.Sections.{clocks_at}
 use Rattle.msg_code.specs.declared.talk.Note.{Note}
 use Rattle.msg_code.specs.declared.talk.ShutNews.{ShutNews}
 use Rattle.msg_code.specs.declared.talk.State.{State}
 use Rattle.board_sim.specs.Board.{timer_too_close}
-use Rattle.section_units.specs.Sections.{AreReleased, BoardSection}
 use Rattle.wire_scene.specs.declared.scene.Scene.{Scene}
 use Rattle.wire_scene.specs.declared.scene.Switch.{Switch}
-use Rattle.link_work.specs.Stands.{first_state}
-use Rattle.link_work.specs.Switches.{pins_of}
 use Rattle.host_reactor.specs.Runs.{Came, known_by}
 use Rattle.motion_work.specs.Boards.{parts_on}
-use Rattle.motion_work.specs.Seen.{AreMoves, Started, part_on}
+use Rattle.motion_work.specs.Seen.{AreMoves, Started}
 use Rattle.motion_work.specs.Told.{Told}
 use Rattle.session_work.specs.declared.table.MotionTurn.{MotionTurn}
 use Rattle.session_work.specs.declared.table.ReactorTurn.{ReactorTurn}
@@ -30,14 +25,9 @@ use Rattle.session_run.specs.Boards.{AreReactorTurns, came_in}
 use Rattle.run_laws.specs.Boards.{AreOnBoards, IsOnBoard, Times}
 use Rattle.run_laws.specs.Boards as boards
 use Rattle.run_laws.specs.Late.{IsIn}
-use Rattle.run_laws.specs.Links.{turns_told}
-use Rattle.run_laws.specs.Runs.{AreSpilled}
 use Rattle.run_laws.specs.Stops.{NeverStop}
 use Rattle.run_laws.proofs.Each.{end_unstopped}
-use Rattle.run_laws.proofs.Linking.{valid_ticks}
-use Rattle.run_laws.proofs.Released.{run_released}
 use Rattle.run_laws.proofs.Lists.{cons_same}
-use Rattle.run_laws.proofs.Spoiled.{few_timely_before}
 use Rattle.run_plans.specs.Boards.{IsStepperOn, times_of}
 use Rattle.run_plans.specs.Lines.{AreLinesOf, TookEach, TookNotes}
 use Rattle.run_plans.specs.Planned.{Plans}
@@ -119,9 +109,11 @@ module _ (m : Machine) (v : IsValidMachine m) (s : Scene) (ts : List MotionTurn)
       let def = board_at m b in
       let c = columns b in
       let valid = valid_at m.boards b no_board h v.boards in
-      let r = run_is m ts p t b ready (board_tick (clock_of def)) c.orders h told moves (omega (arith, a.count, long)) a.batches a.controls a.tracked early a.over a.made in
+      let r = run_is m ts p t b ready a.own c.orders h told moves (omega (arith, a.count, long)) a.batches a.controls a.tracked early a.over a.made in
       record {
         valid = valid;
+        own = a.own;
+        own_is = a.own_is;
         run_is = r;
         times_are = times_parts m t.clocks b p.seen.begun;
         count = a.count;

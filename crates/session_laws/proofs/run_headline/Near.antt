@@ -1,5 +1,5 @@
 -- The clock lines of a run follow the boards' clocks.
-use Rattle.std.proofs.Common.{◌≡◌, ℕ, ◌%◌, ◌≤◌, All, List, [], ◌∷◌, arith, refl, subst, sym}
+use Rattle.std.proofs.Common.{◌≡◌, ◌%◌, ◌≤◌, All, List, [], ◌∷◌, arith, refl, subst, sym}
 use Rattle.std.proofs.lemmas.List.Elements.{All-cons, All-nil}
 use Rattle.clock_line.specs.Samples.{ppm_size}
 use Rattle.clock_runs.specs.Samples.{IsSampled}

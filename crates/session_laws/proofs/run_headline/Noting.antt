@@ -1,5 +1,5 @@
 -- From which notes and which words the further clock lines of a planner come.
-use Rattle.std.proofs.Common.{◌≡◌, ℕ, zero, suc, ◌+◌, ◌*◌, ◌<◌, ◌≤◌, ◌⊎◌, Bool, true, false, All, List, [], ◌∷◌, ◌++◌, length, None, refl, ap, sym, ◌∙◌, subst, arith, inl, inr, append_assoc, length-append}
+use Rattle.std.proofs.Common.{◌≡◌, ℕ, zero, suc, ◌+◌, ◌*◌, ◌<◌, ◌≤◌, ◌⊎◌, Bool, true, false, All, List, [], ◌∷◌, ◌++◌, length, Option, None, Some, refl, ap, sym, ◌∙◌, subst, arith, inl, inr, append_assoc, length-append}
 use Rattle.std.specs.Prelude.{if◌then◌else◌}
 use Rattle.std.proofs.lemmas.Bool.Decides.{eqb_tells}
 use Rattle.std.proofs.lemmas.List.Elements.{All-head, All-tail}
@@ -23,7 +23,9 @@ use Rattle.motion_work.specs.Further.{AreFurther, WasHeard, WereHeard}
 use Rattle.motion_work.specs.Puts.{ArePut, IsPut, IsReadNews, Put, begun_notes}
 use Rattle.motion_work.specs.Seen.{Started}
 use Rattle.motion_work.specs.Turns.{done_notes}
-use Rattle.motion_work.specs.Told.{lines_in}
+use Rattle.motion_work.specs.Told as told
+use Rattle.motion_work.specs.Told.{Told, lines_in}
+use Rattle.motion_stream.specs.Motions.{lines_kept}
 use Rattle.session_work.specs.declared.table.MotionTurn.{MotionTurn}
 use Rattle.session_work.specs.declared.table.ReactorTurn.{ReactorTurn}
 use Rattle.session_run.specs.Boards.{AreReactorTurns}
@@ -31,9 +33,9 @@ use Rattle.session_work.specs.Rows.{gather}
 use Rattle.session_work.specs.Bares.{bare_word}
 use Rattle.session_work.specs.Leads.{each_turn, last_words, still_word}
 use Rattle.run_plans.specs.Answers.{TookNoneAhead}
-use Rattle.run_plans.specs.Planned.{TellHeard, lines_heard, puts_of, words_in}
+use Rattle.run_plans.specs.Planned.{TakeUpLines, fresh_in, puts_of, told_behind, words_in}
 use Rattle.session_laws.proofs.run_headline.Further.{EachTold, told_both, told_more}
-use Rattle.session_laws.proofs.run_headline.Words.{Among, AreNumbered, Said, among_either, among_left, among_number, gather_words, news_in, said}
+use Rattle.session_laws.proofs.run_headline.Words.{Among, AreNumbered, Said, among_either, among_left, among_number, among_right, gather_words, news_in, said}
 
 -- A note of a turn tells a further clock line; a word of these told it, which has the number of that turn or less.
 pub record IsOf (words : List WordMsg) (turn board : ℕ) (line : Line) (from : ℕ) : Type 0 where
@@ -56,16 +58,20 @@ AllNoted words k [] = Unit {0}
 AllNoted words k (t ∷ ts) = EachTold (IsOf words k) t.note.news × AllNoted words (k + 1) ts
 
 -- which word told a line
-heard_either : (board : ℕ) (line : Line) (xs ys : List BoardLine) → WasHeard board line (xs ++ ys) → WasHeard board line xs ⊎ WasHeard board line ys
+pub heard_either : (board : ℕ) (line : Line) (xs ys : List BoardLine) → WasHeard board line (xs ++ ys) → WasHeard board line xs ⊎ WasHeard board line ys
 heard_either board line [] ys h = inr h
 heard_either board line (x ∷ xs) ys (inl e) = inl (inl e)
 heard_either board line (x ∷ xs) ys (inr h) = elim (heard_either board line xs ys h) [ inl a ↦ inl (inr a) | inr a ↦ inr a ]
 
-heard_word : (board : ℕ) (line : Line) (ws : List WordMsg) → WasHeard board line (lines_heard ws) → (w : WordMsg) × Among w ws × WasHeard board line (lines_in w.news)
-heard_word board line [] h = absurd h
-heard_word board line (w ∷ ws) h = elim (heard_either board line (lines_in w.news) (lines_heard ws) h) [
-  | inl a ↦ (w, inl refl, a)
-  | inr a ↦ let r = heard_word board line ws a in (r.0, inr r.1, r.2)
+kept_word : (board : ℕ) (line : Line) (o : Option Told) (ls : List BoardLine) → WasHeard board line (lines_kept o ls) → WasHeard board line ls
+kept_word board line None ls h = absurd h
+kept_word board line (Some t) ls h = h
+
+fresh_word : (m : Machine) (k : ℕ) (board : ℕ) (line : Line) (ws : List WordMsg) (o : Option Told) → WasHeard board line (fresh_in m k ws o) → (w : WordMsg) × Among w ws × WasHeard board line (lines_in w.news)
+fresh_word m k board line [] o h = absurd h
+fresh_word m k board line (w ∷ ws) o h = elim (heard_either board line (lines_kept (told.heard m k w o) (lines_in w.news)) (fresh_in m k ws (told.heard m k w o)) h) [
+  | inl a ↦ (w, inl refl, kept_word board line (told.heard m k w o) (lines_in w.news) a)
+  | inr a ↦ let r = fresh_word m k board line ws (told.heard m k w o) a in (r.0, inr r.1, r.2)
 ]
 
 -- the news of a note
@@ -96,14 +102,14 @@ note_from m text begun k p is =
     (told_both P (begun_notes k 0 begun) (is.read ++ is.further) (none_begun P k 0 begun)
     (told_both P is.read is.further (none_read P m text is.read is.is_read) (each_from k is.further is.are_further))))
 
-both_told : (P Q R : ℕ → Line → ℕ → Type 0) (ns : List NoteNews) → ((board : ℕ) (line : Line) (from : ℕ) → P board line from → Q board line from → R board line from) → EachTold P ns → EachTold Q ns → EachTold R ns
+pub both_told : (P Q R : ℕ → Line → ℕ → Type 0) (ns : List NoteNews) → ((board : ℕ) (line : Line) (from : ℕ) → P board line from → Q board line from → R board line from) → EachTold P ns → EachTold Q ns → EachTold R ns
 both_told P Q R [] f a b = tt
 both_told P Q R (news.Start section kind turn last moving ∷ ns) f a b = both_told P Q R ns f a b
 both_told P Q R (news.Done section turn ∷ ns) f a b = both_told P Q R ns f a b
 both_told P Q R (news.Read end sections ∷ ns) f a b = both_told P Q R ns f a b
 both_told P Q R (news.Line board line from ∷ ns) f a b = (f board line from a.0 b.0, both_told P Q R ns f a.1 b.1)
 
-were_told : (heard : List BoardLine) (ns : List NoteNews) → WereHeard heard ns → EachTold (λ board line from. WasHeard board line heard) ns
+pub were_told : (heard : List BoardLine) (ns : List NoteNews) → WereHeard heard ns → EachTold (λ board line from. WasHeard board line heard) ns
 were_told heard [] h = tt
 were_told heard (news.Start section kind turn last moving ∷ ns) h = were_told heard ns h
 were_told heard (news.Done section turn ∷ ns) h = were_told heard ns h
@@ -115,22 +121,23 @@ first_numbered i [] ys n = tt
 first_numbered i (x ∷ xs) ys n = (n.0, first_numbered (i + 1) xs ys n.1)
 
 -- the notes of some turns, from turn k on, behind these words
-pub all_noted : (m : Machine) (text : List ℕ) (begun : List Started) (k taken : ℕ) (before : List WordMsg) (ts : List MotionTurn) → length before ≡ taken → ArePut m text begun k (puts_of ts) → TellHeard before ts → TookNoneAhead k taken ts
+pub all_noted : (m : Machine) (text : List ℕ) (begun : List Started) (k taken : ℕ) (o : Option Told) (before : List WordMsg) (ts : List MotionTurn) → length before ≡ taken → ArePut m text begun k (puts_of ts) → TakeUpLines m k ts o → TookNoneAhead k taken ts
     → AreNumbered 0 (before ++ words_in ts) → AllNoted (before ++ words_in ts) k ts
-all_noted m text begun k taken before [] long put heard ahead n = tt
-all_noted m text begun k taken before (t ∷ ts) long put heard ahead n =
+all_noted m text begun k taken o before [] long put heard ahead n = tt
+all_noted m text begun k taken o before (t ∷ ts) long put heard ahead n =
     let here = before ++ t.words in
     let all : before ++ (t.words ++ words_in ts) ≡ here ++ words_in ts = sym (append_assoc before t.words (words_in ts)) in
     let numbered : AreNumbered 0 (here ++ words_in ts) = subst (AreNumbered 0) all n in
     let size = length-append before t.words in
     let soon = ahead.0 in
-    let rest = all_noted m text begun (k + 1) (taken + length t.words) here ts (omega (arith, size, long)) put.1 heard.1 ahead.1 numbered in
-    let one = both_told (λ board line from. from ≡ (k + 277) * turn_ns) (λ board line from. WasHeard board line (lines_heard here)) (IsOf (here ++ words_in ts) k) t.note.news
+    let rest = all_noted m text begun (k + 1) (taken + length t.words) (told_behind m k t o) here ts (omega (arith, size, long)) put.1 heard.2 ahead.1 numbered in
+    let one = both_told (λ board line from. from ≡ (k + 277) * turn_ns) (λ board line from. WasHeard board line (fresh_in m k t.words o)) (IsOf (here ++ words_in ts) k) t.note.news
     (λ board line from at was.
-    let w = heard_word board line here was in
-    let number = (among_number 0 here w.0 (first_numbered 0 here (words_in ts) numbered) w.1).1 in
-    record { from_is = at; word = w.0; among = among_left w.0 here (words_in ts) w.1; heard = w.2; soon = omega (arith, number, size, long, soon) })
-    (note_from m text begun k (record { batches = t.batches; note = t.note }) put.0) (were_told (lines_heard here) t.note.news heard.0) in
+    let w = fresh_word m k board line t.words o was in
+    let own = among_right w.0 before t.words w.1 in
+    let number = (among_number 0 here w.0 (first_numbered 0 here (words_in ts) numbered) own).1 in
+    record { from_is = at; word = w.0; among = among_left w.0 here (words_in ts) own; heard = w.2; soon = omega (arith, number, size, long, soon) })
+    (note_from m text begun k (record { batches = t.batches; note = t.note }) put.0) (were_told (fresh_in m k t.words o) t.note.news heard.0) in
     subst (λ ws. AllNoted ws k (t ∷ ts)) (sym all) (one, rest)
 
 pub noted_front : (words : List WordMsg) (k : ℕ) (past later : List MotionTurn) → AllNoted words k (past ++ later) → AllNoted words k past

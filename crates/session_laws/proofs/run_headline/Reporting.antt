@@ -287,7 +287,7 @@ module _ (m : Machine) (v : IsValidMachine m) (s : Scene) (ts : List MotionTurn)
   notes_are = f.notes ∙ ap (λ o. (option_items o ++ notes_of Behind_first) ++ f.notes_left) none
 
   pub notes_all : AllNoted (words_in p.made) 0 p.made
-  notes_all = all_noted m p.seen.text p.seen.begun 0 0 [] p.made refl p.put p.heard p.ahead (made_numbered m s.switches f.ahead (first ∷ rest) ts p.made p.bare f.words_left p.are f.turns f.words)
+  notes_all = all_noted m p.seen.text p.seen.begun 0 0 None [] p.made refl p.put p.lines p.ahead (made_numbered m s.switches f.ahead (first ∷ rest) ts p.made p.bare f.words_left p.are f.turns f.words)
 
   all_drift : DriftsTold (first ∷ Behind_first)
   all_drift =

@@ -27,6 +27,9 @@ use Rattle.host_reactor.specs.Notes.{noted}
 use Rattle.host_reactor.specs.Rows.{IsOwn}
 use Rattle.host_reactor.specs.Running.{text_end}
 use Rattle.clock_runs.proofs.Lines.{noted_phase}
+use Rattle.cause_runs.specs.Short.{HaveShortDictionaries}
+use Rattle.session_laws.specs.clock_ages.Renewed.{StayYoung}
+use Rattle.session_laws.proofs.clock_ages.Renews.{renews}
 use Rattle.host_reactor.specs.Reactor.{reacts}
 use Rattle.host_reactor.specs.Runs.{Came, known_by, last_turn}
 use Rattle.motion_work.specs.Puts.{ArePut}
@@ -40,8 +43,6 @@ use Rattle.session_work.specs.Rows.{gather, option_items}
 use Rattle.session_run.specs.Boards.{AreReactorTurns, came_from, came_in}
 use Rattle.section_units.specs.Sections.{AreReleased}
 use Rattle.run_laws.specs.Boards.{IsWindow}
-use Rattle.run_laws.specs.Runs.{AreSpilled}
-use Rattle.run_laws.proofs.Released.{spilled_before}
 use Rattle.run_laws.specs.Stops.{NeverStop}
 use Rattle.run_plans.specs.Boards.{TookStates, lines_between, times_of}
 use Rattle.run_plans.specs.Lines.{AreLinesOf, TellTurns, TookEach, TookNotes, pulse_in, pulses_of}
@@ -380,6 +381,10 @@ module _ (m : Machine) (v : IsValidMachine m) (s : Scene) (ts : List MotionTurn)
     pub through_long : GoesThrough c → length (rest ++ end ∷ []) ≤ length p.made → AreThrough m p.seen c (length (rest ++ end ∷ []))
     through_long g l = elim (through_so g) [ inl w ↦ through_by w l | inr a ↦ through_before (stopped a) l ]
 
+    -- the clock lines of the boards are renewed in time
+    pub renews_by : (t : Told) → p.seen.told ≡ Some t → HaveShortDictionaries m → length (rest ++ end ∷ []) ≤ length p.made → (b : ℕ) → b < length m.boards → StayYoung m b (clocks_at t.clocks b) (length rest)
+    renews_by t told short l b h = renews m v short s ts p t first rest end c told f (front_notes (took_notes l)) (omega (arith, l, size)) b h
+
     module _ (moves : AreOfMoves (program_sections m p.seen.text)) where
       pub kinds : All (λ x. x.section.kind ≡ Moves) p.seen.begun
       kinds = kinds_of p.seen.begun (program_sections m p.seen.text) (length p.seen.begun) (of_sections m ts p) moves
@@ -391,7 +396,7 @@ module _ (m : Machine) (v : IsValidMachine m) (s : Scene) (ts : List MotionTurn)
       pub long : (length (rest ++ end ∷ []) ≤ length p.made) ⊎ Unread
       long = long_answered (none_waits p.seen.told refl)
 
-      module _ (t : Told) (told : p.seen.told ≡ Some t) (near : AllTakeNear m s p.seen.text ts (first ∷ (rest ++ end ∷ []))) (l : length (rest ++ end ∷ []) ≤ length p.made) where
+      module _ (t : Told) (told : p.seen.told ≡ Some t) (short : HaveShortDictionaries m) (near : AllTakeNear m s p.seen.text ts (first ∷ (rest ++ end ∷ []))) (l : length (rest ++ end ∷ []) ≤ length p.made) where
         pub column_at : (b : ℕ) → (b < length m.boards) ⊎ (length m.boards ≤ b) → Column
         column_at b (inl h) = column m v s ts p t first rest end told b (f.boards b first rest h refl)
         column_at b (inr h) = record { orders = []; states = [] }
@@ -404,7 +409,7 @@ module _ (m : Machine) (v : IsValidMachine m) (s : Scene) (ts : List MotionTurn)
         unfolding column_at
         board_at_place b (inl h) low =
             let w = f.boards b first rest h refl in
-            boarded m v s ts p t first rest end told b turn w h (none_homes p.seen.begun kinds) (all_moves m p.seen.text p.seen.begun p.made first rest kinds p.put (front_notes (took_notes l))) l (near p t b refl told h l w)
+            boarded m v s ts p t first rest end told b turn w h (none_homes p.seen.begun kinds) (all_moves m p.seen.text p.seen.begun p.made first rest kinds p.put (front_notes (took_notes l))) l (renews_by t told short l b h) (near p t b refl told h l w)
         board_at_place b (inr h) low = absurd (omega (arith, h, low))
 
         follows : FollowPlans m t p.seen (λ b. column_at b (place b)) first (rest ++ end ∷ [])
@@ -416,12 +421,12 @@ module _ (m : Machine) (v : IsValidMachine m) (s : Scene) (ts : List MotionTurn)
       through : GoesThrough c → AreThrough m p.seen c (length (rest ++ end ∷ []))
       through g = elim long [ inl l ↦ through_long g l | inr z ↦ absurd (z.never (own_cause c g)) ]
 
-      module _ (w_all : At_last) (t : Told) (told : p.seen.told ≡ Some t) (near : AllTakeNear m s p.seen.text ts (first ∷ (rest ++ end ∷ []))) (l : length (rest ++ end ∷ []) ≤ length p.made) where
+      module _ (w_all : At_last) (t : Told) (told : p.seen.told ≡ Some t) (short : HaveShortDictionaries m) (near : AllTakeNear m s p.seen.text ts (first ∷ (rest ++ end ∷ []))) (l : length (rest ++ end ∷ []) ≤ length p.made) where
         not_stopping : (line : ℕ) → (known_by m s.switches (came_from [] (first ∷ rest))).phase ≡ Stopping line → ⊥
         not_stopping line e =
             let f : Running ≡ Stopping line = sym w_all.2.running ∙ noted_phase m end.note (known_by m s.switches (came_from [] (first ∷ rest))) ∙ e in cc
 
-        never_told : (b : ℕ) (q : (b < length m.boards) ⊎ (length m.boards ≤ b)) → b < length m.boards → NeverStop (column_at t told near l b q).orders
+        never_told : (b : ℕ) (q : (b < length m.boards) ⊎ (length m.boards ≤ b)) → b < length m.boards → NeverStop (column_at t told short near l b q).orders
         unfolding column_at
         never_told b (inl h) low =
             never m v s ts p t first rest end told b (f.boards b first rest h refl) h (all_moves m p.seen.text p.seen.begun p.made first rest kinds p.put (front_notes (took_notes l))) not_stopping
@@ -433,10 +438,10 @@ module _ (m : Machine) (v : IsValidMachine m) (s : Scene) (ts : List MotionTurn)
         counted past x later from to spot cut h w over =
             let b = (stepper_at m spot).board in
             let low : b < length m.boards = (v.steppers spot h).board in
-            let r = turn t told near l in
+            let r = turn t told short near l in
             let ready = length (came_from [] r.past) in
-            let columns : ℕ → Column = λ i. column_at t told near l i (place i) in
-            let are = λ (i : ℕ). λ (hi : i < length m.boards). board_at_place t told near l i (place i) hi in
+            let columns : ℕ → Column = λ i. column_at t told short near l i (place i) in
+            let are = λ (i : ℕ). λ (hi : i < length m.boards). board_at_place t told short near l i (place i) hi in
             let homes = none_homes p.seen.begun kinds in
             let last = lasts b rest end (columns b).states (are b low).states in
             let idle = one_idle b end.states last.last w_all.2.through.idle last.at in
@@ -446,32 +451,32 @@ module _ (m : Machine) (v : IsValidMachine m) (s : Scene) (ts : List MotionTurn)
             let shut = shut_none in_order.0 last.last.shut in_order.1 late in
             let released = gone_released m p.seen.text p.seen.begun (length (first ∷ rest)) Last_known w_all.0 t.clocks b (length (rest ++ end ∷ [])) (gone_by w_all l) (omega (arith, size)) low in
             let Released : List Started → Type 0 = λ y. AreReleased (length (rest ++ end ∷ [])) (parts_on m t.clocks y b) in
-            (follows t told near l).whole past x later from to spot last.front last.last cut h w over last.are shut idle (released_front m t.clocks b (length (rest ++ end ∷ [])) past x later (subst Released cut released))
+            (follows t told short near l).whole past x later from to spot last.front last.last cut h w over last.are shut idle (released_front m t.clocks b (length (rest ++ end ∷ [])) past x later (subst Released cut released))
 
       -- where it was asked to stop, by the turns before the last one
-      module _ (x : Stopped) (t : Told) (told : p.seen.told ≡ Some t) (near : AllTakeNear m s p.seen.text ts (first ∷ (rest ++ end ∷ []))) (l : length (rest ++ end ∷ []) ≤ length p.made) where
+      module _ (x : Stopped) (t : Told) (told : p.seen.told ≡ Some t) (short : HaveShortDictionaries m) (near : AllTakeNear m s p.seen.text ts (first ∷ (rest ++ end ∷ []))) (l : length (rest ++ end ∷ []) ≤ length p.made) where
         not_about : (line : ℕ) → (known_by m s.switches (came_from [] (first ∷ x.front))).phase ≡ Stopping line → ⊥
         not_about line e = let f : Running ≡ Stopping line = sym x.went.running ∙ noted_phase m x.turn.note (known_by m s.switches (came_from [] (first ∷ x.front))) ∙ e in cc
 
-        orders_at : (b : ℕ) (h : b < length m.boards) → Earlier m v s ts p t first rest end told b (column_at t told near l b (inl h)).orders
+        orders_at : (b : ℕ) (h : b < length m.boards) → Earlier m v s ts p t first rest end told b (column_at t told short near l b (inl h)).orders
         unfolding column_at
         orders_at b h =
             earlier m v s ts p t first rest end told b (f.boards b first rest h refl) h (came_in x.turn) (came_from [] (first ∷ x.front)) x.came
             (all_moves m p.seen.text p.seen.begun p.made first rest kinds p.put (front_notes (took_notes l))) not_about
 
-        states_at : (b : ℕ) (h : b < length m.boards) → Lasts b rest end (column_at t told near l b (inl h)).states
-        states_at b h = lasts b rest end (column_at t told near l b (inl h)).states (board_at_place t told near l b (inl h) h).states
+        states_at : (b : ℕ) (h : b < length m.boards) → Lasts b rest end (column_at t told short near l b (inl h)).states
+        states_at b h = lasts b rest end (column_at t told short near l b (inl h)).states (board_at_place t told short near l b (inl h) h).states
 
         before_at : (b : ℕ) → (b < length m.boards) ⊎ (length m.boards ≤ b) → Column
         before_at b (inl h) = column_of (orders_at b h).front (states_at b h).front
         before_at b (inr h) = record { orders = []; states = [] }
 
         board_before : (b : ℕ) (q : (b < length m.boards) ⊎ (length m.boards ≤ b)) → b < length m.boards
-            → IsBoardIn m s ts p.seen t rest (length (came_from [] (turn t told near l).past)) b (before_at b q)
+            → IsBoardIn m s ts p.seen t rest (length (came_from [] (turn t told short near l).past)) b (before_at b q)
         unfolding before_at
         board_before b (inl h) low =
             let o = orders_at b h in
-            board_less m s ts p.seen t rest end (length (came_from [] (turn t told near l).past)) b (column_at t told near l b (inl h)) o.front o.last o.are (states_at b h) (board_at_place t told near l b (inl h) h)
+            board_less m s ts p.seen t rest end (length (came_from [] (turn t told short near l).past)) b (column_at t told short near l b (inl h)) o.front o.last o.are (states_at b h) (board_at_place t told short near l b (inl h) h)
         board_before b (inr h) low = absurd (omega (arith, h, low))
 
         never_before : (b : ℕ) (q : (b < length m.boards) ⊎ (length m.boards ≤ b)) → b < length m.boards → NeverStop (before_at b q).orders
@@ -483,7 +488,7 @@ module _ (m : Machine) (v : IsValidMachine m) (s : Scene) (ts : List MotionTurn)
         goes_before = omega (arith, l, size)
 
         follows_before : FollowPlans m t p.seen (λ b. before_at b (place b)) first rest
-        follows_before = follow m v s ts p t rest (length (came_from [] (turn t told near l).past)) (λ b. before_at b (place b)) told (none_homes p.seen.begun kinds) goes_before (turn t told near l).early
+        follows_before = follow m v s ts p t rest (length (came_from [] (turn t told short near l).past)) (λ b. before_at b (place b)) told (none_homes p.seen.begun kinds) goes_before (turn t told short near l).early
             (λ b h. board_before b (place b) h) first (front_notes (took_notes l)) (lines_are m s.switches [] (first ∷ rest) f.turns)
 
         counted_before : (past : List Started) (y : Started) (later : List Started) (from to spot : ℕ) → p.seen.begun ≡ past ++ y ∷ later → spot < length m.steppers
@@ -492,7 +497,7 @@ module _ (m : Machine) (v : IsValidMachine m) (s : Scene) (ts : List MotionTurn)
         counted_before past y later from to spot cut h w over =
             let b = (stepper_at m spot).board in
             let low : b < length m.boards = (v.steppers spot h).board in
-            let r = turn t told near l in
+            let r = turn t told short near l in
             let ready = length (came_from [] r.past) in
             let columns : ℕ → Column = λ i. before_at i (place i) in
             let are = λ (i : ℕ). λ (hi : i < length m.boards). board_before i (place i) hi in
@@ -514,7 +519,7 @@ module _ (m : Machine) (v : IsValidMachine m) (s : Scene) (ts : List MotionTurn)
             let n = length rest in
             let over = ended_all n p.seen.begun (gone_before x l).over in
             ap (pulses_of spot) (sym (lines_last (n + 1) rest end refl))
-            ∙ (follows t told near l).between p.seen.begun [] n (n + 1) spot (sym (append-nil p.seen.begun)) h (omega arith) (omega (arith, size)) over tt
+            ∙ (follows t told short near l).between p.seen.begun [] n (n + 1) spot (sym (append-nil p.seen.begun)) h (omega arith) (omega (arith, size)) over tt
 
         counted_stop : (past : List Started) (y : Started) (later : List Started) (from to spot : ℕ) → p.seen.begun ≡ past ++ y ∷ later → spot < length m.steppers
             → IsWindow (length (rest ++ end ∷ [])) from to (record { start = y.start; end = y.end }) (times_of later) → y.end + 5 ≤ to
@@ -540,14 +545,14 @@ module _ (m : Machine) (v : IsValidMachine m) (s : Scene) (ts : List MotionTurn)
         ]
 
       -- a run that holds nothing long takes all near
-      pub near_little : (t : Told) → p.seen.told ≡ Some t → (b : ℕ) → b < length m.boards → length (rest ++ end ∷ []) ≤ length p.made → (w : IsInWhole m s.switches b (clock_of (board_at m b)) (link_of m s b) ts first (rest ++ end ∷ []))
-          → HoldsLittle m s b ts first (rest ++ end ∷ []) (clocks_at t.clocks b) (parts_on m t.clocks p.seen.begun b) w → TakesNear m s b ts first (rest ++ end ∷ []) (clocks_at t.clocks b) (parts_on m t.clocks p.seen.begun b) w
-      near_little t told b h l w little =
+      pub near_little : HaveShortDictionaries m → (t : Told) → p.seen.told ≡ Some t → (b : ℕ) → b < length m.boards → length (rest ++ end ∷ []) ≤ length p.made → (w : IsInWhole m s.switches b (clock_of (board_at m b)) (link_of m s b) ts first (rest ++ end ∷ []))
+          → HoldsLittle m s b ts first (rest ++ end ∷ []) w → TakesNear m s b ts first (rest ++ end ∷ []) w
+      near_little short t told b h l w little =
           few_near m v s ts p t first rest end told b (ready m v s ts p t first rest end told f.ahead f.words_left f.turns f.words) w h (none_homes p.seen.begun kinds)
-          (all_moves m p.seen.text p.seen.begun p.made first rest kinds p.put (front_notes (took_notes l))) l little
+          (all_moves m p.seen.text p.seen.begun p.made first rest kinds p.put (front_notes (took_notes l))) l (renews_by t told short l b h) little
 
-      pub shown : AllTakeNear m s p.seen.text ts (first ∷ (rest ++ end ∷ [])) → ShowPlans m p.seen (clocks_heard p.seen.told) (ready_heard p.seen.told) c first (rest ++ end ∷ [])
-      shown near = record {
+      pub shown : HaveShortDictionaries m → AllTakeNear m s p.seen.text ts (first ∷ (rest ++ end ∷ [])) → ShowPlans m p.seen (clocks_heard p.seen.told) (ready_heard p.seen.told) c first (rest ++ end ∷ [])
+      shown short near = record {
         heard = heard;
         of_text = of_sections m ts p;
         late = (started p.seen.told refl).0;
@@ -588,7 +593,7 @@ module _ (m : Machine) (v : IsValidMachine m) (s : Scene) (ts : List MotionTurn)
               let n = length past in
               let whole : n - 0 ≡ n = omega arith in
               let many : length (rest ++ end ∷ []) ≡ n + length behind = ap length then ∙ length-append past behind in
-              let none = (follows t e near l).between [] (x ∷ later) 0 n place cut h (omega arith) (omega (arith, many)) tt (omega (arith, soon)) in
+              let none = (follows t e short near l).between [] (x ∷ later) 0 n place cut h (omega arith) (omega (arith, many)) tt (omega (arith, soon)) in
               let now : pulses_of place y.lines ≡ [] = ap (λ (z : ReactorTurn). pulses_of place z.lines) (sym same) ∙ first_pulses m p.seen.begun place first spread f.turns.0.row tells.0 in
               let front : lines_between 0 n (rest ++ end ∷ []) ≡ lines past = ap (λ z. lines_between 0 n z) then ∙ ap (λ (k : ℕ). lines (take k (past ++ behind))) whole ∙ ap lines (take-append_seam past behind) in
               pulses_append place y.lines (lines past) ∙ ap (λ z. z ++ pulses_of place (lines past)) now ∙ ap (pulses_of place) (sym front) ∙ none
@@ -603,7 +608,7 @@ module _ (m : Machine) (v : IsValidMachine m) (s : Scene) (ts : List MotionTurn)
           passed_by None e past x later from to place other cut h k same w over some l = absurd (in_none past x later p.seen.begun (not_told e) cut)
           passed_by (Some t) e past x later from to place other cut h k same w over some l =
               let At : List Clocks → Type 0 = λ y. length (pulses_of place (lines_between from to (rest ++ end ∷ []))) ≡ length (stepper_plan m y x.section.moves x.start place) in
-              subst At (sym (ap clocks_heard e)) ((follows t e near l).passed past x later from to place other cut h k same w over some)
+              subst At (sym (ap clocks_heard e)) ((follows t e short near l).passed past x later from to place other cut h k same w over some)
 
           by_told : (o : Option Told) → p.seen.told ≡ o → (past : List Started) (x : Started) (later : List Started) (from to place : ℕ) → p.seen.begun ≡ past ++ x ∷ later → place < length m.steppers
               → IsWindow (length (rest ++ end ∷ [])) from to (record { start = x.start; end = x.end }) (times_of later) → length (rest ++ end ∷ []) ≤ length p.made
@@ -613,11 +618,11 @@ module _ (m : Machine) (v : IsValidMachine m) (s : Scene) (ts : List MotionTurn)
           by_told (Some t) e past x later from to place cut h w l =
               let At : List Clocks → Type 0 = λ c. Fits (clocks_at c (stepper_at m place).board).first.freq (base_tick m c x.start place) (pulses_of place (lines_between from to (rest ++ end ∷ []))) (stepper_plan m c x.section.moves x.start place) in
               let Freq : ℕ → Type 0 = λ n. Fits n (base_tick m t.clocks x.start place) (pulses_of place (lines_between from to (rest ++ end ∷ []))) (stepper_plan m t.clocks x.section.moves x.start place) in
-              let r = turn t e near l in
+              let r = turn t e short near l in
               let b = (stepper_at m place).board in
               let low = (v.steppers place h).board in
               let freq : (board_at m b).freq ≡ (clocks_at t.clocks b).first.freq = sym (lined m v s ts p t first rest end e b r (f.boards b first rest low refl) low).freq in
-              subst At (sym (ap clocks_heard e)) (subst Freq freq ((follows t e near l).fit past x later from to place cut h w))
+              subst At (sym (ap clocks_heard e)) (subst Freq freq ((follows t e short near l).fit past x later from to place cut h w))
 
           own_by : GoesThrough c → length (rest ++ end ∷ []) ≤ length p.made → AreTold false m (gather (λ t. t.lines) (first ∷ (rest ++ end ∷ [])))
           own_by g l =
@@ -633,8 +638,8 @@ module _ (m : Machine) (v : IsValidMachine m) (s : Scene) (ts : List MotionTurn)
           whole_by (Some t) e g past x later from to place cut h w over l =
               let At : List Clocks → Type 0 = λ y. length (pulses_of place (lines_between from to (rest ++ end ∷ []))) ≡ length (stepper_plan m y x.section.moves x.start place) in
               let by : At t.clocks = elim (through_so g) [
-                | inl w_all ↦ counted w_all t e near l past x later from to place cut h w over
-                | inr a ↦ counted_stop (stopped a) t e near l past x later from to place cut h w over
+                | inl w_all ↦ counted w_all t e short near l past x later from to place cut h w over
+                | inr a ↦ counted_stop (stopped a) t e short near l past x later from to place cut h w over
               ] in
               subst At (sym (ap clocks_heard e)) by
 

@@ -124,11 +124,11 @@ abbrev pub news_in : List MotionTurn → List NoteNews
 news_in ts = gather (λ t. t.note.news) ts
 
 -- the lines that were told first hold, and notes tell further ones
-heard_on : (m : Machine) (k : ℕ) (ws : List WordMsg) (t : Told) → heard_in m k ws (Some t) ≡ Some t
+pub heard_on : (m : Machine) (k : ℕ) (ws : List WordMsg) (t : Told) → heard_in m k ws (Some t) ≡ Some t
 heard_on m k [] t = refl
 heard_on m k (w ∷ ws) t = heard_on m k ws t
 
-told_grows : (m : Machine) (k : ℕ) (ts : List MotionTurn) (t : Told) → planned.told_of m k ts (Some t) ≡ Some (record { first = t.first; clocks = noted_lines (news_in ts) t.clocks })
+pub told_grows : (m : Machine) (k : ℕ) (ts : List MotionTurn) (t : Told) → planned.told_of m k ts (Some t) ≡ Some (record { first = t.first; clocks = noted_lines (news_in ts) t.clocks })
 told_grows m k [] t = refl
 told_grows m k (x ∷ ts) t =
     let mid : Told = record { first = t.first; clocks = noted_lines x.note.news t.clocks } in
@@ -174,7 +174,7 @@ pub turns_tell : (m : Machine) (k taken : ℕ) (ts : List MotionTurn) (t : Told)
     → HeardIn m k ts t
 turns_tell m k taken [] t late in_time range ahead n e = absurd (let f : None ≡ Some t = e in cc)
 turns_tell m k taken (x ∷ ts) t late in_time range ahead n e =
-    by (heard_in m k x.words None) refl in_time.1 (λ here later rest parts f. turns_tell m (k + 1) (taken + length x.words) ts t (omega (arith, here)) later rest ahead.1 parts f) range.0 range.1 e
+    by (heard_in m k x.words None) refl in_time.2 (λ here later rest parts f. turns_tell m (k + 1) (taken + length x.words) ts t (omega (arith, here)) later rest ahead.1 parts f) range.0 range.1 e
   where
     by : (o : Option Told) → heard_in m k x.words None ≡ o → planned.TookInTime m (k + 1) (taken + length x.words) ts (told_on x.note.news o)
         → (k < taken + length x.words → planned.TookInTime m (k + 1) (taken + length x.words) ts None → planned.AllInRange m (k + 1) ts None → AreNumbered (taken + length x.words) (gather (λ y. y.words) ts) → planned.told_of m (k + 1) ts None ≡ Some t → HeardIn m (k + 1) ts t)
@@ -209,7 +209,7 @@ turns_tell m k taken (x ∷ ts) t late in_time range ahead n e =
         }
 
 -- words without news tell none
-none_of : (m : Machine) (b : Bool) (turn : ℕ) (news : List WordNews) (c : List Clocks) → told_in m turn news ≡ None → (cond b (told_in m turn news) None) ≡ Some c → ⊥
+pub none_of : (m : Machine) (b : Bool) (turn : ℕ) (news : List WordNews) (c : List Clocks) → told_in m turn news ≡ None → (cond b (told_in m turn news) None) ≡ Some c → ⊥
 none_of m true turn news c e f = let g : None ≡ Some c = sym e ∙ f in cc
 none_of m false turn news c e f = cc
 

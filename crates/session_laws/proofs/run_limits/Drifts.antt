@@ -1,5 +1,5 @@
 -- The further clock lines of a run tell ticks that the boards may have.
-use Rattle.std.proofs.Common.{◌≡◌, ℕ, ◌+◌, ◌*◌, ◌/◌, ◌^◌, ◌<◌, ◌≤◌, Bool, true, false, List, [], ◌∷◌, ◌++◌, length, Some, ap, sym, refl, subst, arith, inl, inr}
+use Rattle.std.proofs.Common.{◌≡◌, ℕ, ◌+◌, ◌*◌, ◌^◌, ◌<◌, ◌≤◌, Bool, true, false, List, [], ◌∷◌, ◌++◌, length, Some, sym, refl, subst, arith, inl, inr}
 use Rattle.std.specs.Prelude.{◌==◌, if◌then◌else◌}
 use Rattle.std.proofs.lemmas.Bool.Decides.{eqb_tells}
 use Rattle.plan_types.specs.declared.cause.Cause.{Cause}
@@ -32,7 +32,7 @@ use Rattle.session_laws.specs.run_headline.Timely.{link_of}
 use Rattle.session_laws.proofs.run_headline.Boarded.{Ready, drift_few, lined, run_of, valid_at}
 use Rattle.session_laws.proofs.run_headline.Facts.{came_long}
 use Rattle.session_laws.specs.run_limits.Limits.{DriftsLow, greatest_tick}
-use Rattle.session_laws.proofs.run_limits.Ticks.{own_few}
+use Rattle.session_laws.proofs.run_limits.Own.{own_few}
 
 -- the tick that a line tells which is that of a sample
 clock_low : (clock : BoardClock) (turns : List BoardTurn) (line : Line) → clock.start ≤ 2 ^ 40 → clock.freq ≤ 200_000_000 → ppm_size clock.drift ≤ 200 → length turns ≤ 2 ^ 63 → IsSampled clock turns line → line.clock ≤ greatest_tick (turn_at line.at)

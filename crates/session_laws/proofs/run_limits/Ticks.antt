@@ -1,11 +1,11 @@
 -- The boards' lines tell ticks that the boards may have.
-use Rattle.std.proofs.Common.{◌≡◌, ℕ, suc, ℤ, pos, negsuc, ◌+◌, ◌-◌, ◌*◌, ◌/◌, ◌^◌, ◌<◌, ◌≤◌, List, [], ◌∷◌, ◌++◌, All, length, Some, ap, sym, ◌∙◌, subst, arith}
+use Rattle.std.proofs.Common.{◌≡◌, ℕ, suc, ◌+◌, ◌-◌, ◌*◌, ◌/◌, ◌^◌, ◌<◌, ◌≤◌, List, [], ◌∷◌, ◌++◌, All, length, Some, ap, sym, ◌∙◌, subst, arith}
 use Rattle.std.proofs.Math.Nat.{div-le_of_le-mul, mul-le-mul}
 use Rattle.std.proofs.lemmas.List.Elements.{All-head}
 use Rattle.plan_types.specs.declared.clock.BoardClock.{BoardClock}
 use Rattle.plan_types.specs.declared.machine.Machine.{Machine}
 use Rattle.plan_types.specs.declared.plan.Line.{Line}
-use Rattle.plan_types.specs.Clock.{clock_of, own_tick, rate, tick, turn_ns}
+use Rattle.plan_types.specs.Clock.{clock_of, own_tick, tick, turn_ns}
 use Rattle.plan_types.specs.Lines.{Clocks}
 use Rattle.plan_types.specs.Machines.{IsValidMachine, board_at}
 use Rattle.plan_types.specs.Sections.{clocks_at}
@@ -31,19 +31,7 @@ use Rattle.session_laws.proofs.run_headline.Boarded.{Ready, drift_few, first_sam
 use Rattle.session_laws.proofs.run_headline.Fronts.{front_of, one_less}
 use Rattle.session_laws.proofs.run_headline.Words.{line_is}
 use Rattle.session_laws.specs.run_limits.Limits.{AreLow, greatest_tick, start_limit}
-
--- a board's own ticks
-rate_few : (d : ℤ) → ppm_size d ≤ 200 → rate d ≤ 1_000_200
-rate_few (pos n) few = omega (arith, few)
-rate_few (negsuc n) few = omega arith
-
-pub own_few : (start freq : ℕ) (d : ℤ) (turn : ℕ) → start ≤ 2 ^ 40 → freq ≤ 200_000_000 → ppm_size d ≤ 200 → own_tick start freq d turn ≤ 2 ^ 40 + turn * 200_040
-unfolding own_tick
-own_few start freq d turn low high few =
-    let one : turn * freq ≤ turn * 200_000_000 = mul-le-mul {n₁ = turn} {m₁ = freq} {n₂ = turn} {m₂ = 200_000_000} (omega arith) high in
-    let two : turn * freq * rate d ≤ turn * 200_000_000 * 1_000_200 = mul-le-mul {n₁ = turn * freq} {m₁ = rate d} {n₂ = turn * 200_000_000} {m₂ = 1_000_200} one (rate_few d few) in
-    let three : turn * freq * rate d / 1_000_000_000 ≤ turn * 200_040 = div-le_of_le-mul 1_000_000_000 (omega (arith, two)) in
-    omega (arith, low, three)
+use Rattle.session_laws.proofs.run_limits.Own.{own_few}
 
 -- the line of a sample that was got before a turn
 line_low : (clock : BoardClock) (turns : List BoardTurn) (line : Line) (ready : ℕ) → clock.start ≤ 2 ^ 40 → clock.freq ≤ 200_000_000 → ppm_size clock.drift ≤ 200 → length turns ≤ ready → IsSampled clock turns line → tick line (ready * turn_ns) ≤ greatest_tick ready

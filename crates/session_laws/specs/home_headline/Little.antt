@@ -1,12 +1,10 @@
 -- When no line of a board holds a command for long, in a whole run in which axes home.
-use Rattle.std.specs.Prelude.{◌≡◌, ◌⊎◌, ◌+◌, ◌-◌, ◌<◌, ◌≤◌, ℕ, pos, List, [], ◌∷◌, ◌++◌, Some, length, take}
+use Rattle.std.specs.Prelude.{◌≡◌, ◌⊎◌, ◌+◌, ◌-◌, ◌<◌, ◌≤◌, ℕ, List, [], ◌∷◌, ◌++◌, Some, length, take}
 use Rattle.plan_types.specs.declared.cause.Cause.{Cause}
 use Rattle.plan_types.specs.declared.cause.Cause.TheVariants as cause
 use Rattle.plan_types.specs.declared.machine.Machine.{Machine}
 use Rattle.plan_types.specs.Clock.{clock_of}
-use Rattle.plan_types.specs.Lines.{Clocks}
 use Rattle.plan_types.specs.Machines.{board_at}
-use Rattle.plan_types.specs.Sections.{clocks_at}
 use Rattle.wire_scene.specs.declared.scene.Scene.{Scene}
 use Rattle.link_work.specs.Ends.{spoiled}
 use Rattle.link_work.specs.Switches.{pins_of}
@@ -21,25 +19,17 @@ use Rattle.run_laws.specs.Homes.{AreOut}
 use Rattle.run_laws.specs.Links.{ends_of, steps_of, turns_told}
 use Rattle.run_laws.specs.Timely.{AllTimely}
 use Rattle.run_laws.specs.Runs.{AreSpilled}
-use Rattle.run_parts.specs.Renewed.{ComeInTime}
 use Rattle.run_plans.specs.Homed.{runs_on}
 use Rattle.run_plans.specs.Planned.{Plans}
 use Rattle.run_boards.specs.Boards.{IsInWhole, behind, orders_of, states_of}
 use Rattle.session_laws.specs.run_headline.Timely.{link_of}
 use Rattle.homing_laws.specs.home_parts.Answers.{TakeSetUps}
-use Rattle.homing_laws.specs.home_parts.Cuts.{AreOverBefore}
-
--- The clock lines of a board are near it in a whole run in which axes home: its clock is exact, or each further line came before the one before
--- it was too old (`ComeInTime`), up to a turn by which all sections are over.
-abbrev pub PlansAreNear : Machine → ℕ → List Clocks → List Started → Type 0
-PlansAreNear m b clocks begun =
-    ((board_at m b).drift ≡ pos 0) ⊎ ((until : ℕ) × AreOverBefore m clocks until begun × ComeInTime (board_at m b).drift (clocks_at clocks b).first (clocks_at clocks b).held until)
 
 -- A board in a whole run in which axes home holds nothing long. Of the units that are due in the planner's turns, those of a section of moves
 -- that are sent behind the turn in which they are due are sent by four turns behind the section's end. The board takes no unit half a round of
 -- the 32-bit clock after its first tick, which is so where none is sent more than so many turns behind the turn in which it is due, 10,700 at
--- most, and the scene has no entries, or no busy stretch of its link has more spoiled turns than are left of 10,700. Its clock lines are not too
--- old. And it takes the set-up of each homing section in time, which is so where the scene has no entries.
+-- most, and the scene has no entries, or no busy stretch of its link has more spoiled turns than are left of 10,700. And it takes the set-up of
+-- each homing section in time, which is so where the scene has no entries.
 pub record HomesLittle (m : Machine) (s : Scene) (b : ℕ) (planned : List MotionTurn) (first : ReactorTurn) (rest : List ReactorTurn) (turns : ℕ) (t : Told) (begun : List Started)
     (w : IsInWhole m s.switches b (clock_of (board_at m b)) (link_of m s b) planned first rest) : Type 0 where
   pub out : AreOut turns (runs_on m t.clocks begun b)
@@ -47,7 +37,6 @@ pub record HomesLittle (m : Machine) (s : Scene) (b : ℕ) (planned : List Motio
       (turns_told (clock_of (board_at m b)) 0 (orders_of w.made) (states_of w.made) (link_of m s b) (stands_after (link_of m s b) (behind [] w.made)) w.told))) ≤ 10_700 - late))) ⊎ AllTimely (start (board_at m b) (pins_of (board_at m b) b s.switches))
       (steps_of (clock_of (board_at m b)) 0 (orders_of w.made) (link_of m s b) (stands_after (link_of m s b) (behind [] w.made))
       (turns_told (clock_of (board_at m b)) 0 (orders_of w.made) (states_of w.made) (link_of m s b) (stands_after (link_of m s b) (behind [] w.made)) w.told))
-  pub near : PlansAreNear m b t.clocks begun
   pub set_up : (s.entries ≡ []) ⊎ TakeSetUps m (pins_of (board_at m b) b s.switches) s.entries b begun (behind [] w.made)
 
 -- so each board of a whole run of a text, of which the planner made some turns and the reactor these
@@ -58,19 +47,18 @@ AllHomeLittle m s text planned (first ∷ rest) =
     (w : IsInWhole m s.switches b (clock_of (board_at m b)) (link_of m s b) planned first rest) → HomesLittle m s b planned first rest (length p.made) t p.seen.begun w
 
 -- The planner of a run of a text sends its units in time to every board: of those that are due in its turns none behind the turn in which
--- it is due; and where a board's clock drifts, its clock lines come in time.
+-- it is due.
 abbrev pub SendsAllInTime : Machine → List ℕ → List MotionTurn → Type 0
 SendsAllInTime m text planned =
     (p : Plans m (length m.boards) planned) (t : Told) (b : ℕ) → p.seen.text ≡ text → p.seen.told ≡ Some t → b < length m.boards →
-    AreSpilled (length p.made) 0 (parts_on m t.clocks p.seen.begun b) × PlansAreNear m b t.clocks p.seen.begun
+    AreSpilled (length p.made) 0 (parts_on m t.clocks p.seen.begun b)
 
 -- So much suffices in a scene without entries: of those that are due in the planner's turns, the units of a section of moves that are sent behind
--- the turn in which they are due are sent by four turns behind the section's end, and none is sent more than 10,700 turns behind it; and where a
--- board's clock drifts, its clock lines come in time.
+-- the turn in which they are due are sent by four turns behind the section's end, and none is sent more than 10,700 turns behind it.
 abbrev pub SendsAllOut : Machine → List ℕ → List MotionTurn → Type 0
 SendsAllOut m text planned =
     (p : Plans m (length m.boards) planned) (t : Told) (b : ℕ) → p.seen.text ≡ text → p.seen.told ≡ Some t → b < length m.boards →
-    AreOut (length p.made) (runs_on m t.clocks p.seen.begun b) × AreSpilled (length p.made) 10_700 (parts_on m t.clocks p.seen.begun b) × PlansAreNear m b t.clocks p.seen.begun
+    AreOut (length p.made) (runs_on m t.clocks p.seen.begun b) × AreSpilled (length p.made) 10_700 (parts_on m t.clocks p.seen.begun b)
 
 -- Each board of a run of a text that ended for a cause holds nothing long, as far as its lines are shown: in all turns; or, where memory was
 -- wanted, in those before the last one, which has no lines, of the planner's turns that were heard by then.

@@ -1,5 +1,5 @@
 -- When no line of a whole run holds a command for long, and what the report then shows.
-use Rattle.std.specs.Prelude.{◌≡◌, ◌≢◌, ◌⊎◌, ℕ, ◌+◌, ◌^◌, ◌<◌, ◌≤◌, pos, true, false, All, List, [], ◌∷◌, ◌++◌, Option, None, Some, length, map, take}
+use Rattle.std.specs.Prelude.{◌≡◌, ◌≢◌, ◌⊎◌, ℕ, ◌+◌, ◌^◌, ◌<◌, ◌≤◌, true, false, All, List, [], ◌∷◌, ◌++◌, Option, None, Some, length, map, take}
 use Rattle.gcode_program.specs.Programs.{program_end, program_sections}
 use Rattle.plan_types.specs.declared.cause.Cause.{Cause}
 use Rattle.plan_types.specs.declared.machine.Machine.{Machine}
@@ -14,12 +14,10 @@ use Rattle.plan_types.specs.Machines.{board_at, stepper_at}
 use Rattle.plan_types.specs.Plan.{Fits}
 use Rattle.plan_types.specs.Sections.{base_tick, clocks_at, stepper_plan}
 use Rattle.wire_scene.specs.declared.scene.Scene.{Scene}
-use Rattle.section_units.specs.Sections.{BoardSection}
 use Rattle.link_work.specs.Ends.{spoiled}
 use Rattle.link_work.specs.Stands.{first_state}
 use Rattle.link_work.specs.Switches.{pins_of}
 use Rattle.link_work.specs.Turn.{LinkState}
-use Rattle.motion_work.specs.Boards.{parts_on}
 use Rattle.host_reactor.specs.Running.{text_end}
 use Rattle.motion_work.specs.Seen.{AreBoardClocks, AreStarted, Started}
 use Rattle.motion_work.specs.Told.{Told}
@@ -27,13 +25,12 @@ use Rattle.board_runs.specs.Turns.{stands_after}
 use Rattle.session_work.specs.declared.table.MotionTurn.{MotionTurn}
 use Rattle.session_work.specs.declared.table.ReactorTurn.{ReactorTurn}
 use Rattle.run_laws.specs.Boards.{IsWindow}
-use Rattle.run_parts.specs.Renewed.{ComeInTime, NoneBefore}
+use Rattle.run_parts.specs.Renewed.{NoneBefore}
 use Rattle.run_laws.specs.Links.{ends_of, steps_of, turns_told}
 use Rattle.run_laws.specs.Timely.{AllTimely}
 use Rattle.board_world.specs.World.{start}
 use Rattle.run_boards.specs.Boards.{IsInWhole, behind, orders_of, states_of}
 use Rattle.run_plans.specs.Boards.{lines_between, times_of}
-use Rattle.run_plans.specs.Given.{EndBefore}
 use Rattle.run_plans.specs.Lines.{TellTurns, pulses_of}
 use Rattle.run_plans.specs.Planned.{Plans, Seen}
 use Rattle.session_work.specs.Rows.{gather}
@@ -48,40 +45,31 @@ use Rattle.session_laws.specs.run_headline.Near.{FollowsClock}
 abbrev pub link_of : Machine → Scene → ℕ → LinkState
 link_of m s b = first_state (board_at m b) (pins_of (board_at m b) b s.switches) b s.entries
 
--- The clock lines of a board are near it in a whole run: its clock is exact, or each further line came before the one before it was too old (`ComeInTime`),
--- up to a turn by which its sections end.
-abbrev pub AreNear : Machine → ℕ → Clocks → List BoardSection → Type 0
-AreNear m b clocks parts = ((board_at m b).drift ≡ pos 0) ⊎ ((until : ℕ) × EndBefore until parts × ComeInTime (board_at m b).drift clocks.first clocks.held until)
-
--- A board in a whole run holds nothing long: the scene has no entries or no busy stretch of its link has more than 10,000 spoiled turns, and its
--- clock lines are not too old.
-pub record HoldsLittle (m : Machine) (s : Scene) (b : ℕ) (planned : List MotionTurn) (first : ReactorTurn) (rest : List ReactorTurn) (clocks : Clocks) (parts : List BoardSection)
+-- A board in a whole run holds nothing long: the scene has no entries, or no busy stretch of its link has more than 10,000 spoiled turns.
+pub record HoldsLittle (m : Machine) (s : Scene) (b : ℕ) (planned : List MotionTurn) (first : ReactorTurn) (rest : List ReactorTurn)
     (w : IsInWhole m s.switches b (clock_of (board_at m b)) (link_of m s b) planned first rest) : Type 0 where
   pub few : (s.entries ≡ []) ⊎ ((k : ℕ) → spoiled (take k (ends_of (clock_of (board_at m b)) 0 (orders_of w.made) (link_of m s b) (stands_after (link_of m s b) (behind [] w.made))
       (turns_told (clock_of (board_at m b)) 0 (orders_of w.made) (states_of w.made) (link_of m s b) (stands_after (link_of m s b) (behind [] w.made)) w.told))) ≤ 10_000)
-  pub near : AreNear m b clocks parts
 
--- A board in a whole run takes all near: while it runs it takes no unit half a round of the 32-bit clock or more after its first tick, and
--- its clock lines are not too old.
-pub record TakesNear (m : Machine) (s : Scene) (b : ℕ) (planned : List MotionTurn) (first : ReactorTurn) (rest : List ReactorTurn) (clocks : Clocks) (parts : List BoardSection)
+-- A board in a whole run takes all near: while it runs it takes no unit half a round of the 32-bit clock or more after its first tick.
+pub record TakesNear (m : Machine) (s : Scene) (b : ℕ) (planned : List MotionTurn) (first : ReactorTurn) (rest : List ReactorTurn)
     (w : IsInWhole m s.switches b (clock_of (board_at m b)) (link_of m s b) planned first rest) : Type 0 where
   pub timely : AllTimely (start (board_at m b) (pins_of (board_at m b) b s.switches)) (steps_of (clock_of (board_at m b)) 0 (orders_of w.made) (link_of m s b) (stands_after (link_of m s b) (behind [] w.made))
       (turns_told (clock_of (board_at m b)) 0 (orders_of w.made) (states_of w.made) (link_of m s b) (stands_after (link_of m s b) (behind [] w.made)) w.told))
-  pub near : AreNear m b clocks parts
 
 -- so each board of a whole run of a text, of which the planner made all turns, and the reactor these
 abbrev pub AllTakeNear : Machine → Scene → List ℕ → List MotionTurn → List ReactorTurn → Type 0
 AllTakeNear m s text planned [] = Unit {0}
 AllTakeNear m s text planned (first ∷ rest) =
     (p : Plans m (length m.boards) planned) (t : Told) (b : ℕ) → p.seen.text ≡ text → p.seen.told ≡ Some t → b < length m.boards → length rest ≤ length p.made →
-    (w : IsInWhole m s.switches b (clock_of (board_at m b)) (link_of m s b) planned first rest) → TakesNear m s b planned first rest (clocks_at t.clocks b) (parts_on m t.clocks p.seen.begun b) w
+    (w : IsInWhole m s.switches b (clock_of (board_at m b)) (link_of m s b) planned first rest) → TakesNear m s b planned first rest w
 
 -- so each board of a whole run of a text, of which the planner made all turns, holds nothing long
 abbrev pub HoldsNothingLong : Machine → Scene → List ℕ → List MotionTurn → List ReactorTurn → Type 0
 HoldsNothingLong m s text planned [] = Unit {0}
 HoldsNothingLong m s text planned (first ∷ rest) =
     (p : Plans m (length m.boards) planned) (t : Told) (b : ℕ) → p.seen.text ≡ text → p.seen.told ≡ Some t → b < length m.boards → length rest ≤ length p.made →
-    (w : IsInWhole m s.switches b (clock_of (board_at m b)) (link_of m s b) planned first rest) → HoldsLittle m s b planned first rest (clocks_at t.clocks b) (parts_on m t.clocks p.seen.begun b) w
+    (w : IsInWhole m s.switches b (clock_of (board_at m b)) (link_of m s b) planned first rest) → HoldsLittle m s b planned first rest w
 
 -- the sections of a text are of moves
 abbrev pub AreOfMoves : List Section → Type 0

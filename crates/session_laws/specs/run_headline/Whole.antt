@@ -2,7 +2,7 @@
 use Rattle.std.specs.Prelude.{◌≡◌, ◌≢◌, ℕ, zero, suc, ◌+◌, ◌<◌, ◌≤◌, true, All, List, [], ◌∷◌, ◌++◌, None, length, map, take}
 use Rattle.gcode_program.specs.Programs.{program_sections}
 use Rattle.plan_types.specs.declared.machine.Machine.{Machine}
-use Rattle.plan_types.specs.Clock.{board_tick, clock_of}
+use Rattle.plan_types.specs.Clock.{clock_of}
 use Rattle.plan_types.specs.Machines.{board_at, stepper_at}
 use Rattle.plan_types.specs.Plan.{Fits}
 use Rattle.plan_types.specs.Sections.{base_tick, clocks_at, stepper_plan}
@@ -22,6 +22,7 @@ use Rattle.session_work.specs.declared.table.ReactorTurn.{ReactorTurn}
 use Rattle.run_laws.specs.Boards.{AreEnded, IsWindow, NextStart, OnBoard}
 use Rattle.run_laws.specs.Links.{AreTold, steps_of, turns_told}
 use Rattle.run_laws.specs.Timely.{AllTimely}
+use Rattle.run_laws.specs.Events.{AreOwn}
 use Rattle.run_laws.specs.Parts.{AreTracked, MakesIn}
 use Rattle.run_plans.specs.Boards.{TookStates, lines_between, times_of}
 use Rattle.run_plans.specs.Given.{EndBefore, TookBatches, TookControls}
@@ -60,8 +61,10 @@ pub record IsBoardIn (m : Machine) (s : Scene) (planned : List MotionTurn) (seen
   pub end : LinkState
   pub told : AreTold (clock_of (board_at m b)) 0 c.orders c.states (first_state (board_at m b) (pins_of (board_at m b) b s.switches) b s.entries) end
   pub states : TookStates b rest c.states
-  -- its clock lines
-  pub tracked : AreTracked (board_tick (clock_of (board_at m b))) (clocks_at t.clocks b) ready
+  -- its ticks, which go on somehow behind the run, and its clock lines
+  pub own : ℕ → ℕ
+  pub own_is : AreOwn (board_at m b) (length rest) own
+  pub tracked : AreTracked own (clocks_at t.clocks b) ready
   pub over : EndBefore tracked.until (parts_on m t.clocks seen.begun b)
   -- its steppers
   pub made : ready ≤ length c.orders → (oid : ℕ) → All (λ x. of_stepper oid (units_of x.releases) ≢ [] → MakesIn oid (take ready c.orders)) (parts_on m t.clocks seen.begun b)

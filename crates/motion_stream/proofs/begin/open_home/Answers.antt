@@ -1,4 +1,4 @@
-use Rattle.std.proofs.Common.{◌+◌, ◌<◌, ◌≤◌, ◌^◌, [], ◌∷◌, arith, refl, true}
+use Rattle.std.proofs.Common.{◌<◌, ◌^◌, [], ◌∷◌, arith, refl, true}
 use Rattle.gcode_program.specs.declared.items.Item.TheVariants as items
 use Rattle.plan_types.specs.Valid.{IsValidMove}
 use Rattle.gcode_program.specs.Held.{IsNear}

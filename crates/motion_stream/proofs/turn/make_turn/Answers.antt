@@ -5,7 +5,6 @@ use Rattle.motion_work.specs.Begins.{listed}
 use Rattle.motion_stream.specs.Courses.{IsCourseBy}
 use Rattle.motion_stream.specs.News.{IsPlain, begins_in, read_news}
 use Rattle.motion_stream.specs.Steps.{Advances}
-use Rattle.motion_stream.proofs.Leaving.{leaves_behind}
 use Rattle.motion_stream.proofs.Turning.{by_next, early_on, turned}
 use Rattle.motion_stream.proofs.turn.make_turn.Goals as goal
 
@@ -51,9 +50,3 @@ returns-clause-made c =
     c.in_ok-batches.ensures.plain c.in_ok-start.ensures.plain (subst IsPlain c.read_news-read.ensures.news c.read_news-read.ensures.plain) c.in_ok-further.ensures.taken
     (subst (λ n. Advances m first n made.batches.items made.done c.advance.new.course) (c.take_up.ensures.next ∙ c.requires.next) c.in_ok-batches.ensures.passed) c.in_ok-start.ensures.begun refl refl
     (c.in_ok-news.ensures ∙ ap (λ r. listed made.done ++ (listed c.in_ok-start.start ++ (listed r ++ c.as_slice.result.now))) c.read_news-read.ensures.news ∙ ap (λ f. listed made.done ++ (listed c.in_ok-start.start ++ (listed (read_news c.begin_next.new.course.read c.telling-end.result (c.begin_next.new.course.place + begins_in c.begin_next.new.course.source.items.items)) ++ f))) c.as_slice.ensures)
-
-pub returns-clause-none : goal.returns-clause-none
-returns-clause-none c =
-    let made = c.in_ok-batches.field-0 in
-    leaves_behind c.args.machine.now c.args.course.now c.args.k c.in_ok-further.further c.in_ok-news.news (listed made.done) (listed c.in_ok-start.start) (listed c.read_news-read.result)
-    (c.in_ok-news.ensures ∙ ap (λ f. listed made.done ++ (listed c.in_ok-start.start ++ (listed c.read_news-read.result ++ f))) c.as_slice.ensures) c.in_ok-further.ensures.none

@@ -8,13 +8,13 @@ use Rattle.motion_stream.proofs.Uptaking.{both_told}
 use Rattle.motion_stream.proofs.uptake.+take_each.Goals as goal
 
 pub returns-in_ok-take_each-in-len1-up-clause-taken : goal.returns-in_ok-take_each-in-len1-up-clause-taken
-returns-in_ok-take_each-in-len1-up-clause-taken n c = λ seen heard h.
-    let P : BoardLine → Type 0 = λ x. WasHeard x.board x.line seen.lines in
+returns-in_ok-take_each-in-len1-up-clause-taken n c = λ seen heard_of heard h.
+    let P : BoardLine → Type 0 = λ x. WasHeard x.board x.line heard_of in
     let some = c.in-len1-up.len_at_least in
     let last : length c.args.waiting.now - 1 < length c.args.waiting.now = omega (arith, some) in
-    let a = c.in_ok-take_one-in-len1-up.ensures.taken seen (heard (length c.args.waiting.now - 1) _ last) h in
-    let b = c.in_ok-take_each-in-len1-up.ensures.taken (lined seen a.more) (All-take P (length c.args.waiting.now - 1) c.args.waiting.now heard) a.is in
-    both_told c.args.machine.now seen c.args.k c.args.news.now c.take_one.new.news c.take_each.new.news c.take_each.new.course (a.more, a.are, a.further, a.heard) b
+    let a = c.in_ok-take_one-in-len1-up.ensures.taken seen heard_of (heard (length c.args.waiting.now - 1) _ last) h in
+    let b = c.in_ok-take_each-in-len1-up.ensures.taken (lined seen a.more) heard_of (All-take P (length c.args.waiting.now - 1) c.args.waiting.now heard) a.is in
+    both_told c.args.machine.now seen heard_of c.args.k c.args.news.now c.take_one.new.news c.take_each.new.news c.take_each.new.course (a.more, a.are, a.further, a.heard) b
 
 pub returns-in_ok-take_each-in-len1-up-clause-told : goal.returns-in_ok-take_each-in-len1-up-clause-told
 returns-in_ok-take_each-in-len1-up-clause-told n c =

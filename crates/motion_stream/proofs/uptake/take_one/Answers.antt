@@ -56,7 +56,7 @@ add-requires-clause-plan_small c =
     (board_held m old s.seen c.args.k c.from-board.result c.from-from.result c.args.one.now.line c.index.result.now c.index_mut.result.now s.is c.requires.on c.requires.early (omega (arith, boards, below)) c.index.ensures c.index_mut.ensures.value c.from-from.ensures (c.if-not-may_take.ensures.0 refl)).plan_small
 
 pub returns-clause-taken : goal.returns-clause-taken
-returns-clause-taken c = λ seen heard h.
+returns-clause-taken c = λ seen heard_of heard h.
     let m = c.args.machine.now in
     let old = c.args.course.now in
     let each = old.lines.each.items in
@@ -74,10 +74,10 @@ returns-clause-taken c = λ seen heard h.
     let added_is : c.add.new.self ≡ added (clocks_at each b) ((k + 277) * turn_ns) line = c.in_ok-add.ensures.ok ∙ ap (λ (x : Clocks). added x (c.from-from.result * turn_ns) line) here ∙ ap (λ n. added (clocks_at each b) (n * turn_ns) line) c.from-from.ensures in
     let lines : BoardLines = record old.lines { each = with_item old.lines.each b c.add.new.self } in
     let adds = subst (λ n. AddsTo b n line old.current c.add_to.new.current) refl c.in_ok-add_to.ensures in
-    let told = line_taken m old c.add_to.new.current lines seen k b (k + 277) line c.args.news.now h c.requires.next refl c.requires.on c.requires.early lt may adds (ap (λ (x : Clocks). set each b x) added_is) refl (subst (λ n. WasHeard n line seen.lines) (sym c.from-board.ensures) heard) in
+    let told = line_taken m old c.add_to.new.current lines seen heard_of k b (k + 277) line c.args.news.now h c.requires.next refl c.requires.on c.requires.early lt may adds (ap (λ (x : Clocks). set each b x) added_is) refl (subst (λ n. WasHeard n line heard_of) (sym c.from-board.ensures) heard) in
     let e : c.args.news.now ++ news.Line b line ((k + 277) * turn_ns) ∷ [] ≡ c.push.new.self =
     ap (λ n. c.args.news.now ++ news.Line n line ((k + 277) * turn_ns) ∷ []) c.from-board.ensures ∙ ap (λ n. c.args.news.now ++ news.Line one.board line (n * turn_ns) ∷ []) (sym c.from-from.ensures) ∙ sym c.in_ok-push.ensures.ok in
-    subst (λ (ns : List NoteNews). HasTold m seen k c.args.news.now ns (record old { current = c.add_to.new.current; lines = lines })) e told
+    subst (λ (ns : List NoteNews). HasTold m seen heard_of k c.args.news.now ns (record old { current = c.add_to.new.current; lines = lines })) e told
 
 pub returns-clause-sound : goal.returns-clause-sound
 returns-clause-sound c = one_sound c.args.machine.now c.args.course.now c.args.k c.args.one.now c.args.news.now c.push.new.self _ c.requires.sound (returns-clause-taken c)

@@ -1,0 +1,13 @@
+pub mod Saying
+pub mod Accepts
+pub mod Heard
+pub mod Growing
+pub mod Ages
+pub mod Telling
+pub mod Running
+pub mod Whole
+pub mod Runs
+pub mod Near
+pub mod Renewing
+pub mod Renews
+pub mod Own

@@ -1,5 +1,5 @@
 -- What the lanes of a run's boards carried.
-use Rattle.std.proofs.Common.{◌≡◌, ℕ, zero, suc, ◌+◌, ◌<◌, List, [], ◌∷◌, ◌++◌, get_or, length, Some, None, refl, ap, sym, ◌∙◌, subst, arith, inl, inr, append_assoc, append-nil}
+use Rattle.std.proofs.Common.{◌≡◌, ℕ, zero, suc, ◌+◌, ◌<◌, List, [], ◌∷◌, ◌++◌, get_or, length, Some, refl, ap, sym, ◌∙◌, subst, arith, inl, inr, append-nil}
 use Rattle.std.proofs.Math.Logic.{∥∥₁_map}
 use Rattle.io_core.specs.declared.traits.Files.{Ghosts as Files}
 use Rattle.io_core.specs.declared.traits.Sink.{Ghosts as Sink}
@@ -10,7 +10,6 @@ use Rattle.plan_types.specs.declared.machine.Machine.{Machine}
 use Rattle.plan_types.specs.Machines.{no_board}
 use Rattle.wire_scene.specs.declared.scene.Scene.{Scene}
 use Rattle.link_work.specs.Stands.{Seen as LinkSeen}
-use Rattle.report_text.specs.declared.line.ReportLine.{ReportLine}
 use Rattle.host_reactor.specs.Reactor.{Run, first_run}
 use Rattle.host_reactor.specs.Runs.{state_at}
 use Rattle.session_lanes.specs.declared.near.LinkLog.{LinkLog}
@@ -22,7 +21,6 @@ use Rattle.session_work.specs.declared.table.ReactorTurn.{ReactorTurn}
 use Rattle.session_work.specs.Leads.{last_controls}
 use Rattle.session_work.specs.Rows.{gather, item}
 use Rattle.session_work.proofs.Goes.{gather_on}
-use Rattle.session_desk.specs.declared.desk.Desk.{Desk}
 use Rattle.session_desk.specs.declared.tell.Kept.{Kept}
 use Rattle.session_desk.specs.Desks.{desk_out, lines_of}
 use Rattle.session_run.specs.Boards.{AreReactorTurns, came_from}

@@ -37,7 +37,7 @@ use Rattle.session_laws.specs.run_links.Units.{AreBatchesOf}
 use Rattle.session_laws.proofs.run_headline.Boarded.{came_long}
 use Rattle.session_laws.proofs.run_headline.Making.{run_made, run_turns}
 use Rattle.session_laws.proofs.run_links.Boards.{makes_turns}
-use Rattle.session_laws.proofs.run_links.Orders.{controls_are, have_states, states_are}
+use Rattle.session_laws.proofs.run_links.Orders.{controls_are, have_next, have_states, states_are}
 use Rattle.session_laws.proofs.run_links.Pulses.{lines_append, pulses_append, turn_pulses, turns_pulses}
 use Rattle.session_laws.proofs.run_links.Units.{batches_put, parts_are}
 
@@ -101,11 +101,15 @@ module _ {F S : Type 0} (f : Files F) (o : Sink S) (m : Machine) (s : Scene) (na
       let (ts, rs, end, n, x, y, met, logs, happened, has, has') = r.runs in
       reacting.last (desk_out f o) m s.switches (length r.links) 0 [] (head_at (first_run m s.switches) x) rs end (ran_at t y).head many refl met.2 met.1 (reacting.begins (desk_out f o) m s.switches)
 
+  last_ends : (t.cause ≡ cause.Memory → ⊥) → reacting.Ends (desk_out f o) m s.switches (came_from [] r.runs.1) r.runs.2
+  last_ends other =
+      let (ts, rs, end, n, x, y, met, logs, happened, has, has') = r.runs in
+      reacting.ends_so (desk_out f o) m s.switches (length r.links) (came_from [] rs) end t.cause (ran_at t y).head many met.3 other last_turn
+
   last_pulses : (b : ℕ) → (t.cause ≡ cause.Memory → ⊥) → pulses_on b r.runs.2.lines ≡ lines_for m b (item b r.runs.2.states)
   last_pulses b other =
-      let (ts, rs, end, n, x, y, met, logs, happened, has, has') = r.runs in
-      let e = reacting.ends_so (desk_out f o) m s.switches (length r.links) (came_from [] rs) end t.cause (ran_at t y).head many met.3 other last_turn in
-      ap (pulses_on b) e.lines_are ∙ turn_pulses m s.switches b e.known (length (came_from [] rs)) end.states end.note
+      let e = last_ends other in
+      ap (pulses_on b) e.lines_are ∙ turn_pulses m s.switches b e.known (length (came_from [] r.runs.1)) r.runs.2.states r.runs.2.note
 
   -- which has no lines where it wants memory
   no_lines : t.cause ≡ cause.Memory → r.runs.2.lines ≡ []
@@ -147,10 +151,12 @@ module _ {F S : Type 0} (f : Files F) (o : Sink S) (m : Machine) (s : Scene) (na
   pub run_links : (text : List ℕ) → f.told files name ≡ Some text → kept.at ≡ 0 → ∥ AreLinksIn m s text t.cause r.runs.0 r.runs.1 r.runs.2 t.links.items ∥₁
   run_links text told at =
       let (ts, rs, end, n, x, y, met, logs, happened, has, has') = r.runs in
+      let rows = have_states m s.switches [] rs (run_turns f o m s name files files' out out' kept kept' t r) tt in
       ∥∥₁_map (run_made f o m s name files files' out out' kept kept' t r text told at) (λ w. record {
         made = w.0;
         of_text = w.1;
-        rows = have_states m s.switches [] rs (run_turns f o m s name files files' out out' kept kept' t r) tt;
+        rows = rows;
+        last_row = λ other. have_next m (came_from [] rs) end (last_ends other).row rows;
         count = many_logs (desk_out f o) ts rs end n 0 r.links t.links.items logs ∙ many;
         each = λ b z e. one_link w.0 b z e;
       })

@@ -32,7 +32,7 @@ states_are b before (t ∷ rs) =
     sym (append_assoc past (item b t.states) rest) ∙ ap (λ (z : List State). (past ++ z) ++ rest) (sym (item_state b t.states)) ∙ states_are b (came_in t ∷ before) rs
 
 -- a state of each board came, but in the first turn
-have_next : (m : Machine) (before : List Came) (t : ReactorTurn) → IsRow (length m.boards) (length before) t.states t.note → HaveStates m before → HaveStates m (came_in t ∷ before)
+pub have_next : (m : Machine) (before : List Came) (t : ReactorTurn) → IsRow (length m.boards) (length before) t.states t.note → HaveStates m before → HaveStates m (came_in t ∷ before)
 have_next m [] t (inl row) h = row.1
 have_next m [] t (inr row) h = let e = row.0 in absurd (omega (arith, e))
 have_next m (d ∷ before) t (inl row) h = let e = row.0 in absurd (omega (arith, e))

@@ -25,7 +25,7 @@ use Rattle.session_work.specs.Leads.{each_turn, last_controls}
 use Rattle.session_work.specs.Rows.{item}
 use Rattle.session_lanes.specs.declared.near.LinkLog.{LinkLog}
 use Rattle.session_desk.specs.Desks.{lines_of}
-use Rattle.session_run.specs.Boards.{came_from}
+use Rattle.session_run.specs.Boards.{came_from, came_in}
 use Rattle.run_boards.specs.Boards.{behind}
 use Rattle.run_plans.specs.Planned.{Seen}
 use Rattle.session_laws.specs.run_headline.Made.{IsMade}
@@ -99,11 +99,13 @@ pub record IsLinkIn (m : Machine) (s : Scene) (seen : Seen) (sent : ℕ) (came :
   pub pulses_before : c ≡ cause.Memory → pulses_on b lines ≡ lines_for m b (states_from b came)
 
 -- What the lanes of a run's boards carried, where the run read a text: there is a log for each board, and of each it holds what `IsLinkIn` says, by the
--- sections of the text that were begun. In each turn of the reactor but the first a state of each board came.
+-- sections of the text that were begun. In each turn of the reactor but the first a state of each board came; in the one that ends the run, where it
+-- does not for want of memory.
 pub record AreLinksIn (m : Machine) (s : Scene) (text : List ℕ) (c : Cause) (ts : List MotionTurn) (rs : List ReactorTurn) (end : ReactorTurn) (links : List LinkLog) : Type 0 where
   pub made : IsMade m s ts rs
   pub of_text : made.plans.seen.text ≡ text
   pub rows : HaveStates m (came_from [] rs)
+  pub last_row : (c ≡ cause.Memory → ⊥) → HaveStates m (came_in end ∷ came_from [] rs)
   pub count : length links ≡ length m.boards
   pub each : (b : ℕ) (x : LinkLog) → item b links ≡ x ∷ [] →
       IsLinkIn m s made.plans.seen (length made.plans.made) (came_from [] rs) (state_at b end.states) (lines_of (rs ++ end ∷ [])) c b x

@@ -69,7 +69,7 @@ abbrev pub pulses_on : ℕ → List ReportLine → List ReportLine
 pulses_on b lines = flat_map (pulse_on b) lines
 
 -- The lines of the pulses that some states of a board tell: each names the stepper of this board that has the pulse's object id, with the pulse's tick
--- and its direction, which is turned round where this stepper's dir_pin is inverted (`pulse_line`).
+-- and its direction, which is turned round where this stepper's dir_pin is inverted (`pulse_line`, which has no line where no stepper has the id).
 abbrev pub lines_for : Machine → ℕ → List State → List ReportLine
 lines_for m b states = flat_map (λ s. flat_map (pulse_line m b) s.pulses) states
 

@@ -86,7 +86,7 @@ none_after m b i (s ∷ states) h =
     let later = pulse_lines m (i + 1) states in
     pulses_append b (flat_map (pulse_line m i) s.pulses) later ∙ ap (λ x. x ++ pulses_on b later) (other_pulses m b i s.pulses (λ e. omega (arith, e, h))) ∙ none_after m b (i + 1) states (omega (arith, h))
 
-pub states_pulses : (m : Machine) (b j i : ℕ) (states : List State) → i + j ≡ b → pulses_on b (pulse_lines m i states) ≡ lines_for m b (state_at j states)
+states_pulses : (m : Machine) (b j i : ℕ) (states : List State) → i + j ≡ b → pulses_on b (pulse_lines m i states) ≡ lines_for m b (state_at j states)
 states_pulses m b j i [] e = refl
 states_pulses m b zero i (s ∷ states) e =
     let same : b ≡ i = omega (arith, e) in

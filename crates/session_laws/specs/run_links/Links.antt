@@ -75,7 +75,8 @@ lines_for m b states = flat_map (λ s. flat_map (pulse_line m b) s.pulses) state
 
 -- What the lanes of a board carried in a run of a machine in a scene: by what its planner saw and in how many turns it sent units, by what came to the
 -- reactor in each of its turns that went on, by the states that came in its last one, by its lines and by its cause.
-pub record IsLinkIn (m : Machine) (s : Scene) (seen : Seen) (sent : ℕ) (came : List Came) (last : List State) (lines : List ReportLine) (c : Cause) (b : ℕ) (x : LinkLog) : Type 0 where
+pub record IsLinkIn (m : Machine) (s : Scene) (seen : Seen) (sent : ℕ) (came : List Came) (last : List State)
+    (lines : List ReportLine) (c : Cause) (b : ℕ) (x : LinkLog) : Type 0 where
   -- Batches put: batch k has the units that the sections which were begun release in turn k, and none once the planner stopped
   pub batches : AreBatchesOf b seen.begun sent 0 x.batches.0
   pub all_sent : sent ≤ length x.batches.0
@@ -101,7 +102,8 @@ pub record IsLinkIn (m : Machine) (s : Scene) (seen : Seen) (sent : ℕ) (came :
 -- What the lanes of a run's boards carried, where the run read a text: there is a log for each board, and of each it holds what `IsLinkIn` says, by the
 -- sections of the text that were begun. In each turn of the reactor but the first a state of each board came; in the one that ends the run, where it
 -- does not for want of memory.
-pub record AreLinksIn (m : Machine) (s : Scene) (text : List ℕ) (c : Cause) (ts : List MotionTurn) (rs : List ReactorTurn) (end : ReactorTurn) (links : List LinkLog) : Type 0 where
+pub record AreLinksIn (m : Machine) (s : Scene) (text : List ℕ) (c : Cause) (ts : List MotionTurn) (rs : List ReactorTurn)
+    (end : ReactorTurn) (links : List LinkLog) : Type 0 where
   pub made : IsMade m s ts rs
   pub of_text : made.plans.seen.text ≡ text
   pub rows : HaveStates m (came_from [] rs)

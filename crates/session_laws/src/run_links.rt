@@ -10,7 +10,6 @@ ghost use Rattle.session_work.specs.declared.table.MotionTurn.{MotionTurn};
 ghost use Rattle.session_work.specs.declared.table.ReactorTurn.{ReactorTurn};
 ghost use Rattle.session_desk.specs.declared.tell.Kept.{Kept};
 ghost use Rattle.session_run.specs.Runs.{RunsOver};
-ghost use Rattle.session_laws.specs.run_headline.Made.{SendsSections};
 ghost use Rattle.session_laws.specs.run_links.Links.{AreLinksIn};
 
 use io_core::{Files, Sink};
@@ -21,9 +20,7 @@ use plan_types::Cause;
 /// states that it took, and the states are those of the board's turns over the controls and batches that it took. What was taken is the first of what
 /// was put. And the lines of the board's pulses are those of the states that the reactor took.
 pub fn links_carry_the_run<F: Files, S: Sink>()
-    ensures carried { (m : Machine) (s : Scene) (name : List ℕ) (files files' : F) (out out' : S) (kept kept' : Kept) (t : Told Run) →
+    ensures { (m : Machine) (s : Scene) (name : List ℕ) (files files' : F) (out out' : S) (kept kept' : Kept) (t : Told Run) →
         (r : RunsOver F.Files S.Sink m s name files out kept t files' out' kept') → (text : List ℕ) → F.told files name ≡ Some text → kept.at ≡ 0 →
         ∥ AreLinksIn m s text t.cause r.runs.0 r.runs.1 r.runs.2 t.links.items ∥₁ }
-    ensures sends { (m : Machine) (s : Scene) (text : List ℕ) (c : Cause) (ts : List MotionTurn) (rs : List ReactorTurn) (end : ReactorTurn) (links : List LinkLog) →
-        AreLinksIn m s text c ts rs end links → SendsSections m s text ts rs }
 {}

@@ -30,8 +30,8 @@ use Rattle.session_run.proofs.First.{count}
 use Rattle.session_run.proofs.Reacting as reacting
 use Rattle.run_boards.proofs.Items.{item_state}
 use Rattle.run_plans.specs.Planned.{AreBare}
-use Rattle.run_plans.proofs.Running.{all_sent, sections_are, started_in}
-use Rattle.session_laws.specs.run_headline.Made.{IsMade, SendsSections}
+use Rattle.run_plans.proofs.Running.{all_sent, started_in}
+use Rattle.session_laws.specs.run_headline.Made.{IsMade}
 use Rattle.session_laws.specs.run_links.Links.{AreLinksIn, IsLinkIn, lines_for, ordered_for, pulses_on, states_from}
 use Rattle.session_laws.specs.run_links.Units.{AreBatchesOf}
 use Rattle.session_laws.proofs.run_headline.Boarded.{came_long}
@@ -81,15 +81,6 @@ module _ (m : Machine) (s : Scene) (b : ℕ) (rs : List ReactorTurn) (end : Reac
   front_pulses : AreReactorTurns m s.switches [] rs → end.lines ≡ [] → pulses_on b (lines_of (rs ++ end ∷ [])) ≡ lines_for m b (states_from b (came_from [] rs))
   front_pulses turns none =
       ap (pulses_on b) (lines_on rs end ∙ ap (λ x. lines_of rs ++ x) none ∙ append-nil (lines_of rs)) ∙ turns_pulses m s.switches b [] rs turns ∙ ap (lines_for m b) (states_are b [] rs)
-
--- what the lanes carried says all that is said of what boards are sent
-pub sends_sections : (m : Machine) (s : Scene) (text : List ℕ) (c : Cause) (ts : List MotionTurn) (rs : List ReactorTurn) (end : ReactorTurn) (links : List LinkLog) → AreLinksIn m s text c ts rs end links → SendsSections m s text ts rs
-sends_sections m s text c ts rs end links h = record {
-  made = h.made;
-  of_text = h.of_text;
-  sent = λ t known. all_sent m (length m.boards) ts h.made.plans t known;
-  paced = λ t b known low moves. sections_are m ts h.made.plans t b low known moves;
-}
 
 module _ {F S : Type 0} (f : Files F) (o : Sink S) (m : Machine) (s : Scene) (name : List ℕ) (files files' : F) (out out' : S) (kept kept' : Kept) (t : Told Run) (r : RunsOver f o m s name files out kept t files' out' kept') where
   many : length r.links ≡ length m.boards

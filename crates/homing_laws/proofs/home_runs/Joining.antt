@@ -270,11 +270,11 @@ all_rise : (m : Machine) (ns : List NoteNews) (r : Known) → HomingRises r.homi
 all_rise m [] r h = h
 all_rise m (n ∷ ns) r h = all_rise m ns (told m r n) (told_rises m r n h)
 
-noted_rises : (m : Machine) (note : Option Note) (r : Known) → HomingRises r.homing → HomingRises (noted m note r).homing
+pub noted_rises : (m : Machine) (note : Option Note) (r : Known) → HomingRises r.homing → HomingRises (noted m note r).homing
 noted_rises m None r h = h
 noted_rises m (Some note) r h = all_rise m note.news r h
 
-known_rises : (m : Machine) (switches : List Switch) (came : List Came) → GoesOn m switches came → HomingRises (known_by m switches came).homing
+pub known_rises : (m : Machine) (switches : List Switch) (came : List Came) → GoesOn m switches came → HomingRises (known_by m switches came).homing
 known_rises m switches [] g = tt
 known_rises m switches (c ∷ before) g =
     let known = known_by m switches before in

@@ -45,7 +45,7 @@ use Rattle.homing_laws.proofs.home_runs.Resetting.{AllSetOf, MovesAs, SetsOf, tu
 use Rattle.homing_laws.proofs.home_runs.Staging.{commands_both, ran_turns}
 use Rattle.homing_laws.proofs.home_runs.Whole.{turn_commands}
 use Rattle.homing_laws.proofs.home_runs.Windows.{begun}
-use Rattle.homing_laws.proofs.home_runs.Staying.{AllSetNot, SetsNot, halted_stays, not_parts, steps_take}
+use Rattle.homing_laws.proofs.home_runs.Staying.{AllSetNot, SetsNot, halted_stays, not_parts, steps_take, taken_later}
 
 -- commands that were sent from a turn on
 abbrev pub AllFrom : ℕ → List Sent → Type 0
@@ -159,19 +159,6 @@ none_begun turn e = cc
 
 last_set : (oid turn : ℕ) (ss : List Sent) → (courses ss oid).since ≡ Some turn → LastSet oid turn ss
 last_set oid turn ss e = elim (begun_by oid turn no_course ss e) [ inl old ↦ absurd (none_begun turn old.0) | inr last ↦ last ]
-
--- what was taken
-taken_later : (clock : BoardClock) (first : LinkState) (later past : List BoardTurn) → AreBoardTurns clock first (later ++ past) → (ms : List Meant) × ((stands_after first (later ++ past)).core.taken ≡ (stands_after first past).core.taken ++ ms)
-taken_later clock first [] past are = ([], sym (append-nil (stands_after first past).core.taken))
-taken_later clock first (t ∷ later) past are =
-    let before = later ++ past in
-    let l = stands_after first before in
-    let steps = turns_are_steps clock (length before) (orders t.control t.batch ∷ []) l t.after (t.after, are.0.0, refl) in
-    let took = steps_take steps.0 l.core in
-    let rest = taken_later clock first later past are.1 in (
-      rest.0 ++ took.0,
-      ap (λ (h : Core). h.taken) steps.1 ∙ took.1 ∙ ap (λ (x : List Meant). x ++ took.0) rest.1 ∙ append_assoc (stands_after first past).core.taken rest.0 took.0,
-    )
 
 -- a halted stepper over turns
 turns_stay : (clock : BoardClock) (first : LinkState) (later past : List BoardTurn) (i : ℕ) (ms : List Meant) → AreBoardTurns clock first (later ++ past)

@@ -58,7 +58,7 @@ tells_fired oid reason clock (n ∷ news) (inl same) = inl (subst IsFired (sym s
 tells_fired oid reason clock (n ∷ news) (inr told) = inr (tells_fired oid reason clock news told)
 
 -- the state of a report is that of the board's latest turn
-sole_state : (s t : State) → s ∷ [] ≡ t ∷ [] → s ≡ t
+pub sole_state : (s t : State) → s ∷ [] ≡ t ∷ [] → s ≡ t
 sole_state s t e = cc
 
 heard_now : (m : Machine) (switches : List Switch) (pins : List (List Level)) (entries : List Entry) (b start : ℕ) (f : Fired) (c : Came) (before : List Came) (turns : List BoardTurn) → IsInRun m switches pins entries b before turns
@@ -123,7 +123,7 @@ turn_if true n turn e = cc
 turn_if false n turn e = cc
 
 -- a tick before that at which a section starts is in no turn from the start on
-before_start : (lines : Clocks) (start tick turn : ℕ) → 0 < start → tick < lines_tick lines (start * turn_ns) → turn_in_run lines tick ≡ Some turn → turn < start
+pub before_start : (lines : Clocks) (start tick turn : ℕ) → 0 < start → tick < lines_tick lines (start * turn_ns) → turn_in_run lines tick ≡ Some turn → turn < start
 before_start lines start tick turn some low is =
     let next : start ≡ start - 1 + 1 = omega (arith, some) in
     let below = turn-below lines tick (start - 1) (subst (λ (k : ℕ). tick < lines_tick lines (k * turn_ns)) next low) in

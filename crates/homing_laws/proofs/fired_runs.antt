@@ -1,0 +1,5 @@
+pub mod Old
+pub mod Under
+pub mod Once
+pub mod Reported
+pub mod Rested

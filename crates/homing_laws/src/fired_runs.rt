@@ -1,1 +1,31 @@
 //! Since when a board's trigger can't trigger, in the homing sections of a run.
+
+ghost use Rattle.std.specs.Prelude.{◌≡◌, ℕ, List, Some, length, ◌∷◌};
+ghost use Rattle.plan_types.specs.declared.levels.Level.{Level};
+ghost use Rattle.plan_types.specs.declared.machine.Machine.{Machine};
+ghost use Rattle.plan_types.specs.Machines.{IsValidMachine, board_at};
+ghost use Rattle.wire_scene.specs.declared.scene.Entry.{Entry};
+ghost use Rattle.wire_scene.specs.declared.scene.Switch.{Switch};
+ghost use Rattle.link_work.specs.Stands.{first_state};
+ghost use Rattle.board_asking.specs.Machine.{trigger_of};
+ghost use Rattle.trigger_group.specs.declared.order.End.{End};
+ghost use Rattle.axis_homing.specs.declared.homing.Homing.{Homing};
+ghost use Rattle.axis_homing.specs.Homing.{answer_in, hears_all};
+ghost use Rattle.axis_homing.specs.Rising.{members_of};
+ghost use Rattle.host_reactor.specs.Notes.{noted};
+ghost use Rattle.host_reactor.specs.Runs.{Came, known_by, state_at};
+ghost use Rattle.board_runs.specs.Turns.{BoardTurn, latest_state};
+ghost use Rattle.clock_runs.specs.Runs.{IsInRun};
+ghost use Rattle.homing_laws.specs.home_runs.Told.{IsMember};
+ghost use Rattle.homing_laws.specs.fired_runs.Since.{AreBehind, AreReadTrue, BeginsApart, HasFiredSince};
+
+/// The law of firings: as the turn begins in which the group of a homing section answers, each member's board took the command that starts its trigger for
+/// this section, with all that was queued before it, and its trigger has triggered since, whatever happens on the lines. What it takes is that the board's
+/// reports that count are read as ticks since which its trigger could not trigger (`AreReadTrue`), that it is no more than a turn ahead of its lines as
+/// sections start (`AreBehind`), and that homing sections are begun where none is known, 251 turns before their starts or earlier (`BeginsApart`).
+pub fn answered_triggers_have_fired()
+    ensures { (m : Machine) (switches : List Switch) (pins : List (List Level)) (entries : List Entry) (b : ℕ) (c : Came) (before : List Came) (turns : List BoardTurn) (h : Homing) (e : End) → IsValidMachine m →
+        IsInRun m switches pins entries b before turns → state_at b c.states ≡ latest_state turns → BeginsApart m switches (c ∷ before) → AreReadTrue m switches b (c ∷ before) turns → AreBehind m switches b (c ∷ before) →
+        (noted m c.note (known_by m switches before)).homing ≡ Some h → answer_in (length before) h.start (hears_all (noted m c.note (known_by m switches before)).clocks c.states h).group ≡ Some e → IsMember b (members_of h.group) →
+        HasFiredSince (trigger_of m b) h.start (first_state (board_at m b) pins b entries) turns }
+{}

@@ -1,7 +1,7 @@
 -- A trigger that can't trigger stays as it is over commands of which none starts one.
-use Rattle.std.proofs.Common.{◌≡◌, ℕ, zero, suc, ◌+◌, ◌/◌, ◌<◌, Bool, true, false, List, [], ◌∷◌, ◌++◌, length, map, get_or, set, Option, Some, None, refl, ap, sym, ◌∙◌, subst, arith, append_assoc, append-nil, ◌⊎◌, inl, inr}
+use Rattle.std.proofs.Common.{◌≡◌, ◌≢◌, ℕ, zero, suc, ◌+◌, ◌/◌, ◌<◌, Bool, true, false, List, [], ◌∷◌, ◌++◌, length, map, get_or, set, Option, Some, None, refl, ap, sym, ◌∙◌, subst, arith, append_assoc, append-nil, ◌⊎◌, inl, inr}
 use Rattle.std.specs.Prelude.{if◌then◌else◌, slice_index_or, nat_le, nat_lt}
-use Rattle.std.proofs.lemmas.List.{append_cancel_left}
+use Rattle.std.proofs.lemmas.List.{append_cancel_left, get_or-set_other}
 use Rattle.plan_types.specs.declared.clock.BoardClock.{BoardClock}
 use Rattle.plan_types.specs.declared.levels.Level.{Level}
 use Rattle.plan_types.specs.declared.plan.BoardState.{BoardState}
@@ -205,13 +205,14 @@ old_by j most h event.Garble some k all = all
 old_by j most h event.Reply some k all = all
 old_by j most h event.LoseReply some k all = all
 
-steps_old : (j most : ℕ) (steps : List Step) (h : Core) → 0 < most → EachTame (commands_of (steps_take steps h).0) → OldAt j most h.board → OldAt j most (run steps h).board
-unfolding steps_take
-steps_old j most [] h some k all = all
-steps_old j most (Do e ∷ steps) h some k all =
-    let both = tame_parts (takes_in h e) (steps_take steps (world.happens h e)).0 k in
-    steps_old j most steps (world.happens h e) some both.1 (old_by j most h e some both.0 all)
-steps_old j most (Turn turn ∷ steps) h some k all = steps_old j most steps (in_turn h turn) some k all
+steps_old : (j most : ℕ) (steps : List Step) (h : Core) (ms : List Meant) → 0 < most → (run steps h).taken ≡ h.taken ++ ms → EachTame (commands_of ms) → OldAt j most h.board → OldAt j most (run steps h).board
+steps_old j most [] h ms some e k all = all
+steps_old j most (Do v ∷ steps) h ms some e k all =
+    let rest = steps_take steps (world.happens h v) in
+    let same : takes_in h v ++ rest.0 ≡ ms = append_cancel_left h.taken (takes_in h v ++ rest.0) ms (sym (append_assoc h.taken (takes_in h v) rest.0) ∙ sym rest.1 ∙ e) in
+    let both = tame_parts (takes_in h v) rest.0 (subst (λ (x : List Meant). EachTame (commands_of x)) (sym same) k) in
+    steps_old j most steps (world.happens h v) rest.0 some rest.1 both.1 (old_by j most h v some both.0 all)
+steps_old j most (Turn turn ∷ steps) h ms some e k all = steps_old j most steps (in_turn h turn) ms some e k all
 
 -- and turns in which the board takes these commands
 pub turns_old : (j most : ℕ) (clock : BoardClock) (first : LinkState) (later past : List BoardTurn) (ms : List Meant) → 0 < most → AreBoardTurns clock first (later ++ past)
@@ -228,4 +229,4 @@ turns_old j most clock first (t ∷ later) past ms some are e k all =
     sym (append_assoc h.taken rest.0 took.0) ∙ ap (λ (x : List Meant). x ++ took.0) (sym rest.1) ∙ sym took.1 ∙ ap (λ (g : Core). g.taken) (sym steps.1) ∙ e in
     let both = tame_parts rest.0 took.0 (subst (λ (x : List Meant). EachTame (commands_of x)) (sym (append_cancel_left h.taken (rest.0 ++ took.0) ms whole)) k) in
     let old = turns_old j most clock first later past rest.0 some are.1 rest.1 both.0 all in
-    subst (λ (g : Core). OldAt j most g.board) (sym steps.1) (steps_old j most steps.0 l.core some both.1 old)
+    subst (λ (g : Core). OldAt j most g.board) (sym steps.1) (steps_old j most steps.0 l.core took.0 some took.1 both.1 old)

@@ -278,6 +278,7 @@ module _ (m : Machine) (v : IsValidMachine m) (switches : List Switch) (pins : L
           ∙ ap (λ (z : List Meant). Taken early ++ z) (sym (append_assoc le.0 g.front (g.begin ∷ g.more))))
 
       not_untaken : (k : List Meant) → le.0 ++ g.front ≡ ms.0 ++ k → ⊥
+      unfolding le
       not_untaken k e =
           let tame = (tame_parts ms.0 k (subst (λ (z : List Meant). EachTame (commands_of z)) e (tame_both le.0 g.front g.rested.tame g.before))).0 in
           let early_run = run_at m switches pins entries b came later early r in

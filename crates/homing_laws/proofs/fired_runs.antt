@@ -3,3 +3,4 @@ pub mod Under
 pub mod Once
 pub mod Reported
 pub mod Rested
+pub mod Halting

@@ -64,7 +64,7 @@ use Rattle.homing_laws.proofs.fired_runs.Reported.{member_told}
 use Rattle.homing_laws.proofs.fired_runs.Under.{under_after}
 
 -- what is queued behind some turns
-queue_later : (later past : List BoardTurn) → (q : List Meant) × (queued_by (later ++ past) ≡ queued_by past ++ q)
+pub queue_later : (later past : List BoardTurn) → (q : List Meant) × (queued_by (later ++ past) ≡ queued_by past ++ q)
 queue_later [] past = ([], sym (append-nil (queued_by past)))
 queue_later (t ∷ later) past =
     let rest = queue_later later past in
@@ -159,7 +159,7 @@ module _ (m : Machine) (v : IsValidMachine m) (switches : List Switch) (pins : L
       board_rises (clock_of (board_at m b)) k valid.freq (drift_small (board_at m b).drift valid.drift_low valid.drift_high)
 
   -- what is left of the queue
-  left_of : (turns : List BoardTurn) → Turns turns → (left : List Meant) × (Taken turns ++ left ≡ queued_by turns)
+  pub left_of : (turns : List BoardTurn) → Turns turns → (left : List Meant) × (Taken turns ++ left ≡ queued_by turns)
   left_of turns are =
       let core = (stands_after First turns).core in
       let o = ordered_after (board_at m b) pins b entries turns are in

@@ -168,7 +168,7 @@ oid_small m switches pins entries b came turns s v r n l e =
       | inr p ↦ let q = p.1 in omega (arith, few, q)
     ]
 
-small_by : (m : Machine) (switches : List Switch) (pins : List (List Level)) (entries : List Entry) (b : ℕ) (came : List Came) (turns : List BoardTurn) (s from start : ℕ) (ms : List Member) → IsValidMachine m
+pub small_by : (m : Machine) (switches : List Switch) (pins : List (List Level)) (entries : List Entry) (b : ℕ) (came : List Came) (turns : List BoardTurn) (s from start : ℕ) (ms : List Member) → IsValidMachine m
     → IsInRun m switches pins entries b came turns → HomesFrom m switches from start ms came → from < length turns → s < length m.steppers → (stepper_at m s).board ≡ b → (stepper_at m s).oid < 256
 small_by m switches pins entries b [] [] s from start ms v r homes far l e = absurd (omega (arith, far))
 small_by m switches pins entries b [] (t ∷ turns) s from start ms v r homes far l e = absurd r.both
@@ -291,7 +291,7 @@ pub homes_later : (m : Machine) (switches : List Switch) (from to start : ℕ) (
 homes_later m switches from to start ms [] l h = tt
 homes_later m switches from to start ms (c ∷ before) l h = (λ k. h.0 (omega (arith, k, l)), homes_later m switches from to start ms before l h.1)
 
-none_later : (i from to : ℕ) (turns : List BoardTurn) → from ≤ to → SetNoneFrom i from turns → SetNoneFrom i to turns
+pub none_later : (i from to : ℕ) (turns : List BoardTurn) → from ≤ to → SetNoneFrom i from turns → SetNoneFrom i to turns
 none_later i from to [] l h = tt
 none_later i from to (t ∷ turns) l h = (λ k. h.0 (omega (arith, k, l)), none_later i from to turns l h.1)
 

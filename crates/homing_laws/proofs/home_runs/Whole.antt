@@ -218,7 +218,7 @@ unit_calm i j u none = one u.reset u.up none
     one (Some r) None f = (λ e. let x = f e in absurd (cc), (tt, tt))
     one (Some r) (Some d) f = (λ e. let x = f e in absurd (cc), (tt, (tt, tt)))
 
-units_calm : (i j : ℕ) (us : List StepUnit) → SetNone i us → AreCalm i j (units_orders us)
+pub units_calm : (i j : ℕ) (us : List StepUnit) → SetNone i us → AreCalm i j (units_orders us)
 units_calm i j [] n = tt
 units_calm i j (u ∷ us) n = calm_both i j (unit_orders u) (units_orders us) (unit_calm i j u n.0) (units_calm i j us n.1)
 

@@ -146,7 +146,7 @@ cut_home E G pins e j (x ∷ ms) (inr has) fit =
     record { front = x ∷ rest.front; home = rest.home; behind = rest.behind; are = ap (λ (l : List Meant). x ∷ l) rest.are; is = rest.is; fit = rest.fit }
 
 -- where a list is so long behind a place
-split_at : (n : ℕ) (xs : List BoardTurn) → n ≤ length xs → (front : List BoardTurn) × (back : List BoardTurn) × (xs ≡ front ++ back) × (length back ≡ n)
+pub split_at : (n : ℕ) (xs : List BoardTurn) → n ≤ length xs → (front : List BoardTurn) × (back : List BoardTurn) × (xs ≡ front ++ back) × (length back ≡ n)
 split_at n [] l = ([], [], refl, omega (arith, l))
 split_at n (x ∷ xs) l = elim (leb_tells n (length xs)) [
   | inl p ↦ let r = split_at n xs p.1 in (x ∷ r.0, r.1, ap (λ (ys : List BoardTurn). x ∷ ys) r.2, r.3)
@@ -172,7 +172,7 @@ moment m switches pins entries b from start axis ms G (c ∷ before) (t ∷ wind
     (λ tick k. f tick (record { lines = k.lines; knew = inr k.knew; complete = k.complete }))
 
 -- before the section was known the run was past connecting
-past_connecting : (m : Machine) (switches : List Switch) (pins : List (List Level)) (entries : List Entry) (b from start : ℕ) (ms : List Member) (came : List Came) (recent early : List BoardTurn) → IsInRun m switches pins entries b came (recent ++ early)
+pub past_connecting : (m : Machine) (switches : List Switch) (pins : List (List Level)) (entries : List Entry) (b from start : ℕ) (ms : List Member) (came : List Came) (recent early : List BoardTurn) → IsInRun m switches pins entries b came (recent ++ early)
     → HomesFrom m switches from start ms came → length early ≡ from → 0 < length recent → (before : List Came) × IsInRun m switches pins entries b before early × ((known_by m switches before).phase ≡ Connecting → ⊥)
 past_connecting m switches pins entries b from start ms came [] early r homes long some = absurd (omega (arith, some))
 past_connecting m switches pins entries b from start ms [] (t ∷ recent) early r homes long some = absurd r.both

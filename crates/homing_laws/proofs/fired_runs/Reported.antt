@@ -1,6 +1,6 @@
 -- Of each member of a homing group that is known to have triggered its board told so; and the answer that a switch closed has the tick of a report of the endstop's board.
-use Rattle.std.proofs.Common.{◌≡◌, ℕ, zero, suc, ◌+◌, ◌≤◌, ◌⊎◌, ◌==◌, Bool, true, false, not, cond, List, [], ◌∷◌, ◌++◌, length, map, Option, Some, None, refl, ap, sym, ◌∙◌, subst, arith, inl, inr}
-use Rattle.std.specs.Prelude.{nat_le, nat_lt, ◌&&◌, ◌||◌}
+use Rattle.std.proofs.Common.{◌≡◌, ℕ, zero, suc, ◌+◌, ◌-◌, ◌*◌, ◌<◌, ◌≤◌, ◌⊎◌, ◌==◌, Bool, true, false, not, cond, List, [], ◌∷◌, ◌++◌, length, map, Option, Some, None, refl, ap, sym, ◌∙◌, subst, arith, inl, inr}
+use Rattle.std.specs.Prelude.{nat_le, nat_lt, ◌&&◌, ◌||◌, if◌then◌else◌}
 use Rattle.std.proofs.lemmas.Bool.Decides.{eqb_tells, leb_tells}
 use Rattle.plan_types.specs.declared.machine.AxisDef.{AxisDef}
 use Rattle.plan_types.specs.declared.machine.BoardDef.{BoardDef}
@@ -9,10 +9,12 @@ use Rattle.plan_types.specs.declared.plan.SectionKind.{SectionKind}
 use Rattle.plan_types.specs.declared.plan.SectionKind.TheVariants.{Home, Moves}
 use Rattle.plan_types.specs.declared.plan.TrigState.{TrigState}
 use Rattle.plan_types.specs.Board.{nearest}
-use Rattle.plan_types.specs.Lines.{Clocks}
+use Rattle.plan_types.specs.Clock.{turn_ns}
+use Rattle.plan_types.specs.Lines.{Clocks, lines_tick, lines_turn}
 use Rattle.plan_types.specs.Machines.{axis_at}
 use Rattle.plan_types.specs.Sections.{clocks_at}
-use Rattle.clock_line.specs.Early.{turn_in_run, turn_tick}
+use Rattle.clock_line.specs.Early.{is_in_run, turn_in_run, turn_tick}
+use Rattle.clock_line.proofs.Turns.{turn-below}
 use Rattle.msg_code.specs.declared.cmd.Cmd.{Cmd}
 use Rattle.msg_code.specs.declared.cmd.Cmd.TheVariants as cmd
 use Rattle.msg_code.specs.declared.talk.News.{News}
@@ -51,6 +53,23 @@ pub same_state : (b : ℕ) (states : List State) → state_at b states ≡ item 
 same_state b [] = refl
 same_state zero (s ∷ states) = refl
 same_state (suc b) (s ∷ states) = same_state b states
+
+-- the state of a report is that of the board's latest turn
+pub sole_state : (s t : State) → s ∷ [] ≡ t ∷ [] → s ≡ t
+sole_state s t e = cc
+
+-- the turn of a tick of the run
+turn_if : (in_run : Bool) (n turn : ℕ) → (if in_run then Some n else None) ≡ Some turn → n ≡ turn
+turn_if true n turn e = cc
+turn_if false n turn e = cc
+
+-- a tick before that at which a section starts is in no turn from the start on
+pub before_start : (lines : Clocks) (start tick turn : ℕ) → 0 < start → tick < lines_tick lines (start * turn_ns) → turn_in_run lines tick ≡ Some turn → turn < start
+before_start lines start tick turn some low is =
+    let next : start ≡ start - 1 + 1 = omega (arith, some) in
+    let below = turn-below lines tick (start - 1) (subst (λ (k : ℕ). tick < lines_tick lines (k * turn_ns)) next low) in
+    let same = turn_if (is_in_run lines tick) (lines_turn lines tick) turn is in
+    omega (arith, some, below, same)
 
 -- what is known of a member's trigger was told, and the member with the endstop is its board
 abbrev pub One : (ℕ → Fired → Type 0) → ℕ → Seen → Type 0

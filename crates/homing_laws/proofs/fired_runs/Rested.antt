@@ -50,7 +50,6 @@ use Rattle.homing_laws.proofs.home_runs.Windows.{begun, ordered_after}
 use Rattle.homing_laws.proofs.clear_boards.Clocking.{board_rises}
 use Rattle.homing_laws.proofs.clear_boards.Standing.{sound_at}
 use Rattle.homing_laws.specs.switch_runs.Reports.{IsReport, WasReported}
-use Rattle.homing_laws.proofs.switch_runs.Answered.{before_start, sole_state}
 use Rattle.homing_laws.specs.clear_groups.Resting.{EachTame, IsStartedIn}
 use Rattle.homing_laws.proofs.clear_groups.Known.{answered_late, behind_turn}
 use Rattle.homing_laws.proofs.clear_groups.Noted.{drift_small, noted_newly, some_or_none}
@@ -60,7 +59,7 @@ use Rattle.homing_laws.proofs.clear_groups.Starting.{member_or_not, starts_eithe
 use Rattle.homing_laws.specs.fired_runs.Since.{AreBehind, AreReadTrue, BeginsApart, HasFiredSince, IsAtRest, IsFiredAt, IsOff, IsStart, WasFiredAt}
 use Rattle.homing_laws.proofs.fired_runs.Old.{OldAt, tame_both, tame_parts, turns_old}
 use Rattle.homing_laws.proofs.fired_runs.Once.{Split, turn_split}
-use Rattle.homing_laws.proofs.fired_runs.Reported.{member_told}
+use Rattle.homing_laws.proofs.fired_runs.Reported.{before_start, member_told, sole_state}
 use Rattle.homing_laws.proofs.fired_runs.Under.{under_after}
 
 -- what is queued behind some turns

@@ -95,3 +95,10 @@ pub record HasFiredSince (trigger start : ℕ) (first : LinkState) (turns : List
   pub starts : IsStart begin.command
   pub tame : EachTame (commands_of more)
   pub at_rest : IsAtRest trigger first turns
+
+-- What a board tells in the turns of a run up to one is read so: as the ticks since which its trigger can't trigger, of sections that are begun one behind
+-- the other, by clock lines that the board is no more than a turn ahead of.
+pub record IsReadSo (m : Machine) (switches : List Switch) (b : ℕ) (c : Came) (before : List Came) (turns : List BoardTurn) : Type 0 where
+  pub apart : BeginsApart m switches (c ∷ before)
+  pub reads : AreReadTrue m switches b (c ∷ before) turns
+  pub behind : AreBehind m switches b (c ∷ before)

@@ -4,3 +4,4 @@ pub mod Once
 pub mod Reported
 pub mod Rested
 pub mod Halting
+pub mod Waiting

@@ -17,6 +17,7 @@ use Rattle.board_sim.specs.Board as board
 use Rattle.board_sim.specs.Fair.{Meant, commands_of}
 use Rattle.board_sim.specs.RigRuns.{IsHalted}
 use Rattle.board_world.specs.Orders.{plain, unit_orders, unit_ticks, units_orders}
+use Rattle.board_world.specs.World.{Step}
 use Rattle.link_work.specs.Runs.{queued_in}
 use Rattle.link_work.specs.Stands.{first_state, orders}
 use Rattle.link_work.specs.Turn.{LinkState}
@@ -30,27 +31,31 @@ use Rattle.host_reactor.specs.declared.ordered.Phase.TheVariants.{Connecting}
 use Rattle.host_reactor.specs.Notes.{noted}
 use Rattle.host_reactor.specs.Runs.{Came, known_by, state_at}
 use Rattle.board_runs.specs.Turns.{BoardTurn, latest_state, stands_after}
-use Rattle.clock_runs.specs.Ordered.{MayOrder}
+use Rattle.clock_runs.specs.Ordered.{MayOrder, SetsClocks}
 use Rattle.clock_runs.specs.Runs.{IsInRun}
 use Rattle.clock_runs.proofs.Lines.{as_long, run_before}
 use Rattle.clock_runs.proofs.Ordering.{may_order}
 use Rattle.run_laws.proofs.Lists.{cons_same, cuts}
 use Rattle.run_parts.proofs.Controlled.{few_on}
-use Rattle.homing_laws.specs.home_runs.Guards.{AreCalm}
+use Rattle.homing_laws.specs.home_runs.Guards.{AreCalm, IsCalm}
 use Rattle.homing_laws.specs.home_runs.Sections.{HomesFrom, IsAnswered, IsMoved, IsOf, Moves, SetNoneFrom, TakesStops, queued_by}
 use Rattle.homing_laws.specs.home_runs.Stages.{Stage, no_stage, stage_from}
 use Rattle.homing_laws.specs.home_runs.Told.{IsMember}
 use Rattle.homing_laws.proofs.home_runs.Controlling.{first_turn, rest_turn, turn_calm}
 use Rattle.homing_laws.proofs.home_runs.Firing.{calm_both, calm_each, calm_parts}
-use Rattle.homing_laws.proofs.home_runs.Joining.{earlier, homes_later, known_rises, late_parts, none_later, noted_rises, past_connecting, run_calm, run_whole, small_by, split_at}
+use Rattle.homing_laws.proofs.home_runs.Joining.{all_queued, earlier, homes_later, known_rises, late_parts, none_later, noted_rises, past_connecting, run_calm, run_whole, small_by, split_at}
 use Rattle.homing_laws.proofs.home_runs.Saying.{EachCalm}
 use Rattle.homing_laws.proofs.home_runs.Setting.{Binds, which}
 use Rattle.homing_laws.proofs.home_runs.Staging.{commands_both, stage_append, staged_after}
-use Rattle.homing_laws.proofs.home_runs.Whole.{Only, brings_calm, only_parts, queue_only, run_only, run_ready, units_calm, whole_by, whole_on}
+use Rattle.homing_laws.proofs.home_runs.Whole.{OneOnly, Only, brings_calm, only_parts, queue_only, ready_on, run_only, run_ready, units_calm, whole_by, whole_on}
+use Rattle.homing_laws.proofs.home_runs.Windows.{ordered_after}
+use Rattle.homing_laws.specs.clear_groups.Resting.{EachTame, IsTame}
 use Rattle.homing_laws.proofs.clear_groups.Known.{answered_late}
-use Rattle.homing_laws.specs.fired_runs.Since.{AreBehind, AreReadTrue, BeginsApart, IsOff, IsReadSo}
-use Rattle.homing_laws.specs.fired_runs.Waiting.{AllStepNot, MoveNone, MoveNoneIn, StepsNot, TookNone}
+use Rattle.homing_laws.specs.fired_runs.Since.{AreBehind, AreReadTrue, BeginsApart, IsAtRest, IsOff, IsReadSo}
+use Rattle.homing_laws.specs.fired_runs.Waiting.{AllSetNot, AllStepNot, MoveNone, MoveNoneIn, SetsNot, StepsFindHalted, StepsNot, TookNone}
+use Rattle.homing_laws.proofs.fired_runs.Old.{tame_parts}
 use Rattle.homing_laws.proofs.fired_runs.Rested.{answered_fired, left_of, queue_later}
+use Rattle.homing_laws.proofs.fired_runs.Waiting.{Waits, steps_settle}
 
 -- commands without steps of a stepper
 step_both : (i : ℕ) (xs ys : List Meant) → AllStepNot i xs → AllStepNot i ys → AllStepNot i (xs ++ ys)
@@ -81,6 +86,50 @@ unit_not i u other = one u.reset u.up
 units_not : (i : ℕ) (us : List StepUnit) → MoveNone i us → AllStepNot i (units_orders us)
 units_not i [] n = tt
 units_not i (u ∷ us) n = step_both i (unit_orders u) (units_orders us) (unit_not i u n.0) (units_not i us n.1)
+
+-- nor sets its clock, from 251 turns before a homing section's start on
+set_both : (i : ℕ) (xs ys : List Meant) → AllSetNot i xs → AllSetNot i ys → AllSetNot i (xs ++ ys)
+set_both i [] ys a b = b
+set_both i (x ∷ xs) ys a b = (a.0, set_both i xs ys a.1 b)
+
+sets_late : (o : Option Homing) (start k : ℕ) (ms : List Member) → IsOf start ms o → start ≤ k + 251 → SetsClocks o k → ⊥
+sets_late None start k ms of late sets = sets
+sets_late (Some h) start k ms of late sets = (let e = of.1 in let low = sets.0 in omega (arith, e, low, late))
+
+may_set : (i : ℕ) (o : Option Homing) (start k : ℕ) (ms : List Member) (c : Cmd) → IsOf start ms o → start ≤ k + 251 → MayOrder o k c → SetsNot i c
+may_set i o start k ms (cmd.ResetStepClock oid clock) of late may = λ same. sets_late o start k ms of late may
+may_set i o start k ms c of late may = tt
+
+controls_set : (i : ℕ) (o : Option Homing) (start k : ℕ) (ms : List Member) (cs : List Cmd) → IsOf start ms o → start ≤ k + 251 → All (MayOrder o k) cs → AllSetNot i (map plain cs)
+controls_set i o start k ms [] of late all = tt
+controls_set i o start k ms (c ∷ cs) of late all = (may_set i o start k ms c of late (All-head (MayOrder o k) c cs all), controls_set i o start k ms cs of late (All-tail (MayOrder o k) c cs all))
+
+calm_set : (i j : ℕ) (c : Cmd) → IsCalm i j c → SetsNot i c
+calm_set i j (cmd.ResetStepClock oid clock) calm = calm
+calm_set i j c calm = tt
+
+calm_sets : (i j : ℕ) (ms : List Meant) → AreCalm i j ms → AllSetNot i ms
+calm_sets i j [] calm = tt
+calm_sets i j (m ∷ ms) calm = (calm_set i j m.command calm.0, calm_sets i j ms calm.1)
+
+-- commands that start no trigger, make no other one and set no clock of the stepper are calm
+calm_one : (i j : ℕ) (c : Cmd) → IsTame c → OneOnly j c → SetsNot i c → IsCalm i j c
+calm_one i j (cmd.TrsyncStart oid clock every reason) tame only sets = absurd tame
+calm_one i j (cmd.ResetStepClock oid clock) tame only sets = sets
+calm_one i j (cmd.ConfigTrsync oid) tame only sets = only
+calm_one i j c tame only sets = tt
+
+calm_by : (i j : ℕ) (ms : List Meant) → EachTame (commands_of ms) → Only j (commands_of ms) → AllSetNot i ms → AreCalm i j ms
+calm_by i j [] tame only sets = tt
+calm_by i j (m ∷ ms) tame only sets = (calm_one i j m.command tame.0 only.0 sets.0, calm_by i j ms tame.1 only.1 sets.1)
+
+set_parts : (i : ℕ) (xs ys : List Meant) → AllSetNot i (xs ++ ys) → AllSetNot i xs × AllSetNot i ys
+set_parts i [] ys a = (tt, a)
+set_parts i (x ∷ xs) ys a = let p = set_parts i xs ys a.1 in ((a.0, p.0), p.1)
+
+step_behind : (i : ℕ) (xs ys : List Meant) → AllStepNot i (xs ++ ys) → AllStepNot i ys
+step_behind i [] ys a = a
+step_behind i (x ∷ xs) ys a = step_behind i xs ys a.1
 
 -- where a command binds a stepper
 record Bound (i j : ℕ) (cs : List Cmd) : Type 0 where
@@ -240,6 +289,27 @@ module _ (m : Machine) (v : IsValidMachine m) (switches : List Switch) (pins : L
   binds_of [] k calm = inl (refl, calm_each Oid Trigger k calm)
   binds_of (y ∷ front) k calm = inr (binds_of front k calm)
 
+  -- what is queued from 251 turns before the start on sets no clock of the stepper
+  queue_sets : (came : List Came) (recent early : List BoardTurn) → IsInRun m switches pins entries b came (recent ++ early) → HomesFrom m switches a.from h.start Members came → SetNoneFrom Oid a.from (recent ++ early) → a.from + 3 ≤ length early
+      → (q : List Meant) × (queued_by (recent ++ early) ≡ queued_by early ++ q) × AllSetNot Oid q
+  queue_sets came [] early run homes sets far = ([], sym (append-nil (queued_by early)), tt)
+  queue_sets [] (t ∷ recent) early run homes sets far = absurd run.both
+  queue_sets (d ∷ past) (t ∷ recent) early run homes sets far =
+      let all = recent ++ early in
+      let rest = queue_sets past recent early (run_before m switches pins entries b d past t all run) homes.1 sets.1 far in
+      let n = noted m d.note (known_by m switches past) in
+      let new = queued_in (orders t.control t.batch) in
+      let size = length-append recent early in
+      let same = as_long m switches b past all run.both.2 in
+      let set_up = a.set_up in
+      let of = (homes.0 (omega (arith, same, size, far))).1 in
+      let controls = controls_set Oid n.homing h.start (length past) Members t.control.commands of (omega (arith, same, size, far, set_up)) (may_order m switches pins entries b d past t all run) in
+      let units = calm_sets Oid Trigger (units_orders t.batch.units) (units_calm Oid Trigger t.batch.units (sets.0 (omega (arith, size, far)))) in (
+        rest.0 ++ new,
+        ap (λ (z : List Meant). z ++ new) rest.1 ∙ append_assoc (queued_by early) rest.0 new,
+        set_both Oid rest.0 new rest.2 (set_both Oid (map plain t.control.commands) (units_orders t.batch.units) controls units),
+      )
+
   -- where the command that binds the stepper was taken
   taken_halts : (came : List Came) (early : List BoardTurn) → IsInRun m switches pins entries b came early → ((known_by m switches came).phase ≡ Connecting → ⊥) → Oid < 256 → (front k : List Meant)
       → (stands_after First turns).core.taken ≡ queued_by early ++ (front ++ Stop ∷ k) → AreCalm Oid Trigger k → IsOff Trigger (stands_after First turns).core.board → IsHalted (board.stepper_at (stands_after First turns).core.board.controller Oid)
@@ -262,7 +332,43 @@ module _ (m : Machine) (v : IsValidMachine m) (switches : List Switch) (pins : L
       let guarded = staged.bound (ap (λ (y : Stage). y.bound) same ∙ whole.bound) in
       guarded.halted (off guarded.slot guarded.is)
 
-  pub halts_or_waits : IsHalted (board.stepper_at (stands_after First turns).core.board.controller Oid) ⊎ TookNone Oid a.from First turns
+  -- where it is left
+  left_waits : (came : List Came) (early : List BoardTurn) → IsInRun m switches pins entries b came early → ((known_by m switches came).phase ≡ Connecting → ⊥) → Oid < 256 → (tail front back : List Meant)
+      → (stands_after First turns).core.taken ≡ queued_by early ++ tail → (left_of m v switches pins entries b turns r.turns_are).0 ≡ front ++ Stop ∷ back → IsAtRest Trigger First turns → AllStepNot Oid front → AllSetNot Oid front
+      → Waits Oid Trigger (left_of m v switches pins entries b turns r.turns_are).0 (stands_after First turns).core.board
+  left_waits came early run open_it small tail front back took are rest none sets =
+      let core = (stands_after First turns).core in
+      let left = left_of m v switches pins entries b turns r.turns_are in
+      let few : Trigger < 256 = let q = v.steppers_few in omega (arith, few_on b m.steppers, q) in
+      let ready = run_ready m switches pins entries b came early s v run open_it x.there x.on in
+      let all : Only Trigger (commands_of (queued_by turns)) = queue_only Trigger turns (run_only m switches pins entries b before turns v r) in
+      let Is : List Meant → Type 0 = λ l. Only Trigger (commands_of l) in
+      let both = only_parts Trigger (commands_of core.taken) (commands_of left.0) (subst (λ (l : List Cmd). Only Trigger l) (commands_both core.taken left.0) (subst Is (sym left.1) all)) in
+      let own : Only Trigger (commands_of (queued_by early ++ tail)) = subst Is took both.0 in
+      let only = (only_parts Trigger (commands_of (queued_by early)) (commands_of tail) (subst (λ (l : List Cmd). Only Trigger l) (commands_both (queued_by early) tail) own)).1 in
+      let stage = stage_from Oid Trigger no_stage (commands_of (queued_by early)) in
+      let now = ready_on Oid Trigger stage (commands_of tail) only ready in
+      let same : stage_from Oid Trigger no_stage (commands_of core.taken) ≡ stage_from Oid Trigger stage (commands_of tail) =
+      ap (λ (l : List Meant). stage_from Oid Trigger no_stage (commands_of l)) took ∙ ap (stage_from Oid Trigger no_stage) (commands_both (queued_by early) tail) ∙ stage_append Oid Trigger no_stage (commands_of (queued_by early)) (commands_of tail) in
+      let staged = (staged_after (board_at m b) pins b entries turns Oid Trigger small few r.turns_are).staged runs in
+      let slot = staged.there (ap (λ (y : Stage). y.there) same ∙ now.there) in
+      let same_left : rest.left ≡ left.0 = append_cancel_left core.taken rest.left left.0 (rest.rest ∙ all_queued (board_at m b) pins b entries turns r.turns_are ∙ sym left.1) in
+      let tame = (tame_parts front (Stop ∷ back) (subst (λ (l : List Meant). EachTame (commands_of l)) (same_left ∙ are) rest.tame)).0 in
+      let only_left = (only_parts Trigger (commands_of front) (commands_of (Stop ∷ back)) (subst (λ (l : List Cmd). Only Trigger l) (commands_both front (Stop ∷ back)) (subst Is are both.1))).0 in
+      record {
+        fired = record { slot = slot.slot; is = slot.is; fired = rest.off slot.slot slot.is };
+        there = staged.made (ap (λ (y : Stage). y.made) same ∙ now.made);
+        front = front;
+        bind = Stop;
+        back = back;
+        are = are;
+        binds = refl;
+        calm = calm_by Oid Trigger front tame only_left sets;
+        none = none;
+      }
+
+  halts_or_waits : IsHalted (board.stepper_at (stands_after First turns).core.board.controller Oid)
+      ⊎ (TookNone Oid a.from First turns × Waits Oid Trigger (left_of m v switches pins entries b turns r.turns_are).0 (stands_after First turns).core.board)
   halts_or_waits =
       let set_up = a.set_up in
       let begin = x.begun in
@@ -296,7 +402,18 @@ module _ (m : Machine) (v : IsValidMachine m) (switches : List Switch) (pins : L
             (sym (append_assoc (queued_by early) (q.0 ++ tail) left.0) ∙ ap (λ (l : List Meant). l ++ left.0) (sym took) ∙ left.1 ∙ ap queued_by cut.2 ∙ bound.are) in
             elim (cuts (q.0 ++ tail) left.0 bound.front (Stop ∷ bound.back) cut_queue) [
               | inl y ↦
-                  inr (record { later = recent; early = early; are = cut.2; long = early_long; more = q.0 ++ tail; took = took; none = step_front Oid (q.0 ++ tail) y.0 (subst (λ (l : List Meant). AllStepNot Oid l) y.1 bound.none) })
+                  let steps = subst (λ (l : List Meant). AllStepNot Oid l) y.1 bound.none in
+                  let over : IsInRun m switches pins entries b before (fired.later ++ fired.early) = subst (λ (l : List BoardTurn). IsInRun m switches pins entries b before l) fired.are r in
+                  let late_sets = queue_sets before fired.later fired.early over a.since (subst (λ (l : List BoardTurn). SetNoneFrom Oid a.from l) fired.are sets) (omega (arith, at, set_up)) in
+                  let queue : tail ++ left.0 ≡ late_sets.0 =
+                  append_cancel_left (queued_by fired.early) (tail ++ left.0) late_sets.0
+                  (sym (append_assoc (queued_by fired.early) tail left.0) ∙ ap (λ (l : List Meant). l ++ left.0) (sym fired.took) ∙ left.1 ∙ ap queued_by fired.are ∙ late_sets.1) in
+                  let set_left = (set_parts Oid tail left.0 (subst (λ (l : List Meant). AllSetNot Oid l) (sym queue) late_sets.2)).1 in
+                  let set_front = (set_parts Oid y.0 (Stop ∷ bound.back) (subst (λ (l : List Meant). AllSetNot Oid l) y.2 set_left)).0 in
+                  inr (
+                    record { later = recent; early = early; are = cut.2; long = early_long; more = q.0 ++ tail; took = took; none = step_front Oid (q.0 ++ tail) y.0 steps },
+                    left_waits open_at.0 early open_at.1 open_at.2 small (q.0 ++ tail) y.0 bound.back took y.2 fired.at_rest (step_behind Oid (q.0 ++ tail) y.0 steps) set_front,
+                  )
               | inr y ↦
                   let heads = cons_same Stop y.0 bound.back (y.1 ++ left.0) y.3 in
                   let calm = (calm_parts Oid Trigger y.1 left.0 (subst (λ (l : List Meant). AreCalm Oid Trigger l) heads.1 bound.calm)).0 in
@@ -304,6 +421,16 @@ module _ (m : Machine) (v : IsValidMachine m) (switches : List Switch) (pins : L
                   inl (taken_halts open_at.0 early open_at.1 open_at.2 small bound.front y.1 whole calm fired.at_rest.off)
             ]
       ]
+
+  pub halts_or_took_none : IsHalted (board.stepper_at (stands_after First turns).core.board.controller Oid) ⊎ TookNone Oid a.from First turns
+  halts_or_took_none = elim halts_or_waits [ inl y ↦ inl y | inr y ↦ inr y.0 ]
+
+  -- whatever happens then, its steps find it halted
+  pub steps_find_halted : (steps : List Step) → StepsFindHalted Oid (stands_after First turns).core steps
+  steps_find_halted steps =
+      let left = left_of m v switches pins entries b turns r.turns_are in
+      steps_settle Oid Trigger steps (stands_after First turns).core left.0 (ordered_after (board_at m b) pins b entries turns r.turns_are)
+      (left.1 ∙ sym (all_queued (board_at m b) pins b entries turns r.turns_are)) (elim halts_or_waits [ inl y ↦ inr (inl y) | inr y ↦ inr (inr y.1) ])
 
 -- where the board took the set-up by the answer, every stepper that moves is halted
 pub stops_halt : (m : Machine) (switches : List Switch) (pins : List (List Level)) (entries : List Entry) (b : ℕ) (c : Came) (before : List Came) (turns : List BoardTurn) (h : Homing) (s : ℕ) → IsValidMachine m → IsInRun m switches pins entries b before turns

@@ -40,13 +40,14 @@ use Rattle.run_laws.proofs.Lists.{cuts, orders_append, orders_at}
 use Rattle.homing_laws.specs.home_runs.Sections.{HomesFrom, IsAnswered, IsMoved, SetNone, SetNoneFrom, TakesSetUp, TakesStops, queued_by}
 use Rattle.homing_laws.specs.home_runs.Settled.{AreHomed, IsHomed, SetNoClock, SetNoClockFrom}
 use Rattle.homing_laws.specs.fired_runs.Since.{IsReadSo}
+use Rattle.homing_laws.specs.fired_runs.Waiting.{AllSetNot, SetsNot}
 use Rattle.homing_laws.proofs.fired_runs.Halting.{stops_halt}
 use Rattle.homing_laws.proofs.home_runs.Forming.{known_formed, moves_is, noted_formed, IsFormed}
 use Rattle.homing_laws.proofs.home_runs.Joining.{answered_halt}
 use Rattle.homing_laws.proofs.home_runs.Resetting.{AllSetOf, MovesAs, SetsOf, turn_sets}
 use Rattle.homing_laws.proofs.home_runs.Staging.{commands_both, ran_turns}
 use Rattle.homing_laws.proofs.home_runs.Whole.{turn_commands}
-use Rattle.homing_laws.proofs.home_runs.Staying.{AllSetNot, SetsNot, halted_stays, not_parts, steps_take, taken_later}
+use Rattle.homing_laws.proofs.home_runs.Staying.{halted_stays, not_parts, steps_take, taken_later}
 
 -- commands that were sent from a turn on
 abbrev pub AllFrom : ℕ → List Sent → Type 0

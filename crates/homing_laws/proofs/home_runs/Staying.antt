@@ -18,16 +18,8 @@ use Rattle.link_work.specs.Turn.{LinkState}
 use Rattle.link_work.proofs.Turns.{turns_are_steps}
 use Rattle.board_runs.specs.Turns.{AreBoardTurns, BoardTurn, stands_after}
 use Rattle.homing_laws.specs.home_runs.Guards.{IsCalm}
+use Rattle.homing_laws.specs.fired_runs.Waiting.{AllSetNot, SetsNot}
 use Rattle.homing_laws.proofs.home_runs.Guarding.{passes_next, takes_next}
-
--- a command doesn't set the clock of a stepper
-abbrev pub SetsNot : ℕ → Cmd → Type 0
-SetsNot i (cmd.ResetStepClock oid clock) = oid ≡ i → ⊥
-SetsNot i c = Unit {0}
-
-abbrev pub AllSetNot : ℕ → List Meant → Type 0
-AllSetNot i [] = Unit {0}
-AllSetNot i (m ∷ ms) = SetsNot i m.command × AllSetNot i ms
 
 pub not_parts : (i : ℕ) (xs ys : List Meant) → AllSetNot i (xs ++ ys) → AllSetNot i xs × AllSetNot i ys
 not_parts i [] ys a = (tt, a)
@@ -39,7 +31,7 @@ calm_for i (cmd.ResetStepClock oid clock) n = (0, n)
 calm_for i (cmd.ConfigTrsync oid) n = (oid, refl)
 calm_for i c n = (0, tt)
 
-takes_stay : (i : ℕ) (r : Rig) (c : Cmd) → SetsNot i c → IsIn true i r.controller → IsIn true i (takes r c).rig.controller
+pub takes_stay : (i : ℕ) (r : Rig) (c : Cmd) → SetsNot i c → IsIn true i r.controller → IsIn true i (takes r c).rig.controller
 takes_stay i r c n is = let x = calm_for i c n in (takes_next i x.0 r c x.1).keep true is
 
 all_stay : (i : ℕ) (r : Rig) (ms : List Meant) → AllSetNot i ms → IsIn true i r.controller → IsIn true i (takes_all r (commands_of ms)).rig.controller

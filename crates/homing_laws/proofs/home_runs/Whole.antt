@@ -147,7 +147,7 @@ grown i j s (c ∷ cs) only sole =
     (rest.0, λ m. rest.1 (made_first i s u c (times_made i cs) (makes i c) refl one.1 m), λ t. rest.2 (there_first j s u c cs one.2 t))
 
 -- a stage that is ready stays so, and one that is whole behind calm commands
-ready_on : (i j : ℕ) (s : Stage) (cs : List Cmd) → Only j cs → Ready s → Ready (stage_from i j s cs)
+pub ready_on : (i j : ℕ) (s : Stage) (cs : List Cmd) → Only j cs → Ready s → Ready (stage_from i j s cs)
 ready_on i j s cs only r = let g = grown i j s cs only r.sole in record { sole = g.0; made = g.1 (inl r.made); there = g.2 (inl r.there) }
 
 calm_only : (i j : ℕ) (cs : List Cmd) → EachCalm i j cs → Only j cs

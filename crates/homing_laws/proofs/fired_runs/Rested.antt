@@ -482,10 +482,10 @@ module _ (m : Machine) (v : IsValidMachine m) (switches : List Switch) (pins : L
                 let same : behind_turn (Heard h) K ≡ g = some_same (behind_turn (Heard h) K) g (sym (goes_to h e open_it ends) ∙ is) in (
                   (next_of m switches d past now.goes_on open_it).phase,
                   λ member.
-                  (let own : IsMember b (members_of h.group) = subst (IsMember b) (ap (λ (z : Homing). members_of z.group) (sym same) ∙ same_members h) member in
-                  let far = (ahead h e).1 own in
-                  let start : h.start ≡ g.start = ap (λ (z : Homing). z.start) same in
-                  elim (eqb_tells h.start (K + 251)) [ inl p ↦ absurd (none h e own p.1) | inr p ↦ let other = p.1 in grind (arith, other, far, start) ]),
+                      (let own : IsMember b (members_of h.group) = subst (IsMember b) (ap (λ (z : Homing). members_of z.group) (sym same) ∙ same_members h) member in
+                      let far = (ahead h e).1 own in
+                      let start : h.start ≡ g.start = ap (λ (z : Homing). z.start) same in
+                      elim (eqb_tells h.start (K + 251)) [ inl p ↦ absurd (none h e own p.1) | inr p ↦ let other = p.1 in grind (arith, other, far, start) ]),
                 )
             go (Some end) ends = absurd (clash (known_by m switches (d ∷ past)).homing g (answered_over h e open_it end ends) is)
 

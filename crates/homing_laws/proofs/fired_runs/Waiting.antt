@@ -103,16 +103,14 @@ one_waits i j r m left w [] are calm none =
     let is : cmd.StepperStopOnTrigger i j ≡ m.command = sym (ap (λ (x : Meant). x.command) same ∙ w.binds) in
     let Finds : Cmd → Type 0 = λ c. FindsHalted i r c in
     let Next_is : Cmd → Type 0 = λ c. Settles i j left (takes r c).rig in
-    let stop = cmd.StepperStopOnTrigger i j in
-    (
+    let stop = cmd.StepperStopOnTrigger i j in (
       subst Finds is tt,
       λ sets. subst Next_is is (elim (running_or r.controller.state) [ inl runs ↦ inr (inl (bound_halts i j r runs w.fired w.there)) | inr n ↦ inl (λ runs. n (ran r (stop ∷ []) runs)) ]),
     )
 one_waits i j r m left w (y ∷ front) are calm none =
     let same = cons_same m y left (front ++ w.bind ∷ w.back) are in
     let Finds : Meant → Type 0 = λ x. FindsHalted i r x.command in
-    let After : Meant → Type 0 = λ x. Settles i j left (takes r x.command).rig in
-    (
+    let After : Meant → Type 0 = λ x. Settles i j left (takes r x.command).rig in (
       subst Finds (sym same.0) (finds_not i r y.command none.0),
       λ sets. subst After (sym same.0) (inr (inr (waits_next i j r (takes r y.command).rig (m ∷ left) w front left (takes_next i j r y.command calm.0) same.1 calm.1 none.1))),
     )

@@ -1,5 +1,5 @@
 -- A trigger that can't trigger stays as it is over commands of which none starts one.
-use Rattle.std.proofs.Common.{◌≡◌, ◌≢◌, ℕ, zero, suc, ◌+◌, ◌/◌, ◌<◌, Bool, true, false, List, [], ◌∷◌, ◌++◌, length, map, get_or, set, Option, Some, None, refl, ap, sym, ◌∙◌, subst, arith, append_assoc, append-nil, ◌⊎◌, inl, inr}
+use Rattle.std.proofs.Common.{◌≡◌, ◌≢◌, ℕ, zero, suc, ◌+◌, ◌/◌, ◌<◌, Bool, true, false, List, [], ◌∷◌, ◌++◌, length, get_or, set, Option, Some, None, refl, ap, sym, ◌∙◌, subst, append_assoc, ◌⊎◌, inl, inr}
 use Rattle.std.specs.Prelude.{if◌then◌else◌, slice_index_or, nat_le, nat_lt}
 use Rattle.std.proofs.lemmas.List.{append_cancel_left, get_or-set_other}
 use Rattle.plan_types.specs.declared.clock.BoardClock.{BoardClock}
@@ -28,7 +28,6 @@ use Rattle.link_work.specs.Turn.{LinkState}
 use Rattle.link_work.proofs.Turns.{turns_are_steps}
 use Rattle.board_runs.specs.Turns.{AreBoardTurns, BoardTurn, stands_after}
 use Rattle.homing_laws.proofs.clear_boards.Held.{at_set, rested_is}
-use Rattle.homing_laws.proofs.home_runs.Staging.{commands_both}
 use Rattle.homing_laws.proofs.home_runs.Staying.{steps_take, taken_later}
 use Rattle.homing_laws.specs.clear_groups.Resting.{EachTame, IsTame}
 

@@ -1,5 +1,5 @@
 -- Between a board's homing sections its trigger is at rest; and in the turn in which a group answers it has triggered since the section's start.
-use Rattle.std.proofs.Common.{◌≡◌, ℕ, suc, ◌+◌, ◌-◌, ◌*◌, ◌<◌, ◌≤◌, ◌⊎◌, inl, inr, false, List, [], ◌∷◌, ◌++◌, length, drop, map, Option, Some, None, refl, ap, sym, ◌∙◌, subst, arith, append_assoc, append-nil}
+use Rattle.std.proofs.Common.{◌≡◌, ℕ, ◌+◌, ◌-◌, ◌*◌, ◌<◌, ◌≤◌, ◌⊎◌, inl, inr, false, List, [], ◌∷◌, ◌++◌, length, drop, map, Option, Some, None, refl, ap, sym, ◌∙◌, subst, arith, append_assoc, append-nil}
 use Rattle.std.proofs.lemmas.Bool.Decides.{eqb_tells, leb_tells}
 use Rattle.std.proofs.lemmas.List.{append_cancel_left, take-append-drop}
 use Rattle.plan_types.specs.declared.levels.Level.{Level}
@@ -23,21 +23,20 @@ use Rattle.trigger_group.specs.declared.order.End.{End}
 use Rattle.trigger_group.specs.declared.order.Member.{Member}
 use Rattle.trigger_group.specs.declared.seen.Fired.{Fired}
 use Rattle.trigger_group.specs.declared.seen.Seen.{Seen}
-use Rattle.trigger_group.specs.Group.{GroupState, after}
+use Rattle.trigger_group.specs.Group.{after}
 use Rattle.trigger_group.proofs.Knows.{after_members, after_start}
 use Rattle.axis_homing.specs.declared.homing.Homing.{Homing}
 use Rattle.axis_homing.specs.Homing.{answer_in, goes_on_homing, hears_all, homing_after}
 use Rattle.axis_homing.specs.Rising.{members_of}
 use Rattle.host_reactor.specs.declared.ordered.Phase.{Phase}
-use Rattle.host_reactor.specs.declared.ordered.Phase.TheVariants.{Connecting, Running as RunsPhase}
+use Rattle.host_reactor.specs.declared.ordered.Phase.TheVariants.{Connecting}
 use Rattle.host_reactor.specs.Notes.{news_of, noted}
 use Rattle.host_reactor.specs.Reactor.{Reacted}
-use Rattle.host_reactor.specs.Runs.{Came, GoesOn, known_by, state_at}
+use Rattle.host_reactor.specs.Runs.{Came, known_by, state_at}
 use Rattle.board_runs.specs.Turns.{AreBoardTurns, BoardTurn, latest_state, stands_after}
 use Rattle.clock_runs.specs.Runs.{IsInRun}
 use Rattle.clock_runs.proofs.Lines.{as_long, noted_phase, run_before}
 use Rattle.clock_runs.proofs.Turning.{goes}
-use Rattle.run_laws.proofs.Linking.{valid_ticks}
 use Rattle.run_laws.proofs.Lists.{cons_same, cuts}
 use Rattle.homing_laws.specs.home_runs.Sections.{HomesFrom, IsOf, queued_by}
 use Rattle.homing_laws.specs.home_runs.Told.{IsMember}
@@ -50,7 +49,7 @@ use Rattle.homing_laws.proofs.home_runs.Windows.{begun, ordered_after}
 use Rattle.homing_laws.proofs.clear_boards.Clocking.{board_rises}
 use Rattle.homing_laws.proofs.clear_boards.Standing.{sound_at}
 use Rattle.homing_laws.specs.switch_runs.Reports.{IsReport, WasReported}
-use Rattle.homing_laws.specs.clear_groups.Resting.{EachTame, IsStartedIn}
+use Rattle.homing_laws.specs.clear_groups.Resting.{EachTame}
 use Rattle.homing_laws.proofs.clear_groups.Known.{answered_late, behind_turn}
 use Rattle.homing_laws.proofs.clear_groups.Noted.{drift_small, noted_newly, some_or_none}
 use Rattle.homing_laws.proofs.clear_groups.Plain.{none_at, none_some}
@@ -58,7 +57,7 @@ use Rattle.homing_laws.proofs.clear_groups.Resting.{Together, clash, known_toget
 use Rattle.homing_laws.proofs.clear_groups.Starting.{member_or_not, starts_either}
 use Rattle.homing_laws.specs.fired_runs.Since.{AreBehind, AreReadTrue, BeginsApart, HasFiredSince, IsAtRest, IsFiredAt, IsOff, IsStart, WasFiredAt}
 use Rattle.homing_laws.proofs.fired_runs.Old.{OldAt, tame_both, tame_parts, turns_old}
-use Rattle.homing_laws.proofs.fired_runs.Once.{Split, turn_split}
+use Rattle.homing_laws.proofs.fired_runs.Once.{turn_split}
 use Rattle.homing_laws.proofs.fired_runs.Reported.{before_start, member_told, sole_state}
 use Rattle.homing_laws.proofs.fired_runs.Under.{under_after}
 

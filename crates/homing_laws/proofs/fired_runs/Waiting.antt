@@ -1,12 +1,12 @@
 -- A stepper that waits to be bound to a trigger that can't trigger is halted before the board takes a step of it.
-use Rattle.std.proofs.Common.{◌≡◌, ℕ, ◌⊎◌, inl, inr, false, true, List, [], ◌∷◌, ◌++◌, length, Option, Some, refl, ap, sym, ◌∙◌, subst, append_assoc}
+use Rattle.std.proofs.Common.{◌≡◌, ℕ, ◌⊎◌, inl, inr, false, true, List, [], ◌∷◌, ◌++◌, refl, ap, sym, ◌∙◌, subst, append_assoc}
 use Rattle.plan_types.specs.declared.plan.BoardState.{BoardState}
 use Rattle.plan_types.specs.declared.plan.BoardState.TheVariants.{Running, Shut}
 use Rattle.msg_code.specs.declared.cmd.Cmd.{Cmd}
 use Rattle.msg_code.specs.declared.cmd.Cmd.TheVariants as cmd
 use Rattle.board_sim.specs.Board.{stepper_at}
 use Rattle.board_sim.specs.Fair.{Meant, commands_of}
-use Rattle.board_sim.specs.Rig.{Rig, Slot, acts_running, passes, slot_at, takes, takes_all}
+use Rattle.board_sim.specs.Rig.{Rig, acts_running, passes, slot_at, takes, takes_all}
 use Rattle.board_sim.specs.RigRuns.{IsHalted, IsThere}
 use Rattle.board_sim.proofs.RigPlaces.{halted_is, is_halted, is_there, there_is}
 use Rattle.board_sim.proofs.RigStates.{passes_state}

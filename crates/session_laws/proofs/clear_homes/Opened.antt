@@ -1,29 +1,20 @@
 -- Notes that begin sections begin them where no homing section is known, and so that their groups answer of no expiry.
-use Rattle.std.proofs.Common.{◌≡◌, ◌⊎◌, ℕ, suc, ◌+◌, ◌<◌, ◌≤◌, List, [], ◌∷◌, ◌++◌, length, append_assoc, length-append, Option, Some, None, refl, ap, sym, ◌∙◌, subst, arith, inl, inr}
-use Rattle.std.proofs.lemmas.Bool.Decides.{eqb_tells}
+use Rattle.std.proofs.Common.{◌≡◌, ◌⊎◌, ℕ, ◌+◌, ◌<◌, ◌≤◌, List, [], ◌∷◌, ◌++◌, length, append_assoc, Option, Some, None, refl, sym, ◌∙◌, subst, arith, inl, inr}
 use Rattle.plan_types.specs.declared.machine.Machine.{Machine}
 use Rattle.plan_types.specs.declared.plan.SectionKind.TheVariants.{Home}
 use Rattle.plan_types.specs.Lines.{Clocks}
-use Rattle.msg_code.specs.declared.talk.State.{State}
 use Rattle.wire_scene.specs.declared.scene.Switch.{Switch}
-use Rattle.trigger_group.specs.declared.order.End.{End}
 use Rattle.axis_homing.specs.declared.homing.Homing.{Homing}
-use Rattle.axis_homing.specs.Homing.{answer_in, goes_on_homing, hears_all, homing_after}
 use Rattle.host_reactor.specs.declared.ordered.Phase.TheVariants.{Connecting}
 use Rattle.host_reactor.specs.Notes.{news_of, noted}
-use Rattle.host_reactor.specs.Reactor.{Reacted}
-use Rattle.host_reactor.specs.Runs.{Came, GoesOn, known_by, last_turn}
-use Rattle.clock_runs.proofs.Turning.{goes}
+use Rattle.host_reactor.specs.Runs.{Came, GoesOn, known_by}
 use Rattle.motion_work.specs.Seen.{Started}
 use Rattle.session_work.specs.declared.table.MotionTurn.{MotionTurn}
 use Rattle.run_plans.specs.Planned.{Plans}
 use Rattle.homing_laws.specs.home_runs.Words.{BeginsNone}
 use Rattle.homing_laws.specs.home_plans.Notes.{AreInARow, CameNotes, IsNoteOf}
-use Rattle.homing_laws.specs.home_parts.Answers.{ArePastConnecting, IsPlannedBy, TellsIn}
-use Rattle.homing_laws.proofs.home_parts.Ends.{ends_told}
-use Rattle.homing_laws.proofs.home_parts.Told.{past_tail, row_from, tells_now, tells_tail}
+use Rattle.homing_laws.specs.home_parts.Answers.{ArePastConnecting, IsPlannedBy}
 use Rattle.homing_laws.specs.clear_groups.Runs.{BeginsWell, IsBegunWell, IsTracked}
-use Rattle.homing_laws.proofs.clear_groups.Over.{told_over}
 use Rattle.homing_laws.proofs.home_plans.Fresh.{IsFresh, note_begins}
 use Rattle.homing_laws.proofs.home_parts.Apart.{IsOpen, none_open, open_in, row_of}
 

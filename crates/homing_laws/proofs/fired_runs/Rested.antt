@@ -87,14 +87,14 @@ record Read (m : Machine) (b start : ℕ) (f : Fired) (turns : List BoardTurn) :
   was : WasFiredAt (trigger_of m b) f.tick turns
   late : board_tick (clock_of (board_at m b)) (start - 1) ≤ f.tick
 
-of_some : (start : ℕ) (ms : List Member) (o : Option Homing) → IsOf start ms o → (h : Homing) × (o ≡ Some h) × (h.start ≡ start)
+of_some : (start : ℕ) (ms : List Member) (o : Option Homing) → IsOf start ms o → (h : Homing) × (o ≡ Some h) × (h.start ≡ start) × (members_of h.group ≡ ms)
 of_some start ms None of = absurd of
-of_some start ms (Some h) of = (h, refl, of.0)
+of_some start ms (Some h) of = (h, refl, of.0, of.2)
 
 read_now : (m : Machine) (switches : List Switch) (pins : List (List Level)) (entries : List Entry) (b from start : ℕ) (ms : List Member) (f : Fired) (c : Came) (before : List Came) (turns : List BoardTurn) → IsInRun m switches pins entries b before turns
-    → state_at b c.states ≡ latest_state turns → HomesFrom m switches from start ms (c ∷ before) → from < start → AreReadTrue m switches b (c ∷ before) turns → AreBehind m switches b (c ∷ before) → IsReport m switches b start f c before → Read m b start f turns
-read_now m switches pins entries b from start ms f c before [] r latest homes low reads behind x = absurd (let came = x.came in cc)
-read_now m switches pins entries b from start ms f c before (t ∷ earlier) r latest homes low reads behind x =
+    → state_at b c.states ≡ latest_state turns → HomesFrom m switches from start ms (c ∷ before) → from < start → IsMember b ms → AreReadTrue m switches b (c ∷ before) turns → AreBehind m switches b (c ∷ before) → IsReport m switches b start f c before → Read m b start f turns
+read_now m switches pins entries b from start ms f c before [] r latest homes low member reads behind x = absurd (let came = x.came in cc)
+read_now m switches pins entries b from start ms f c before (t ∷ earlier) r latest homes low member reads behind x =
     let lines = clocks_at (noted m c.note (known_by m switches before)).clocks b in
     let same : t.state ≡ x.state = sole_state t.state x.state (sym latest ∙ x.came) in
     let turn : x.state.turn ≡ length earlier = ap (λ (s : State). s.turn) (sym same) ∙ r.turns_are.0.1.turn in
@@ -106,7 +106,7 @@ read_now m switches pins entries b from start ms f c before (t ∷ earlier) r la
     let At : ℕ → Type 0 = λ n. board_tick (clock_of (board_at m b)) (n - 1) ≤ lines_tick lines (n * turn_ns) in
     let ordered = subst At own begin in
     record {
-      was = reads.0 known.0 f known.1 (subst (λ (n : ℕ). IsReport m switches b n f c before) (sym own) x);
+      was = reads.0 known.0 f known.1 (subst (IsMember b) (sym known.3) member) (subst (λ (n : ℕ). IsReport m switches b n f c before) (sym own) x);
       late = elim (leb_tells (lines_tick lines (start * turn_ns)) f.tick) [
         | inl p ↦ let far = p.1 in omega (arith, ordered, far)
         | inr p ↦ let low_tick = p.1 in let early = before_start lines start f.tick f.turn (omega (arith, low)) (omega (arith, low_tick)) x.turn_is in let late = x.late in absurd (omega (arith, early, late))
@@ -114,12 +114,12 @@ read_now m switches pins entries b from start ms f c before (t ∷ earlier) r la
     }
 
 was_read : (m : Machine) (switches : List Switch) (pins : List (List Level)) (entries : List Entry) (b from start : ℕ) (ms : List Member) (f : Fired) (c : Came) (before : List Came) (turns : List BoardTurn) → IsInRun m switches pins entries b before turns
-    → state_at b c.states ≡ latest_state turns → HomesFrom m switches from start ms (c ∷ before) → from < start → AreReadTrue m switches b (c ∷ before) turns → AreBehind m switches b (c ∷ before) → WasReported m switches b start f (c ∷ before) → Read m b start f turns
-was_read m switches pins entries b from start ms f c before turns r latest homes low reads behind (inl now) = read_now m switches pins entries b from start ms f c before turns r latest homes low reads behind now
-was_read m switches pins entries b from start ms f c [] turns r latest homes low reads behind (inr old) = absurd old
-was_read m switches pins entries b from start ms f c (d ∷ before) [] r latest homes low reads behind (inr old) = absurd r.both
-was_read m switches pins entries b from start ms f c (d ∷ before) (t ∷ earlier) r latest homes low reads behind (inr old) =
-    let rest = was_read m switches pins entries b from start ms f d before earlier (run_before m switches pins entries b d before t earlier r) r.both.0 homes.1 low reads.1 behind.1 old in
+    → state_at b c.states ≡ latest_state turns → HomesFrom m switches from start ms (c ∷ before) → from < start → IsMember b ms → AreReadTrue m switches b (c ∷ before) turns → AreBehind m switches b (c ∷ before) → WasReported m switches b start f (c ∷ before) → Read m b start f turns
+was_read m switches pins entries b from start ms f c before turns r latest homes low member reads behind (inl now) = read_now m switches pins entries b from start ms f c before turns r latest homes low member reads behind now
+was_read m switches pins entries b from start ms f c [] turns r latest homes low member reads behind (inr old) = absurd old
+was_read m switches pins entries b from start ms f c (d ∷ before) [] r latest homes low member reads behind (inr old) = absurd r.both
+was_read m switches pins entries b from start ms f c (d ∷ before) (t ∷ earlier) r latest homes low member reads behind (inr old) =
+    let rest = was_read m switches pins entries b from start ms f d before earlier (run_before m switches pins entries b d before t earlier r) r.both.0 homes.1 low member reads.1 behind.1 old in
     record { was = inr rest.was; late = rest.late }
 
 connecting_or : (p : Phase) → (p ≡ Connecting) ⊎ (p ≡ Connecting → ⊥)
@@ -365,7 +365,7 @@ module _ (m : Machine) (v : IsValidMachine m) (switches : List Switch) (pins : L
       let now : IsOf h.start ms (noted m c.note (known_by m switches before)).homing = subst (λ (o : Option Homing). IsOf h.start ms o) (sym still) (refl, u.together, refl) in
       let homes : HomesFrom m switches (length u.early) h.start ms (c ∷ before) = (λ l. (open_past, now), u.since) in
       let at = u.begun_is.at in
-      let read = was_read m switches pins entries b (length u.early) h.start ms told.0 c before turns r latest homes (omega (arith, at)) reads behind told.1 in
+      let read = was_read m switches pins entries b (length u.early) h.start ms told.0 c before turns r latest homes (omega (arith, at)) u.member reads behind told.1 in
       subst (λ (z : List BoardTurn). HasFiredSince Oid h.start First z) (sym u.are)
       (fired_since h.start before u.later u.early u.begun_is (subst (λ (z : List BoardTurn). Run before z) u.are r) told.0.tick read.late (subst (λ (z : List BoardTurn). WasFiredAt Oid told.0.tick z) u.are read.was))
 

@@ -14,11 +14,13 @@ use Rattle.link_work.specs.Turn.{LinkState}
 use Rattle.board_asking.specs.Machine.{trigger_of}
 use Rattle.trigger_group.specs.declared.seen.Fired.{Fired}
 use Rattle.axis_homing.specs.declared.homing.Homing.{Homing}
+use Rattle.axis_homing.specs.Rising.{members_of}
 use Rattle.host_reactor.specs.declared.ordered.Phase.TheVariants.{Connecting}
 use Rattle.host_reactor.specs.Notes.{news_of, noted}
 use Rattle.host_reactor.specs.Runs.{Came, known_by}
 use Rattle.board_runs.specs.Turns.{BoardTurn, stands_after}
 use Rattle.homing_laws.specs.home_runs.Sections.{queued_by}
+use Rattle.homing_laws.specs.home_runs.Told.{IsMember}
 use Rattle.homing_laws.specs.home_runs.Words.{BeginsNone}
 use Rattle.homing_laws.specs.switch_runs.Reports.{IsReport}
 use Rattle.homing_laws.specs.clear_groups.Resting.{EachTame}
@@ -36,10 +38,10 @@ WasFiredAt trigger tick [] = ⊥
 WasFiredAt trigger tick (t ∷ before) = IsFiredAt trigger tick t.after.core.board ⊎ WasFiredAt trigger tick before
 
 -- Where the state of a board that comes in a turn of the reactor tells that its trigger has triggered, and that counts for the homing section that is
--- known, the tick as which it is read is one since which the board's trigger could not trigger, as one of these turns ended.
+-- known, of which the board is a member, the tick as which it is read is one since which the board's trigger could not trigger, as one of these turns ended.
 abbrev pub ReadsTrue : Machine → List Switch → ℕ → Came → List Came → List BoardTurn → Type 0
 ReadsTrue m switches b c before turns =
-    (h : Homing) (f : Fired) → (noted m c.note (known_by m switches before)).homing ≡ Some h → IsReport m switches b h.start f c before → WasFiredAt (trigger_of m b) f.tick turns
+    (h : Homing) (f : Fired) → (noted m c.note (known_by m switches before)).homing ≡ Some h → IsMember b (members_of h.group) → IsReport m switches b h.start f c before → WasFiredAt (trigger_of m b) f.tick turns
 
 -- so in each of some turns; the first state that came is that of the latest of the board's turns
 abbrev pub AreReadTrue : Machine → List Switch → ℕ → List Came → List BoardTurn → Type 0

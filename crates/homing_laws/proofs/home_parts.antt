@@ -12,3 +12,4 @@ pub mod Still
 pub mod Bits
 pub mod Movers
 pub mod Limits
+pub mod Apart

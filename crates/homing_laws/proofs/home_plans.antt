@@ -2,3 +2,4 @@ pub mod Noting
 pub mod Starting
 pub mod Knowing
 pub mod Controlling
+pub mod Fresh

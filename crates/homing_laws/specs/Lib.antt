@@ -5,3 +5,4 @@ pub mod clear_groups
 pub mod home_plans
 pub mod home_parts
 pub mod missed_groups
+pub mod fired_runs

@@ -1,9 +1,10 @@
 //! What the homing sections of a planner are in a whole run.
 
-ghost use Rattle.std.specs.Prelude.{◌≡◌, ◌⊎◌, ◌<◌, ◌≤◌, ◌+◌, ◌++◌, ◌∷◌, ℕ, List, Option, Some, [], length, take};
+ghost use Rattle.std.specs.Prelude.{◌≡◌, ◌⊎◌, ◌<◌, ◌≤◌, ◌+◌, ◌-◌, ◌*◌, ◌++◌, ◌∷◌, ℕ, List, Option, Some, [], length, take};
 ghost use Rattle.plan_types.specs.declared.machine.Machine.{Machine};
 ghost use Rattle.plan_types.specs.declared.plan.SectionKind.TheVariants.{Home};
-ghost use Rattle.plan_types.specs.Lines.{Clocks};
+ghost use Rattle.plan_types.specs.Clock.{board_tick, clock_of, turn_ns};
+ghost use Rattle.plan_types.specs.Lines.{Clocks, lines_tick};
 ghost use Rattle.plan_types.specs.Machines.{IsValidMachine, board_at, stepper_at};
 ghost use Rattle.plan_types.specs.Plan.{Fits};
 ghost use Rattle.plan_types.specs.Sections.{base_tick, clocks_at, stepper_plan};
@@ -18,7 +19,8 @@ ghost use Rattle.wire_scene.specs.declared.scene.Entry.{Entry};
 ghost use Rattle.wire_scene.specs.declared.scene.Switch.{Switch};
 ghost use Rattle.board_runs.specs.Turns.{BoardTurn};
 ghost use Rattle.clock_runs.specs.Runs.{IsInRun, UnitsFit, orders_in};
-ghost use Rattle.host_reactor.specs.Runs.{Came};
+ghost use Rattle.host_reactor.specs.declared.ordered.Phase.TheVariants.{Connecting};
+ghost use Rattle.host_reactor.specs.Runs.{Came, GoesOn, known_by};
 ghost use Rattle.motion_work.specs.Homes.{no_end};
 ghost use Rattle.motion_work.specs.Seen.{Started};
 ghost use Rattle.motion_work.specs.Told.{Told};
@@ -30,6 +32,8 @@ ghost use Rattle.run_plans.specs.Homed.{TookControlsIn, runs_on, stops_of};
 ghost use Rattle.run_plans.specs.Lines.{TellTurns, pulses_of};
 ghost use Rattle.run_plans.specs.Planned.{Plans};
 ghost use Rattle.homing_laws.specs.home_runs.Words.{AreToldIn};
+ghost use Rattle.homing_laws.specs.home_plans.Notes.{AreInARow, CameNotes, IsNoteOf};
+ghost use Rattle.homing_laws.specs.fired_runs.Since.{AreBehind, BeginsApart};
 ghost use Rattle.homing_laws.specs.home_parts.Answers.{ArePastConnecting, IsPlannedBy, MayHome, TakeSetUps, TellNone, TellsIn};
 ghost use Rattle.homing_laws.specs.home_parts.Cuts.{AreOverBefore, cuts_on};
 ghost use Rattle.homing_laws.specs.home_parts.Known.{KnowsLately, StartInRange};
@@ -55,6 +59,18 @@ pub fn ended_sections_are_told()
         IsPlannedBy m switches (length m.boards) ts p came → p.seen.told ≡ Some t → ready + 260 ≤ t.first → ArePastConnecting m switches ready came → MayHome m p.seen.begun →
         IsInRun m switches pins entries b came turns → TakeSetUps m pins entries b p.seen.begun turns →
         AreToldIn m switches pins entries b (stops_of p.seen.begun) (cuts_on m t.clocks until p.seen.begun b) turns }
+{}
+
+/// The law of sections apart: a planner's notes begin each section where no homing section is known, past connecting, 251 turns before its start or earlier;
+/// and as each of its homing sections starts, a board that its clock lines track is no more than a turn ahead of those that the reactor knows then.
+pub fn planned_sections_are_apart()
+    ensures apart { (m : Machine) (switches : List Switch) (ts : List MotionTurn) (p : Plans m (length m.boards) ts) (ready first : ℕ) (c : Came) (came : List Came) → ready + 260 ≤ first → AreInARow first p.seen.begun →
+        IsPlannedBy m switches (length m.boards) ts p came → ArePastConnecting m switches ready came → IsNoteOf p.seen.begun (length came) c.note → ((known_by m switches came).phase ≡ Connecting → ⊥) →
+        BeginsApart m switches (c ∷ came) }
+    ensures behind { (m : Machine) (switches : List Switch) (b ready first : ℕ) (begun : List Started) (clocks : List Clocks) (c : Came) (came : List Came) → ready + 1 ≤ first → AreInARow first begun → AreKept (clocks_at clocks b) →
+        GoesOn m switches came → CameNotes begun (c ∷ came) → KnowsLately m switches clocks (c ∷ came) → ArePastConnecting m switches ready (c ∷ came) →
+        ((past : List Started) (s : Started) (later : List Started) (axis : ℕ) → begun ≡ past ++ s ∷ later → s.section.kind ≡ Home axis → s.start ≤ length (c ∷ came) →
+        board_tick (clock_of (board_at m b)) (s.start - 1) ≤ lines_tick (clocks_at clocks b) (s.start * turn_ns)) → AreBehind m switches b (c ∷ came) }
 {}
 
 /// The law of moving steppers: each stepper of a board that has units in a homing section moves in it.

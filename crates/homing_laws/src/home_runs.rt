@@ -103,8 +103,9 @@ pub fn answered_sections_are_halted()
         IsHalted (stepper_at (stands_after (first_state (board_at m b) pins b entries) turns).core.board.controller (machine.stepper_at m stepper).oid) }
 {}
 
-/// The law of parts that stop: where the parts of a board's steps stop with homing sections, which it took in time, it is settled as each of
-/// its turns begins: while it runs it has begun the parts that stop by then, and halted their steppers.
+/// The law of parts that stop: where the parts of a board's steps stop with homing sections, it is settled as each of its turns begins: while it runs it
+/// has begun the parts that stop by then, and halted their steppers. What it takes is that it took the set-up of each by the answer; and that it did so in
+/// time (`TakesSetUp`), or that what it tells is read as the ticks since which its trigger can't trigger (`IsReadSo`).
 pub fn boards_settle_with_the_answer()
     ensures { (m : Machine) (switches : List Switch) (pins : List (List Level)) (entries : List Entry) (b : ℕ) (turns : List BoardTurn) (stops : ℕ → Option ℕ) (end : LinkState)
         (t : AreTurns (clock_of (board_at m b)) 0 (orders_in turns) (first_state (board_at m b) pins b entries) end) → IsValidMachine m →

@@ -4,6 +4,7 @@
 
 pub mod clear_boards;
 pub mod clear_groups;
+pub mod fired_runs;
 pub mod home_parts;
 pub mod home_plans;
 pub mod home_runs;

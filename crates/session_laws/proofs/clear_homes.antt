@@ -4,7 +4,6 @@ pub mod Through
 pub mod Clear
 pub mod Expired
 pub mod First
-pub mod Noted
 pub mod Opened
 pub mod Running
 pub mod Bounds

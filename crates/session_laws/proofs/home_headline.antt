@@ -10,7 +10,6 @@ pub mod Board
 pub mod Ranges
 pub mod Soon
 pub mod Following
-pub mod Reported
 pub mod Cuts
 pub mod Shows
 pub mod Heads

@@ -118,7 +118,7 @@ noted_new m switches c before h begins is of early =
     )
 
 -- a board whose clock lines track it
-drift_small : (d : ℤ) → negsuc 199 ≤ℤ d → d ≤ℤ pos 200 → ppm_size d ≤ 200
+pub drift_small : (d : ℤ) → negsuc 199 ≤ℤ d → d ≤ℤ pos 200 → ppm_size d ≤ 200
 drift_small (pos n) low high = omega (arith, ints, high)
 drift_small (negsuc n) low high = omega (arith, ints, low)
 

@@ -84,11 +84,11 @@ dir_tame stepper (Some up) = (tt, tt)
 unit_tame : (u : StepUnit) → EachTame (commands_of (unit_orders u))
 unit_tame u = meant_both (map plain (reset_commands u.stepper u.reset)) _ (reset_tame u.stepper u.reset) (meant_both (map plain (dir_commands u.stepper u.up)) _ (dir_tame u.stepper u.up) (tt, tt))
 
-units_tame : (us : List StepUnit) → EachTame (commands_of (units_orders us))
+pub units_tame : (us : List StepUnit) → EachTame (commands_of (units_orders us))
 units_tame [] = tt
 units_tame (u ∷ us) = meant_both (unit_orders u) (units_orders us) (unit_tame u) (units_tame us)
 
-taken_tame : (t : BoardTurn) → EachTame t.control.commands → EachTame (commands_of (queued_in (orders t.control t.batch)))
+pub taken_tame : (t : BoardTurn) → EachTame t.control.commands → EachTame (commands_of (queued_in (orders t.control t.batch)))
 taken_tame t k = meant_both (map plain t.control.commands) (units_orders t.batch.units) (subst EachTame (sym (plain_are t.control.commands)) k) (units_tame t.batch.units)
 
 -- what was told
@@ -107,11 +107,11 @@ told_late start (x ∷ turns) (inl t) = (let l = t.0 in omega (arith, l))
 told_late start (x ∷ turns) (inr t) = (let l = told_late start turns t in omega (arith, l))
 
 -- a group and its section start together
-abbrev Together : Option Homing → Type 0
+abbrev pub Together : Option Homing → Type 0
 Together None = Unit {0}
 Together (Some h) = h.group.start ≡ h.start
 
-newly_together : (m : Machine) (o : Option Homing) → IsNewly m o → Together o
+pub newly_together : (m : Machine) (o : Option Homing) → IsNewly m o → Together o
 newly_together m None k = tt
 newly_together m (Some h) k = k.0
 
@@ -119,14 +119,14 @@ after_together : (k : ℕ) (h : Homing) (o : Option End) → h.group.start ≡ h
 after_together k h None e = after_start h.group k ∙ e
 after_together k h (Some end) e = tt
 
-heard_together : (clocks : List Clocks) (states : List State) (h : Homing) → h.group.start ≡ h.start → (hears_all clocks states h).group.start ≡ h.start
+pub heard_together : (clocks : List Clocks) (states : List State) (h : Homing) → h.group.start ≡ h.start → (hears_all clocks states h).group.start ≡ h.start
 heard_together clocks states h e = states_start clocks 0 h.start states h.group ∙ e
 
 homing_together : (clocks : List Clocks) (k : ℕ) (states : List State) (o : Option Homing) → Together o → Together (homing_after clocks k states o)
 homing_together clocks k states None t = tt
 homing_together clocks k states (Some h) t = let g = hears_all clocks states h in after_together k g (answer_in k g.start g.group) (heard_together clocks states h t)
 
-running_not : (p : Phase) → p ≡ RunsPhase → p ≡ Connecting → ⊥
+pub running_not : (p : Phase) → p ≡ RunsPhase → p ≡ Connecting → ⊥
 running_not p e f = let bad : RunsPhase ≡ Connecting = sym e ∙ f in cc
 
 can_or : (b : Bool) → (b ≡ true) ⊎ (b ≡ false)
@@ -141,7 +141,7 @@ clash None h e f = cc
 clash (Some x) h e f = cc
 
 -- a turn of the reactor
-known_together : (m : Machine) (switches : List Switch) (came : List Came) → GoesOn m switches came → Together (known_by m switches came).homing
+pub known_together : (m : Machine) (switches : List Switch) (came : List Came) → GoesOn m switches came → Together (known_by m switches came).homing
 known_together m switches [] g = tt
 known_together m switches (c ∷ before) g =
     let known = known_by m switches before in

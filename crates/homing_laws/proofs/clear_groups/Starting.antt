@@ -52,7 +52,7 @@ use Rattle.homing_laws.specs.home_runs.Told.{IsMember}
 use Rattle.homing_laws.proofs.home_runs.Grouped.{members_states}
 use Rattle.homing_laws.specs.clear_groups.Resting.{EachTame, IsTame, IsStartedIn}
 
-each_both : (xs ys : List Cmd) → EachTame xs → EachTame ys → EachTame (xs ++ ys)
+pub each_both : (xs ys : List Cmd) → EachTame xs → EachTame ys → EachTame (xs ++ ys)
 each_both [] ys a b = b
 each_both (x ∷ xs) ys a b = (a.0, each_both xs ys a.1 b)
 
@@ -83,16 +83,16 @@ stop_tame : (s : Bool) → EachTame (stop_command s)
 stop_tame true = (tt, tt)
 stop_tame false = tt
 
-question_tame : (commands : List Cmd) (a : Asking) (s : Bool) → EachTame (clock_question commands a ++ stop_command s)
+pub question_tame : (commands : List Cmd) (a : Asking) (s : Bool) → EachTame (clock_question commands a ++ stop_command s)
 question_tame commands a s = each_both (clock_question commands a) (stop_command s) (each_if (asks_now commands a) (cmd.GetUptime ∷ []) (tt, tt)) (stop_tame s)
 
 -- orders that start no trigger
-abbrev OrderTame : Order → Type 0
+abbrev pub OrderTame : Order → Type 0
 OrderTame order.Start = ⊥
 OrderTame what = Unit {0}
 
 -- or go to other boards
-abbrev CtlsTame : ℕ → List Ctl → Type 0
+abbrev pub CtlsTame : ℕ → List Ctl → Type 0
 CtlsTame b [] = Unit {0}
 CtlsTame b (c ∷ cs) = (c.board ≡ b → OrderTame c.what) × CtlsTame b cs
 
@@ -112,7 +112,7 @@ resets_tame : (b : ℕ) (x : Seen) (ks : List ℕ) → CtlsTame b (map (reset x)
 resets_tame b x [] = tt
 resets_tame b x (k ∷ ks) = (λ e. tt, resets_tame b x ks)
 
-stops_tame : (b : ℕ) (x : Seen) (ks : List ℕ) → CtlsTame b (map (stop x) ks)
+pub stops_tame : (b : ℕ) (x : Seen) (ks : List ℕ) → CtlsTame b (map (stop x) ks)
 stops_tame b x [] = tt
 stops_tame b x (k ∷ ks) = (λ e. tt, stops_tame b x ks)
 
@@ -121,11 +121,11 @@ fired_tame b None xs a = a
 fired_tame b (Some f) xs a = tt
 
 -- a round that starts no trigger
-abbrev RoundTame : Round → Type 0
+abbrev pub RoundTame : Round → Type 0
 RoundTame (Starts timeout) = ⊥
 RoundTame round = Unit {0}
 
-to_tame : (b : ℕ) (round : Round) (x : Seen) → (x.member.board ≡ b → RoundTame round) → CtlsTame b (orders_to round x)
+pub to_tame : (b : ℕ) (round : Round) (x : Seen) → (x.member.board ≡ b → RoundTame round) → CtlsTame b (orders_to round x)
 to_tame b (Resets row) x f = resets_tame b x (take 6 (drop (row * 6) (steppers x)))
 to_tame b (Starts timeout) x f = (λ e. f e, (λ e. tt, stops_tame b x (take 8 (steppers x))))
 to_tame b Homes x f =
@@ -134,10 +134,10 @@ to_tame b Homes x f =
 to_tame b (Timeouts turn) x f = (λ e. tt, tt)
 to_tame b Relays x f = fired_tame b x.fired (to_board x order.Trigger ∷ []) (λ e. tt, tt)
 
-abbrev MembersOf : List Seen → List Member
+abbrev pub MembersOf : List Seen → List Member
 MembersOf xs = map (λ (s : Seen). s.member) xs
 
-round_tame : (b : ℕ) (round : Round) (xs : List Seen) → (IsMember b (MembersOf xs) → RoundTame round) → CtlsTame b (round_of round xs)
+pub round_tame : (b : ℕ) (round : Round) (xs : List Seen) → (IsMember b (MembersOf xs) → RoundTame round) → CtlsTame b (round_of round xs)
 round_tame b round [] f = tt
 round_tame b round (x ∷ xs) f = ctls_both b (orders_to round x) (round_of round xs) (to_tame b round x (λ e. f (inl e))) (round_tame b round xs (λ i. f (inr i)))
 
@@ -178,7 +178,7 @@ order_tame m clocks b start axis (order.Timeout turn) a = tt
 order_tame m clocks b start axis order.Home a = tt
 order_tame m clocks b start axis order.Trigger a = tt
 
-ctls_tame : (m : Machine) (clocks : Clocks) (b start : ℕ) (axis : AxisDef) (ctls : List Ctl) → CtlsTame b ctls → EachTame (commands_to m clocks b start axis ctls)
+pub ctls_tame : (m : Machine) (clocks : Clocks) (b start : ℕ) (axis : AxisDef) (ctls : List Ctl) → CtlsTame b ctls → EachTame (commands_to m clocks b start axis ctls)
 ctls_tame m clocks b start axis [] a = tt
 ctls_tame m clocks b start axis (c ∷ ctls) a =
     each_both (command_to m clocks b start axis c) (commands_to m clocks b start axis ctls)
@@ -188,7 +188,7 @@ ctls_tame m clocks b start axis (c ∷ ctls) a =
     ])
     (ctls_tame m clocks b start axis ctls a.1)
 
-member_or_not : (b : ℕ) (ms : List Member) → IsMember b ms ⊎ (IsMember b ms → ⊥)
+pub member_or_not : (b : ℕ) (ms : List Member) → IsMember b ms ⊎ (IsMember b ms → ⊥)
 member_or_not b [] = inr (λ x. x)
 member_or_not b (x ∷ ms) =
     elim (eqb_tells x.board b) [

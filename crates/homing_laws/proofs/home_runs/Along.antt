@@ -84,6 +84,7 @@ homed_before m switches pins entries b stops later turns homed = λ turn end is 
           begin = hm.begin;
           sets_none = hm.sets_none;
           took = hm.took;
+          fires = hm.fires;
         }
         | inr p ↦ let e = ap length p.3 in let f = length-append p.1 turns in absurd (omega (arith, e, f, l, long))
       ],

@@ -39,7 +39,7 @@ use Rattle.homing_laws.proofs.home_runs.Saying.{EachCalm}
 use Rattle.homing_laws.proofs.home_runs.Setting.{Binds, FirstOf, InRound, RestOf, binds_front, each_both, first_in, late_calm, question_calm, rest_in, round_binds}
 
 -- the phases of the set-up
-phase_starts : (start last k : ℕ) → start ≡ k + 251 → phase start last k ≡ Sends (Starts (first_timeout start last))
+pub phase_starts : (start last k : ℕ) → start ≡ k + 251 → phase start last k ≡ Sends (Starts (first_timeout start last))
 phase_starts start last k e = let left : start - k ≡ 251 = omega (arith, e) in rw left refl
 
 pub phase_homes : (start last k : ℕ) → start ≡ k + 250 → phase start last k ≡ Sends Homes

@@ -277,7 +277,7 @@ ended_all : (c : Bool) (a e : End) → cond c (Some a) None ≡ Some e → c ≡
 ended_all true a e h = refl
 ended_all false a e h = cc
 
-answered : (c : Bool) (g : GroupState) (e : End) → cond c (ended g) None ≡ Some e → all_fired g.members ≡ true
+pub answered : (c : Bool) (g : GroupState) (e : End) → cond c (ended g) None ≡ Some e → all_fired g.members ≡ true
 answered true g e h = ended_all (all_fired g.members) (answer g) e h
 answered false g e h = cc
 

@@ -1,13 +1,15 @@
 -- A homing section that a word tells of is one whose set-up each board took in time.
-use Rattle.std.proofs.Common.{◌≡◌, ℕ, ◌+◌, ◌-◌, ◌<◌, true, List, [], ◌∷◌, ◌++◌, length, map, Option, ap, sym, ◌∙◌, subst, arith}
+use Rattle.std.proofs.Common.{◌≡◌, ℕ, ◌+◌, ◌-◌, ◌<◌, inl, true, List, [], ◌∷◌, ◌++◌, length, map, Option, ap, sym, ◌∙◌, subst, arith, append_assoc}
+use Rattle.plan_types.specs.declared.clock.BoardClock.{BoardClock}
 use Rattle.plan_types.specs.declared.levels.Level.{Level}
 use Rattle.plan_types.specs.declared.machine.Machine.{Machine}
-use Rattle.plan_types.specs.Clock.{board_tick, clock_of}
+use Rattle.plan_types.specs.Clock.{clock_of}
 use Rattle.plan_types.specs.Lines.{Clocks}
 use Rattle.plan_types.specs.Machines.{IsValidMachine, board_at}
 use Rattle.msg_code.specs.declared.talk.State.{State}
 use Rattle.wire_scene.specs.declared.scene.Entry.{Entry}
 use Rattle.wire_scene.specs.declared.scene.Switch.{Switch}
+use Rattle.board_sim.specs.Fair.{Meant}
 use Rattle.link_work.specs.Stands.{first_state}
 use Rattle.link_work.specs.Turn.{LinkState, Orders}
 use Rattle.board_world.specs.World.{start}
@@ -18,18 +20,35 @@ use Rattle.run_laws.specs.Timely.{AllTimely}
 use Rattle.trigger_group.specs.declared.order.End.TheVariants.{Endstop}
 use Rattle.trigger_group.specs.declared.order.Member.{Member}
 use Rattle.axis_homing.specs.Rising.{members_of}
-use Rattle.board_runs.specs.Turns.{AreBoardTurns, BoardTurn}
+use Rattle.board_runs.specs.Turns.{AreBoardTurns, BoardTurn, stands_after}
 use Rattle.clock_runs.specs.Runs.{orders_in}
 use Rattle.clock_runs.proofs.Lines.{as_long}
 use Rattle.clock_runs.proofs.Orders.{order_length}
-use Rattle.homing_laws.specs.home_runs.Sections.{HomesFrom}
+use Rattle.homing_laws.specs.home_runs.Sections.{HomesFrom, TakesSetUp, TakesStops, queued_by}
 use Rattle.homing_laws.specs.home_runs.Settled.{AreHomed, IsHomed, SetNoClockFrom}
 use Rattle.homing_laws.specs.home_runs.Words.{AreToldIn, IsToldIn}
 use Rattle.homing_laws.proofs.home_runs.Along.{all_settled}
 use Rattle.homing_laws.proofs.home_runs.Joining.{homes_later}
 use Rattle.homing_laws.proofs.home_runs.Knowing.{homing_known, word_answers}
 use Rattle.homing_laws.proofs.home_runs.Settled.{later_orders}
+use Rattle.homing_laws.proofs.home_runs.Staying.{taken_later}
 use Rattle.homing_laws.proofs.home_runs.Unclocked.{none_from}
+
+-- a board that took the set-up in time has taken it by the answer
+stops_by : (clock : BoardClock) (first : LinkState) (start : ℕ) (turns : List BoardTurn) → AreBoardTurns clock first turns → TakesSetUp first start turns → TakesStops first start turns
+stops_by clock first start turns are took =
+    let mine : AreBoardTurns clock first (took.window ++ (took.late ++ took.past)) = subst (λ (x : List BoardTurn). AreBoardTurns clock first x) took.are are in
+    let rest = taken_later clock first took.window (took.late ++ took.past) mine in
+    record {
+      later = took.window ++ took.late;
+      past = took.past;
+      are = took.are ∙ sym (append_assoc took.window took.late took.past);
+      queued = took.queued;
+      more = took.more ++ rest.0;
+      took =
+          sym
+          (ap (λ (x : List BoardTurn). (stands_after first x).core.taken) took.are ∙ rest.1 ∙ ap (λ (x : List Meant). x ++ rest.0) (sym took.took) ∙ append_assoc (queued_by took.past) took.more rest.0);
+    }
 
 pub told_homed : (m : Machine) (switches : List Switch) (pins : List (List Level)) (entries : List Entry) (b start end from : ℕ) (turns : List BoardTurn) (t : IsToldIn m switches pins entries b start end turns) → from + 254 ≡ start → SetNoClockFrom from t.past
     → IsHomed m switches pins entries b start end turns
@@ -59,7 +78,8 @@ told_homed m switches pins entries b start end from turns t begins none =
       answered = record { known = x.2; end = Endstop x.1; answer = x.5; from = from; set_up = set_up; since = known };
       begin = x.3;
       sets_none = none;
-      took = t.took;
+      took = stops_by (clock_of (board_at m b)) first start t.past run.turns_are t.took;
+      fires = inl t.took;
     }
 
 -- the orders of earlier turns

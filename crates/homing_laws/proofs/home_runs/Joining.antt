@@ -92,7 +92,7 @@ run_bound m switches pins entries b (c ∷ before) (t ∷ turns) s q from start 
     ])
 
 -- behind both rounds
-run_whole : (m : Machine) (switches : List Switch) (pins : List (List Level)) (entries : List Entry) (b : ℕ) (came : List Came) (turns : List BoardTurn) (s from start : ℕ) (ms : List Member) → IsValidMachine m
+pub run_whole : (m : Machine) (switches : List Switch) (pins : List (List Level)) (entries : List Entry) (b : ℕ) (came : List Came) (turns : List BoardTurn) (s from start : ℕ) (ms : List Member) → IsValidMachine m
     → IsInRun m switches pins entries b came turns → HomesFrom m switches from start ms came → SetNoneFrom (stepper_at m s).oid from turns → s < length m.steppers → (stepper_at m s).board ≡ b
     → BoardsRise ms → Moves b s ms → from + 251 ≡ start → start ≤ length turns + 249 → IsWhole (stage_from (stepper_at m s).oid (trigger_of m b) no_stage (commands_of (queued_by turns)))
 unfolding BindsAt
@@ -150,7 +150,7 @@ all_queued b pins board entries (t ∷ before) are =
     turn_queued (clock_of b) (length before) o (stands_after (first_state b pins board entries) before) t.after are.0.0 ∙ ap (λ (ms : List Meant). ms ++ queued_in o) (all_queued b pins board entries before are.1)
 
 -- and what of it behind some turns
-late_parts : (i j : ℕ) (late past : List BoardTurn) → (ms : List Meant) × (queued_by (late ++ past) ≡ queued_by past ++ ms) × (BringCalm i j late → AreCalm i j ms)
+pub late_parts : (i j : ℕ) (late past : List BoardTurn) → (ms : List Meant) × (queued_by (late ++ past) ≡ queued_by past ++ ms) × (BringCalm i j late → AreCalm i j ms)
 late_parts i j [] past = ([], sym (append-nil (queued_by past)), λ b. tt)
 late_parts i j (t ∷ late) past =
     let rest = late_parts i j late past in
@@ -168,7 +168,7 @@ oid_small m switches pins entries b came turns s v r n l e =
       | inr p ↦ let q = p.1 in omega (arith, few, q)
     ]
 
-small_by : (m : Machine) (switches : List Switch) (pins : List (List Level)) (entries : List Entry) (b : ℕ) (came : List Came) (turns : List BoardTurn) (s from start : ℕ) (ms : List Member) → IsValidMachine m
+pub small_by : (m : Machine) (switches : List Switch) (pins : List (List Level)) (entries : List Entry) (b : ℕ) (came : List Came) (turns : List BoardTurn) (s from start : ℕ) (ms : List Member) → IsValidMachine m
     → IsInRun m switches pins entries b came turns → HomesFrom m switches from start ms came → from < length turns → s < length m.steppers → (stepper_at m s).board ≡ b → (stepper_at m s).oid < 256
 small_by m switches pins entries b [] [] s from start ms v r homes far l e = absurd (omega (arith, far))
 small_by m switches pins entries b [] (t ∷ turns) s from start ms v r homes far l e = absurd r.both
@@ -270,11 +270,11 @@ all_rise : (m : Machine) (ns : List NoteNews) (r : Known) → HomingRises r.homi
 all_rise m [] r h = h
 all_rise m (n ∷ ns) r h = all_rise m ns (told m r n) (told_rises m r n h)
 
-noted_rises : (m : Machine) (note : Option Note) (r : Known) → HomingRises r.homing → HomingRises (noted m note r).homing
+pub noted_rises : (m : Machine) (note : Option Note) (r : Known) → HomingRises r.homing → HomingRises (noted m note r).homing
 noted_rises m None r h = h
 noted_rises m (Some note) r h = all_rise m note.news r h
 
-known_rises : (m : Machine) (switches : List Switch) (came : List Came) → GoesOn m switches came → HomingRises (known_by m switches came).homing
+pub known_rises : (m : Machine) (switches : List Switch) (came : List Came) → GoesOn m switches came → HomingRises (known_by m switches came).homing
 known_rises m switches [] g = tt
 known_rises m switches (c ∷ before) g =
     let known = known_by m switches before in
@@ -291,7 +291,7 @@ pub homes_later : (m : Machine) (switches : List Switch) (from to start : ℕ) (
 homes_later m switches from to start ms [] l h = tt
 homes_later m switches from to start ms (c ∷ before) l h = (λ k. h.0 (omega (arith, k, l)), homes_later m switches from to start ms before l h.1)
 
-none_later : (i from to : ℕ) (turns : List BoardTurn) → from ≤ to → SetNoneFrom i from turns → SetNoneFrom i to turns
+pub none_later : (i from to : ℕ) (turns : List BoardTurn) → from ≤ to → SetNoneFrom i from turns → SetNoneFrom i to turns
 none_later i from to [] l h = tt
 none_later i from to (t ∷ turns) l h = (λ k. h.0 (omega (arith, k, l)), none_later i from to turns l h.1)
 
@@ -313,3 +313,22 @@ answered_halt m switches pins entries b c before turns h s v r at a moved took r
     (members_halt m switches pins entries b c before took.window took.late took.past h a.end s (a.from + 3) took.more v (subst (λ (x : List BoardTurn). IsInRun m switches pins entries b before x) same r)
     (subst (λ (x : List BoardTurn). state_at b c.states ≡ latest_state x) same at) a.known a.answer begins since rises moved.moves moved.there moved.on (subst (λ (x : List BoardTurn). SetNoneFrom i (a.from + 3) x) same none) took.queued
     took.in_time took.took took.heard (subst (λ (x : List BoardTurn). (stands_after first x).core.board.controller.state ≡ Running) same runs))
+
+-- where a list is so long behind a place
+pub split_at : (n : ℕ) (xs : List BoardTurn) → n ≤ length xs → (front : List BoardTurn) × (back : List BoardTurn) × (xs ≡ front ++ back) × (length back ≡ n)
+split_at n [] l = ([], [], refl, omega (arith, l))
+split_at n (x ∷ xs) l = elim (leb_tells n (length xs)) [
+  | inl p ↦ let r = split_at n xs p.1 in (x ∷ r.0, r.1, ap (λ (ys : List BoardTurn). x ∷ ys) r.2, r.3)
+  | inr p ↦ let far = p.1 in ([], x ∷ xs, refl, omega (arith, l, far))
+]
+
+-- before the section was known the run was past connecting
+pub past_connecting : (m : Machine) (switches : List Switch) (pins : List (List Level)) (entries : List Entry) (b from start : ℕ) (ms : List Member) (came : List Came) (recent early : List BoardTurn) → IsInRun m switches pins entries b came (recent ++ early)
+    → HomesFrom m switches from start ms came → length early ≡ from → 0 < length recent → (before : List Came) × IsInRun m switches pins entries b before early × ((known_by m switches before).phase ≡ Connecting → ⊥)
+past_connecting m switches pins entries b from start ms came [] early r homes long some = absurd (omega (arith, some))
+past_connecting m switches pins entries b from start ms [] (t ∷ recent) early r homes long some = absurd r.both
+past_connecting m switches pins entries b from start ms (c ∷ before) (t ∷ []) early r homes long some =
+    let same = as_long m switches b before early r.both.2 in
+    (before, run_before m switches pins entries b c before t early r, (homes.0 (omega (arith, long, same))).0)
+past_connecting m switches pins entries b from start ms (c ∷ before) (t ∷ u ∷ recent) early r homes long some =
+    past_connecting m switches pins entries b from start ms before (u ∷ recent) early (run_before m switches pins entries b c before t (u ∷ recent ++ early) r) homes.1 long (omega arith)

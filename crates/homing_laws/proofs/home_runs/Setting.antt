@@ -226,7 +226,7 @@ above_not : (b : ℕ) (xs : List Seen) → ((k : ℕ) (d : Member) → k < lengt
 above_not b [] above = tt
 above_not b (x ∷ xs) above = (λ e. let h = above 0 x.member (omega arith) in absurd (omega (arith, h, e)), above_not b xs (λ k d l. above (suc k) d (omega (arith, l))))
 
-rise_behind : (x : Member) (ms : List Member) → BoardsRise (x ∷ ms) → BoardsRise ms
+pub rise_behind : (x : Member) (ms : List Member) → BoardsRise (x ∷ ms) → BoardsRise ms
 rise_behind x ms r = λ a c d lt within. r (suc a) (suc c) d (omega (arith, lt)) (omega (arith, within))
 
 others_calm : (i j : ℕ) (m : Machine) (clocks : Clocks) (b start : ℕ) (axis : AxisDef) (round : Round) (xs : List Seen) → NotOn b xs → EachCalm i j (commands_to m clocks b start axis (round_of round xs))

@@ -37,15 +37,17 @@ use Rattle.clock_runs.proofs.Orders.{order_length}
 use Rattle.run_laws.specs.Courses.{AreInTime, Course, IsFrom, IsInTime, IsSettled, IsStopped, course_behind, course_from, course_of, courses, next_part, no_course}
 use Rattle.run_laws.specs.Known.{Sent, orders_in, sent_at, sent_in}
 use Rattle.run_laws.proofs.Lists.{cuts, orders_append, orders_at}
-use Rattle.homing_laws.specs.home_runs.Sections.{HomesFrom, IsAnswered, SetNone, SetNoneFrom, TakesSetUp, queued_by}
+use Rattle.homing_laws.specs.home_runs.Sections.{HomesFrom, IsAnswered, IsMoved, SetNone, SetNoneFrom, TakesSetUp, TakesStops, queued_by}
 use Rattle.homing_laws.specs.home_runs.Settled.{AreHomed, IsHomed, SetNoClock, SetNoClockFrom}
+use Rattle.homing_laws.specs.fired_runs.Since.{IsReadSo}
+use Rattle.homing_laws.specs.fired_runs.Waiting.{AllSetNot, SetsNot}
+use Rattle.homing_laws.proofs.fired_runs.Halting.{stops_halt}
 use Rattle.homing_laws.proofs.home_runs.Forming.{known_formed, moves_is, noted_formed, IsFormed}
 use Rattle.homing_laws.proofs.home_runs.Joining.{answered_halt}
 use Rattle.homing_laws.proofs.home_runs.Resetting.{AllSetOf, MovesAs, SetsOf, turn_sets}
 use Rattle.homing_laws.proofs.home_runs.Staging.{commands_both, ran_turns}
 use Rattle.homing_laws.proofs.home_runs.Whole.{turn_commands}
-use Rattle.homing_laws.proofs.home_runs.Windows.{begun}
-use Rattle.homing_laws.proofs.home_runs.Staying.{AllSetNot, SetsNot, halted_stays, not_parts, steps_take}
+use Rattle.homing_laws.proofs.home_runs.Staying.{halted_stays, not_parts, steps_take, taken_later}
 
 -- commands that were sent from a turn on
 abbrev pub AllFrom : ℕ → List Sent → Type 0
@@ -160,19 +162,6 @@ none_begun turn e = cc
 last_set : (oid turn : ℕ) (ss : List Sent) → (courses ss oid).since ≡ Some turn → LastSet oid turn ss
 last_set oid turn ss e = elim (begun_by oid turn no_course ss e) [ inl old ↦ absurd (none_begun turn old.0) | inr last ↦ last ]
 
--- what was taken
-taken_later : (clock : BoardClock) (first : LinkState) (later past : List BoardTurn) → AreBoardTurns clock first (later ++ past) → (ms : List Meant) × ((stands_after first (later ++ past)).core.taken ≡ (stands_after first past).core.taken ++ ms)
-taken_later clock first [] past are = ([], sym (append-nil (stands_after first past).core.taken))
-taken_later clock first (t ∷ later) past are =
-    let before = later ++ past in
-    let l = stands_after first before in
-    let steps = turns_are_steps clock (length before) (orders t.control t.batch ∷ []) l t.after (t.after, are.0.0, refl) in
-    let took = steps_take steps.0 l.core in
-    let rest = taken_later clock first later past are.1 in (
-      rest.0 ++ took.0,
-      ap (λ (h : Core). h.taken) steps.1 ∙ took.1 ∙ ap (λ (x : List Meant). x ++ took.0) rest.1 ∙ append_assoc (stands_after first past).core.taken rest.0 took.0,
-    )
-
 -- a halted stepper over turns
 turns_stay : (clock : BoardClock) (first : LinkState) (later past : List BoardTurn) (i : ℕ) (ms : List Meant) → AreBoardTurns clock first (later ++ past)
     → (stands_after first (later ++ past)).core.taken ≡ (stands_after first past).core.taken ++ ms → AllSetNot i ms
@@ -278,25 +267,18 @@ record Took (m : Machine) (pins : List (List Level)) (entries : List Entry) (b s
   since : (stands_after (first_state (board_at m b) pins b entries) turns).core.taken ≡ (stands_after (first_state (board_at m b) pins b entries) past).core.taken ++ behind
 
 took_by : (m : Machine) (pins : List (List Level)) (entries : List Entry) (b start : ℕ) (later past : List BoardTurn) → AreBoardTurns (clock_of (board_at m b)) (first_state (board_at m b) pins b entries) (later ++ past)
-    → TakesSetUp (first_state (board_at m b) pins b entries) start past → Took m pins entries b start (later ++ past) past
+    → TakesStops (first_state (board_at m b) pins b entries) start past → Took m pins entries b start (later ++ past) past
 took_by m pins entries b start later past are took =
-    let d = board_at m b in
-    let first = first_state d pins b entries in
-    let before = took.late ++ took.past in
-    let mine : AreBoardTurns (clock_of d) first (took.window ++ before) = subst (λ (x : List BoardTurn). AreBoardTurns (clock_of d) first x) took.are (begun (clock_of d) first later past are) in
-    let in_window = taken_later (clock_of d) first took.window before mine in
-    let at_end : (stands_after first past).core.taken ≡ queued_by took.past ++ (took.more ++ in_window.0) =
-    ap (λ (x : List BoardTurn). (stands_after first x).core.taken) took.are ∙ in_window.1 ∙ ap (λ (x : List Meant). x ++ in_window.0) (sym took.took) ∙ append_assoc (queued_by took.past) took.more in_window.0 in
-    let behind = taken_later (clock_of d) first later past are in
+    let behind = taken_later (clock_of (board_at m b)) (first_state (board_at m b) pins b entries) later past are in
     record {
       early = took.past;
-      later = later ++ (took.window ++ took.late);
-      are = ap (λ (x : List BoardTurn). later ++ x) (took.are ∙ sym (append_assoc took.window took.late took.past)) ∙ sym (append_assoc later (took.window ++ took.late) took.past);
+      later = later ++ took.later;
+      are = ap (λ (x : List BoardTurn). later ++ x) took.are ∙ sym (append_assoc later took.later took.past);
       long = took.queued;
-      more = (took.more ++ in_window.0) ++ behind.0;
-      taken = behind.1 ∙ ap (λ (x : List Meant). x ++ behind.0) at_end ∙ append_assoc (queued_by took.past) (took.more ++ in_window.0) behind.0;
-      others = took.more ++ in_window.0;
-      at_end = at_end;
+      more = took.more ++ behind.0;
+      taken = behind.1 ∙ ap (λ (x : List Meant). x ++ behind.0) (sym took.took) ∙ append_assoc (queued_by took.past) took.more behind.0;
+      others = took.more;
+      at_end = sym took.took;
       behind = behind.0;
       since = behind.1;
     }
@@ -359,11 +341,11 @@ moved_by m b oid clock ms c e s = subst (λ (x : Cmd). SetsOf (MovesAs m b ms) x
 
 section_halts : (m : Machine) (switches : List Switch) (pins : List (List Level)) (entries : List Entry) (b start q oid : ℕ) (c : Came) (before : List Came) (later past : List BoardTurn) (h : Homing) (done left : List Sent) → IsValidMachine m
     → AreBoardTurns (clock_of (board_at m b)) (first_state (board_at m b) pins b entries) (later ++ past) → IsInRun m switches pins entries b before past → state_at b c.states ≡ latest_state past → (a : IsAnswered m switches c before h)
-    → h.start ≡ start → SetNoClockFrom a.from past → TakesSetUp (first_state (board_at m b) pins b entries) start past → start ≤ q + 254 → q + 252 ≤ start → start ≤ length past
+    → h.start ≡ start → SetNoClockFrom a.from past → TakesStops (first_state (board_at m b) pins b entries) start past → TakesSetUp (first_state (board_at m b) pins b entries) start past ⊎ IsReadSo m switches b c before past → start ≤ q + 254 → q + 252 ≤ start → start ≤ length past
     → (stands_after (first_state (board_at m b) pins b entries) (later ++ past)).core.board.controller.state ≡ Running
     → done ++ left ≡ sent_by (later ++ past) → orders_in done ≡ (stands_after (first_state (board_at m b) pins b entries) (later ++ past)).core.taken → LastSet oid q done
     → IsHalted (board.stepper_at (stands_after (first_state (board_at m b) pins b entries) (later ++ past)).core.board.controller oid)
-section_halts m switches pins entries b start q oid c before later past h done left v are r at a begin none took soon late order runs cut taken last =
+section_halts m switches pins entries b start q oid c before later past h done left v are r at a begin none took fires soon late order runs cut taken last =
     let d = board_at m b in
     let first = first_state d pins b entries in
     let ms = members_of h.group in
@@ -383,10 +365,12 @@ section_halts m switches pins entries b start q oid c before later past h done l
     let moved = moved_by m b oid last.clock ms last.set.order.command last.is sets_it in
     let formed : IsFormed m (Some h) = subst (λ (o : Option Homing). IsFormed m o) a.known (noted_formed m c.note (known_by m switches before) (known_formed m switches before r.goes_on)) in
     let is = moves_is m h b moved.0 formed moved.1 in
-    let took_start : TakesSetUp first h.start past = subst (λ (n : ℕ). TakesSetUp first n past) (sym begin) took in
-    let halted = answered_halt m switches pins entries b c before past h moved.0 v r at a
-    (record { moves = moved.1; there = is.0; on = is.1; from = a.from; begun = a.set_up; sets_none = clock_from (stepper_at m moved.0).oid a.from past none }) took_start
-    (ran_turns (clock_of d) first later past are runs) in
+    let own : IsMoved m b h past moved.0 = record { moves = moved.1; there = is.0; on = is.1; from = a.from; begun = a.set_up; sets_none = clock_from (stepper_at m moved.0).oid a.from past none } in
+    let ran = ran_turns (clock_of d) first later past are runs in
+    let halted : IsHalted (board.stepper_at (stands_after first past).core.board.controller (stepper_at m moved.0).oid) = elim fires [
+      | inl in_time ↦ answered_halt m switches pins entries b c before past h moved.0 v r at a own (subst (λ (n : ℕ). TakesSetUp first n past) (sym begin) in_time) ran
+      | inr so ↦ stops_halt m switches pins entries b c before past h moved.0 v r at a own so (subst (λ (n : ℕ). TakesStops first n past) (sym begin) took) ran
+    ] in
     let there : IsHalted (board.stepper_at (stands_after first past).core.board.controller oid) = subst (λ (n : ℕ). IsHalted (board.stepper_at (stands_after first past).core.board.controller n)) moved.2 halted in
     -- and what was taken since sets it no more
     let early_is : queued_by t.early ≡ orders_in last.front ++ last.set.order ∷ orders_in in_early.0 = sym (queue_is t.early) ∙ ap orders_in in_early.1 ∙ orders_append last.front (last.set ∷ in_early.0) in
@@ -416,7 +400,7 @@ homed_halts m switches pins entries b start end q oid turns done left v are hm s
     let long = hm.long in
     subst (λ (x : List BoardTurn). IsHalted (board.stepper_at (stands_after first x).core.board.controller oid)) (sym same)
     (section_halts m switches pins entries b start q oid hm.came hm.before hm.later hm.past hm.homing done left v (subst (λ (x : List BoardTurn). AreBoardTurns (clock_of d) first x) same are) hm.run_is hm.states hm.answered hm.begin
-    hm.sets_none hm.took soon late (omega (arith, order, long)) (subst (λ (x : List BoardTurn). (stands_after first x).core.board.controller.state ≡ Running) same runs) (cut ∙ ap sent_by same)
+    hm.sets_none hm.took hm.fires soon late (omega (arith, order, long)) (subst (λ (x : List BoardTurn). (stands_after first x).core.board.controller.state ≡ Running) same runs) (cut ∙ ap sent_by same)
     (taken ∙ ap (λ (x : List BoardTurn). (stands_after first x).core.taken) same) last)
 
 stopped_halts : (m : Machine) (switches : List Switch) (pins : List (List Level)) (entries : List Entry) (b oid : ℕ) (turns : List BoardTurn) (stops : ℕ → Option ℕ) (done left : List Sent) (since : Option ℕ) → IsValidMachine m

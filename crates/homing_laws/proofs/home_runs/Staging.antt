@@ -188,7 +188,7 @@ reset_case false i j oid clock s r e runs k =
     other m n f same = let g = eq-eqb m n same in cc
 
 -- a stepper is bound
-bound_is : (i j : ℕ) (r : Rig) (q : Option Pending) (o : Option Slot) → stepper_at r.controller i ≡ q → slot_at r j ≡ o → IsThere (stepper_at r.controller i) → HasSlot j r → IsGuarded i j (bind r i q j o)
+pub bound_is : (i j : ℕ) (r : Rig) (q : Option Pending) (o : Option Slot) → stepper_at r.controller i ≡ q → slot_at r j ≡ o → IsThere (stepper_at r.controller i) → HasSlot j r → IsGuarded i j (bind r i q j o)
 bound_is i j r None o e f t h = absurd (subst IsThere e t)
 bound_is i j r (Some q) None e f t h = let x : None ≡ Some h.slot = sym f ∙ h.is in absurd (cc)
 bound_is i j r (Some q) (Some s) e f t h =

@@ -1,6 +1,7 @@
 -- A stepper that is halted stays so until its clock is set.
-use Rattle.std.proofs.Common.{◌≡◌, ℕ, suc, true, List, [], ◌∷◌, ◌++◌, refl, sym, ◌∙◌, subst, arith, append-nil, append_assoc}
+use Rattle.std.proofs.Common.{◌≡◌, ℕ, suc, true, List, [], ◌∷◌, ◌++◌, length, refl, ap, sym, ◌∙◌, subst, arith, append-nil, append_assoc}
 use Rattle.std.proofs.lemmas.List.{append_cancel_left}
+use Rattle.plan_types.specs.declared.clock.BoardClock.{BoardClock}
 use Rattle.msg_code.specs.declared.cmd.Cmd.{Cmd}
 use Rattle.msg_code.specs.declared.cmd.Cmd.TheVariants as cmd
 use Rattle.board_sim.specs.Board.{stepper_at}
@@ -12,17 +13,13 @@ use Rattle.board_sim.proofs.RigPlaces.{halted_is, is_halted}
 use Rattle.board_world.specs.declared.event.Event.{Event}
 use Rattle.board_world.specs.declared.event.Event.TheVariants as event
 use Rattle.board_world.specs.World.{Core, Step, Do, Turn, does, happens, in_turn, run, takes_in}
+use Rattle.link_work.specs.Stands.{orders}
+use Rattle.link_work.specs.Turn.{LinkState}
+use Rattle.link_work.proofs.Turns.{turns_are_steps}
+use Rattle.board_runs.specs.Turns.{AreBoardTurns, BoardTurn, stands_after}
 use Rattle.homing_laws.specs.home_runs.Guards.{IsCalm}
+use Rattle.homing_laws.specs.fired_runs.Waiting.{AllSetNot, SetsNot}
 use Rattle.homing_laws.proofs.home_runs.Guarding.{passes_next, takes_next}
-
--- a command doesn't set the clock of a stepper
-abbrev pub SetsNot : ℕ → Cmd → Type 0
-SetsNot i (cmd.ResetStepClock oid clock) = oid ≡ i → ⊥
-SetsNot i c = Unit {0}
-
-abbrev pub AllSetNot : ℕ → List Meant → Type 0
-AllSetNot i [] = Unit {0}
-AllSetNot i (m ∷ ms) = SetsNot i m.command × AllSetNot i ms
 
 pub not_parts : (i : ℕ) (xs ys : List Meant) → AllSetNot i (xs ++ ys) → AllSetNot i xs × AllSetNot i ys
 not_parts i [] ys a = (tt, a)
@@ -34,7 +31,7 @@ calm_for i (cmd.ResetStepClock oid clock) n = (0, n)
 calm_for i (cmd.ConfigTrsync oid) n = (oid, refl)
 calm_for i c n = (0, tt)
 
-takes_stay : (i : ℕ) (r : Rig) (c : Cmd) → SetsNot i c → IsIn true i r.controller → IsIn true i (takes r c).rig.controller
+pub takes_stay : (i : ℕ) (r : Rig) (c : Cmd) → SetsNot i c → IsIn true i r.controller → IsIn true i (takes r c).rig.controller
 takes_stay i r c n is = let x = calm_for i c n in (takes_next i x.0 r c x.1).keep true is
 
 all_stay : (i : ℕ) (r : Rig) (ms : List Meant) → AllSetNot i ms → IsIn true i r.controller → IsIn true i (takes_all r (commands_of ms)).rig.controller
@@ -73,3 +70,16 @@ halted_stays i steps h ms e n is =
     let same : took.0 ≡ ms = append_cancel_left h.taken took.0 ms (sym took.1 ∙ e) in
     is_halted (stepper_at (run steps h).board.controller i)
     (steps_stay i steps h (subst (λ (x : List Meant). AllSetNot i x) (sym same) n) (halted_is (stepper_at h.board.controller i) is))
+
+-- what a board takes over some turns
+pub taken_later : (clock : BoardClock) (first : LinkState) (later past : List BoardTurn) → AreBoardTurns clock first (later ++ past) → (ms : List Meant) × ((stands_after first (later ++ past)).core.taken ≡ (stands_after first past).core.taken ++ ms)
+taken_later clock first [] past are = ([], sym (append-nil (stands_after first past).core.taken))
+taken_later clock first (t ∷ later) past are =
+    let before = later ++ past in
+    let l = stands_after first before in
+    let steps = turns_are_steps clock (length before) (orders t.control t.batch ∷ []) l t.after (t.after, are.0.0, refl) in
+    let took = steps_take steps.0 l.core in
+    let rest = taken_later clock first later past are.1 in (
+      rest.0 ++ took.0,
+      ap (λ (h : Core). h.taken) steps.1 ∙ took.1 ∙ ap (λ (x : List Meant). x ++ took.0) rest.1 ∙ append_assoc (stands_after first past).core.taken rest.0 took.0,
+    )

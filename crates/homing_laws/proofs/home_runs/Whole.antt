@@ -147,7 +147,7 @@ grown i j s (c ∷ cs) only sole =
     (rest.0, λ m. rest.1 (made_first i s u c (times_made i cs) (makes i c) refl one.1 m), λ t. rest.2 (there_first j s u c cs one.2 t))
 
 -- a stage that is ready stays so, and one that is whole behind calm commands
-ready_on : (i j : ℕ) (s : Stage) (cs : List Cmd) → Only j cs → Ready s → Ready (stage_from i j s cs)
+pub ready_on : (i j : ℕ) (s : Stage) (cs : List Cmd) → Only j cs → Ready s → Ready (stage_from i j s cs)
 ready_on i j s cs only r = let g = grown i j s cs only r.sole in record { sole = g.0; made = g.1 (inl r.made); there = g.2 (inl r.there) }
 
 calm_only : (i j : ℕ) (cs : List Cmd) → EachCalm i j cs → Only j cs
@@ -218,7 +218,7 @@ unit_calm i j u none = one u.reset u.up none
     one (Some r) None f = (λ e. let x = f e in absurd (cc), (tt, tt))
     one (Some r) (Some d) f = (λ e. let x = f e in absurd (cc), (tt, (tt, tt)))
 
-units_calm : (i j : ℕ) (us : List StepUnit) → SetNone i us → AreCalm i j (units_orders us)
+pub units_calm : (i j : ℕ) (us : List StepUnit) → SetNone i us → AreCalm i j (units_orders us)
 units_calm i j [] n = tt
 units_calm i j (u ∷ us) n = calm_both i j (unit_orders u) (units_orders us) (unit_calm i j u n.0) (units_calm i j us n.1)
 

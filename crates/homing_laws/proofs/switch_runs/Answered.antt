@@ -1,16 +1,14 @@
 -- The tick of a homing section's answer that readings triggered the trigger is one at which the section's own readings are complete.
-use Rattle.std.proofs.Common.{◌≡◌, ℕ, ◌+◌, ◌-◌, ◌*◌, ◌<◌, ◌≤◌, inl, inr, Bool, true, false, List, [], ◌∷◌, ◌++◌, length, Some, None, refl, ap, sym, ◌∙◌, subst, arith}
-use Rattle.std.specs.Prelude.{if◌then◌else◌}
+use Rattle.std.proofs.Common.{◌≡◌, ℕ, ◌+◌, ◌-◌, ◌*◌, ◌<◌, ◌≤◌, inl, inr, false, List, [], ◌∷◌, ◌++◌, length, Some, refl, ap, sym, ◌∙◌, subst, arith}
 use Rattle.plan_types.specs.declared.levels.Level.{Level}
 use Rattle.plan_types.specs.declared.machine.Machine.{Machine}
 use Rattle.plan_types.specs.declared.plan.BoardState.TheVariants.{Running}
 use Rattle.plan_types.specs.Board.{IsNear, nearest}
 use Rattle.plan_types.specs.Clock.{board_tick, clock_of, turn_ns}
-use Rattle.plan_types.specs.Lines.{Clocks, lines_tick, lines_turn}
+use Rattle.plan_types.specs.Lines.{Clocks, lines_tick}
 use Rattle.plan_types.specs.Machines.{IsValidMachine, axis_at, board_at}
 use Rattle.plan_types.specs.Sections.{clocks_at}
-use Rattle.clock_line.specs.Early.{is_in_run, turn_in_run, turn_tick}
-use Rattle.clock_line.proofs.Turns.{turn-below}
+use Rattle.clock_line.specs.Early.{turn_in_run, turn_tick}
 use Rattle.msg_code.specs.declared.cmd.Cmd.TheVariants as cmd
 use Rattle.msg_code.specs.declared.talk.News.{News}
 use Rattle.msg_code.specs.declared.talk.State.{State}
@@ -33,6 +31,7 @@ use Rattle.homing_laws.specs.home_runs.Windows.{HasAnswer, IsFired, SayFired}
 use Rattle.homing_laws.specs.switch_runs.Reports.{HearSoon, IsBehind, IsReport, WasReported}
 use Rattle.homing_laws.specs.switch_runs.Runs.{IsReadIn, ReadsFrom}
 use Rattle.homing_laws.proofs.switch_runs.Own.{own_reads}
+use Rattle.homing_laws.proofs.fired_runs.Reported.{before_start, sole_state}
 
 -- a board's turn whose state was such a report, and by which lines
 pub record WasHeard (m : Machine) (b start : ℕ) (f : Fired) (turns : List BoardTurn) : Type 0 where
@@ -56,10 +55,6 @@ pub tells_fired : (oid reason clock : ℕ) (news : List News) → HasAnswer (cmd
 tells_fired oid reason clock [] told = absurd told
 tells_fired oid reason clock (n ∷ news) (inl same) = inl (subst IsFired (sym same) refl)
 tells_fired oid reason clock (n ∷ news) (inr told) = inr (tells_fired oid reason clock news told)
-
--- the state of a report is that of the board's latest turn
-sole_state : (s t : State) → s ∷ [] ≡ t ∷ [] → s ≡ t
-sole_state s t e = cc
 
 heard_now : (m : Machine) (switches : List Switch) (pins : List (List Level)) (entries : List Entry) (b start : ℕ) (f : Fired) (c : Came) (before : List Came) (turns : List BoardTurn) → IsInRun m switches pins entries b before turns
     → state_at b c.states ≡ latest_state turns → HearSoon m switches b start (c ∷ before) turns → IsBehind m switches b start (c ∷ before) → IsReport m switches b start f c before → WasHeard m b start f turns
@@ -116,19 +111,6 @@ was_heard m switches pins entries b start f c [] turns (inr old) r latest soon b
 was_heard m switches pins entries b start f c (d ∷ before) [] (inr old) r latest soon behind = absurd r.both
 was_heard m switches pins entries b start f c (d ∷ before) (t ∷ earlier) (inr old) r latest soon behind =
     heard_more m b start f t earlier (was_heard m switches pins entries b start f d before earlier old (run_before m switches pins entries b d before t earlier r) r.both.0 soon.1 behind.1)
-
--- the turn of a tick of the run
-turn_if : (in_run : Bool) (n turn : ℕ) → (if in_run then Some n else None) ≡ Some turn → n ≡ turn
-turn_if true n turn e = cc
-turn_if false n turn e = cc
-
--- a tick before that at which a section starts is in no turn from the start on
-before_start : (lines : Clocks) (start tick turn : ℕ) → 0 < start → tick < lines_tick lines (start * turn_ns) → turn_in_run lines tick ≡ Some turn → turn < start
-before_start lines start tick turn some low is =
-    let next : start ≡ start - 1 + 1 = omega (arith, some) in
-    let below = turn-below lines tick (start - 1) (subst (λ (k : ℕ). tick < lines_tick lines (k * turn_ns)) next low) in
-    let same = turn_if (is_in_run lines tick) (lines_turn lines tick) turn is in
-    omega (arith, some, below, same)
 
 -- the theorem
 pub answered_own : (m : Machine) (switches : List Switch) (pins : List (List Level)) (entries : List Entry) (b axis : ℕ) (c : Came) (before : List Came) (h : Homing) (turns : List BoardTurn) (tick turn : ℕ) → IsValidMachine m

@@ -1,7 +1,7 @@
 -- What a board tells of the switch of a homing section, once it has taken the set-up: its readings are those of the section itself.
 use Rattle.std.proofs.Common.{◌≡◌, ℕ, ◌+◌, ◌-◌, ◌<◌, ◌≤◌, ◌⊎◌, inl, inr, List, [], ◌∷◌, ◌++◌, length, map, drop, Option, Some, refl, ap, sym, ◌∙◌, subst, arith, append_assoc, append-nil, length-append}
 use Rattle.std.specs.Prelude.{slice_index_or}
-use Rattle.std.proofs.lemmas.Bool.Decides.{eqb_tells, leb_tells}
+use Rattle.std.proofs.lemmas.Bool.Decides.{eqb_tells}
 use Rattle.std.proofs.lemmas.List.{append_cancel_left, take-append-drop}
 use Rattle.plan_types.specs.declared.levels.Level.{Level}
 use Rattle.plan_types.specs.declared.machine.BoardDef.{BoardDef}
@@ -27,7 +27,6 @@ use Rattle.axis_homing.specs.declared.homing.Homing.{Homing}
 use Rattle.axis_homing.specs.Homing.{low}
 use Rattle.axis_homing.specs.Rising.{members_of}
 use Rattle.trigger_group.specs.declared.order.Member.{Member}
-use Rattle.host_reactor.specs.declared.ordered.Phase.TheVariants.{Connecting}
 use Rattle.host_reactor.specs.Notes.{noted}
 use Rattle.host_reactor.specs.Runs.{Came, known_by, last_turn}
 use Rattle.board_runs.specs.Turns.{BoardTurn, stands_after}
@@ -39,7 +38,7 @@ use Rattle.homing_laws.specs.home_runs.Sections.{HomesFrom, IsAnswered, SetNoneF
 use Rattle.homing_laws.specs.home_runs.Settled.{SetNoClockFrom}
 use Rattle.homing_laws.specs.home_runs.Windows.{BringCalm, HasAnswer, IsWatched}
 use Rattle.homing_laws.proofs.home_runs.Firing.{calm_both, calm_parts}
-use Rattle.homing_laws.proofs.home_runs.Joining.{all_queued, run_calm}
+use Rattle.homing_laws.proofs.home_runs.Joining.{all_queued, past_connecting, run_calm, split_at}
 use Rattle.homing_laws.proofs.home_runs.Settled.{clock_from}
 use Rattle.homing_laws.proofs.home_runs.Sole.{sole_after}
 use Rattle.homing_laws.proofs.home_runs.Staging.{commands_both, ran_turns}
@@ -145,14 +144,6 @@ cut_home E G pins e j (x ∷ ms) (inr has) fit =
     let rest = cut_home E G pins e j ms has fit.1 in
     record { front = x ∷ rest.front; home = rest.home; behind = rest.behind; are = ap (λ (l : List Meant). x ∷ l) rest.are; is = rest.is; fit = rest.fit }
 
--- where a list is so long behind a place
-split_at : (n : ℕ) (xs : List BoardTurn) → n ≤ length xs → (front : List BoardTurn) × (back : List BoardTurn) × (xs ≡ front ++ back) × (length back ≡ n)
-split_at n [] l = ([], [], refl, omega (arith, l))
-split_at n (x ∷ xs) l = elim (leb_tells n (length xs)) [
-  | inl p ↦ let r = split_at n xs p.1 in (x ∷ r.0, r.1, ap (λ (ys : List BoardTurn). x ∷ ys) r.2, r.3)
-  | inr p ↦ let far = p.1 in ([], x ∷ xs, refl, omega (arith, l, far))
-]
-
 -- earlier turns of a run
 record Moment (m : Machine) (switches : List Switch) (pins : List (List Level)) (entries : List Entry) (b from start axis : ℕ) (ms : List Member) (G : ℕ → Type 0) (turns : List BoardTurn) : Type 0 where
   came : List Came
@@ -170,17 +161,6 @@ moment m switches pins entries b from start axis ms G [] (t ∷ window) past r h
 moment m switches pins entries b from start axis ms G (c ∷ before) (t ∷ window) past r homes none reads f =
     moment m switches pins entries b from start axis ms G before window past (run_before m switches pins entries b c before t (window ++ past) r) homes.1 none.1 reads.1
     (λ tick k. f tick (record { lines = k.lines; knew = inr k.knew; complete = k.complete }))
-
--- before the section was known the run was past connecting
-past_connecting : (m : Machine) (switches : List Switch) (pins : List (List Level)) (entries : List Entry) (b from start : ℕ) (ms : List Member) (came : List Came) (recent early : List BoardTurn) → IsInRun m switches pins entries b came (recent ++ early)
-    → HomesFrom m switches from start ms came → length early ≡ from → 0 < length recent → (before : List Came) × IsInRun m switches pins entries b before early × ((known_by m switches before).phase ≡ Connecting → ⊥)
-past_connecting m switches pins entries b from start ms came [] early r homes long some = absurd (omega (arith, some))
-past_connecting m switches pins entries b from start ms [] (t ∷ recent) early r homes long some = absurd r.both
-past_connecting m switches pins entries b from start ms (c ∷ before) (t ∷ []) early r homes long some =
-    let same = as_long m switches b before early r.both.2 in
-    (before, run_before m switches pins entries b c before t early r, (homes.0 (omega (arith, long, same))).0)
-past_connecting m switches pins entries b from start ms (c ∷ before) (t ∷ u ∷ recent) early r homes long some =
-    past_connecting m switches pins entries b from start ms before (u ∷ recent) early (run_before m switches pins entries b c before t (u ∷ recent ++ early) r) homes.1 long (omega arith)
 
 module _ (m : Machine) (switches : List Switch) (pins : List (List Level)) (entries : List Entry) (b axis : ℕ) (before : List Came) (h : Homing) (later : List BoardTurn) (t : BoardTurn) (w late past : List BoardTurn) (from : ℕ) (more : List Meant) (v : IsValidMachine m)
     (r : IsInRun m switches pins entries b before (later ++ (t ∷ (w ++ (late ++ past))))) (since : HomesFrom m switches from h.start (members_of h.group) before) (begins : from + 254 ≡ h.start)

@@ -34,7 +34,7 @@ use Rattle.session_laws.proofs.run_ends.Ending.{ends_so}
 use Rattle.session_laws.proofs.run_headline.Runs.{facts}
 use Rattle.session_laws.proofs.run_headline.Showing.{ends_own}
 use Rattle.session_laws.proofs.clear_runs.Bare.{goes_of}
-use Rattle.session_laws.proofs.home_headline.Reported.{Each, all_told}
+use Rattle.homing_laws.proofs.fired_runs.Reported.{Each, all_told}
 use Rattle.session_laws.specs.clear_homes.First.{HaveTold, IsFirstExpired, IsFirstOf}
 use Rattle.session_laws.proofs.clear_homes.Expired.{expired_of}
 

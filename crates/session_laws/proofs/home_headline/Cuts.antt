@@ -44,7 +44,7 @@ use Rattle.session_run.specs.Boards.{AreReactorTurns, came_in}
 use Rattle.session_run.specs.Runs.{RunsOver}
 use Rattle.host_reactor.specs.Reactor.{Run}
 use Rattle.session_laws.proofs.run_headline.Making.{run_turns}
-use Rattle.session_laws.proofs.home_headline.Reported.{answer_told}
+use Rattle.homing_laws.proofs.fired_runs.Reported.{answer_told}
 use Rattle.session_laws.specs.home_headline.Cuts.{TellAnswers, TellsAnswer, TellsCut, TellsNoAnswer, cut_in, cuts_of}
 
 abbrev pub end_of : Reacted → Option Cause

@@ -1,5 +1,5 @@
 -- What the boards' states tell of their triggers, in the turns of a run before its last one.
-use Rattle.std.proofs.Common.{◌≡◌, ℕ, zero, suc, ◌<◌, List, [], ◌∷◌, ◌++◌, length, Option, refl, ap, sym, ◌∙◌, subst, arith, inl, inr}
+use Rattle.std.proofs.Common.{◌≡◌, ℕ, ◌<◌, List, [], ◌∷◌, ◌++◌, length, Option, refl, ap, sym, ◌∙◌, subst, arith, inl, inr}
 use Rattle.plan_types.specs.declared.levels.Level.{Level}
 use Rattle.plan_types.specs.declared.machine.Machine.{Machine}
 use Rattle.plan_types.specs.Machines.{board_at}
@@ -12,7 +12,7 @@ use Rattle.wire_scene.specs.declared.scene.Scene.{Scene}
 use Rattle.wire_scene.specs.declared.scene.Switch.{Switch}
 use Rattle.link_work.specs.Switches.{pins_of}
 use Rattle.host_reactor.specs.Reactor.{Run}
-use Rattle.host_reactor.specs.Runs.{Came, state_at}
+use Rattle.host_reactor.specs.Runs.{Came}
 use Rattle.board_runs.specs.Turns.{BoardTurn, latest_state}
 use Rattle.session_lanes.specs.declared.near.Told.{Told}
 use Rattle.session_work.specs.declared.table.ReactorTurn.{ReactorTurn}
@@ -26,16 +26,11 @@ use Rattle.clock_runs.proofs.Lines.{run_before}
 use Rattle.run_boards.specs.Boards.{TookEach, behind, states_of}
 use Rattle.session_laws.proofs.run_headline.Boarded.{came_cut, came_split}
 use Rattle.session_laws.proofs.run_headline.Cutting.{run_front}
+use Rattle.homing_laws.proofs.fired_runs.Reported.{same_state}
 use Rattle.homing_laws.specs.switch_runs.Reading.{AllTellTrue, TellTrue}
 use Rattle.homing_laws.specs.switch_runs.Runs.{IsRead}
 use Rattle.homing_laws.proofs.switch_runs.Ordering.{run_tells}
 use Rattle.session_laws.specs.home_headline.Reports.{TellOfReadings}
-
--- the state of a board
-pub same_state : (b : ℕ) (states : List State) → state_at b states ≡ item b states
-same_state b [] = refl
-same_state zero (s ∷ states) = refl
-same_state (suc b) (s ∷ states) = same_state b states
 
 -- what the latest state tells
 latest_tells : (F : ℕ → Type 0) (turns : List BoardTurn) (state : State) → AllTellTrue F turns → latest_state turns ≡ state ∷ [] → TellTrue F state.news

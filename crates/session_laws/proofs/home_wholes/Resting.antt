@@ -36,10 +36,12 @@ use Rattle.clock_runs.specs.Runs.{IsInRun}
 use Rattle.clock_runs.proofs.Lines.{as_long, run_before}
 use Rattle.run_laws.proofs.Lists.{cuts}
 use Rattle.homing_laws.specs.home_runs.Guards.{AreCalm}
-use Rattle.homing_laws.specs.home_runs.Sections.{HomesFrom, IsAnswered, IsOf, queued_by}
+use Rattle.homing_laws.specs.fired_runs.Since.{IsReadSo}
+use Rattle.homing_laws.specs.home_runs.Sections.{HomesFrom, IsAnswered, IsOf, TakesSetUp, queued_by}
 use Rattle.homing_laws.specs.home_runs.Settled.{AreHomed, IsHomed, SetNoClockFrom}
 use Rattle.homing_laws.specs.home_runs.Told.{IsMember}
 use Rattle.homing_laws.specs.home_runs.Windows.{BringCalm}
+use Rattle.homing_laws.proofs.fired_runs.Rested.{answered_fired}
 use Rattle.homing_laws.proofs.home_runs.Firing.{EachFires, calm_both, calm_parts, left_by}
 use Rattle.homing_laws.proofs.home_runs.Grouped.{answered_told}
 use Rattle.homing_laws.proofs.home_runs.Joining.{all_queued, earlier, run_calm, told_within}
@@ -226,15 +228,14 @@ AllAnswered m switches b stops turns (c ∷ before) =
     ((u : IsSettingUp b (length before) (noted m c.note (known_by m switches before)).homing) → (q : ℕ) × (end : ℕ) × (stops q ≡ Some end) × (q + 252 ≡ u.homing.group.start) × (end ≤ turns))
     × AllAnswered m switches b stops turns before
 
--- one of them
-section_rests : (m : Machine) (switches : List Switch) (pins : List (List Level)) (entries : List Entry) (b start end : ℕ) (total : List BoardTurn) (hm : IsHomed m switches pins entries b start end total) → IsValidMachine m
+-- one of them, whose set-up the board took in time
+timely_rests : (m : Machine) (switches : List Switch) (pins : List (List Level)) (entries : List Entry) (b start end : ℕ) (total : List BoardTurn) (hm : IsHomed m switches pins entries b start end total) → TakesSetUp (first_state (board_at m b) pins b entries) start hm.past → IsValidMachine m
     → AreBoardTurns (clock_of (board_at m b)) (first_state (board_at m b) pins b entries) total → IsMember b (members_of hm.homing.group) → (recent old : List BoardTurn) → total ≡ recent ++ old → TurnsStill recent → length old + 249 ≤ start
     → (stands_after (first_state (board_at m b) pins b entries) total).core.board.controller.state ≡ Running
     → IsCalmQueue (stands_after (first_state (board_at m b) pins b entries) total).core × IsOff (stands_after (first_state (board_at m b) pins b entries) total).core.board
-section_rests m switches pins entries b start end total hm v are member recent old cut still soon runs =
+timely_rests m switches pins entries b start end total hm took v are member recent old cut still soon runs =
     let d = board_at m b in
     let first = first_state d pins b entries in
-    let took = hm.took in
     let mid = took.late ++ took.past in
     let at_end : hm.past ≡ took.window ++ mid = took.are in
     let whole : total ≡ hm.later ++ (took.window ++ mid) = hm.are ∙ ap (λ (x : List BoardTurn). hm.later ++ x) at_end in
@@ -265,6 +266,58 @@ section_rests m switches pins entries b start end total hm v are member recent o
     empty : (xs : List BoardTurn) → length xs ≡ 0 → xs ≡ []
     empty [] e = refl
     empty (x ∷ xs) e = absurd (omega (arith, e))
+
+-- or of which what the board tells is read as the ticks since which its trigger can't trigger
+read_rests : (m : Machine) (switches : List Switch) (pins : List (List Level)) (entries : List Entry) (b start end : ℕ) (total : List BoardTurn) (hm : IsHomed m switches pins entries b start end total) → IsReadSo m switches b hm.came hm.before hm.past → IsValidMachine m
+    → AreBoardTurns (clock_of (board_at m b)) (first_state (board_at m b) pins b entries) total → IsMember b (members_of hm.homing.group) → (recent old : List BoardTurn) → total ≡ recent ++ old → TurnsStill recent → length old + 249 ≤ start
+    → (stands_after (first_state (board_at m b) pins b entries) total).core.board.controller.state ≡ Running
+    → IsCalmQueue (stands_after (first_state (board_at m b) pins b entries) total).core × IsOff (stands_after (first_state (board_at m b) pins b entries) total).core.board
+read_rests m switches pins entries b start end total hm so v are member recent old cut still soon runs =
+    let j = trigger_of m b in
+    let d = board_at m b in
+    let first = first_state d pins b entries in
+    let took = hm.took in
+    let queued = took.queued in
+    let flat : total ≡ (hm.later ++ took.later) ++ took.past = hm.are ∙ ap (λ (x : List BoardTurn). hm.later ++ x) took.are ∙ sym (append_assoc hm.later took.later took.past) in
+    let recent_still : TurnsStill (hm.later ++ took.later) = elim (cuts recent old (hm.later ++ took.later) took.past (sym cut ∙ flat)) [
+      | inl p ↦
+          let e = ap length p.2 in
+          let f = length-append p.0 took.past in
+          let none : p.0 ≡ [] = empty p.0 (omega (arith, e, f, soon, queued)) in
+          subst TurnsStill (sym (p.1 ∙ ap (λ x. recent ++ x) none ∙ append-nil recent)) still
+      | inr p ↦ still_front (hm.later ++ took.later) (p.0 ∷ p.1) (subst TurnsStill p.2 still)
+    ] in
+    let now = subst (λ (x : List BoardTurn). AreBoardTurns (clock_of d) first x) hm.are are in
+    let ran = ran_turns (clock_of d) first hm.later hm.past now (subst (λ (x : List BoardTurn). (stands_after first x).core.board.controller.state ≡ Running) hm.are runs) in
+    let core = (stands_after first hm.past).core in
+    let o = ordered_after d pins b entries hm.past hm.run_is.turns_are in
+    let left = drop (length core.link.taken) core.queued in
+    let rest : core.taken ++ left ≡ core.queued = ap (λ (x : List Meant). x ++ left) o.first ∙ take-append-drop (length core.link.taken) core.queued in
+    let parts = late_queue j took.later took.past in
+    let both : took.more ++ left ≡ parts.queue =
+    append_cancel_left (queued_by took.past) (took.more ++ left) parts.queue
+    (sym (append_assoc (queued_by took.past) took.more left) ∙ ap (λ (x : List Meant). x ++ left) took.took ∙ rest ∙ all_queued d pins b entries hm.past hm.run_is.turns_are ∙ ap queued_by took.are ∙ parts.are) in
+    let left_still = (mean_parts took.more left (subst MeanStill (sym both) (parts.still (still_behind hm.later took.later recent_still)))).1 in
+    let queue : IsCalmQueue core = record { ordered = o; left = left; rest = rest; still = left_still } in
+    let a = hm.answered in
+    let fired = answered_fired m v switches pins entries b hm.came hm.before hm.past hm.homing a.end hm.run_is hm.states so.apart so.reads so.behind a.known a.answer member in
+    let sole = (sole_after m switches pins entries b hm.before hm.past v hm.run_is ran).0 in
+    let off : IsOff core.board = λ oid s is. fired.at_rest.off s (subst (λ (n : ℕ). slot_at core.board n ≡ Some s) (sole oid s is) is) in
+    let last = turns_rest (clock_of d) first hm.later hm.past now (still_front hm.later took.later recent_still) queue in
+    subst (λ (x : List BoardTurn). IsCalmQueue (stands_after first x).core × IsOff (stands_after first x).core.board) (sym hm.are) (last.0, last.1 off)
+  where
+    empty : (xs : List BoardTurn) → length xs ≡ 0 → xs ≡ []
+    empty [] e = refl
+    empty (x ∷ xs) e = absurd (omega (arith, e))
+
+section_rests : (m : Machine) (switches : List Switch) (pins : List (List Level)) (entries : List Entry) (b start end : ℕ) (total : List BoardTurn) (hm : IsHomed m switches pins entries b start end total) → IsValidMachine m
+    → AreBoardTurns (clock_of (board_at m b)) (first_state (board_at m b) pins b entries) total → IsMember b (members_of hm.homing.group) → (recent old : List BoardTurn) → total ≡ recent ++ old → TurnsStill recent → length old + 249 ≤ start
+    → (stands_after (first_state (board_at m b) pins b entries) total).core.board.controller.state ≡ Running
+    → IsCalmQueue (stands_after (first_state (board_at m b) pins b entries) total).core × IsOff (stands_after (first_state (board_at m b) pins b entries) total).core.board
+section_rests m switches pins entries b start end total hm v are member recent old cut still soon runs = elim hm.fires [
+  | inl took ↦ timely_rests m switches pins entries b start end total hm took v are member recent old cut still soon runs
+  | inr so ↦ read_rests m switches pins entries b start end total hm so v are member recent old cut still soon runs
+]
 
 later_past : (xs ys us vs : List BoardTurn) → xs ++ ys ≡ us ++ vs → length ys ≤ length vs → (mid : List BoardTurn) × (vs ≡ mid ++ ys)
 later_past xs ys us vs e h = elim (cuts us vs xs ys (sym e)) [

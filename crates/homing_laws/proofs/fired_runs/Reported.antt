@@ -1,6 +1,6 @@
--- The answer that a switch closed has the tick of a report of the endstop's board.
-use Rattle.std.proofs.Common.{◌≡◌, ℕ, zero, suc, ◌+◌, ◌≤◌, ◌⊎◌, ◌==◌, Bool, true, false, not, cond, List, [], ◌∷◌, ◌++◌, length, map, Option, Some, None, refl, ap, sym, ◌∙◌, subst, arith, inl, inr}
-use Rattle.std.specs.Prelude.{nat_le, nat_lt, ◌&&◌, ◌||◌}
+-- Of each member of a homing group that is known to have triggered its board told so; and the answer that a switch closed has the tick of a report of the endstop's board.
+use Rattle.std.proofs.Common.{◌≡◌, ℕ, zero, suc, ◌+◌, ◌-◌, ◌*◌, ◌<◌, ◌≤◌, ◌⊎◌, ◌==◌, Bool, true, false, not, cond, List, [], ◌∷◌, ◌++◌, length, map, Option, Some, None, refl, ap, sym, ◌∙◌, subst, arith, inl, inr}
+use Rattle.std.specs.Prelude.{nat_le, nat_lt, ◌&&◌, ◌||◌, if◌then◌else◌}
 use Rattle.std.proofs.lemmas.Bool.Decides.{eqb_tells, leb_tells}
 use Rattle.plan_types.specs.declared.machine.AxisDef.{AxisDef}
 use Rattle.plan_types.specs.declared.machine.BoardDef.{BoardDef}
@@ -9,10 +9,12 @@ use Rattle.plan_types.specs.declared.plan.SectionKind.{SectionKind}
 use Rattle.plan_types.specs.declared.plan.SectionKind.TheVariants.{Home, Moves}
 use Rattle.plan_types.specs.declared.plan.TrigState.{TrigState}
 use Rattle.plan_types.specs.Board.{nearest}
-use Rattle.plan_types.specs.Lines.{Clocks}
+use Rattle.plan_types.specs.Clock.{turn_ns}
+use Rattle.plan_types.specs.Lines.{Clocks, lines_tick, lines_turn}
 use Rattle.plan_types.specs.Machines.{axis_at}
 use Rattle.plan_types.specs.Sections.{clocks_at}
-use Rattle.clock_line.specs.Early.{turn_in_run, turn_tick}
+use Rattle.clock_line.specs.Early.{is_in_run, turn_in_run, turn_tick}
+use Rattle.clock_line.proofs.Turns.{turn-below}
 use Rattle.msg_code.specs.declared.cmd.Cmd.{Cmd}
 use Rattle.msg_code.specs.declared.cmd.Cmd.TheVariants as cmd
 use Rattle.msg_code.specs.declared.talk.News.{News}
@@ -28,10 +30,11 @@ use Rattle.trigger_group.specs.declared.round.Phase.{Phase}
 use Rattle.trigger_group.specs.declared.round.Phase.TheVariants.{Goes, Rests, Sends}
 use Rattle.trigger_group.specs.declared.seen.Fired.{Fired}
 use Rattle.trigger_group.specs.declared.seen.Seen.{Seen}
-use Rattle.trigger_group.specs.Group.{GroupState, after_in, all_fired, answer, came, ended, expired, first, first_expired, first_switched, hears, hears_from, later, new_group, or_else, or_none, phase, switched, unseen}
+use Rattle.trigger_group.specs.Group.{GroupState, after_in, all_fired, answer, came, ended, expired, first, first_expired, first_switched, has_fired, hears, hears_from, later, new_group, or_else, or_none, phase, switched, unseen}
 use Rattle.trigger_group.specs.Kept.{may_be}
 use Rattle.axis_homing.specs.declared.homing.Homing.{Homing}
 use Rattle.axis_homing.specs.Homing.{answer_in, came_at, goes_on_homing, hears_all, hears_answer, hears_news, hears_state, hears_states, homing_after, homing_of, homing_with, members_from, moving_on}
+use Rattle.axis_homing.specs.Rising.{members_of}
 use Rattle.host_reactor.specs.declared.ordered.Known.{Known}
 use Rattle.host_reactor.specs.Notes.{noted, told, told_all}
 use Rattle.host_reactor.specs.Reactor.{Reacted}
@@ -39,10 +42,34 @@ use Rattle.host_reactor.specs.Runs.{Came, GoesOn, known_by, state_at}
 use Rattle.session_work.specs.Rows.{item}
 use Rattle.clock_runs.proofs.Controls.{states_start}
 use Rattle.clock_runs.proofs.Turning as turning
+use Rattle.homing_laws.specs.home_runs.Told.{IsMember}
 use Rattle.homing_laws.specs.home_runs.Windows.{HasAnswer}
+use Rattle.homing_laws.proofs.home_runs.Grouped.{answered, members_states}
 use Rattle.homing_laws.proofs.home_runs.Knowing.{group_start}
 use Rattle.homing_laws.specs.switch_runs.Reports.{WasReported}
-use Rattle.session_laws.proofs.home_headline.Read.{same_state}
+
+-- the state of a board
+pub same_state : (b : ℕ) (states : List State) → state_at b states ≡ item b states
+same_state b [] = refl
+same_state zero (s ∷ states) = refl
+same_state (suc b) (s ∷ states) = same_state b states
+
+-- the state of a report is that of the board's latest turn
+pub sole_state : (s t : State) → s ∷ [] ≡ t ∷ [] → s ≡ t
+sole_state s t e = cc
+
+-- the turn of a tick of the run
+turn_if : (in_run : Bool) (n turn : ℕ) → (if in_run then Some n else None) ≡ Some turn → n ≡ turn
+turn_if true n turn e = cc
+turn_if false n turn e = cc
+
+-- a tick before that at which a section starts is in no turn from the start on
+pub before_start : (lines : Clocks) (start tick turn : ℕ) → 0 < start → tick < lines_tick lines (start * turn_ns) → turn_in_run lines tick ≡ Some turn → turn < start
+before_start lines start tick turn some low is =
+    let next : start ≡ start - 1 + 1 = omega (arith, some) in
+    let below = turn-below lines tick (start - 1) (subst (λ (k : ℕ). tick < lines_tick lines (k * turn_ns)) next low) in
+    let same = turn_if (is_in_run lines tick) (lines_turn lines tick) turn is in
+    omega (arith, some, below, same)
 
 -- what is known of a member's trigger was told, and the member with the endstop is its board
 abbrev pub One : (ℕ → Fired → Type 0) → ℕ → Seen → Type 0
@@ -369,3 +396,21 @@ pub all_told : (m : Machine) (switches : List Switch) (c : Came) (before : List 
 all_told m switches c before h g known =
     let was = subst (Knows m switches before) known (noted_knows m switches before c.note (known_by m switches before) (known_knows m switches before g)) in
     (heard_knows m switches c before h was).1
+
+-- each member of a group that answers is known to have triggered
+among_each : (W : ℕ → Fired → Type 0) (own b : ℕ) (xs : List Seen) → all_fired xs ≡ true → IsMember b (map (λ (s : Seen). s.member) xs) → Each W own xs → (f : Fired) × W b f
+among_each W own b [] all is given = absurd is
+among_each W own b (x ∷ xs) all (inl e) given = one x.fired refl (and_both (has_fired x.fired) (all_fired xs) all).0
+  where
+    one : (o : Option Fired) → x.fired ≡ o → has_fired o ≡ true → (f : Fired) × W b f
+    one None same h = absurd (let bad : false ≡ true = h in cc)
+    one (Some f) same h = (f, subst (λ (n : ℕ). W n f) e (given.0.0 f same))
+among_each W own b (x ∷ xs) all (inr is) given = among_each W own b xs (and_both (has_fired x.fired) (all_fired xs) all).1 is given.1
+
+pub member_told : (m : Machine) (switches : List Switch) (b : ℕ) (c : Came) (before : List Came) (h : Homing) (e : End) → GoesOn m switches before → (noted m c.note (known_by m switches before)).homing ≡ Some h
+    → answer_in (length before) h.start (hears_all (noted m c.note (known_by m switches before)).clocks c.states h).group ≡ Some e → IsMember b (members_of h.group) → (f : Fired) × WasReported m switches b h.start f (c ∷ before)
+member_told m switches b c before h e g known ends among =
+    let n = noted m c.note (known_by m switches before) in
+    let group = (hears_all n.clocks c.states h).group in
+    among_each (λ a f. WasReported m switches a h.start f (c ∷ before)) (axis_at m h.axis).board b group.members (answered (nat_le h.start (length before)) group e ends)
+    (subst (λ (l : List Member). IsMember b l) (sym (members_states n.clocks 0 h.start c.states h.group)) among) (all_told m switches c before h g known)

@@ -1,0 +1,61 @@
+//! Since when a board's trigger can't trigger, in the homing sections of a run.
+
+ghost use Rattle.std.specs.Prelude.{◌≡◌, ◌⊎◌, ◌+◌, ℕ, List, Some, length, ◌∷◌};
+ghost use Rattle.plan_types.specs.declared.levels.Level.{Level};
+ghost use Rattle.plan_types.specs.declared.machine.Machine.{Machine};
+ghost use Rattle.plan_types.specs.declared.plan.BoardState.TheVariants.{Running};
+ghost use Rattle.plan_types.specs.Machines.{IsValidMachine, board_at};
+ghost use Rattle.plan_types.specs.Machines as machine;
+ghost use Rattle.wire_scene.specs.declared.scene.Entry.{Entry};
+ghost use Rattle.wire_scene.specs.declared.scene.Switch.{Switch};
+ghost use Rattle.board_sim.specs.Board.{stepper_at};
+ghost use Rattle.board_sim.specs.RigRuns.{IsHalted};
+ghost use Rattle.board_world.specs.World.{Step};
+ghost use Rattle.link_work.specs.Stands.{first_state};
+ghost use Rattle.board_asking.specs.Machine.{trigger_of};
+ghost use Rattle.trigger_group.specs.declared.order.End.{End};
+ghost use Rattle.axis_homing.specs.declared.homing.Homing.{Homing};
+ghost use Rattle.axis_homing.specs.Homing.{answer_in, hears_all};
+ghost use Rattle.axis_homing.specs.Rising.{members_of};
+ghost use Rattle.host_reactor.specs.Notes.{noted};
+ghost use Rattle.host_reactor.specs.Runs.{Came, known_by, state_at};
+ghost use Rattle.board_runs.specs.Turns.{BoardTurn, latest_state, stands_after};
+ghost use Rattle.clock_runs.specs.Runs.{IsInRun};
+ghost use Rattle.homing_laws.specs.home_runs.Sections.{IsAnswered, IsMoved};
+ghost use Rattle.homing_laws.specs.home_runs.Told.{IsMember};
+ghost use Rattle.homing_laws.specs.fired_runs.Since.{AreBehind, AreReadTrue, BeginsApart, HasFiredSince};
+ghost use Rattle.homing_laws.specs.fired_runs.Waiting.{MoveNoneIn, StepsFindHalted, TookNone};
+
+/// The law of firings: as the turn begins in which the group of a homing section answers, each member's board took the command that starts its trigger for
+/// this section, with all that was queued before it, and its trigger has triggered since, whatever happens on the lines. What it takes is that the board's
+/// reports that count are read as ticks since which its trigger could not trigger (`AreReadTrue`), that it is no more than a turn ahead of its lines as
+/// sections start (`AreBehind`), and that homing sections are begun where none is known, 251 turns before their starts or earlier (`BeginsApart`).
+pub fn answered_triggers_have_fired()
+    ensures { (m : Machine) (switches : List Switch) (pins : List (List Level)) (entries : List Entry) (b : ℕ) (c : Came) (before : List Came) (turns : List BoardTurn) (h : Homing) (e : End) → IsValidMachine m →
+        IsInRun m switches pins entries b before turns → state_at b c.states ≡ latest_state turns → BeginsApart m switches (c ∷ before) → AreReadTrue m switches b (c ∷ before) turns → AreBehind m switches b (c ∷ before) →
+        (noted m c.note (known_by m switches before)).homing ≡ Some h → answer_in (length before) h.start (hears_all (noted m c.note (known_by m switches before)).clocks c.states h).group ≡ Some e → IsMember b (members_of h.group) →
+        HasFiredSince (trigger_of m b) h.start (first_state (board_at m b) pins b entries) turns }
+{}
+
+/// The law of halts, whatever comes late: as the turn begins in which the group of a homing section answers, every stepper that moves in the section is
+/// halted on each board that runs, or the board took no step of it since 254 turns before the section's start. What it takes is what the law of firings
+/// takes, and that no unit of the stepper is sent from there on up to 250 turns before the start, in the four turns of the set-up.
+pub fn answered_sections_halt_or_wait()
+    ensures { (m : Machine) (switches : List Switch) (pins : List (List Level)) (entries : List Entry) (b : ℕ) (c : Came) (before : List Came) (turns : List BoardTurn) (h : Homing) (stepper : ℕ) → IsValidMachine m →
+        IsInRun m switches pins entries b before turns → state_at b c.states ≡ latest_state turns → (a : IsAnswered m switches c before h) → IsMoved m b h turns stepper → BeginsApart m switches (c ∷ before) →
+        AreReadTrue m switches b (c ∷ before) turns → AreBehind m switches b (c ∷ before) → MoveNoneIn (machine.stepper_at m stepper).oid a.from (a.from + 4) turns →
+        (stands_after (first_state (board_at m b) pins b entries) turns).core.board.controller.state ≡ Running →
+        IsHalted (stepper_at (stands_after (first_state (board_at m b) pins b entries) turns).core.board.controller (machine.stepper_at m stepper).oid)
+        ⊎ TookNone (machine.stepper_at m stepper).oid a.from (first_state (board_at m b) pins b entries) turns }
+{}
+
+/// The law of steps that find halts: from the turn on in which the group of a homing section answers, whatever happens on the link of a board that runs
+/// then, a stepper that moves in the section is halted before the board takes a step of it, up to the next command that it takes which sets the clock of
+/// the stepper. What it takes is what the law of halts takes.
+pub fn answered_steppers_halt_before_they_step()
+    ensures { (m : Machine) (switches : List Switch) (pins : List (List Level)) (entries : List Entry) (b : ℕ) (c : Came) (before : List Came) (turns : List BoardTurn) (h : Homing) (stepper : ℕ) (steps : List Step) → IsValidMachine m →
+        IsInRun m switches pins entries b before turns → state_at b c.states ≡ latest_state turns → (a : IsAnswered m switches c before h) → IsMoved m b h turns stepper → BeginsApart m switches (c ∷ before) →
+        AreReadTrue m switches b (c ∷ before) turns → AreBehind m switches b (c ∷ before) → MoveNoneIn (machine.stepper_at m stepper).oid a.from (a.from + 4) turns →
+        (stands_after (first_state (board_at m b) pins b entries) turns).core.board.controller.state ≡ Running →
+        StepsFindHalted (machine.stepper_at m stepper).oid (stands_after (first_state (board_at m b) pins b entries) turns).core steps }
+{}

@@ -1,0 +1,25 @@
+//! Which steps came too late where a whole run ends for a late board, and which shutdowns its boards tell of, as laws.
+
+ghost use Rattle.std.specs.Prelude.{◌≡◌, ◌∷◌, ◌++◌, ℕ, List, [], Some};
+ghost use Rattle.plan_types.specs.declared.machine.Machine.{Machine};
+ghost use Rattle.plan_types.specs.Machines.{IsValidMachine};
+ghost use Rattle.wire_scene.specs.declared.scene.Scene.{Scene};
+ghost use Rattle.host_reactor.specs.Reactor.{Run};
+ghost use Rattle.session_lanes.specs.declared.near.Told.{Told};
+ghost use Rattle.session_desk.specs.declared.tell.Kept.{Kept};
+ghost use Rattle.session_run.specs.Runs.{RunsOver};
+ghost use Rattle.session_laws.specs.run_lates.Late.{ComesLateIn};
+
+use io_core::{Files, Sink};
+use plan_types::Cause;
+
+/// The law of late boards: in whatever threads a run went, in any scene and of any text, where it ends since steps came too late to a board, this board ran
+/// up to the last turn of its link, and shut down as this turn began, at the tick that is told as the arrival: it took steps of which the first
+/// one was due before, at the tick that is told, while none of their stepper pended. The spoiled turns and the spill that are told are those of
+/// the first unit of the busy stretch with this first tick for which they are more than the lead together, and 0 where there is none.
+pub fn late_runs_tell_of_steps_that_came_late<F: Files, S: Sink>()
+    ensures { (m : Machine) (s : Scene) (name : List ℕ) (files files' : F) (out out' : S) (kept kept' : Kept) (t : Told Run) →
+        (r : RunsOver F.Files S.Sink m s name files out kept t files' out' kept') → IsValidMachine m →
+        (board first arrival spoiled spill : ℕ) → t.cause ≡ Cause.Late board first arrival spoiled spill →
+        ComesLateIn m s board first arrival spoiled spill r.runs.0 r.runs.1 r.runs.2 }
+{}

@@ -1,2 +1,6 @@
 pub mod Linked
 pub mod Late
+pub mod Units
+pub mod Due
+pub mod Boards
+pub mod Naming

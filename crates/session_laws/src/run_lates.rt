@@ -8,7 +8,11 @@ ghost use Rattle.host_reactor.specs.Reactor.{Run};
 ghost use Rattle.session_lanes.specs.declared.near.Told.{Told};
 ghost use Rattle.session_desk.specs.declared.tell.Kept.{Kept};
 ghost use Rattle.session_run.specs.Runs.{RunsOver};
-ghost use Rattle.session_laws.specs.run_lates.Late.{ComesLateIn};
+ghost use Rattle.cause_runs.specs.Short.{HaveShortDictionaries};
+ghost use Rattle.motion_work.specs.Told.{Told as Heard};
+ghost use Rattle.session_laws.specs.run_headline.Made.{IsMade};
+ghost use Rattle.session_laws.specs.home_headline.Little.{AllHomeLittle};
+ghost use Rattle.session_laws.specs.run_lates.Late.{ComesLateIn, HasLateUnitIn};
 
 use io_core::{Files, Sink};
 use plan_types::Cause;
@@ -22,4 +26,15 @@ pub fn late_runs_tell_of_steps_that_came_late<F: Files, S: Sink>()
         (r : RunsOver F.Files S.Sink m s name files out kept t files' out' kept') → IsValidMachine m →
         (board first arrival spoiled spill : ℕ) → t.cause ≡ Cause.Late board first arrival spoiled spill →
         ComesLateIn m s board first arrival spoiled spill r.runs.0 r.runs.1 r.runs.2 }
+{}
+
+/// The law of late units: in whatever threads a run went, in any scene, where it ends since steps came too late to a board, and each board holds nothing long
+/// (`AllHomeLittle`), these were those of a unit of one of the sections that were begun, with the first tick that is told. The spoiled turns that
+/// are told are those of the busy stretch up to the turn in which it is due, and the spill is its own; together they are more than the lead.
+pub fn late_runs_tell_of_their_units<F: Files, S: Sink>()
+    ensures { (m : Machine) (s : Scene) (name : List ℕ) (files files' : F) (out out' : S) (kept kept' : Kept) (t : Told Run) →
+        (r : RunsOver F.Files S.Sink m s name files out kept t files' out' kept') → IsValidMachine m → HaveShortDictionaries m → (text : List ℕ) → F.told files name ≡ Some text → kept.at ≡ 0 →
+        (board first arrival spoiled spill : ℕ) → t.cause ≡ Cause.Late board first arrival spoiled spill → AllHomeLittle m s text r.runs.0 (r.runs.1 ++ r.runs.2 ∷ []) →
+        ∥ ((made : IsMade m s r.runs.0 r.runs.1) × (made.plans.seen.text ≡ text) × (c : ComesLateIn m s board first arrival spoiled spill r.runs.0 r.runs.1 r.runs.2) ×
+        ((heard : Heard) → made.plans.seen.told ≡ Some heard → HasLateUnitIn m s board first arrival spoiled spill r.runs.0 r.runs.1 r.runs.2 heard.clocks made.plans.seen.begun c)) ∥₁ }
 {}

@@ -1,12 +1,14 @@
 -- A whole run that ends since steps came too late to a board tells of this board's last turn.
-use Rattle.std.proofs.Common.{◌≡◌, ℕ, zero, suc, ◌+◌, ◌<◌, Bool, true, false, List, [], ◌∷◌, ◌++◌, length, map, Option, Some, None, refl, ap, sym, ◌∙◌, subst, arith, inl, inr, append_assoc, append-nil}
-use Rattle.std.specs.Prelude.{if◌then◌else◌}
+use Rattle.std.proofs.Common.{◌≡◌, ℕ, zero, suc, ◌+◌, ◌<◌, Bool, true, false, List, [], ◌∷◌, ◌++◌, length, map, Option, Some, None, refl, ap, sym, ◌∙◌, subst, arith, inl, inr, append_assoc, length-append}
+use Rattle.std.specs.Prelude.{◌==◌, if◌then◌else◌}
 use Rattle.std.proofs.lemmas.Bool.Decides.{eqb_tells}
 use Rattle.std.proofs.lemmas.List.{length-map}
 use Rattle.io_core.specs.declared.traits.Files.{Ghosts as Files}
 use Rattle.io_core.specs.declared.traits.Sink.{Ghosts as Sink}
 use Rattle.plan_types.specs.declared.cause.Cause.{Cause}
 use Rattle.plan_types.specs.declared.cause.Cause.TheVariants as cause
+use Rattle.plan_types.specs.declared.clock.BoardClock.{BoardClock}
+use Rattle.plan_types.specs.declared.levels.Level.{Level}
 use Rattle.plan_types.specs.declared.machine.Machine.{Machine}
 use Rattle.plan_types.specs.declared.plan.BoardState.{BoardState}
 use Rattle.plan_types.specs.declared.plan.BoardState.TheVariants.{Running, Shut}
@@ -19,16 +21,16 @@ use Rattle.msg_code.specs.declared.unit.Control.{Control}
 use Rattle.wire_scene.specs.declared.scene.Scene.{Scene}
 use Rattle.board_sim.specs.Board.{timer_too_close}
 use Rattle.board_world.specs.Shut.{WasShut}
-use Rattle.board_world.specs.World.{Core, run}
+use Rattle.board_world.specs.World.{AllFair, Core}
 use Rattle.board_world.proofs.Causes.{was_shut}
 use Rattle.link_work.specs.Ends.{last_of}
 use Rattle.link_work.specs.Held.{IsCounted, late_by, lead_of, told_by}
 use Rattle.link_work.specs.Late.{turn_steps}
 use Rattle.link_work.specs.Stands.{Seen, orders}
 use Rattle.link_work.specs.Switches.{pins_of}
-use Rattle.link_work.specs.Turn.{LinkState}
+use Rattle.link_work.specs.Turn.{LinkState, Orders}
 use Rattle.link_work.proofs.Answered.{begins}
-use Rattle.link_work.proofs.Shut.{begins_running, turn_shut, why_steps}
+use Rattle.link_work.proofs.Shut.{Found, turn_shut, why_steps}
 use Rattle.host_reactor.specs.declared.ordered.Known.{Known}
 use Rattle.host_reactor.specs.Notes.{noted}
 use Rattle.host_reactor.specs.Reactor.{Run}
@@ -87,32 +89,45 @@ pub record LateAt (j b first arrival spoiled spill : ℕ) (states : List State) 
   pub reason : news.reason ≡ 1
   pub first_is : news.first ≡ first
   pub tick_is : news.tick ≡ arrival
-  pub numbers : (news.spoiled, news.spill) ≡ (spoiled, spill)
+  pub spoiled_is : news.spoiled ≡ spoiled
+  pub spill_is : news.spill ≡ spill
+
+later_state : (j b first arrival spoiled spill : ℕ) (s : State) (states : List State) → LateAt (j + 1) b first arrival spoiled spill states → LateAt j b first arrival spoiled spill (s ∷ states)
+later_state j b first arrival spoiled spill s states x =
+    let place_is = x.place_is in
+    record {
+      place = suc x.place;
+      place_is = omega (arith, place_is);
+      state = x.state;
+      is = x.is;
+      news = x.news;
+      shut = x.shut;
+      reason = x.reason;
+      first_is = x.first_is;
+      tick_is = x.tick_is;
+      spoiled_is = x.spoiled_is;
+      spill_is = x.spill_is;
+    }
+
+here_state : (j b first arrival spoiled spill : ℕ) (s : State) (states : List State) (n : ShutNews) → s.shut ≡ Some n → n.reason ≡ 1 → Some (cause.Late j n.first n.tick n.spoiled n.spill) ≡ Some (cause.Late b first arrival spoiled spill)
+    → LateAt j b first arrival spoiled spill (s ∷ states)
+here_state j b first arrival spoiled spill s states n shut one f =
+    let same : j ≡ b = cc in
+    record { place = 0; place_is = omega (arith, same); state = s; is = refl; news = n; shut = shut; reason = one; first_is = cc; tick_is = cc; spoiled_is = cc; spill_is = cc }
+
+by_state : (j b first arrival spoiled spill : ℕ) (s : State) (states : List State) (o : Option ShutNews) → (late (j + 1) states ≡ Some (cause.Late b first arrival spoiled spill) → LateAt (j + 1) b first arrival spoiled spill states) → s.shut ≡ o
+    → or_cause (late_of j o) (late (j + 1) states) ≡ Some (cause.Late b first arrival spoiled spill) → LateAt j b first arrival spoiled spill (s ∷ states)
+by_state j b first arrival spoiled spill s states None rest shut f = later_state j b first arrival spoiled spill s states (rest f)
+by_state j b first arrival spoiled spill s states (Some n) rest shut f =
+    let At : Bool → Type 0 = λ x. or_cause (if x then Some (cause.Late j n.first n.tick n.spoiled n.spill) else None) (late (j + 1) states) ≡ Some (cause.Late b first arrival spoiled spill) in
+    elim (eqb_tells n.reason 1) [
+      | inl p ↦ here_state j b first arrival spoiled spill s states n shut p.1 (subst At p.0 f)
+      | inr p ↦ later_state j b first arrival spoiled spill s states (rest (subst At p.0 f))
+    ]
 
 late_is : (j b first arrival spoiled spill : ℕ) (states : List State) → late j states ≡ Some (cause.Late b first arrival spoiled spill) → LateAt j b first arrival spoiled spill states
 late_is j b first arrival spoiled spill [] e = absurd (let f : None ≡ Some (cause.Late b first arrival spoiled spill) = e in cc)
-late_is j b first arrival spoiled spill (s ∷ states) e = by s.shut refl e
-  where
-    later : LateAt (j + 1) b first arrival spoiled spill states → LateAt j b first arrival spoiled spill (s ∷ states)
-    later x =
-        let place_is = x.place_is in
-        record { place = suc x.place; place_is = omega (arith, place_is); state = x.state; is = x.is; news = x.news; shut = x.shut; reason = x.reason; first_is = x.first_is; tick_is = x.tick_is; numbers = x.numbers }
-
-    here : (n : ShutNews) → s.shut ≡ Some n → n.reason ≡ 1 → Some (cause.Late j n.first n.tick n.spoiled n.spill) ≡ Some (cause.Late b first arrival spoiled spill) → LateAt j b first arrival spoiled spill (s ∷ states)
-    here n shut one f =
-        let same : j ≡ b = cc in
-        let spoiled_same : n.spoiled ≡ spoiled = cc in
-        let spill_same : n.spill ≡ spill = cc in
-        record { place = 0; place_is = omega (arith, same); state = s; is = refl; news = n; shut = shut; reason = one; first_is = cc; tick_is = cc; numbers = λ i. (spoiled_same i, spill_same i) }
-
-    by : (o : Option ShutNews) → s.shut ≡ o → or_cause (late_of j o) (late (j + 1) states) ≡ Some (cause.Late b first arrival spoiled spill) → LateAt j b first arrival spoiled spill (s ∷ states)
-    by None shut f = later (late_is (j + 1) b first arrival spoiled spill states f)
-    by (Some n) shut f =
-        let At : Bool → Type 0 = λ x. or_cause (if x then Some (cause.Late j n.first n.tick n.spoiled n.spill) else None) (late (j + 1) states) ≡ Some (cause.Late b first arrival spoiled spill) in
-        elim (eqb_tells n.reason 1) [
-          | inl p ↦ here n shut p.1 (subst At p.0 f)
-          | inr p ↦ later (late_is (j + 1) b first arrival spoiled spill states (subst At p.0 f))
-        ]
+late_is j b first arrival spoiled spill (s ∷ states) e = by_state j b first arrival spoiled spill s states s.shut (late_is (j + 1) b first arrival spoiled spill states) refl e
 
 -- what the lanes of a board carried, and the turns of its link
 pub record Logged (m : Machine) (s : Scene) (b : ℕ) (ts : List MotionTurn) (rs : List ReactorTurn) (end : ReactorTurn) : Type 0 where
@@ -166,7 +181,7 @@ module _ {F S : Type 0} (f : Files F) (o : Sink S) where
 
 module _ (m : Machine) (v : IsValidMachine m) (s : Scene) (ts : List MotionTurn) (end : ReactorTurn) (c : Cause) (first : ReactorTurn) (rest : List ReactorTurn) (f : Facts m s ts (first ∷ rest) end c) where
   module _ (b : ℕ) (low : b < length m.boards) (g : Logged m s b ts (first ∷ rest) end) where
-    w : IsInWhole m s.switches b (clock_of (board_at m b)) (link_of m s b) ts first (rest ++ end ∷ [])
+    abbrev w : IsInWhole m s.switches b (clock_of (board_at m b)) (link_of m s b) ts first (rest ++ end ∷ [])
     w = f.boards b first rest low refl
 
     empty : item b first.states ≡ []
@@ -198,79 +213,94 @@ module _ (m : Machine) (v : IsValidMachine m) (s : Scene) (ts : List MotionTurn)
     shut_reason r t a tick at e = cc
 
     -- so it was shut down in this turn
-    pub comes_late : (due arrival spoiled spill : ℕ) → LateAt 0 b due arrival spoiled spill end.states → ComesLate m s b due arrival spoiled spill ts first (rest ++ end ∷ [])
-    comes_late due arrival spoiled spill x = record {
-      there = low;
-      w = w;
-      turn = turn;
-      past = past;
-      are = at_end.are;
-      is = is;
-      ran = ran;
-      shut = shut_state;
-      began = found.1;
-      late = omega (arith, why.1, found.0.now);
-      took = was_shut (steps_of_turn clock (length past) o is.resent l) l.core timer_too_close arrival due ran
-          (ap (λ (h : Core). h.board.controller.state) (sym (turn_runs clock (length past) o is.resent l)) ∙ ap (λ (h : LinkState). h.core.board.controller.state) (sym is.becomes) ∙ shut_state);
-      counted = numbers;
-    }
-      where
-        clock = clock_of (board_at m b)
-        begin = link_of m s b
-        pins = pins_of (board_at m b) b s.switches
-        turn = at_end.turn
-        past = at_end.past
-        l = stands_after begin past
-        o = orders turn.control turn.batch
+    module _ (due arrival spoiled spill : ℕ) (x : LateAt 0 b due arrival spoiled spill end.states) where
+      abbrev Clock : BoardClock
+      Clock = clock_of (board_at m b)
 
-        turns_are : AreBoardTurns clock begin (turn ∷ past)
-        turns_are = let Are : List BoardTurn → Type 0 = λ z. AreBoardTurns clock begin z in subst Are at_end.are w.turns_are
+      abbrev Begin : LinkState
+      Begin = link_of m s b
 
-        is = turns_are.0.0
+      abbrev Pins : List (List Level)
+      Pins = pins_of (board_at m b) b s.switches
 
-        last : Lasts b rest end (states_of w.made)
-        last = lasts b rest end (states_of w.made) (took b (rest ++ end ∷ []) (states_of w.made) w.states)
+      abbrev Last_turn : BoardTurn
+      Last_turn = at_end.turn
 
-        state_is : turn.state ≡ x.state
-        state_is =
-            let place : x.place ≡ b = x.place_is in
-            let heard : item b end.states ≡ turn.state ∷ [] = last.at ∙ sym (latest_behind [] w.made last.front last.last last.are) ∙ ap latest_state at_end.are in
-            item_same turn.state x.state (sym heard ∙ ap (λ (i : ℕ). item i end.states) (sym place) ∙ x.is)
+      abbrev Past : List BoardTurn
+      Past = at_end.past
 
-        told : turn.state.shut ≡ Some x.news
-        told = ap (λ (z : State). z.shut) state_is ∙ x.shut
+      abbrev Link_before : LinkState
+      Link_before = stands_after Begin Past
 
-        shut_state : turn.after.core.board.controller.state ≡ Shut timer_too_close arrival due
-        shut_state =
-            shut_as turn.after.core.board.controller.state turn.state.shut x.news turns_are.0.1.shut told ∙ ap (λ n. Shut n x.news.tick x.news.first) x.reason
-            ∙ ap (λ n. Shut timer_too_close n x.news.first) x.tick_is ∙ ap (λ n. Shut timer_too_close arrival n) x.first_is
+      abbrev Now : Orders
+      Now = orders Last_turn.control Last_turn.batch
 
-        may : (z : BoardState) → l.core.board.controller.state ≡ z → MayBe z
-        may Running e = tt
-        may (Shut r t a) e = inl (shut_reason r t a arrival due (sym (stays_shut clock begin (turn ∷ []) past r t a turns_are e) ∙ shut_state))
+      turns_are : AreBoardTurns Clock Begin (Last_turn ∷ Past)
+      turns_are = let Are : List BoardTurn → Type 0 = λ z. AreBoardTurns Clock Begin z in subst Are at_end.are w.turns_are
 
-        ran_by : (came : List Came) → IsInRun m s.switches pins s.entries b came (turn ∷ past) → l.core.board.controller.state ≡ Running
-        ran_by [] r = absurd r.both
-        ran_by (x ∷ before) r = goes_running m s.switches pins s.entries b x before past (run_before m s.switches pins s.entries b x before turn past r) r.both.0 r.goes_on.0 (may l.core.board.controller.state refl)
+      last : Lasts b rest end (states_of w.made)
+      last = lasts b rest end (states_of w.made) (took b (rest ++ end ∷ []) (states_of w.made) w.states)
 
-        ran : l.core.board.controller.state ≡ Running
-        ran =
-            let Run : List Came → List BoardTurn → Type 0 = λ x y. IsInRun m s.switches pins s.entries b x y in
-            ran_by (came_from [] (first ∷ rest)) (subst (λ y. Run (came_from [] (first ∷ rest)) y) at_end.are
-            (subst (λ x. Run x (behind [] w.made)) (came_cut [] first rest end) (record { board = low; goes_on = w.goes_on; turns_are = w.turns_are; both = w.both; in_range = w.in_range })))
+      told : Last_turn.state.shut ≡ Some x.news
+      told =
+          let at = x.place_is in
+          let place : x.place ≡ b = omega (arith, at) in
+          let heard : item b end.states ≡ Last_turn.state ∷ [] = last.at ∙ sym (latest_behind [] w.made last.front last.last last.are) ∙ ap latest_state at_end.are in
+          let same : Last_turn.state ≡ x.state = item_same Last_turn.state x.state (sym heard ∙ ap (λ (i : ℕ). item i end.states) (sym place) ∙ x.is) in
+          ap (λ (z : State). z.shut) same ∙ x.shut
 
-        found =
-            let time = (begins (board_at m b) pins b s.entries (orders_in past) l (turns_in_order clock begin past turns_are.1)).in_time.1 in
-            (turn_shut clock (length past) o l turn.after (ordered_after (board_at m b) pins b s.entries past turns_are.1) (time ∙ ap (board_tick clock) (order_length past)) ran is).shut timer_too_close arrival due shut_state
+      shut_state : Last_turn.after.core.board.controller.state ≡ Shut timer_too_close arrival due
+      shut_state =
+          shut_as Last_turn.after.core.board.controller.state Last_turn.state.shut x.news turns_are.0.1.shut told ∙ ap (λ n. Shut n x.news.tick x.news.first) x.reason
+          ∙ ap (λ n. Shut timer_too_close n x.news.first) x.tick_is ∙ ap (λ n. Shut timer_too_close arrival n) x.first_is
 
-        why = why_steps found.0.board found.0.command.command due found.0.cause
+      may : (z : BoardState) → Link_before.core.board.controller.state ≡ z → MayBe z
+      may Running e = tt
+      may (Shut r t a) e = inl (shut_reason r t a arrival due (sym (stays_shut Clock Begin (Last_turn ∷ []) Past r t a turns_are e) ∙ shut_state))
 
-        numbers : (spoiled, spill) ≡ late_by (lead_of (board_at m b).drift) (spoiled_by past turn) due (held_by past turn)
-        numbers =
-            let Counted : Option ShutNews → Type 0 = λ z. IsCounted (lead_of clock.drift) (spoiled_by past turn) (held_by past turn) z in
-            let told_is = subst Counted told at_end.counted in
-            let counts = λ (a : ℕ). late_by (lead_of clock.drift) (spoiled_by past turn) a (held_by past turn) in
-            sym x.numbers ∙ told_is ∙ ap (λ z. told_by z (counts x.news.first)) (ap (λ n. n == timer_too_close) x.reason) ∙ ap counts x.first_is
+      ran_by : (came : List Came) → IsInRun m s.switches Pins s.entries b came (Last_turn ∷ Past) → Link_before.core.board.controller.state ≡ Running
+      ran_by [] r = absurd r.both
+      ran_by (y ∷ before) r = goes_running m s.switches Pins s.entries b y before Past (run_before m s.switches Pins s.entries b y before Last_turn Past r) r.both.0 r.goes_on.0 (may Link_before.core.board.controller.state refl)
+
+      ran : Link_before.core.board.controller.state ≡ Running
+      ran =
+          let Run : List Came → List BoardTurn → Type 0 = λ y z. IsInRun m s.switches Pins s.entries b y z in
+          ran_by (came_from [] (first ∷ rest)) (subst (λ z. Run (came_from [] (first ∷ rest)) z) at_end.are
+          (subst (λ y. Run y (behind [] w.made)) (came_cut [] first rest end) (record { board = low; goes_on = w.goes_on; turns_are = w.turns_are; both = w.both; in_range = w.in_range })))
+
+      found : Found (AllFair Link_before.core (turn_steps Clock (length Past) Now turns_are.0.0.resent Link_before)) Link_before.core Last_turn.after.core timer_too_close arrival due × (arrival ≡ board_tick Clock (length Past))
+      found =
+          let time = (begins (board_at m b) Pins b s.entries (orders_in Past) Link_before (turns_in_order Clock Begin Past turns_are.1)).in_time.1 in
+          (turn_shut Clock (length Past) Now Link_before Last_turn.after (ordered_after (board_at m b) Pins b s.entries Past turns_are.1) (time ∙ ap (board_tick Clock) (order_length Past)) ran turns_are.0.0).shut timer_too_close arrival due shut_state
+
+      numbers : (spoiled, spill) ≡ late_by (lead_of Clock.drift) (spoiled_by Past Last_turn) due (held_by Past Last_turn)
+      numbers =
+          let Counted : Option ShutNews → Type 0 = λ z. IsCounted (lead_of Clock.drift) (spoiled_by Past Last_turn) (held_by Past Last_turn) z in
+          let told_is = subst Counted told at_end.counted in
+          let counts = λ (a : ℕ). late_by (lead_of Clock.drift) (spoiled_by Past Last_turn) a (held_by Past Last_turn) in
+          (λ i. (sym x.spoiled_is i, sym x.spill_is i)) ∙ told_is ∙ ap (λ z. told_by z (counts x.news.first)) (ap (λ n. n == timer_too_close) x.reason) ∙ ap counts x.first_is
+
+      pub comes_late : ComesLate m s b due arrival spoiled spill ts first (rest ++ end ∷ [])
+      comes_late =
+          let is = turns_are.0.0 in
+          let why = why_steps found.0.board found.0.command.command due found.0.cause in
+          let now = found.0.now in
+          let earlier = why.1 in
+          record {
+            there = low;
+            w = w;
+            turn = Last_turn;
+            past = Past;
+            are = at_end.are;
+            is = is;
+            ran = ran;
+            shut = shut_state;
+            began = found.1;
+            late = omega (arith, earlier, now);
+            took = was_shut (steps_of_turn Clock (length Past) Now is.resent Link_before) Link_before.core timer_too_close arrival due ran
+                (ap (λ (h : Core). h.board.controller.state) (sym (turn_runs Clock (length Past) Now is.resent Link_before)) ∙ ap (λ (h : LinkState). h.core.board.controller.state) (sym is.becomes) ∙ shut_state);
+            counted = numbers;
+          }
 
   -- and where a run ends for it, its last states told of it
   pub ends_late : (own : IsOwn c) (b due arrival spoiled spill : ℕ) → c ≡ cause.Late b due arrival spoiled spill → LateAt 0 b due arrival spoiled spill end.states

@@ -1,5 +1,5 @@
 -- The turns of a board's link in a whole run, with what its link holds of the busy stretch.
-use Rattle.std.proofs.Common.{◌≡◌, ℕ, zero, suc, ◌+◌, ◌<◌, Bool, true, false, List, [], ◌∷◌, ◌++◌, length, map, refl, ap, sym, ◌∙◌, subst, arith, inl, inr, append_assoc}
+use Rattle.std.proofs.Common.{◌≡◌, ℕ, zero, suc, ◌+◌, ◌<◌, Bool, true, false, List, [], ◌∷◌, ◌++◌, length, map, refl, ap, sym, ◌∙◌, subst, arith, inl, inr, append_assoc, length-append}
 use Rattle.std.specs.Prelude.{if◌then◌else◌}
 use Rattle.plan_types.specs.declared.clock.BoardClock.{BoardClock}
 use Rattle.plan_types.specs.declared.machine.Machine.{Machine}
@@ -106,8 +106,6 @@ module _ (clock : BoardClock) (begin : LinkState) where
       let one : z.0 ≡ t.after = one_end clock (length turns) o l z.0 t.after turned are.0.0 in
       let stands : StandsFor y t.after = subst (λ (n : LinkState). StandsFor y n) one z.2 in
       let e : Ended = record { turn = length turns; link = t.after } in
-      let ended = λ (i : _). record { turn = at i; link = one i } in
-      let quiet_is = λ (_ : ℕ). is_quiet e in
       let idle_told : t.state.idle ≡ is_idle t.after =
       same_bool t.state.idle (is_idle t.after) _ are.0.1.idle ((λ i. idle_is t.after i), (λ i. is_idle_where t.after i.0 i.1)) in
       let held_now : hold x.held k t.batch.units ≡ held_by turns t =
@@ -127,34 +125,52 @@ module _ (clock : BoardClock) (begin : LinkState) where
         counted = counted_as (lead_of x.clock.drift) (lead_of clock.drift) _ (spoiled_by turns t) (hold x.held k t.batch.units) (held_by turns t) t.state.shut t.state.shut (ap (λ (c : BoardClock). lead_of c.drift) st.clock_is) turns_now held_now refl h.counted;
       }
 
-  -- turn by turn, with what was put and taken
-  pub walk : (turns made : List BoardTurn) (x : Seen) (k : ℕ) (us : List LinkTurn) (e : Seen × Bool) (put_on taken_on : List Control) (left rest : List Batch) (told_on : List State) → k ≡ length turns → Stays turns x → AreBoardTurns clock begin (behind turns made)
-      → Goes (LinkStep links.Turns) k (x, false) us e → map (λ t. t.control) made ++ put_on ≡ gather (λ u. u.control ∷ []) us ++ taken_on → map (λ t. t.batch) made ++ rest ≡ gather (λ u. u.batch ∷ []) us ++ left
-      → gather (λ u. u.state ∷ []) us ≡ states_of made ++ told_on → 0 < length made → IsLast clock (behind turns made)
-  walk turns [] x k us e put_on taken_on left rest told_on at st are goes controls batches states some = absurd (omega (arith, some))
-  walk turns (t ∷ made) x k [] e put_on taken_on left rest told_on at st are goes controls batches states some = absurd (none_cons t.state (states_of made ++ told_on) states)
-  walk turns (t ∷ made) x k (u ∷ us) e put_on taken_on left rest told_on at st are goes controls batches states some =
+  -- the first of some turns, with what was put and taken
+  record Stepped (turns made : List BoardTurn) (t : BoardTurn) (k : ℕ) (us : List LinkTurn) (e : Seen × Bool) (put_on taken_on : List Control) (left rest : List Batch) (told_on : List State) : Type 0 where
+    pub y : Seen
+    pub passes : Passes turns t y
+    pub more : List LinkTurn
+    pub goes : Goes (LinkStep links.Turns) (k + 1) (y, false) more e
+    pub controls : map (λ t. t.control) made ++ put_on ≡ gather (λ u. u.control ∷ []) more ++ taken_on
+    pub batches : map (λ t. t.batch) made ++ rest ≡ gather (λ u. u.batch ∷ []) more ++ left
+    pub states : gather (λ u. u.state ∷ []) more ≡ states_of made ++ told_on
+
+  step : (turns made : List BoardTurn) (t : BoardTurn) (x : Seen) (k : ℕ) (us : List LinkTurn) (e : Seen × Bool) (put_on taken_on : List Control) (left rest : List Batch) (told_on : List State) → k ≡ length turns → Stays turns x → AreBoardTurns clock begin (t ∷ turns)
+      → Goes (LinkStep links.Turns) k (x, false) us e → map (λ t. t.control) (t ∷ made) ++ put_on ≡ gather (λ u. u.control ∷ []) us ++ taken_on → map (λ t. t.batch) (t ∷ made) ++ rest ≡ gather (λ u. u.batch ∷ []) us ++ left
+      → gather (λ u. u.state ∷ []) us ≡ states_of (t ∷ made) ++ told_on → Stepped turns made t k us e put_on taken_on left rest told_on
+  step turns made t x k [] e put_on taken_on left rest told_on at st here goes controls batches states = absurd (none_cons t.state (states_of made ++ told_on) states)
+  step turns made t x k (u ∷ us) e put_on taken_on left rest told_on at st here goes controls batches states =
       let c = cons_both t.control u.control (map (λ (y : BoardTurn). y.control) made ++ put_on) (gather (λ (y : LinkTurn). y.control ∷ []) us ++ taken_on) controls in
       let d = cons_both t.batch u.batch (map (λ (y : BoardTurn). y.batch) made ++ rest) (gather (λ (y : LinkTurn). y.batch ∷ []) us ++ left) batches in
       let s = cons_both u.state t.state (gather (λ (y : LinkTurn). y.state ∷ []) us) (states_of made ++ told_on) states in
-      let here = are_front clock begin (t ∷ turns) made are in
       let out : t.state.out ≡ false = here.0.1.in_memory in
-      let step = goes.1 in
-      elim step.1 [
+      let one = goes.1 in
+      elim one.1 [
         | inl on_time ↦
             let Turned : Control × Batch × State → Type 0 = λ z. links.Turns x k z.0 z.1 z.2 goes.0.0 in
             let h = subst Turned (λ i. (sym c.0 i, sym d.0 i, s.0 i)) on_time.3 in
-            let p = passes turns t x goes.0.0 k at st here h in
             let next : goes.0 ≡ (goes.0.0, false) = (λ i. (goes.0.0, on_time.1 i)) in
-            on made refl p (subst (λ (z : Seen × Bool). Goes (LinkStep links.Turns) (k + 1) z us e) next goes.2) c.1 d.1 s.1
+            record {
+              y = goes.0.0;
+              passes = passes turns t x goes.0.0 k at st here h;
+              more = us;
+              goes = subst (λ (z : Seen × Bool). Goes (LinkStep links.Turns) (k + 1) z us e) next goes.2;
+              controls = c.1;
+              batches = d.1;
+              states = s.1;
+            }
         | inr two ↦
             let bare : t.state.out ≡ true = ap (λ (z : State). z.out) (sym s.0 ∙ two.1) in
             absurd (true_false (sym bare ∙ out))
       ]
-    where
-      on : (more : List BoardTurn) → made ≡ more → Passes turns t goes.0.0 → Goes (LinkStep links.Turns) (k + 1) (goes.0.0, false) us e → map (λ t. t.control) made ++ put_on ≡ gather (λ u. u.control ∷ []) us ++ taken_on
-          → map (λ t. t.batch) made ++ rest ≡ gather (λ u. u.batch ∷ []) us ++ left → gather (λ u. u.state ∷ []) us ≡ states_of made ++ told_on → IsLast clock (behind turns (t ∷ made))
-      on [] same p g c d s =
-          let Last : List BoardTurn → Type 0 = λ z. IsLast clock (behind (t ∷ turns) z) in
-          subst Last (sym same) (record { turn = t; past = turns; are = refl; counted = p.counted })
-      on (y ∷ more) same p g c d s = walk (t ∷ turns) made goes.0.0 (k + 1) us e put_on taken_on left rest told_on (omega (arith, at)) p.next are g c d s (let l = ap length same in omega (arith, l))
+
+  pub walk : (turns made : List BoardTurn) (x : Seen) (k : ℕ) (us : List LinkTurn) (e : Seen × Bool) (put_on taken_on : List Control) (left rest : List Batch) (told_on : List State) → k ≡ length turns → Stays turns x → AreBoardTurns clock begin (behind turns made)
+      → Goes (LinkStep links.Turns) k (x, false) us e → map (λ t. t.control) made ++ put_on ≡ gather (λ u. u.control ∷ []) us ++ taken_on → map (λ t. t.batch) made ++ rest ≡ gather (λ u. u.batch ∷ []) us ++ left
+      → gather (λ u. u.state ∷ []) us ≡ states_of made ++ told_on → 0 < length made → IsLast clock (behind turns made)
+  walk turns [] x k us e put_on taken_on left rest told_on at st are goes controls batches states some = absurd (omega (arith, some))
+  walk turns (t ∷ []) x k us e put_on taken_on left rest told_on at st are goes controls batches states some =
+      let r = step turns [] t x k us e put_on taken_on left rest told_on at st are goes controls batches states in
+      record { turn = t; past = turns; are = refl; counted = r.passes.counted }
+  walk turns (t ∷ (z ∷ made)) x k us e put_on taken_on left rest told_on at st are goes controls batches states some =
+      let r = step turns (z ∷ made) t x k us e put_on taken_on left rest told_on at st (are_front clock begin (t ∷ turns) (z ∷ made) are) goes controls batches states in
+      walk (t ∷ turns) (z ∷ made) r.y (k + 1) r.more e put_on taken_on left rest told_on (omega (arith, at)) r.passes.next are r.goes r.controls r.batches r.states (omega arith)

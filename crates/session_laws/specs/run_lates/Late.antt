@@ -1,5 +1,5 @@
 -- The steps that came too late to a board, in a whole run that ends for it, and which shutdowns a run's states may tell of.
-use Rattle.std.specs.Prelude.{◌≡◌, ◌+◌, ◌<◌, ℕ, All, List, [], ◌∷◌, ◌++◌, Some, length}
+use Rattle.std.specs.Prelude.{◌≡◌, ◌+◌, ◌-◌, ◌<◌, ℕ, All, List, [], ◌∷◌, ◌++◌, Some, length}
 use Rattle.plan_types.specs.declared.machine.Machine.{Machine}
 use Rattle.plan_types.specs.declared.plan.BoardState.TheVariants.{Running, Shut}
 use Rattle.plan_types.specs.Clock.{board_tick, clock_of}
@@ -7,12 +7,14 @@ use Rattle.plan_types.specs.Lines.{Clocks}
 use Rattle.plan_types.specs.Machines.{board_at}
 use Rattle.msg_code.specs.declared.talk.ShutNews.{ShutNews}
 use Rattle.msg_code.specs.declared.talk.State.{State}
+use Rattle.step_feed.specs.Pacing.{Release}
+use Rattle.section_units.specs.Sections.{BoardSection}
 use Rattle.wire_scene.specs.declared.scene.Scene.{Scene}
 use Rattle.board_sim.specs.Board.{timer_too_close}
 use Rattle.board_world.specs.Shut.{WasShut}
 use Rattle.link_work.specs.declared.held.HeldUnit.{HeldUnit}
 use Rattle.link_work.specs.Ends.{is_quiet, spoiled_turns}
-use Rattle.link_work.specs.Held.{held_in, hold, late_by, lead_of, spoiled_with}
+use Rattle.link_work.specs.Held.{counted_to, held_in, hold, late_by, lead_of, spoiled_with}
 use Rattle.link_work.specs.Stands.{orders}
 use Rattle.link_work.specs.Turn.{IsTurn}
 use Rattle.board_runs.specs.Turns.{BoardTurn, stands_after}
@@ -22,7 +24,7 @@ use Rattle.motion_work.specs.Seen.{Started}
 use Rattle.session_work.specs.declared.table.MotionTurn.{MotionTurn}
 use Rattle.session_work.specs.declared.table.ReactorTurn.{ReactorTurn}
 use Rattle.run_laws.specs.Ends.{MayEnd}
-use Rattle.run_laws.specs.Late.{IsLateUnit}
+use Rattle.run_laws.specs.Late.{IsIn}
 use Rattle.run_laws.specs.Links.{steps_of_turn}
 use Rattle.run_boards.specs.Boards.{IsInWhole, behind}
 use Rattle.session_laws.specs.run_headline.Timely.{link_of}
@@ -58,11 +60,23 @@ abbrev pub ComesLateIn : Machine → Scene → ℕ → ℕ → ℕ → ℕ → �
 ComesLateIn m s b first arrival spoiled spill planned [] last = ⊥
 ComesLateIn m s b first arrival spoiled spill planned (begin ∷ rest) last = ComesLate m s b first arrival spoiled spill planned begin (rest ++ last ∷ [])
 
--- It was a unit of the board's sections that came too late, one with this first tick; and more turns were spoiled or spilled than the lead, which
--- is 250, and 249 for a board whose clock is off.
-pub record HasLateUnit (m : Machine) (b first arrival spoiled spill : ℕ) (clocks : List Clocks) (begun : List Started) : Type 0 where
-  pub unit : IsLateUnit (parts_on m clocks begun b) arrival first
+-- It was a unit of the board's sections that came too late, one with this first tick. Of the turns of the busy stretch so many were spoiled up to the turn
+-- in which it is due, its spill is the one that is told, and both are more than the lead: 250 turns, and 249 for a board whose clock is off.
+pub record HasLateUnit (m : Machine) (s : Scene) (b first arrival spoiled spill : ℕ) (planned : List MotionTurn) (begin : ReactorTurn) (rest : List ReactorTurn) (clocks : List Clocks) (begun : List Started)
+    (c : ComesLate m s b first arrival spoiled spill planned begin rest) : Type 0 where
+  pub section : BoardSection
+  pub release : Release
+  pub among : IsIn section (parts_on m clocks begun b)
+  pub within : IsIn release section.releases
+  pub first_is : release.unit.first ≡ first
+  pub spoiled_is : spoiled ≡ counted_to release.unit.due (spoiled_by c.past c.turn)
+  pub spill_is : spill ≡ release.turn + 250 - release.unit.due
   pub disturbed : lead_of (board_at m b).drift < spoiled + spill
+
+-- so in a run, by its turns
+abbrev pub HasLateUnitIn : (m : Machine) (s : Scene) (b first arrival spoiled spill : ℕ) (planned : List MotionTurn) (turns : List ReactorTurn) (last : ReactorTurn) → List Clocks → List Started → ComesLateIn m s b first arrival spoiled spill planned turns last → Type 0
+HasLateUnitIn m s b first arrival spoiled spill planned [] last clocks begun c = ⊥
+HasLateUnitIn m s b first arrival spoiled spill planned (begin ∷ rest) last clocks begun c = HasLateUnit m s b first arrival spoiled spill planned begin (rest ++ last ∷ []) clocks begun c
 
 -- a state tells of a shutdown only for steps that came too late or for the order to stop
 abbrev pub MayTell : State → Type 0

@@ -4,3 +4,5 @@ pub mod Units
 pub mod Due
 pub mod Boards
 pub mod Naming
+pub mod Shuts
+pub mod Ending

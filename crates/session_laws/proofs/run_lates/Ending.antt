@@ -1,0 +1,141 @@
+-- The boards of a whole run end for two reasons alone.
+use Rattle.std.proofs.Common.{All, ◌≡◌, ℕ, ◌<◌, ◌≤◌, List, [], ◌∷◌, ◌++◌, length, map, Option, Some, None, refl, ap, sym, ◌∙◌, subst, arith, inl, inr}
+use Rattle.std.proofs.Math.Logic.{∥∥₁_map}
+use Rattle.std.proofs.lemmas.List.{length-map}
+use Rattle.std.proofs.lemmas.List.Elements.{All-cons, All-nil}
+use Rattle.io_core.specs.declared.traits.Files.{Ghosts as Files}
+use Rattle.io_core.specs.declared.traits.Sink.{Ghosts as Sink}
+use Rattle.plan_types.specs.declared.cause.Cause.{Cause}
+use Rattle.plan_types.specs.declared.cause.Cause.TheVariants as cause
+use Rattle.plan_types.specs.declared.machine.Machine.{Machine}
+use Rattle.plan_types.specs.declared.plan.BoardState.{BoardState}
+use Rattle.plan_types.specs.declared.plan.BoardState.TheVariants.{Running, Shut}
+use Rattle.plan_types.specs.declared.plan.SectionKind.TheVariants.{Moves}
+use Rattle.plan_types.specs.Clock.{clock_of}
+use Rattle.plan_types.specs.Machines.{IsValidMachine, board_at}
+use Rattle.msg_code.specs.declared.talk.State.{State}
+use Rattle.wire_scene.specs.declared.scene.Scene.{Scene}
+use Rattle.link_work.specs.Runs.{AreTurns}
+use Rattle.link_work.specs.Stands.{orders}
+use Rattle.link_work.specs.Switches.{pins_of}
+use Rattle.link_work.specs.Turn.{LinkState, Orders}
+use Rattle.host_reactor.specs.Reactor.{Run}
+use Rattle.host_reactor.specs.Rows.{IsOwn}
+use Rattle.host_reactor.specs.Runs.{Came}
+use Rattle.board_runs.specs.Turns.{BoardTurn, stands_after}
+use Rattle.clock_runs.specs.Runs.{IsInRun, orders_in}
+use Rattle.clock_runs.proofs.Orders.{turns_in_order}
+use Rattle.motion_work.specs.Boards.{parts_on}
+use Rattle.motion_work.specs.Seen.{Started}
+use Rattle.motion_work.specs.Told.{Told}
+use Rattle.session_lanes.specs.declared.near.Told as near
+use Rattle.session_work.specs.declared.table.MotionTurn.{MotionTurn}
+use Rattle.session_work.specs.declared.table.ReactorTurn.{ReactorTurn}
+use Rattle.session_desk.specs.declared.tell.Kept.{Kept}
+use Rattle.session_run.specs.Boards.{came_from}
+use Rattle.session_run.specs.Runs.{RunsOver}
+use Rattle.run_laws.specs.Ends.{MayBe}
+use Rattle.run_laws.specs.Parts.{AreOrdersOf}
+use Rattle.run_boards.specs.Boards.{IsInWhole, behind, orders_of, states_of}
+use Rattle.run_plans.specs.Given.{TookControls}
+use Rattle.run_plans.specs.Lines.{TookNotes}
+use Rattle.run_plans.specs.Planned.{Plans}
+use Rattle.run_plans.proofs.Running.{orders_are}
+use Rattle.homing_laws.specs.home_parts.Cuts.{cuts_on}
+use Rattle.cause_runs.specs.Short.{HaveShortDictionaries}
+use Rattle.session_laws.specs.home_headline.Little.{AllHomeLittle}
+use Rattle.session_laws.specs.run_headline.Timely.{link_of}
+use Rattle.session_laws.proofs.clear_runs.Bare.{unbegun_units}
+use Rattle.session_laws.proofs.clear_runs.Punctual.{NoUnits}
+use Rattle.session_laws.proofs.home_headline.Board.{here_by}
+use Rattle.session_laws.proofs.home_headline.Good.{may_at}
+use Rattle.session_laws.proofs.run_headline.Boarded.{came_cut, took_long}
+use Rattle.session_laws.proofs.run_headline.Fronts.{controlled}
+use Rattle.session_laws.proofs.run_headline.Making.{run_made}
+use Rattle.session_laws.proofs.run_headline.Plain.{AllMoves, all_moves}
+use Rattle.session_laws.proofs.run_headline.Runs.{facts}
+use Rattle.session_laws.proofs.run_headline.Showing.{Facts, front_notes, long_own, not_told, took_notes}
+use Rattle.session_laws.specs.run_lates.Late.{AllMayTell, MayTell}
+use Rattle.session_laws.proofs.run_lates.Boards as boards
+use Rattle.session_laws.proofs.run_lates.Shuts.{all_may, controls_may, each_may, few_more, row_few, rows_few}
+
+module _ (m : Machine) (v : IsValidMachine m) (s : Scene) (ts : List MotionTurn) (p : Plans m (length m.boards) ts) (end : ReactorTurn) (c : Cause) (first : ReactorTurn) (rest : List ReactorTurn) (f : Facts m s ts (first ∷ rest) end c) (own : IsOwn c) where
+  long : length (rest ++ end ∷ []) ≤ length p.made
+  long = long_own m v s ts p end c first rest f own
+
+  notes : TookNotes (map (λ t. t.note) p.made) (first ∷ (rest ++ end ∷ []))
+  notes = took_notes m v s ts p end c first rest f long
+
+  none_moves : p.seen.told ≡ None → AllMoves (came_from [] (first ∷ rest))
+  none_moves e =
+      let kinds : (z : List Started) → z ≡ [] → All (λ s. s.section.kind ≡ Moves) z = λ z. λ same. (let All_in : List Started → Type 0 = λ y. All (λ (x : Started). x.section.kind ≡ Moves) y in subst All_in (sym same) (All-nil (λ (x : Started). x.section.kind ≡ Moves))) in
+      all_moves m p.seen.text p.seen.begun p.made first rest (kinds p.seen.begun (not_told m v s ts p end c e)) p.put (front_notes m v s ts p end c first rest f notes)
+
+  module _ (b : ℕ) (low : b < length m.boards) (w : IsInWhole m s.switches b (clock_of (board_at m b)) (link_of m s b) ts first (rest ++ end ∷ [])) where
+    run : IsInRun m s.switches (pins_of (board_at m b) b s.switches) s.entries b (came_from [] (first ∷ rest)) (behind [] w.made)
+    run =
+        let In : List Came → Type 0 = λ x. IsInRun m s.switches (pins_of (board_at m b) b s.switches) s.entries b x (behind [] w.made) in
+        subst In (came_cut [] first rest end) (record { board = low; goes_on = w.goes_on; turns_are = w.turns_are; both = w.both; in_range = w.in_range })
+
+    count : length (orders_of w.made) ≡ length (rest ++ end ∷ [])
+    count =
+        length-map w.made (λ (x : BoardTurn). orders x.control x.batch) ∙ sym (length-map w.made (λ (x : BoardTurn). x.state)) ∙ took_long b (rest ++ end ∷ []) (states_of w.made) w.states
+
+    -- where the planner was told no clock lines, nothing homes and no units are sent
+    none_controls : p.seen.told ≡ None → TookControls (orders_in (behind [] w.made))
+    none_controls e = controlled m v s.switches (pins_of (board_at m b) b s.switches) s.entries b (came_from [] (first ∷ rest)) (behind [] w.made) run (none_moves e)
+
+    none_sent : p.seen.told ≡ None → NoUnits (orders_in (behind [] w.made))
+    none_sent e =
+        let t : Told = record { clocks = []; first = 0 } in
+        let Of : List Started → Type 0 = λ x. AreOrdersOf (parts_on m t.clocks x b) 0 (orders_of w.made) in
+        let Took : List Orders → Type 0 = λ x. TookControls x in
+        let None_in : List Orders → Type 0 = λ x. NoUnits x in
+        let size = count in
+        let most = long in
+        subst None_in (sym w.in_order) (unbegun_units 0 (orders_of w.made) (subst Of (not_told m v s ts p end c e) (orders_are m ts p t b (orders_of w.made) low (omega (arith, size, most)) w.batches (subst Took w.in_order (none_controls e)))))
+
+    abbrev End_state : BoardState
+    End_state = (stands_after (link_of m s b) (behind [] w.made)).core.board.controller.state
+
+    none_may : p.seen.told ≡ None → (z : BoardState) → End_state ≡ z → MayBe z
+    none_may e Running is = tt
+    none_may e (Shut reason tick at) is = inr (controls_may (board_at m b) (pins_of (board_at m b) b s.switches) b s.entries (behind [] w.made) reason tick at w.turns_are (none_sent e) (none_controls e) is)
+
+    told_may : HaveShortDictionaries m → AllHomeLittle m s p.seen.text ts (first ∷ (rest ++ end ∷ [])) → (t : Told) → p.seen.told ≡ Some t → MayBe End_state
+    told_may short little t told =
+        let k = boards.on m v s ts p t first rest end c told f short b low w (little p t b refl told low w) in
+        may_at b s.entries (boards.By m v s ts p t first rest end c told f short) (length (rest ++ end ∷ [])) (cuts_on m t.clocks (length p.made) p.seen.begun b) (here_by m v s ts p t first rest end told (length p.made) b w) (stands_after (link_of m s b) (behind [] w.made)) k
+        (turns_in_order (clock_of (board_at m b)) (link_of m s b) (behind [] w.made) w.turns_are)
+
+    pub may : HaveShortDictionaries m → AllHomeLittle m s p.seen.text ts (first ∷ (rest ++ end ∷ [])) → (o : Option Told) → p.seen.told ≡ o → MayBe End_state
+    may short little None e = none_may e End_state refl
+    may short little (Some t) e = told_may short little t e
+
+  -- so each of their states tells of none but these
+  pub all_tell : ((b : ℕ) → b < length m.boards → (w : IsInWhole m s.switches b (clock_of (board_at m b)) (link_of m s b) ts first (rest ++ end ∷ [])) → MayBe (stands_after (link_of m s b) (behind [] w.made)).core.board.controller.state) → AllMayTell (first ∷ (rest ++ end ∷ []))
+  all_tell may =
+      let none : first.states ≡ [] = elim f.turns.0.row [ inl a ↦ a.1 | inr a ↦ absurd (omega (arith, a.0)) ] in
+      let States : List State → Type 0 = λ xs. All (λ s. MayTell s) xs in
+      All-cons (λ (t : ReactorTurn). All (λ s. MayTell s) t.states) first (rest ++ end ∷ []) (subst States (sym none) (All-nil (λ (s : State). MayTell s)))
+      (all_may (length m.boards) (rest ++ end ∷ []) (few_more (length m.boards) rest end (rows_few m s.switches _ rest f.turns.1) (row_few (length m.boards) (length (came_from [] (first ∷ rest))) end f.row))
+      (λ b low. let w = f.boards b first rest low refl in each_may (clock_of (board_at m b)) (link_of m s b) [] w.made b (rest ++ end ∷ []) w.turns_are (may b low w) w.states))
+
+alone_tell : (m : Machine) (s : Scene) (ts : List MotionTurn) (end : ReactorTurn) (c : Cause) (f : Facts m s ts [] end c) → AllMayTell (end ∷ [])
+alone_tell m s ts end c f =
+    let none : end.states ≡ [] = elim f.row [ inl a ↦ a.1 | inr a ↦ absurd (omega (arith, a.0)) ] in
+    let States : List State → Type 0 = λ xs. All (λ s. MayTell s) xs in
+    All-cons (λ (t : ReactorTurn). All (λ s. MayTell s) t.states) end [] (subst States (sym none) (All-nil (λ (s : State). MayTell s))) (All-nil (λ (t : ReactorTurn). All (λ s. MayTell s) t.states))
+
+module _ {F S : Type 0} (f : Files F) (o : Sink S) (m : Machine) (s : Scene) (name : List ℕ) (files files' : F) (out out' : S) (kept kept' : Kept) (t : near.Told Run) (r : RunsOver f o m s name files out kept t files' out' kept') where
+  tells : IsValidMachine m → HaveShortDictionaries m → IsOwn t.cause → (p : Plans m (length m.boards) r.runs.0) (rs : List ReactorTurn) → Facts m s r.runs.0 rs r.runs.2 t.cause → AllHomeLittle m s p.seen.text r.runs.0 (rs ++ r.runs.2 ∷ []) → AllMayTell (rs ++ r.runs.2 ∷ [])
+  tells v short own p [] g little = alone_tell m s r.runs.0 r.runs.2 t.cause g
+  tells v short own p (first ∷ rest) g little =
+      all_tell m v s r.runs.0 p r.runs.2 t.cause first rest g own (λ b low w. may m v s r.runs.0 p r.runs.2 t.cause first rest g own b low w short little p.seen.told refl)
+
+  pub run_tells : IsValidMachine m → HaveShortDictionaries m → (text : List ℕ) → f.told files name ≡ Some text → kept.at ≡ 0 → IsOwn t.cause → (t.cause ≡ cause.Memory → ⊥) → AllHomeLittle m s text r.runs.0 (r.runs.1 ++ r.runs.2 ∷ [])
+      → ∥ AllMayTell (r.runs.1 ++ r.runs.2 ∷ []) ∥₁
+  run_tells v short text told at own other little =
+      ∥∥₁_map (run_made f o m s name files files' out out' kept kept' t r text told at) (λ w.
+      let Little : List ℕ → Type 0 = λ z. AllHomeLittle m s z r.runs.0 (r.runs.1 ++ r.runs.2 ∷ []) in
+      tells v short own w.0.plans r.runs.1 (facts f o m s name files files' out out' kept kept' t r other) (subst Little (sym w.1) little))

@@ -20,7 +20,8 @@ use Rattle.msg_code.specs.declared.unit.Unit.{Unit as StepUnit}
 use Rattle.wire_scene.specs.declared.scene.Entry.{Entry}
 use Rattle.wire_scene.specs.declared.scene.Scene.{Scene}
 use Rattle.board_sim.specs.Board.{Controller, command_request}
-use Rattle.board_sim.specs.Fair.{Meant}
+use Rattle.board_sim.specs.Fair.{Meant, commands_of}
+use Rattle.board_sim.specs.Rig.{takes_all}
 use Rattle.board_world.specs.Orders.{plain, units_orders}
 use Rattle.board_world.specs.Shut.{Shuts, WasShut}
 use Rattle.board_world.specs.World.{Core, Do, Step, Turn, happens, in_turn, run, start, takes_in}
@@ -60,7 +61,7 @@ was_named [] h reason tick first w = absurd w
 was_named (Do e ∷ steps) h reason tick first (inl s) =
     let rest = taken_more steps (happens h e) in
     let In : List Meant → Type 0 = λ x. IsIn s.command x in
-    (s.command, subst In (sym rest.1) (in_more s.command h.taken (takes_in h e) rest.0 (s.before, s.behind, s.are)), (_, s.cause))
+    (s.command, subst In (sym rest.1) (in_more s.command h.taken (takes_in h e) rest.0 (s.before, s.behind, s.are)), ((takes_all h.board (commands_of s.before)).rig.controller, s.cause))
 was_named (Turn turn ∷ steps) h reason tick first (inl s) = absurd s
 was_named (Do e ∷ steps) h reason tick first (inr w) = was_named steps (happens h e) reason tick first w
 was_named (Turn turn ∷ steps) h reason tick first (inr w) = was_named steps (in_turn h turn) reason tick first w

@@ -3,6 +3,7 @@ pub mod Late
 pub mod Units
 pub mod Due
 pub mod Boards
+pub mod Moves
 pub mod Naming
 pub mod Shuts
 pub mod Ending

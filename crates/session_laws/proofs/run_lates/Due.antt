@@ -9,12 +9,12 @@ use Rattle.plan_types.specs.Lines.{Clocks, lines_tick, lines_turn}
 use Rattle.clock_line.proofs.Turns.{turn-after, turn-below}
 use Rattle.step_feed.specs.Units.{StepUnit}
 use Rattle.step_feed.specs.Pacing.{ArePaced, Release, batch_at, units_of}
-use Rattle.section_units.specs.Sections.{BoardSection, base_of, of_stepper, section_steps}
+use Rattle.section_units.specs.Sections.{BoardSection, IsSection, base_of, of_stepper, section_steps}
 use Rattle.link_work.specs.Held.{AllDue, AreDue, lead_of}
 use Rattle.link_work.specs.Turn.{Orders}
 use Rattle.run_laws.specs.Events.{AreTicks}
 use Rattle.run_laws.specs.Homes.{AreInTurn, AreOrdersIn, IsSectionBy, RunSection}
-use Rattle.run_laws.specs.Parts.{AreTracked}
+use Rattle.run_laws.specs.Parts.{AreInARow, AreOrdersOf, AreTracked}
 use Rattle.run_laws.proofs.Entering.{all_inside, begun_inside, early_fits}
 use Rattle.run_laws.proofs.Waiting.{AreInside, Frame}
 
@@ -81,6 +81,14 @@ module _ (clock : BoardClock) (top turns : ℕ) (far : turns + 250 ≤ top + 1) 
               | inr p ↦ (let late = p.1 in omega (arith, behind, time, late))
             ]
 
+    moves_due : (own : ℕ → ℕ) (clocks : Clocks) (freq slots ready : ℕ) (s : BoardSection) → AreTicks own → (tracked : AreTracked own clocks ready) → AreNearBy clocks ready tracked.until → IsSection clocks freq slots s → s.end < tracked.until
+        → ready + 260 ≤ s.start → s.start ≤ s.end → AreDueIn s.releases
+    moves_due own clocks freq slots ready s ticks tracked near i limit after order =
+        let f : Frame = record { own = own; clocks = clocks; slots = slots; ready = ready; start = s.start; end = s.end; ticks = ticks; tracked = tracked; after = after; order = order; limit = limit } in
+        let inside = all_inside f s.releases (λ oid.
+        begun_inside f false oid false (of_stepper oid (units_of s.releases)) (i.begun oid) (early_fits freq (lines_tick clocks ((s.end + 1) * turn_ns)) (base_of clocks s) (section_steps oid s) (s.plan oid) (i.fits oid) (i.within oid))) in
+        due_in f s.releases near inside (paced_soon clocks slots i.from [] s.releases i.paced)
+
     section_due : (own : ℕ → ℕ) (clocks : Clocks) (freq slots ready : ℕ) (stops : ℕ → Option ℕ) (homes : Bool) (s : BoardSection) → AreTicks own → (tracked : AreTracked own clocks ready) → AreNearBy clocks ready tracked.until
         → IsSectionBy homes clocks freq slots tracked.until stops s → ready + 260 ≤ s.start → s.start ≤ s.end → AreDueIn s.releases
     section_due own clocks freq slots ready stops true s ticks tracked near i after order =
@@ -88,11 +96,7 @@ module _ (clock : BoardClock) (top turns : ℕ) (far : turns + 250 ≤ top + 1) 
         let inside = all_inside f s.releases (λ oid.
         begun_inside f true oid false (of_stepper oid (units_of s.releases)) (i.begun oid) (early_fits freq (lines_tick clocks ((i.last + 1) * turn_ns)) (base_of clocks s) (section_steps oid s) (s.plan oid) (i.fits oid) (i.within oid))) in
         due_in f s.releases near inside (paced_soon clocks slots i.from [] s.releases i.paced)
-    section_due own clocks freq slots ready stops false s ticks tracked near i after order =
-        let f : Frame = record { own = own; clocks = clocks; slots = slots; ready = ready; start = s.start; end = s.end; ticks = ticks; tracked = tracked; after = after; order = order; limit = i.limit } in
-        let inside = all_inside f s.releases (λ oid.
-        begun_inside f false oid false (of_stepper oid (units_of s.releases)) (i.is.begun oid) (early_fits freq (lines_tick clocks ((s.end + 1) * turn_ns)) (base_of clocks s) (section_steps oid s) (s.plan oid) (i.is.fits oid) (i.is.within oid))) in
-        due_in f s.releases near inside (paced_soon clocks slots i.is.from [] s.releases i.is.paced)
+    section_due own clocks freq slots ready stops false s ticks tracked near i after order = moves_due own clocks freq slots ready s ticks tracked near i.is i.limit after order
 
     abbrev pub AllDueIn : List RunSection → Type 0
     AllDueIn [] = Unit {0}
@@ -131,3 +135,29 @@ module _ (clock : BoardClock) (top turns : ℕ) (far : turns + 250 ≤ top + 1) 
     orders_due clocks ss turn (o ∷ os) low a are =
         let Due : List StepUnit → Type 0 = λ us. AreDue clock us in
         (subst Due (sym are.1) (units_due turn ss (omega (arith, low)) a), orders_due clocks ss (turn + 1) os (omega (arith, low)) a are.2)
+
+    -- so in a run of moves
+    abbrev pub AllDueOf : List BoardSection → Type 0
+    AllDueOf [] = Unit {0}
+    AllDueOf (s ∷ ss) = AreDueIn s.releases × AllDueOf ss
+
+    pub parts_due : (own : ℕ → ℕ) (clocks : Clocks) (freq slots ready e : ℕ) (ss : List BoardSection) → AreTicks own → (tracked : AreTracked own clocks ready) → AreNearBy clocks ready tracked.until → ready ≤ e
+        → All (IsSection clocks freq slots) ss → AreInARow tracked.until e ss → AllDueOf ss
+    parts_due own clocks freq slots ready e [] ticks tracked near low i row = tt
+    parts_due own clocks freq slots ready e (x ∷ ss) ticks tracked near low i row =
+        let P : BoardSection → Type 0 = λ y. IsSection clocks freq slots y in
+        let after = row.0 in
+        let order = row.1 in (
+          moves_due own clocks freq slots ready x ticks tracked near (All-head P x ss i) row.2 (omega (arith, low, after)) order,
+          parts_due own clocks freq slots ready x.end ss ticks tracked near (omega (arith, low, after, order)) (All-tail P x ss i) row.3,
+        )
+
+    units_of_due : (k : ℕ) (ss : List BoardSection) → k < turns → AllDueOf ss → AreDue clock (flat_map (λ s. batch_at k s.releases) ss)
+    units_of_due k [] low a = tt
+    units_of_due k (s ∷ ss) low a = due_both (batch_at k s.releases) (flat_map (λ (x : BoardSection). batch_at k x.releases) ss) (batch_due k s.releases low a.0) (units_of_due k ss low a.1)
+
+    pub orders_of_due : (ss : List BoardSection) (turn : ℕ) (os : List Orders) → turn + length os ≤ turns → AllDueOf ss → AreOrdersOf ss turn os → AllDue clock os
+    orders_of_due ss turn [] low a are = tt
+    orders_of_due ss turn (o ∷ os) low a are =
+        let Due : List StepUnit → Type 0 = λ us. AreDue clock us in
+        (subst Due (sym are.1) (units_of_due turn ss (omega (arith, low)) a), orders_of_due ss (turn + 1) os (omega (arith, low)) a are.2)

@@ -17,6 +17,7 @@ use Rattle.motion_work.specs.Homes.{before_turn}
 use Rattle.motion_work.specs.Seen.{Started, part_on}
 use Rattle.run_laws.specs.Homes.{AreOrdersIn, RunSection}
 use Rattle.run_laws.specs.Late.{IsIn}
+use Rattle.run_laws.specs.Parts.{AreOrdersOf}
 use Rattle.run_laws.proofs.Seeking.{Among, among_split}
 use Rattle.homing_laws.specs.home_parts.Cuts.{cuts_on}
 
@@ -165,3 +166,11 @@ pub is_in : {X : Type 0} (x : X) (xs : List X) → Among x xs → IsIn x xs
 is_in x [] a = absurd a
 is_in x (y ∷ xs) (inl e) = ([], xs, ap (λ t. t ∷ xs) (sym e))
 is_in x (y ∷ xs) (inr a) = let i = is_in x xs a in (y ∷ i.0, i.1, ap (λ t. y ∷ t) i.2)
+
+pub units_of_parts : (ss : List BoardSection) (turn : ℕ) (before : List Orders) (o : Orders) (after : List Orders) → AreOrdersOf ss turn (before ++ o ∷ after) → o.batch.units ≡ flat_map (λ s. batch_at (turn + length before) s.releases) ss
+units_of_parts ss turn [] o after a =
+    let here : turn ≡ turn + 0 = omega arith in
+    a.1 ∙ ap (λ n. flat_map (λ (s : BoardSection). batch_at n s.releases) ss) here
+units_of_parts ss turn (x ∷ before) o after a =
+    let there : turn + 1 + length before ≡ turn + suc (length before) = omega arith in
+    units_of_parts ss (turn + 1) before o after a.2 ∙ ap (λ n. flat_map (λ (s : BoardSection). batch_at n s.releases) ss) there

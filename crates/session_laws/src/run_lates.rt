@@ -1,17 +1,18 @@
 //! Which steps came too late where a whole run ends for a late board, and which shutdowns its boards tell of, as laws.
 
 ghost use Rattle.std.specs.Prelude.{◌≡◌, ◌∷◌, ◌++◌, ℕ, List, [], Some};
+ghost use Rattle.gcode_program.specs.Programs.{program_sections};
 ghost use Rattle.plan_types.specs.declared.machine.Machine.{Machine};
 ghost use Rattle.plan_types.specs.Machines.{IsValidMachine};
 ghost use Rattle.wire_scene.specs.declared.scene.Scene.{Scene};
 ghost use Rattle.host_reactor.specs.Reactor.{Run};
-ghost use Rattle.host_reactor.specs.Rows.{IsOwn};
 ghost use Rattle.session_lanes.specs.declared.near.Told.{Told};
 ghost use Rattle.session_desk.specs.declared.tell.Kept.{Kept};
 ghost use Rattle.session_run.specs.Runs.{RunsOver};
 ghost use Rattle.cause_runs.specs.Short.{HaveShortDictionaries};
 ghost use Rattle.motion_work.specs.Told.{Told as Heard};
 ghost use Rattle.session_laws.specs.run_headline.Made.{IsMade};
+ghost use Rattle.session_laws.specs.run_headline.Timely.{AllTakeNear, AreOfMoves};
 ghost use Rattle.session_laws.specs.home_headline.Little.{AllHomeLittle};
 ghost use Rattle.session_laws.specs.run_lates.Late.{AllMayTell, ComesLateIn, HasLateUnitIn};
 
@@ -40,11 +41,14 @@ pub fn late_runs_tell_of_their_units<F: Files, S: Sink>()
         ((heard : Heard) → made.plans.seen.told ≡ Some heard → HasLateUnitIn m s board first arrival spoiled spill r.runs.0 r.runs.1 r.runs.2 heard.clocks made.plans.seen.begun c)) ∥₁ }
 {}
 
-/// The law of shutdowns: in whatever threads a run went, in any scene, that ends for a cause of its own other than want of memory, and in which each board
-/// holds nothing long (`AllHomeLittle`), each state that came to the reactor tells of no shutdown, or of one for steps that came too late or for
-/// the order to stop. So no queue is ever full, no clock is set while steps pend, and no steps have no count.
+/// The law of shutdowns: in whatever threads a run went, in any scene, that does not end for want of memory, each state that came to the reactor tells of
+/// no shutdown, or of one for steps that came too late or for the order to stop, where each board holds nothing long (`AllHomeLittle`), or in a
+/// run of moves takes all near (`AllTakeNear`). So no queue is ever full, no clock is set while steps pend, and no steps have no count.
 pub fn boards_of_runs_end_for_two_reasons<F: Files, S: Sink>()
-    ensures { (m : Machine) (s : Scene) (name : List ℕ) (files files' : F) (out out' : S) (kept kept' : Kept) (t : Told Run) →
+    ensures homes { (m : Machine) (s : Scene) (name : List ℕ) (files files' : F) (out out' : S) (kept kept' : Kept) (t : Told Run) →
         (r : RunsOver F.Files S.Sink m s name files out kept t files' out' kept') → IsValidMachine m → HaveShortDictionaries m → (text : List ℕ) → F.told files name ≡ Some text → kept.at ≡ 0 →
-        IsOwn t.cause → (t.cause ≡ Cause.Memory → ⊥) → AllHomeLittle m s text r.runs.0 (r.runs.1 ++ r.runs.2 ∷ []) → ∥ AllMayTell (r.runs.1 ++ r.runs.2 ∷ []) ∥₁ }
+        (t.cause ≡ Cause.Memory → ⊥) → AllHomeLittle m s text r.runs.0 (r.runs.1 ++ r.runs.2 ∷ []) → ∥ AllMayTell (r.runs.1 ++ r.runs.2 ∷ []) ∥₁ }
+    ensures moves { (m : Machine) (s : Scene) (name : List ℕ) (files files' : F) (out out' : S) (kept kept' : Kept) (t : Told Run) →
+        (r : RunsOver F.Files S.Sink m s name files out kept t files' out' kept') → IsValidMachine m → HaveShortDictionaries m → (text : List ℕ) → F.told files name ≡ Some text → kept.at ≡ 0 →
+        (t.cause ≡ Cause.Memory → ⊥) → AreOfMoves (program_sections m text) → AllTakeNear m s text r.runs.0 (r.runs.1 ++ r.runs.2 ∷ []) → ∥ AllMayTell (r.runs.1 ++ r.runs.2 ∷ []) ∥₁ }
 {}

@@ -43,14 +43,10 @@ notes_both : (xs ys : List ReactorTurn) → notes_of (xs ++ ys) ≡ notes_of xs 
 notes_both [] ys = refl
 notes_both (x ∷ xs) ys = ap (λ z. option_items x.note ++ z) (notes_both xs ys) ∙ sym (append_assoc (option_items x.note) (notes_of xs) (notes_of ys))
 
-module _ (m : Machine) (v : IsValidMachine m) (s : Scene) (ts : List MotionTurn) (p : Plans m (length m.boards) ts) (t : Told) (first : ReactorTurn) (rest : List ReactorTurn) (end : ReactorTurn) (c : Cause) (told : p.seen.told ≡ Some t) (f : Facts m s ts (first ∷ rest) end c)
-    (short : HaveShortDictionaries m) where
-  abbrev pub whole : (b : ℕ) → b < length m.boards → IsInWhole m s.switches b (clock_of (board_at m b)) (link_of m s b) ts first (rest ++ end ∷ [])
-  whole b h = f.boards b first rest h refl
-
+module _ (m : Machine) (v : IsValidMachine m) (s : Scene) (ts : List MotionTurn) (p : Plans m (length m.boards) ts) (first : ReactorTurn) (rest : List ReactorTurn) (end : ReactorTurn) (c : Cause) (f : Facts m s ts (first ∷ rest) end c) where
   -- the notes before the last
-  front_notes : TookNotes (map (λ d. d.note) p.made) (first ∷ rest)
-  front_notes =
+  pub noted : TookNotes (map (λ d. d.note) p.made) (first ∷ rest)
+  noted =
       let notes = map (λ (d : MotionTurn). d.note) p.made in
       let others = gather (λ (d : MotionTurn). d.note ∷ []) p.bare in
       let all : notes ++ others ≡ notes_of (rest ++ end ∷ []) ++ f.notes_left =
@@ -61,6 +57,14 @@ module _ (m : Machine) (v : IsValidMachine m) (s : Scene) (ts : List MotionTurn)
       let many = length-map p.made (λ (d : MotionTurn). d.note) in
       let most = few m v s ts p end c first rest f in
       (none m v s ts p end c first rest f, took_noted rest notes others (notes_of (end ∷ []) ++ f.notes_left) (each_front rest (end ∷ []) (each m v s ts p end c first rest f)) (omega (arith, most, size, many)) cut)
+
+module _ (m : Machine) (v : IsValidMachine m) (s : Scene) (ts : List MotionTurn) (p : Plans m (length m.boards) ts) (t : Told) (first : ReactorTurn) (rest : List ReactorTurn) (end : ReactorTurn) (c : Cause) (told : p.seen.told ≡ Some t) (f : Facts m s ts (first ∷ rest) end c)
+    (short : HaveShortDictionaries m) where
+  abbrev pub whole : (b : ℕ) → b < length m.boards → IsInWhole m s.switches b (clock_of (board_at m b)) (link_of m s b) ts first (rest ++ end ∷ [])
+  whole b h = f.boards b first rest h refl
+
+  front_notes : TookNotes (map (λ d. d.note) p.made) (first ∷ rest)
+  front_notes = noted m v s ts p first rest end c f
 
   abbrev pub turn : Ready m v s ts p t first rest end told
   turn = ready m v s ts p t first rest end told f.ahead f.words_left f.turns f.words

@@ -44,7 +44,8 @@ use Rattle.run_plans.proofs.Running.{orders_are}
 use Rattle.homing_laws.specs.home_parts.Cuts.{cuts_on}
 use Rattle.cause_runs.specs.Short.{HaveShortDictionaries}
 use Rattle.session_laws.specs.home_headline.Little.{AllHomeLittle}
-use Rattle.session_laws.specs.run_headline.Timely.{link_of}
+use Rattle.gcode_program.specs.Programs.{program_sections}
+use Rattle.session_laws.specs.run_headline.Timely.{AllTakeNear, AreOfMoves, link_of}
 use Rattle.session_laws.proofs.clear_runs.Bare.{unbegun_units}
 use Rattle.session_laws.proofs.clear_runs.Punctual.{NoUnits}
 use Rattle.session_laws.proofs.home_headline.Board.{here_by}
@@ -54,22 +55,18 @@ use Rattle.session_laws.proofs.run_headline.Fronts.{controlled}
 use Rattle.session_laws.proofs.run_headline.Making.{run_made}
 use Rattle.session_laws.proofs.run_headline.Plain.{AllMoves, all_moves}
 use Rattle.session_laws.proofs.run_headline.Runs.{facts}
-use Rattle.session_laws.proofs.run_headline.Showing.{Facts, front_notes, long_own, not_told, took_notes}
+use Rattle.session_laws.proofs.run_headline.Showing.{Facts, long, not_told}
 use Rattle.session_laws.specs.run_lates.Late.{AllMayTell, MayTell}
 use Rattle.session_laws.proofs.run_lates.Boards as boards
+use Rattle.session_laws.proofs.run_lates.Moves as of_moves
+use Rattle.session_laws.proofs.run_lates.Unbegun.{unbegun}
 use Rattle.session_laws.proofs.run_lates.Shuts.{all_may, controls_may, each_may, few_more, row_few, rows_few}
 
-module _ (m : Machine) (v : IsValidMachine m) (s : Scene) (ts : List MotionTurn) (p : Plans m (length m.boards) ts) (end : ReactorTurn) (c : Cause) (first : ReactorTurn) (rest : List ReactorTurn) (f : Facts m s ts (first ∷ rest) end c) (own : IsOwn c) where
-  long : length (rest ++ end ∷ []) ≤ length p.made
-  long = long_own m v s ts p end c first rest f own
-
-  notes : TookNotes (map (λ t. t.note) p.made) (first ∷ (rest ++ end ∷ []))
-  notes = took_notes m v s ts p end c first rest f long
-
-  none_moves : p.seen.told ≡ None → AllMoves (came_from [] (first ∷ rest))
+module _ (m : Machine) (v : IsValidMachine m) (s : Scene) (ts : List MotionTurn) (p : Plans m (length m.boards) ts) (end : ReactorTurn) (c : Cause) (first : ReactorTurn) (rest : List ReactorTurn) (f : Facts m s ts (first ∷ rest) end c) where
+  none_moves : p.seen.begun ≡ [] → AllMoves (came_from [] (first ∷ rest))
   none_moves e =
-      let kinds : (z : List Started) → z ≡ [] → All (λ s. s.section.kind ≡ Moves) z = λ z. λ same. (let All_in : List Started → Type 0 = λ y. All (λ (x : Started). x.section.kind ≡ Moves) y in subst All_in (sym same) (All-nil (λ (x : Started). x.section.kind ≡ Moves))) in
-      all_moves m p.seen.text p.seen.begun p.made first rest (kinds p.seen.begun (not_told m v s ts p end c e)) p.put (front_notes m v s ts p end c first rest f notes)
+      let Of : List Started → Type 0 = λ z. All (λ (x : Started). x.section.kind ≡ Moves) z in
+      all_moves m p.seen.text p.seen.begun p.made first rest (subst Of (sym e) (All-nil (λ (x : Started). x.section.kind ≡ Moves))) p.put (boards.noted m v s ts p first rest end c f)
 
   module _ (b : ℕ) (low : b < length m.boards) (w : IsInWhole m s.switches b (clock_of (board_at m b)) (link_of m s b) ts first (rest ++ end ∷ [])) where
     run : IsInRun m s.switches (pins_of (board_at m b) b s.switches) s.entries b (came_from [] (first ∷ rest)) (behind [] w.made)
@@ -77,28 +74,17 @@ module _ (m : Machine) (v : IsValidMachine m) (s : Scene) (ts : List MotionTurn)
         let In : List Came → Type 0 = λ x. IsInRun m s.switches (pins_of (board_at m b) b s.switches) s.entries b x (behind [] w.made) in
         subst In (came_cut [] first rest end) (record { board = low; goes_on = w.goes_on; turns_are = w.turns_are; both = w.both; in_range = w.in_range })
 
-    count : length (orders_of w.made) ≡ length (rest ++ end ∷ [])
-    count =
-        length-map w.made (λ (x : BoardTurn). orders x.control x.batch) ∙ sym (length-map w.made (λ (x : BoardTurn). x.state)) ∙ took_long b (rest ++ end ∷ []) (states_of w.made) w.states
-
-    -- where the planner was told no clock lines, nothing homes and no units are sent
-    none_controls : p.seen.told ≡ None → TookControls (orders_in (behind [] w.made))
+    -- where no section was begun, nothing homes and no units are sent
+    pub none_controls : p.seen.begun ≡ [] → TookControls (orders_in (behind [] w.made))
     none_controls e = controlled m v s.switches (pins_of (board_at m b) b s.switches) s.entries b (came_from [] (first ∷ rest)) (behind [] w.made) run (none_moves e)
 
-    none_sent : p.seen.told ≡ None → NoUnits (orders_in (behind [] w.made))
-    none_sent e =
-        let t : Told = record { clocks = []; first = 0 } in
-        let Of : List Started → Type 0 = λ x. AreOrdersOf (parts_on m t.clocks x b) 0 (orders_of w.made) in
-        let Took : List Orders → Type 0 = λ x. TookControls x in
-        let None_in : List Orders → Type 0 = λ x. NoUnits x in
-        let size = count in
-        let most = long in
-        subst None_in (sym w.in_order) (unbegun_units 0 (orders_of w.made) (subst Of (not_told m v s ts p end c e) (orders_are m ts p t b (orders_of w.made) low (omega (arith, size, most)) w.batches (subst Took w.in_order (none_controls e)))))
+    pub none_sent : p.seen.begun ≡ [] → NoUnits (orders_in (behind [] w.made))
+    none_sent e = let None_in : List Orders → Type 0 = λ x. NoUnits x in subst None_in (sym w.in_order) (unbegun m ts p b (orders_of w.made) low e w.batches)
 
     abbrev End_state : BoardState
     End_state = (stands_after (link_of m s b) (behind [] w.made)).core.board.controller.state
 
-    none_may : p.seen.told ≡ None → (z : BoardState) → End_state ≡ z → MayBe z
+    pub none_may : p.seen.begun ≡ [] → (z : BoardState) → End_state ≡ z → MayBe z
     none_may e Running is = tt
     none_may e (Shut reason tick at) is = inr (controls_may (board_at m b) (pins_of (board_at m b) b s.switches) b s.entries (behind [] w.made) reason tick at w.turns_are (none_sent e) (none_controls e) is)
 
@@ -109,7 +95,7 @@ module _ (m : Machine) (v : IsValidMachine m) (s : Scene) (ts : List MotionTurn)
         (turns_in_order (clock_of (board_at m b)) (link_of m s b) (behind [] w.made) w.turns_are)
 
     pub may : HaveShortDictionaries m → AllHomeLittle m s p.seen.text ts (first ∷ (rest ++ end ∷ [])) → (o : Option Told) → p.seen.told ≡ o → MayBe End_state
-    may short little None e = none_may e End_state refl
+    may short little None e = none_may (not_told m v s ts p end c e) End_state refl
     may short little (Some t) e = told_may short little t e
 
   -- so each of their states tells of none but these
@@ -127,15 +113,38 @@ alone_tell m s ts end c f =
     let States : List State → Type 0 = λ xs. All (λ s. MayTell s) xs in
     All-cons (λ (t : ReactorTurn). All (λ s. MayTell s) t.states) end [] (subst States (sym none) (All-nil (λ (s : State). MayTell s))) (All-nil (λ (t : ReactorTurn). All (λ s. MayTell s) t.states))
 
-module _ {F S : Type 0} (f : Files F) (o : Sink S) (m : Machine) (s : Scene) (name : List ℕ) (files files' : F) (out out' : S) (kept kept' : Kept) (t : near.Told Run) (r : RunsOver f o m s name files out kept t files' out' kept') where
-  tells : IsValidMachine m → HaveShortDictionaries m → IsOwn t.cause → (p : Plans m (length m.boards) r.runs.0) (rs : List ReactorTurn) → Facts m s r.runs.0 rs r.runs.2 t.cause → AllHomeLittle m s p.seen.text r.runs.0 (rs ++ r.runs.2 ∷ []) → AllMayTell (rs ++ r.runs.2 ∷ [])
-  tells v short own p [] g little = alone_tell m s r.runs.0 r.runs.2 t.cause g
-  tells v short own p (first ∷ rest) g little =
-      all_tell m v s r.runs.0 p r.runs.2 t.cause first rest g own (λ b low w. may m v s r.runs.0 p r.runs.2 t.cause first rest g own b low w short little p.seen.told refl)
+-- in a run of moves
+module _ (m : Machine) (v : IsValidMachine m) (s : Scene) (ts : List MotionTurn) (p : Plans m (length m.boards) ts) (end : ReactorTurn) (c : Cause) (first : ReactorTurn) (rest : List ReactorTurn) (f : Facts m s ts (first ∷ rest) end c) (short : HaveShortDictionaries m)
+    (moves : AreOfMoves (program_sections m p.seen.text)) (near : AllTakeNear m s p.seen.text ts (first ∷ (rest ++ end ∷ []))) (b : ℕ) (low : b < length m.boards) (w : IsInWhole m s.switches b (clock_of (board_at m b)) (link_of m s b) ts first (rest ++ end ∷ [])) where
+  near_may : (o : Option Told) → p.seen.told ≡ o → MayBe (stands_after (link_of m s b) (behind [] w.made)).core.board.controller.state
+  near_may None e = none_may m v s ts p end c first rest f b low w (not_told m v s ts p end c e) (stands_after (link_of m s b) (behind [] w.made)).core.board.controller.state refl
+  near_may (Some t) e = elim (long m v s ts p end c first rest f moves) [
+    | inl l ↦ of_moves.may m v s ts p t first rest end c e f short moves near l b low w
+    | inr z ↦ none_may m v s ts p end c first rest f b low w z.none (stands_after (link_of m s b) (behind [] w.made)).core.board.controller.state refl
+  ]
 
-  pub run_tells : IsValidMachine m → HaveShortDictionaries m → (text : List ℕ) → f.told files name ≡ Some text → kept.at ≡ 0 → IsOwn t.cause → (t.cause ≡ cause.Memory → ⊥) → AllHomeLittle m s text r.runs.0 (r.runs.1 ++ r.runs.2 ∷ [])
-      → ∥ AllMayTell (r.runs.1 ++ r.runs.2 ∷ []) ∥₁
-  run_tells v short text told at own other little =
+module _ {F S : Type 0} (f : Files F) (o : Sink S) (m : Machine) (s : Scene) (name : List ℕ) (files files' : F) (out out' : S) (kept kept' : Kept) (t : near.Told Run) (r : RunsOver f o m s name files out kept t files' out' kept') where
+  home_tells : IsValidMachine m → HaveShortDictionaries m → (p : Plans m (length m.boards) r.runs.0) (rs : List ReactorTurn) → Facts m s r.runs.0 rs r.runs.2 t.cause → AllHomeLittle m s p.seen.text r.runs.0 (rs ++ r.runs.2 ∷ []) → AllMayTell (rs ++ r.runs.2 ∷ [])
+  home_tells v short p [] g little = alone_tell m s r.runs.0 r.runs.2 t.cause g
+  home_tells v short p (first ∷ rest) g little =
+      all_tell m v s r.runs.0 p r.runs.2 t.cause first rest g (λ b low w. may m v s r.runs.0 p r.runs.2 t.cause first rest g b low w short little p.seen.told refl)
+
+  near_tells : IsValidMachine m → HaveShortDictionaries m → (p : Plans m (length m.boards) r.runs.0) (rs : List ReactorTurn) → Facts m s r.runs.0 rs r.runs.2 t.cause → AreOfMoves (program_sections m p.seen.text)
+      → AllTakeNear m s p.seen.text r.runs.0 (rs ++ r.runs.2 ∷ []) → AllMayTell (rs ++ r.runs.2 ∷ [])
+  near_tells v short p [] g moves near = alone_tell m s r.runs.0 r.runs.2 t.cause g
+  near_tells v short p (first ∷ rest) g moves near =
+      all_tell m v s r.runs.0 p r.runs.2 t.cause first rest g (λ b low w. near_may m v s r.runs.0 p r.runs.2 t.cause first rest g short moves near b low w p.seen.told refl)
+
+  pub run_home_tells : IsValidMachine m → HaveShortDictionaries m → (text : List ℕ) → f.told files name ≡ Some text → kept.at ≡ 0 → (t.cause ≡ cause.Memory → ⊥) → AllHomeLittle m s text r.runs.0 (r.runs.1 ++ r.runs.2 ∷ []) → ∥ AllMayTell (r.runs.1 ++ r.runs.2 ∷ []) ∥₁
+  run_home_tells v short text told at other little =
       ∥∥₁_map (run_made f o m s name files files' out out' kept kept' t r text told at) (λ w.
       let Little : List ℕ → Type 0 = λ z. AllHomeLittle m s z r.runs.0 (r.runs.1 ++ r.runs.2 ∷ []) in
-      tells v short own w.0.plans r.runs.1 (facts f o m s name files files' out out' kept kept' t r other) (subst Little (sym w.1) little))
+      home_tells v short w.0.plans r.runs.1 (facts f o m s name files files' out out' kept kept' t r other) (subst Little (sym w.1) little))
+
+  pub run_near_tells : IsValidMachine m → HaveShortDictionaries m → (text : List ℕ) → f.told files name ≡ Some text → kept.at ≡ 0 → (t.cause ≡ cause.Memory → ⊥) → AreOfMoves (program_sections m text)
+      → AllTakeNear m s text r.runs.0 (r.runs.1 ++ r.runs.2 ∷ []) → ∥ AllMayTell (r.runs.1 ++ r.runs.2 ∷ []) ∥₁
+  run_near_tells v short text told at other moves near =
+      ∥∥₁_map (run_made f o m s name files files' out out' kept kept' t r text told at) (λ w.
+      let Of : List ℕ → Type 0 = λ z. AreOfMoves (program_sections m z) in
+      let Near : List ℕ → Type 0 = λ z. AllTakeNear m s z r.runs.0 (r.runs.1 ++ r.runs.2 ∷ []) in
+      near_tells v short w.0.plans r.runs.1 (facts f o m s name files files' out out' kept kept' t r other) (subst Of (sym w.1) moves) (subst Near (sym w.1) near))

@@ -1,6 +1,10 @@
-use Rattle.session_laws.proofs.run_lates.Ending.{run_tells}
+use Rattle.session_laws.proofs.run_lates.Ending.{run_home_tells, run_near_tells}
 use Rattle.session_laws.proofs.run_lates.boards_of_runs_end_for_two_reasons.Goals as goal
 
-pub returns : goal.returns
-returns g c = λ m s name files files' out out' kept kept' t r v short text told at own other little.
-    run_tells g.F.Files g.S.Sink m s name files files' out out' kept kept' t r v short text told at own other little
+pub returns-clause-homes : goal.returns-clause-homes
+returns-clause-homes g c = λ m s name files files' out out' kept kept' t r v short text told at other little.
+    run_home_tells g.F.Files g.S.Sink m s name files files' out out' kept kept' t r v short text told at other little
+
+pub returns-clause-moves : goal.returns-clause-moves
+returns-clause-moves g c = λ m s name files files' out out' kept kept' t r v short text told at other moves near.
+    run_near_tells g.F.Files g.S.Sink m s name files files' out out' kept kept' t r v short text told at other moves near

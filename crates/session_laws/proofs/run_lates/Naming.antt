@@ -74,12 +74,14 @@ use Rattle.session_laws.proofs.clear_runs.Punctual.{end_so, fair_turns}
 use Rattle.session_laws.proofs.home_headline.Board.{Homing, here_by}
 use Rattle.session_laws.proofs.home_headline.Good.{board_good}
 use Rattle.session_laws.proofs.run_headline.Boarded.{came_cut, valid_at}
-use Rattle.session_laws.proofs.run_headline.Showing.{Facts}
-use Rattle.session_laws.specs.run_lates.Late.{ComesLate, ComesLateIn, HasLateUnit, HasLateUnitIn, held_by, spoiled_by}
+use Rattle.session_laws.proofs.run_headline.Showing.{Facts, long, not_told}
+use Rattle.session_laws.specs.run_lates.Late.{ComesLate, ComesLateIn, HasFewUnits, HasLateUnit, HasLateUnitIn, held_by, spoiled_by}
 use Rattle.session_laws.proofs.run_lates.Boards as boards
 use Rattle.session_laws.proofs.run_lates.Due.{AreNearBy, orders_due, orders_of_due, parts_due, sections_due}
 use Rattle.session_laws.proofs.run_lates.Moves as of_moves
+use Rattle.session_laws.proofs.run_lates.Ending.{none_controls, none_sent}
 use Rattle.session_laws.proofs.run_lates.Late.{run_late}
+use Rattle.session_laws.proofs.run_lates.Shuts.{controls_may}
 use Rattle.session_laws.proofs.run_lates.Units.{IsReleasedBy, found, in_sections, is_in, of_parts, queued_in_turn, units_of_parts, units_put}
 
 -- in a turn that goes so the units that are taken are fair
@@ -310,20 +312,56 @@ module _ (m : Machine) (v : IsValidMachine m) (s : Scene) (ts : List MotionTurn)
             in_sections u (0 + length before) Parts (subst In units a);
       })
 
-module _ {F S : Type 0} (f : Files F) (o : Sink S) (m : Machine) (s : Scene) (name : List ℕ) (files files' : F) (out out' : S) (kept kept' : Kept) (t : near.Told Run) (r : RunsOver f o m s name files out kept t files' out' kept') where
-  late_units : IsValidMachine m → HaveShortDictionaries m → (p : Plans m (length m.boards) r.runs.0) (heard : Told) → p.seen.told ≡ Some heard → (b due arrival spoiled spill : ℕ) → t.cause ≡ cause.Late b due arrival spoiled spill → (rs : List ReactorTurn)
-      → Facts m s r.runs.0 rs r.runs.2 t.cause → AllHomeLittle m s p.seen.text r.runs.0 (rs ++ r.runs.2 ∷ []) → (c : ComesLateIn m s b due arrival spoiled spill r.runs.0 rs r.runs.2)
-      → HasLateUnitIn m s b due arrival spoiled spill r.runs.0 rs r.runs.2 heard.clocks p.seen.begun c
-  late_units v short p heard told b due arrival spoiled spill e [] g little c = absurd c
-  late_units v short p heard told b due arrival spoiled spill e (first ∷ rest) g little c =
-      home_unit m v s r.runs.0 p heard first rest r.runs.2 t.cause told g short b due arrival spoiled spill c (little p heard b refl told c.there c.w)
+-- where no section was begun nothing comes too late
+late_none : (m : Machine) (v : IsValidMachine m) (s : Scene) (ts : List MotionTurn) (p : Plans m (length m.boards) ts) (end : ReactorTurn) (c : Cause) (first : ReactorTurn) (rest : List ReactorTurn) (f : Facts m s ts (first ∷ rest) end c) (b due arrival spoiled spill : ℕ)
+    → ComesLate m s b due arrival spoiled spill ts first (rest ++ end ∷ []) → p.seen.begun ≡ [] → ⊥
+late_none m v s ts p end c first rest f b due arrival spoiled spill x none =
+    let Is : List BoardTurn → Type 0 = λ z. (stands_after (link_of m s b) z).core.board.controller.state ≡ Shut timer_too_close arrival due in
+    let reason = controls_may (board_at m b) (pins_of (board_at m b) b s.switches) b s.entries (behind [] x.w.made) timer_too_close arrival due x.w.turns_are (none_sent m v s ts p end c first rest f b x.there x.w none) (none_controls m v s ts p end c first rest f b x.there x.w none)
+    (subst Is (sym x.are) x.shut) in
+    omega (arith, reason)
 
-  pub run_units : IsValidMachine m → HaveShortDictionaries m → (text : List ℕ) → f.told files name ≡ Some text → kept.at ≡ 0 → (b due arrival spoiled spill : ℕ) → t.cause ≡ cause.Late b due arrival spoiled spill
-      → AllHomeLittle m s text r.runs.0 (r.runs.1 ++ r.runs.2 ∷ []) → ∥ ((made : IsMade m s r.runs.0 r.runs.1) × (made.plans.seen.text ≡ text) × (c : ComesLateIn m s b due arrival spoiled spill r.runs.0 r.runs.1 r.runs.2)
-      × ((heard : Told) → made.plans.seen.told ≡ Some heard → HasLateUnitIn m s b due arrival spoiled spill r.runs.0 r.runs.1 r.runs.2 heard.clocks made.plans.seen.begun c)) ∥₁
-  run_units v short text told at b due arrival spoiled spill e little =
-      ∥∥₁_map (run_made f o m s name files files' out out' kept kept' t r text told at) (λ w.
-      let Little : List ℕ → Type 0 = λ z. AllHomeLittle m s z r.runs.0 (r.runs.1 ++ r.runs.2 ∷ []) in
-      let c = run_late f o m s name files files' out out' kept kept' t r v b due arrival spoiled spill e in
-      let g = facts f o m s name files files' out out' kept kept' t r (λ g. let h : cause.Late b due arrival spoiled spill ≡ cause.Memory = sym e ∙ g in cc) in
-      (w.0, w.1, c, λ heard is. late_units v short w.0.plans heard is b due arrival spoiled spill e r.runs.1 g (subst Little (sym w.1) little) c))
+module _ {F S : Type 0} (f : Files F) (o : Sink S) (m : Machine) (s : Scene) (name : List ℕ) (files files' : F) (out out' : S) (kept kept' : Kept) (t : near.Told Run) (r : RunsOver f o m s name files out kept t files' out' kept') (v : IsValidMachine m) (short : HaveShortDictionaries m)
+    (b due arrival spoiled spill : ℕ) where
+  home_units : (p : Plans m (length m.boards) r.runs.0) (told : Option Told) → p.seen.told ≡ told → (rs : List ReactorTurn) → Facts m s r.runs.0 rs r.runs.2 t.cause → AllHomeLittle m s p.seen.text r.runs.0 (rs ++ r.runs.2 ∷ []) → (c : ComesLateIn m s b due arrival spoiled spill r.runs.0 rs r.runs.2)
+      → (heard : Told) × (p.seen.told ≡ Some heard) × HasLateUnitIn m s b due arrival spoiled spill r.runs.0 rs r.runs.2 heard.clocks p.seen.begun c
+  home_units p told is [] g little c = absurd c
+  home_units p None is (first ∷ rest) g little c = absurd (late_none m v s r.runs.0 p r.runs.2 t.cause first rest g b due arrival spoiled spill c (not_told m v s r.runs.0 p r.runs.2 t.cause is))
+  home_units p (Some heard) is (first ∷ rest) g little c =
+      (heard, is, home_unit m v s r.runs.0 p heard first rest r.runs.2 t.cause is g short b due arrival spoiled spill c (little p heard b refl is c.there c.w))
+
+  near_units : (p : Plans m (length m.boards) r.runs.0) (told : Option Told) → p.seen.told ≡ told → (rs : List ReactorTurn) → Facts m s r.runs.0 rs r.runs.2 t.cause → AreOfMoves (program_sections m p.seen.text) → AllTakeNear m s p.seen.text r.runs.0 (rs ++ r.runs.2 ∷ [])
+      → (c : ComesLateIn m s b due arrival spoiled spill r.runs.0 rs r.runs.2)
+      → (heard : Told) × (p.seen.told ≡ Some heard) × (HasFewUnits m s b due arrival spoiled spill r.runs.0 rs r.runs.2 c → HasLateUnitIn m s b due arrival spoiled spill r.runs.0 rs r.runs.2 heard.clocks p.seen.begun c)
+  near_units p told is [] g moves near c = absurd c
+  near_units p None is (first ∷ rest) g moves near c = absurd (late_none m v s r.runs.0 p r.runs.2 t.cause first rest g b due arrival spoiled spill c (not_told m v s r.runs.0 p r.runs.2 t.cause is))
+  near_units p (Some heard) is (first ∷ rest) g moves near c = elim (long m v s r.runs.0 p r.runs.2 t.cause first rest g moves) [
+    | inl l ↦ (heard, is, λ fits. moves_unit m v s r.runs.0 p heard first rest r.runs.2 t.cause is g short moves near l b due arrival spoiled spill c fits)
+    | inr z ↦ absurd (late_none m v s r.runs.0 p r.runs.2 t.cause first rest g b due arrival spoiled spill c z.none)
+  ]
+
+  module _ (text : List ℕ) (told : f.told files name ≡ Some text) (at : kept.at ≡ 0) (e : t.cause ≡ cause.Late b due arrival spoiled spill) where
+    other : t.cause ≡ cause.Memory → ⊥
+    other g = let h : cause.Late b due arrival spoiled spill ≡ cause.Memory = sym e ∙ g in cc
+
+    abbrev Late_in : Type 0
+    Late_in = ComesLateIn m s b due arrival spoiled spill r.runs.0 r.runs.1 r.runs.2
+
+    late : Late_in
+    late = run_late f o m s name files files' out out' kept kept' t r v b due arrival spoiled spill e
+
+    pub run_home_units : AllHomeLittle m s text r.runs.0 (r.runs.1 ++ r.runs.2 ∷ []) → ∥ ((made : IsMade m s r.runs.0 r.runs.1) × (made.plans.seen.text ≡ text) × (c : Late_in)
+        × ((heard : Told) × (made.plans.seen.told ≡ Some heard) × HasLateUnitIn m s b due arrival spoiled spill r.runs.0 r.runs.1 r.runs.2 heard.clocks made.plans.seen.begun c)) ∥₁
+    run_home_units little =
+        ∥∥₁_map (run_made f o m s name files files' out out' kept kept' t r text told at) (λ w.
+        let Little : List ℕ → Type 0 = λ z. AllHomeLittle m s z r.runs.0 (r.runs.1 ++ r.runs.2 ∷ []) in
+        (w.0, w.1, late, home_units w.0.plans w.0.plans.seen.told refl r.runs.1 (facts f o m s name files files' out out' kept kept' t r other) (subst Little (sym w.1) little) late))
+
+    pub run_near_units : AreOfMoves (program_sections m text) → AllTakeNear m s text r.runs.0 (r.runs.1 ++ r.runs.2 ∷ []) → ∥ ((made : IsMade m s r.runs.0 r.runs.1) × (made.plans.seen.text ≡ text) × (c : Late_in)
+        × ((heard : Told) × (made.plans.seen.told ≡ Some heard) × (HasFewUnits m s b due arrival spoiled spill r.runs.0 r.runs.1 r.runs.2 c
+        → HasLateUnitIn m s b due arrival spoiled spill r.runs.0 r.runs.1 r.runs.2 heard.clocks made.plans.seen.begun c))) ∥₁
+    run_near_units moves near =
+        ∥∥₁_map (run_made f o m s name files files' out out' kept kept' t r text told at) (λ w.
+        let Of : List ℕ → Type 0 = λ z. AreOfMoves (program_sections m z) in
+        let Near : List ℕ → Type 0 = λ z. AllTakeNear m s z r.runs.0 (r.runs.1 ++ r.runs.2 ∷ []) in
+        (w.0, w.1, late, near_units w.0.plans w.0.plans.seen.told refl r.runs.1 (facts f o m s name files files' out out' kept kept' t r other) (subst Of (sym w.1) moves) (subst Near (sym w.1) near) late))

@@ -18,7 +18,7 @@ use Rattle.link_work.specs.Held.{counted_to, held_in, hold, late_by, lead_of, sp
 use Rattle.link_work.specs.Stands.{orders}
 use Rattle.link_work.specs.Turn.{IsTurn}
 use Rattle.board_runs.specs.Turns.{BoardTurn, stands_after}
-use Rattle.clock_runs.specs.Runs.{ends_in, orders_in}
+use Rattle.clock_runs.specs.Runs.{UnitsFit, ends_in, orders_in}
 use Rattle.motion_work.specs.Boards.{parts_on}
 use Rattle.motion_work.specs.Seen.{Started}
 use Rattle.session_work.specs.declared.table.MotionTurn.{MotionTurn}
@@ -77,6 +77,11 @@ pub record HasLateUnit (m : Machine) (s : Scene) (b first arrival spoiled spill 
 abbrev pub HasLateUnitIn : (m : Machine) (s : Scene) (b first arrival spoiled spill : ℕ) (planned : List MotionTurn) (turns : List ReactorTurn) (last : ReactorTurn) → List Clocks → List Started → ComesLateIn m s b first arrival spoiled spill planned turns last → Type 0
 HasLateUnitIn m s b first arrival spoiled spill planned [] last clocks begun c = ⊥
 HasLateUnitIn m s b first arrival spoiled spill planned (begin ∷ rest) last clocks begun c = HasLateUnit m s b first arrival spoiled spill planned begin (rest ++ last ∷ []) clocks begun c
+
+-- the units of each turn of the late board have at most 210 bytes
+abbrev pub HasFewUnits : (m : Machine) (s : Scene) (b first arrival spoiled spill : ℕ) (planned : List MotionTurn) (turns : List ReactorTurn) (last : ReactorTurn) → ComesLateIn m s b first arrival spoiled spill planned turns last → Type 0
+HasFewUnits m s b first arrival spoiled spill planned [] last c = ⊥
+HasFewUnits m s b first arrival spoiled spill planned (begin ∷ rest) last c = UnitsFit (behind [] c.w.made)
 
 -- a state tells of a shutdown only for steps that came too late or for the order to stop
 abbrev pub MayTell : State → Type 0

@@ -1,12 +1,14 @@
 //! Which steps came too late where a whole run ends for a late board, and which shutdowns its boards tell of, as laws.
 
-ghost use Rattle.std.specs.Prelude.{◌≡◌, ◌∷◌, ◌++◌, ℕ, List, [], Some};
+ghost use Rattle.std.specs.Prelude.{◌≡◌, ◌∷◌, ◌++◌, ℕ, List, [], Some, length};
 ghost use Rattle.gcode_program.specs.Programs.{program_sections};
 ghost use Rattle.plan_types.specs.declared.machine.Machine.{Machine};
 ghost use Rattle.plan_types.specs.Machines.{IsValidMachine};
 ghost use Rattle.wire_scene.specs.declared.scene.Scene.{Scene};
 ghost use Rattle.host_reactor.specs.Reactor.{Run};
 ghost use Rattle.session_lanes.specs.declared.near.Told.{Told};
+ghost use Rattle.session_work.specs.declared.table.MotionTurn.{MotionTurn};
+ghost use Rattle.session_work.specs.declared.table.ReactorTurn.{ReactorTurn};
 ghost use Rattle.session_desk.specs.declared.tell.Kept.{Kept};
 ghost use Rattle.session_run.specs.Runs.{RunsOver};
 ghost use Rattle.cause_runs.specs.Short.{HaveShortDictionaries};
@@ -48,9 +50,10 @@ pub fn late_runs_tell_of_their_units<F: Files, S: Sink>()
         HasLateUnitIn m s board first arrival spoiled spill r.runs.0 r.runs.1 r.runs.2 heard.clocks made.plans.seen.begun c))) ∥₁ }
 {}
 
-/// The law of shutdowns: in whatever threads a run went, in any scene, that does not end for want of memory, each state that came to the reactor tells of
-/// no shutdown, or of one for steps that came too late or for the order to stop, where each board holds nothing long (`AllHomeLittle`), or in a
-/// run of moves takes all near (`AllTakeNear`). So no queue is ever full, no clock is set while steps pend, and no steps have no count.
+/// The law of shutdowns: in whatever threads a run went, in any scene, each state that came to the reactor tells of no shutdown, or of one for steps that
+/// came too late or for the order to stop, where each board holds nothing long (`AllHomeLittle`), or in a run of moves takes all near
+/// (`AllTakeNear`). So no queue is ever full, no clock is set while steps pend, and no steps have no count. It holds in all turns of a run that does
+/// not end for want of memory, and in those before the last one of any run, by what the planner made up to then.
 pub fn boards_of_runs_end_for_two_reasons<F: Files, S: Sink>()
     ensures homes { (m : Machine) (s : Scene) (name : List ℕ) (files files' : F) (out out' : S) (kept kept' : Kept) (t : Told Run) →
         (r : RunsOver F.Files S.Sink m s name files out kept t files' out' kept') → IsValidMachine m → HaveShortDictionaries m → (text : List ℕ) → F.told files name ≡ Some text → kept.at ≡ 0 →
@@ -58,4 +61,10 @@ pub fn boards_of_runs_end_for_two_reasons<F: Files, S: Sink>()
     ensures moves { (m : Machine) (s : Scene) (name : List ℕ) (files files' : F) (out out' : S) (kept kept' : Kept) (t : Told Run) →
         (r : RunsOver F.Files S.Sink m s name files out kept t files' out' kept') → IsValidMachine m → HaveShortDictionaries m → (text : List ℕ) → F.told files name ≡ Some text → kept.at ≡ 0 →
         (t.cause ≡ Cause.Memory → ⊥) → AreOfMoves (program_sections m text) → AllTakeNear m s text r.runs.0 (r.runs.1 ++ r.runs.2 ∷ []) → ∥ AllMayTell (r.runs.1 ++ r.runs.2 ∷ []) ∥₁ }
+    ensures before { (m : Machine) (s : Scene) (name : List ℕ) (files files' : F) (out out' : S) (kept kept' : Kept) (t : Told Run) →
+        (r : RunsOver F.Files S.Sink m s name files out kept t files' out' kept') → IsValidMachine m → HaveShortDictionaries m → (text : List ℕ) → F.told files name ≡ Some text → kept.at ≡ 0 →
+        (turns : List ReactorTurn) (last : ReactorTurn) → r.runs.1 ≡ turns ++ last ∷ [] →
+        ∥ ((front : List MotionTurn) × (later : List MotionTurn) × (r.runs.0 ≡ front ++ later) × (length front ≡ length turns) ×
+        (AllHomeLittle m s text front (turns ++ last ∷ []) → AllMayTell (turns ++ last ∷ [])) ×
+        (AreOfMoves (program_sections m text) → AllTakeNear m s text front (turns ++ last ∷ []) → AllMayTell (turns ++ last ∷ []))) ∥₁ }
 {}

@@ -52,7 +52,8 @@ use Rattle.session_laws.proofs.home_headline.Board.{here_by}
 use Rattle.session_laws.proofs.home_headline.Good.{may_at}
 use Rattle.session_laws.proofs.run_headline.Boarded.{came_cut, took_long}
 use Rattle.session_laws.proofs.run_headline.Fronts.{controlled}
-use Rattle.session_laws.proofs.run_headline.Making.{run_made}
+use Rattle.session_laws.proofs.run_headline.Cutting.{run_front}
+use Rattle.session_laws.proofs.run_headline.Making.{front_made, run_made}
 use Rattle.session_laws.proofs.run_headline.Plain.{AllMoves, all_moves}
 use Rattle.session_laws.proofs.run_headline.Runs.{facts}
 use Rattle.session_laws.proofs.run_headline.Showing.{Facts, long, not_told}
@@ -123,28 +124,46 @@ module _ (m : Machine) (v : IsValidMachine m) (s : Scene) (ts : List MotionTurn)
     | inr z ↦ none_may m v s ts p end c first rest f b low w z.none (stands_after (link_of m s b) (behind [] w.made)).core.board.controller.state refl
   ]
 
-module _ {F S : Type 0} (f : Files F) (o : Sink S) (m : Machine) (s : Scene) (name : List ℕ) (files files' : F) (out out' : S) (kept kept' : Kept) (t : near.Told Run) (r : RunsOver f o m s name files out kept t files' out' kept') where
-  home_tells : IsValidMachine m → HaveShortDictionaries m → (p : Plans m (length m.boards) r.runs.0) (rs : List ReactorTurn) → Facts m s r.runs.0 rs r.runs.2 t.cause → AllHomeLittle m s p.seen.text r.runs.0 (rs ++ r.runs.2 ∷ []) → AllMayTell (rs ++ r.runs.2 ∷ [])
-  home_tells v short p [] g little = alone_tell m s r.runs.0 r.runs.2 t.cause g
-  home_tells v short p (first ∷ rest) g little =
-      all_tell m v s r.runs.0 p r.runs.2 t.cause first rest g (λ b low w. may m v s r.runs.0 p r.runs.2 t.cause first rest g b low w short little p.seen.told refl)
+-- in any run, by what is known of it
+home_tells : (m : Machine) (v : IsValidMachine m) (s : Scene) (ts : List MotionTurn) (p : Plans m (length m.boards) ts) (end : ReactorTurn) (c : Cause) (rs : List ReactorTurn) → Facts m s ts rs end c → HaveShortDictionaries m
+    → AllHomeLittle m s p.seen.text ts (rs ++ end ∷ []) → AllMayTell (rs ++ end ∷ [])
+home_tells m v s ts p end c [] g short little = alone_tell m s ts end c g
+home_tells m v s ts p end c (first ∷ rest) g short little = all_tell m v s ts p end c first rest g (λ b low w. may m v s ts p end c first rest g b low w short little p.seen.told refl)
 
-  near_tells : IsValidMachine m → HaveShortDictionaries m → (p : Plans m (length m.boards) r.runs.0) (rs : List ReactorTurn) → Facts m s r.runs.0 rs r.runs.2 t.cause → AreOfMoves (program_sections m p.seen.text)
-      → AllTakeNear m s p.seen.text r.runs.0 (rs ++ r.runs.2 ∷ []) → AllMayTell (rs ++ r.runs.2 ∷ [])
-  near_tells v short p [] g moves near = alone_tell m s r.runs.0 r.runs.2 t.cause g
-  near_tells v short p (first ∷ rest) g moves near =
-      all_tell m v s r.runs.0 p r.runs.2 t.cause first rest g (λ b low w. near_may m v s r.runs.0 p r.runs.2 t.cause first rest g short moves near b low w p.seen.told refl)
+near_tells : (m : Machine) (v : IsValidMachine m) (s : Scene) (ts : List MotionTurn) (p : Plans m (length m.boards) ts) (end : ReactorTurn) (c : Cause) (rs : List ReactorTurn) → Facts m s ts rs end c → HaveShortDictionaries m
+    → AreOfMoves (program_sections m p.seen.text) → AllTakeNear m s p.seen.text ts (rs ++ end ∷ []) → AllMayTell (rs ++ end ∷ [])
+near_tells m v s ts p end c [] g short moves near = alone_tell m s ts end c g
+near_tells m v s ts p end c (first ∷ rest) g short moves near = all_tell m v s ts p end c first rest g (λ b low w. near_may m v s ts p end c first rest g short moves near b low w p.seen.told refl)
 
-  pub run_home_tells : IsValidMachine m → HaveShortDictionaries m → (text : List ℕ) → f.told files name ≡ Some text → kept.at ≡ 0 → (t.cause ≡ cause.Memory → ⊥) → AllHomeLittle m s text r.runs.0 (r.runs.1 ++ r.runs.2 ∷ []) → ∥ AllMayTell (r.runs.1 ++ r.runs.2 ∷ []) ∥₁
-  run_home_tells v short text told at other little =
+module _ {F S : Type 0} (f : Files F) (o : Sink S) (m : Machine) (s : Scene) (name : List ℕ) (files files' : F) (out out' : S) (kept kept' : Kept) (t : near.Told Run) (r : RunsOver f o m s name files out kept t files' out' kept') (v : IsValidMachine m) (short : HaveShortDictionaries m)
+    (text : List ℕ) (told : f.told files name ≡ Some text) (at : kept.at ≡ 0) where
+  pub run_home_tells : (t.cause ≡ cause.Memory → ⊥) → AllHomeLittle m s text r.runs.0 (r.runs.1 ++ r.runs.2 ∷ []) → ∥ AllMayTell (r.runs.1 ++ r.runs.2 ∷ []) ∥₁
+  run_home_tells other little =
       ∥∥₁_map (run_made f o m s name files files' out out' kept kept' t r text told at) (λ w.
       let Little : List ℕ → Type 0 = λ z. AllHomeLittle m s z r.runs.0 (r.runs.1 ++ r.runs.2 ∷ []) in
-      home_tells v short w.0.plans r.runs.1 (facts f o m s name files files' out out' kept kept' t r other) (subst Little (sym w.1) little))
+      home_tells m v s r.runs.0 w.0.plans r.runs.2 t.cause r.runs.1 (facts f o m s name files files' out out' kept kept' t r other) short (subst Little (sym w.1) little))
 
-  pub run_near_tells : IsValidMachine m → HaveShortDictionaries m → (text : List ℕ) → f.told files name ≡ Some text → kept.at ≡ 0 → (t.cause ≡ cause.Memory → ⊥) → AreOfMoves (program_sections m text)
-      → AllTakeNear m s text r.runs.0 (r.runs.1 ++ r.runs.2 ∷ []) → ∥ AllMayTell (r.runs.1 ++ r.runs.2 ∷ []) ∥₁
-  run_near_tells v short text told at other moves near =
+  pub run_near_tells : (t.cause ≡ cause.Memory → ⊥) → AreOfMoves (program_sections m text) → AllTakeNear m s text r.runs.0 (r.runs.1 ++ r.runs.2 ∷ []) → ∥ AllMayTell (r.runs.1 ++ r.runs.2 ∷ []) ∥₁
+  run_near_tells other moves near =
       ∥∥₁_map (run_made f o m s name files files' out out' kept kept' t r text told at) (λ w.
       let Of : List ℕ → Type 0 = λ z. AreOfMoves (program_sections m z) in
       let Near : List ℕ → Type 0 = λ z. AllTakeNear m s z r.runs.0 (r.runs.1 ++ r.runs.2 ∷ []) in
-      near_tells v short w.0.plans r.runs.1 (facts f o m s name files files' out out' kept kept' t r other) (subst Of (sym w.1) moves) (subst Near (sym w.1) near))
+      near_tells m v s r.runs.0 w.0.plans r.runs.2 t.cause r.runs.1 (facts f o m s name files files' out out' kept kept' t r other) short (subst Of (sym w.1) moves) (subst Near (sym w.1) near))
+
+  -- so before its last turn, whatever ended it
+  pub run_front_tells : (turns : List ReactorTurn) (last : ReactorTurn) → r.runs.1 ≡ turns ++ last ∷ [] → ∥ ((front : List MotionTurn) × (later : List MotionTurn) × (r.runs.0 ≡ front ++ later) × (length front ≡ length turns)
+      × (AllHomeLittle m s text front (turns ++ last ∷ []) → AllMayTell (turns ++ last ∷ []))
+      × (AreOfMoves (program_sections m text) → AllTakeNear m s text front (turns ++ last ∷ []) → AllMayTell (turns ++ last ∷ []))) ∥₁
+  run_front_tells turns last cut =
+      let part = run_front f o m s name files files' out out' kept kept' t r turns last cut in
+      ∥∥₁_map (front_made f o m s name files files' out out' kept kept' t r text told at part.planned part.later part.are) (λ w.
+      let Little : List ℕ → Type 0 = λ z. AllHomeLittle m s z part.planned (turns ++ last ∷ []) in
+      let Of : List ℕ → Type 0 = λ z. AreOfMoves (program_sections m z) in
+      let Near : List ℕ → Type 0 = λ z. AllTakeNear m s z part.planned (turns ++ last ∷ []) in (
+        part.planned,
+        part.later,
+        part.are,
+        part.long,
+        λ little. home_tells m v s part.planned w.0 last cause.ReadFault turns part.facts short (subst Little (sym w.1) little),
+        λ moves near. near_tells m v s part.planned w.0 last cause.ReadFault turns part.facts short (subst Of (sym w.1) moves) (subst Near (sym w.1) near),
+      ))

@@ -1,7 +1,6 @@
 -- The boards of a whole run end for two reasons alone.
-use Rattle.std.proofs.Common.{All, ◌≡◌, ℕ, ◌<◌, ◌≤◌, List, [], ◌∷◌, ◌++◌, length, map, Option, Some, None, refl, ap, sym, ◌∙◌, subst, arith, inl, inr}
+use Rattle.std.proofs.Common.{All, ◌≡◌, ℕ, ◌<◌, List, [], ◌∷◌, ◌++◌, length, Option, Some, None, refl, sym, subst, arith, inl, inr}
 use Rattle.std.proofs.Math.Logic.{∥∥₁_map}
-use Rattle.std.proofs.lemmas.List.{length-map}
 use Rattle.std.proofs.lemmas.List.Elements.{All-cons, All-nil}
 use Rattle.io_core.specs.declared.traits.Files.{Ghosts as Files}
 use Rattle.io_core.specs.declared.traits.Sink.{Ghosts as Sink}
@@ -15,17 +14,13 @@ use Rattle.plan_types.specs.Clock.{clock_of}
 use Rattle.plan_types.specs.Machines.{IsValidMachine, board_at}
 use Rattle.msg_code.specs.declared.talk.State.{State}
 use Rattle.wire_scene.specs.declared.scene.Scene.{Scene}
-use Rattle.link_work.specs.Runs.{AreTurns}
-use Rattle.link_work.specs.Stands.{orders}
 use Rattle.link_work.specs.Switches.{pins_of}
-use Rattle.link_work.specs.Turn.{LinkState, Orders}
+use Rattle.link_work.specs.Turn.{Orders}
 use Rattle.host_reactor.specs.Reactor.{Run}
-use Rattle.host_reactor.specs.Rows.{IsOwn}
 use Rattle.host_reactor.specs.Runs.{Came}
-use Rattle.board_runs.specs.Turns.{BoardTurn, stands_after}
+use Rattle.board_runs.specs.Turns.{stands_after}
 use Rattle.clock_runs.specs.Runs.{IsInRun, orders_in}
 use Rattle.clock_runs.proofs.Orders.{turns_in_order}
-use Rattle.motion_work.specs.Boards.{parts_on}
 use Rattle.motion_work.specs.Seen.{Started}
 use Rattle.motion_work.specs.Told.{Told}
 use Rattle.session_lanes.specs.declared.near.Told as near
@@ -35,22 +30,18 @@ use Rattle.session_desk.specs.declared.tell.Kept.{Kept}
 use Rattle.session_run.specs.Boards.{came_from}
 use Rattle.session_run.specs.Runs.{RunsOver}
 use Rattle.run_laws.specs.Ends.{MayBe}
-use Rattle.run_laws.specs.Parts.{AreOrdersOf}
-use Rattle.run_boards.specs.Boards.{IsInWhole, behind, orders_of, states_of}
+use Rattle.run_boards.specs.Boards.{IsInWhole, behind, orders_of}
 use Rattle.run_plans.specs.Given.{TookControls}
-use Rattle.run_plans.specs.Lines.{TookNotes}
 use Rattle.run_plans.specs.Planned.{Plans}
-use Rattle.run_plans.proofs.Running.{orders_are}
 use Rattle.homing_laws.specs.home_parts.Cuts.{cuts_on}
 use Rattle.cause_runs.specs.Short.{HaveShortDictionaries}
 use Rattle.session_laws.specs.home_headline.Little.{AllHomeLittle}
 use Rattle.gcode_program.specs.Programs.{program_sections}
 use Rattle.session_laws.specs.run_headline.Timely.{AllTakeNear, AreOfMoves, link_of}
-use Rattle.session_laws.proofs.clear_runs.Bare.{unbegun_units}
 use Rattle.session_laws.proofs.clear_runs.Punctual.{NoUnits}
 use Rattle.session_laws.proofs.home_headline.Board.{here_by}
 use Rattle.session_laws.proofs.home_headline.Good.{may_at}
-use Rattle.session_laws.proofs.run_headline.Boarded.{came_cut, took_long}
+use Rattle.session_laws.proofs.run_headline.Boarded.{came_cut}
 use Rattle.session_laws.proofs.run_headline.Fronts.{controlled}
 use Rattle.session_laws.proofs.run_headline.Cutting.{run_front}
 use Rattle.session_laws.proofs.run_headline.Making.{front_made, run_made}

@@ -1,5 +1,5 @@
 -- A whole run that ends since steps came too late to a board tells of this board's last turn.
-use Rattle.std.proofs.Common.{◌≡◌, ℕ, zero, suc, ◌+◌, ◌<◌, Bool, true, false, List, [], ◌∷◌, ◌++◌, length, map, Option, Some, None, refl, ap, sym, ◌∙◌, subst, arith, inl, inr, append_assoc, length-append}
+use Rattle.std.proofs.Common.{◌≡◌, ℕ, zero, suc, ◌+◌, ◌<◌, Bool, false, List, [], ◌∷◌, ◌++◌, length, map, Option, Some, None, refl, ap, sym, ◌∙◌, subst, arith, inl, inr, append_assoc, length-append}
 use Rattle.std.specs.Prelude.{◌==◌, if◌then◌else◌}
 use Rattle.std.proofs.lemmas.Bool.Decides.{eqb_tells}
 use Rattle.std.proofs.lemmas.List.{length-map}
@@ -20,10 +20,8 @@ use Rattle.msg_code.specs.declared.unit.Batch.{Batch}
 use Rattle.msg_code.specs.declared.unit.Control.{Control}
 use Rattle.wire_scene.specs.declared.scene.Scene.{Scene}
 use Rattle.board_sim.specs.Board.{timer_too_close}
-use Rattle.board_world.specs.Shut.{WasShut}
 use Rattle.board_world.specs.World.{AllFair, Core}
 use Rattle.board_world.proofs.Causes.{was_shut}
-use Rattle.link_work.specs.Ends.{last_of}
 use Rattle.link_work.specs.Held.{IsCounted, late_by, lead_of, told_by}
 use Rattle.link_work.specs.Late.{turn_steps}
 use Rattle.link_work.specs.Stands.{Seen, orders}
@@ -36,7 +34,7 @@ use Rattle.host_reactor.specs.Notes.{noted}
 use Rattle.host_reactor.specs.Reactor.{Run}
 use Rattle.host_reactor.specs.Rows.{IsOwn}
 use Rattle.host_reactor.specs.Running.{late, late_of, or_cause}
-use Rattle.host_reactor.specs.Runs.{Came, GoesOn, known_by}
+use Rattle.host_reactor.specs.Runs.{Came, known_by}
 use Rattle.board_runs.specs.Turns.{AreBoardTurns, BoardTurn, IsBoardOf, latest_state, stands_after}
 use Rattle.clock_runs.specs.Runs.{IsInRun, orders_in}
 use Rattle.clock_runs.proofs.Lines.{run_before}
@@ -58,13 +56,11 @@ use Rattle.session_work.specs.Rows.{gather, item}
 use Rattle.session_work.specs.Turns.{Goes}
 use Rattle.session_desk.specs.declared.tell.Kept.{Kept}
 use Rattle.session_desk.specs.Desks.{desk_out}
-use Rattle.session_run.specs.Boards.{came_from, came_in}
+use Rattle.session_run.specs.Boards.{came_from}
 use Rattle.session_run.specs.Links as links
 use Rattle.session_run.specs.Machines.{link, planner, reactor}
 use Rattle.session_run.specs.Runs.{IsFirstLink, RunsOver}
-use Rattle.session_run.proofs.First.{count}
 use Rattle.run_boards.specs.Boards.{IsInWhole, behind, orders_of, states_of}
-use Rattle.run_boards.proofs.Items.{item_state}
 use Rattle.session_laws.specs.run_ends.Ends.{EndsSo}
 use Rattle.session_laws.proofs.run_ends.Ending.{ends_so}
 use Rattle.session_laws.specs.run_headline.Timely.{link_of}

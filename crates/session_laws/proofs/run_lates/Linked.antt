@@ -1,5 +1,5 @@
 -- The turns of a board's link in a whole run, with what its link holds of the busy stretch.
-use Rattle.std.proofs.Common.{◌≡◌, ℕ, zero, suc, ◌+◌, ◌<◌, Bool, true, false, List, [], ◌∷◌, ◌++◌, length, map, refl, ap, sym, ◌∙◌, subst, arith, inl, inr, append_assoc, length-append}
+use Rattle.std.proofs.Common.{◌≡◌, ℕ, ◌+◌, ◌<◌, Bool, true, false, List, [], ◌∷◌, ◌++◌, length, map, refl, ap, sym, ◌∙◌, subst, arith, inl, inr, length-append}
 use Rattle.std.specs.Prelude.{if◌then◌else◌}
 use Rattle.plan_types.specs.declared.clock.BoardClock.{BoardClock}
 use Rattle.plan_types.specs.declared.machine.Machine.{Machine}
@@ -7,15 +7,12 @@ use Rattle.msg_code.specs.declared.talk.State.{State}
 use Rattle.msg_code.specs.declared.unit.Batch.{Batch}
 use Rattle.msg_code.specs.declared.unit.Control.{Control}
 use Rattle.wire_scene.specs.declared.scene.Switch.{Switch}
-use Rattle.link_core.specs.Core.{sent}
 use Rattle.link_work.specs.Ends.{Ended, is_idle, is_quiet, spoiled_turns}
 use Rattle.link_work.specs.Held.{IsCounted, held_in, hold, lead_of, spoiled_with}
 use Rattle.link_work.specs.Stands.{Seen, StandsFor, orders}
-use Rattle.link_work.specs.Told.{IsTold}
-use Rattle.link_work.specs.Turn.{IsTurn, LinkState, Orders}
+use Rattle.link_work.specs.Turn.{IsTurn, LinkState}
 use Rattle.link_work.proofs.Bounds.{idle_is, is_idle_where}
 use Rattle.link_work.proofs.Spilled.{counted_as, held_grows}
-use Rattle.host_reactor.specs.Runs.{last_turn}
 use Rattle.board_runs.specs.Turns.{AreBoardTurns, BoardTurn, IsBoardOf, control_at, stands_after}
 use Rattle.clock_runs.specs.Runs.{ends_in, orders_in}
 use Rattle.clock_runs.proofs.Orders.{order_length}
@@ -23,7 +20,6 @@ use Rattle.run_laws.proofs.Linking.{same_bool}
 use Rattle.homing_laws.proofs.home_runs.Along.{one_end}
 use Rattle.session_work.specs.declared.table.LinkTurn.{LinkTurn}
 use Rattle.session_work.specs.declared.table.ReactorTurn.{ReactorTurn}
-use Rattle.session_work.specs.Bares.{bare_state}
 use Rattle.session_work.specs.Links.{LinkStep}
 use Rattle.session_work.specs.Rows.{gather, item}
 use Rattle.session_work.specs.Turns.{Goes}

@@ -1,5 +1,5 @@
 -- Each board of a whole run of moves, as the laws of boards ask for it.
-use Rattle.std.proofs.Common.{◌≡◌, ℕ, ◌+◌, ◌<◌, ◌≤◌, List, [], ◌∷◌, ◌++◌, length, map, Some, refl, ap, sym, ◌∙◌, subst, arith, length-append}
+use Rattle.std.proofs.Common.{◌≡◌, ℕ, ◌+◌, ◌<◌, ◌≤◌, List, [], ◌∷◌, ◌++◌, length, Some, refl, sym, ◌∙◌, subst, arith, length-append}
 use Rattle.std.proofs.lemmas.List.{length-map}
 use Rattle.gcode_program.specs.Programs.{program_sections}
 use Rattle.plan_types.specs.declared.cause.Cause.{Cause}
@@ -8,8 +8,7 @@ use Rattle.plan_types.specs.Clock.{clock_of}
 use Rattle.plan_types.specs.Machines.{IsValidMachine, board_at}
 use Rattle.plan_types.specs.Sections.{clocks_at}
 use Rattle.wire_scene.specs.declared.scene.Scene.{Scene}
-use Rattle.section_units.specs.Sections.{BoardSection}
-use Rattle.board_world.specs.World.{AllFair, Core, Step, run, start}
+use Rattle.board_world.specs.World.{Core, Step}
 use Rattle.link_work.specs.Ends.{EndSo, Ended}
 use Rattle.link_work.specs.Late.{AreFairTurns}
 use Rattle.link_work.specs.Runs.{AreTurns}

@@ -21,10 +21,10 @@ use Rattle.wire_scene.specs.declared.scene.Entry.{Entry}
 use Rattle.wire_scene.specs.declared.scene.Scene.{Scene}
 use Rattle.board_sim.specs.Board.{timer_too_close}
 use Rattle.board_world.specs.World.{AllFair}
-use Rattle.link_work.specs.Ends.{EndSo, Ended, is_quiet, last_of, spoiled_turns}
+use Rattle.link_work.specs.Ends.{EndSo, Ended, is_quiet, spoiled_turns}
 use Rattle.link_work.specs.declared.held.HeldUnit.{HeldUnit}
 use Rattle.link_work.specs.Held.{AllDue, counted_to, held_in, held_unit, hold, lead_of}
-use Rattle.link_work.specs.Late.{AreFairTurns, IsFairTurn, Past, turn_steps}
+use Rattle.link_work.specs.Late.{AreFairTurns, IsFairTurn, turn_steps}
 use Rattle.link_work.specs.Runs.{AreTurns}
 use Rattle.link_work.specs.Stands.{first_state, orders}
 use Rattle.link_work.specs.Switches.{pins_of}
@@ -57,7 +57,7 @@ use Rattle.run_laws.proofs.Seeking.{Among}
 use Rattle.run_parts.proofs.Going.{own_on}
 use Rattle.homing_laws.proofs.home_runs.Along.{one_end}
 use Rattle.homing_laws.specs.home_parts.Cuts.{cuts_on}
-use Rattle.run_boards.specs.Boards.{IsInWhole, behind, orders_of}
+use Rattle.run_boards.specs.Boards.{behind, orders_of}
 use Rattle.run_plans.specs.Planned.{Plans}
 use Rattle.cause_runs.specs.Short.{HaveShortDictionaries}
 use Rattle.session_laws.specs.home_headline.Little.{AllHomeLittle, HomesLittle}
@@ -95,8 +95,8 @@ fair_end clock [] turn o l k (e ∷ ends) so fair t =
     let here : turn ≡ turn + 0 = omega arith in
     let Fair : ℕ × LinkState → Type 0 = λ z. IsFairTurn clock z.0 o z.1 in
     let own : IsFairTurn clock turn o l = λ m i. (
-        let one : e.link ≡ m = one_end clock turn o l e.link m so.1 i in
-        (subst (λ (z : LinkState). (j : IsTurn clock turn o l z) → FairIn clock turn o l z j) one fair.0) i) in
+    let one : e.link ≡ m = one_end clock turn o l e.link m so.1 i in
+    (subst (λ (z : LinkState). (j : IsTurn clock turn o l z) → FairIn clock turn o l z j) one fair.0) i) in
     subst Fair (λ i. (here i, sym t i)) own
 fair_end clock (x ∷ os) turn o l k [] so fair t = absurd so
 fair_end clock (x ∷ os) turn o l k (e ∷ ends) so fair t =

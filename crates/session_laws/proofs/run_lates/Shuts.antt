@@ -1,24 +1,19 @@
 -- No state of a whole run tells of a shutdown but for steps that came too late and for the order to stop.
-use Rattle.std.proofs.Common.{All, ◌≡◌, ℕ, zero, suc, ◌+◌, ◌<◌, ◌≤◌, List, [], ◌∷◌, ◌++◌, drop, length, map, Option, Some, None, refl, ap, sym, ◌∙◌, subst, arith, inl, inr, append_assoc, length-append}
+use Rattle.std.proofs.Common.{All, ◌≡◌, ℕ, suc, ◌<◌, ◌≤◌, List, [], ◌∷◌, ◌++◌, drop, length, map, refl, ap, sym, ◌∙◌, subst, arith, inl, inr, append_assoc}
 use Rattle.std.specs.List.{flat_map}
 use Rattle.std.proofs.lemmas.List.{take-append-drop}
 use Rattle.std.proofs.lemmas.List.Elements.{All-cons, All-head, All-nil, All-tail}
-use Rattle.plan_types.specs.declared.cause.Cause.{Cause}
 use Rattle.plan_types.specs.declared.clock.BoardClock.{BoardClock}
 use Rattle.plan_types.specs.declared.levels.Level.{Level}
 use Rattle.plan_types.specs.declared.machine.BoardDef.{BoardDef}
 use Rattle.plan_types.specs.declared.machine.Machine.{Machine}
-use Rattle.plan_types.specs.declared.plan.BoardState.{BoardState}
-use Rattle.plan_types.specs.declared.plan.BoardState.TheVariants.{Running, Shut}
+use Rattle.plan_types.specs.declared.plan.BoardState.TheVariants.{Shut}
 use Rattle.plan_types.specs.Clock.{clock_of}
-use Rattle.plan_types.specs.Machines.{IsValidMachine, board_at}
 use Rattle.msg_code.specs.declared.cmd.Cmd.{Cmd}
 use Rattle.msg_code.specs.declared.cmd.Cmd.TheVariants as cmd
-use Rattle.msg_code.specs.declared.talk.ShutNews.{ShutNews}
 use Rattle.msg_code.specs.declared.talk.State.{State}
 use Rattle.msg_code.specs.declared.unit.Unit.{Unit as StepUnit}
 use Rattle.wire_scene.specs.declared.scene.Entry.{Entry}
-use Rattle.wire_scene.specs.declared.scene.Scene.{Scene}
 use Rattle.board_sim.specs.Board.{Controller, command_request}
 use Rattle.board_sim.specs.Fair.{Meant, commands_of}
 use Rattle.board_sim.specs.Rig.{takes_all}
@@ -28,7 +23,7 @@ use Rattle.board_world.specs.World.{Core, Do, Step, Turn, happens, in_turn, run,
 use Rattle.board_world.proofs.Causes.{was_shut}
 use Rattle.link_work.specs.Ends.{last_of}
 use Rattle.link_work.specs.Runs.{queued_in}
-use Rattle.link_work.specs.Stands.{first_state, orders}
+use Rattle.link_work.specs.Stands.{first_state}
 use Rattle.link_work.specs.Turn.{LinkState, Orders}
 use Rattle.link_work.proofs.Late.{ordered_after}
 use Rattle.link_work.proofs.Shut.{begins_running}
@@ -42,7 +37,7 @@ use Rattle.session_work.specs.Rows.{item}
 use Rattle.session_run.specs.Boards.{AreReactorTurns, came_in}
 use Rattle.host_reactor.specs.Runs.{Came}
 use Rattle.wire_scene.specs.declared.scene.Switch.{Switch}
-use Rattle.run_laws.specs.Ends.{MayBe, MayEnd}
+use Rattle.run_laws.specs.Ends.{MayBe}
 use Rattle.run_laws.specs.Late.{IsIn}
 use Rattle.run_laws.specs.Parts.{IsControl}
 use Rattle.run_laws.proofs.Each.{shut_as}
@@ -132,9 +127,9 @@ each_may clock begin turns (t ∷ made) b (r ∷ rs) are may took =
     let end = subst May parts.1 may in
     All-cons (λ (q : ReactorTurn). (x : State) → item b q.states ≡ x ∷ [] → MayTell x) r rs
     (λ x at n shut.
-        let same : x ≡ t.state = item_same x t.state (sym at ∙ took.0) in
-        let is = shut_as t.after.core.board.controller.state t.state.shut n here.0.1.shut (ap (λ (z : State). z.shut) (sym same) ∙ shut) in
-        subst MayBe (stays_shut clock begin parts.0 (t ∷ turns) n.reason n.tick n.first all is) end)
+    let same : x ≡ t.state = item_same x t.state (sym at ∙ took.0) in
+    let is = shut_as t.after.core.board.controller.state t.state.shut n here.0.1.shut (ap (λ (z : State). z.shut) (sym same) ∙ shut) in
+    subst MayBe (stays_shut clock begin parts.0 (t ∷ turns) n.reason n.tick n.first all is) end)
     (each_may clock begin (t ∷ turns) made b rs are may took.1)
 
 -- and so do all states of the turns, where those of each board do

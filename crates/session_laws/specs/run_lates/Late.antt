@@ -37,12 +37,14 @@ spoiled_by past t = spoiled_with (spoiled_turns (ends_in past)) (length past) (i
 abbrev pub held_by : List BoardTurn → BoardTurn → List HeldUnit
 held_by past t = hold (held_in (orders_in past) (ends_in past)) (length past) t.batch.units
 
--- Steps came too late to a board of a whole run, in the last turn of its link: it ran before this turn, and at the turn's first tick, the arrival, it took
--- a command that shut it down, of steps whose first one is due at an earlier tick, as no steps of their stepper pended. The spoiled turns
--- and the spill are those of the first unit of the busy stretch with this first tick that may have come too late, and 0 where there is none.
+-- Steps came too late to a board of a whole run, in the last turn of its link. It ran before this turn. As the turn began, at the tick of the
+-- arrival, it took a command that shut it down: steps of which the first one was due at an earlier tick, while none of their stepper pended. The
+-- spoiled turns and the spill are those of the first unit of the busy stretch with this first tick for which they are more than the lead
+-- together, and 0 where there is none.
 pub record ComesLate (m : Machine) (s : Scene) (b first arrival spoiled spill : ℕ) (planned : List MotionTurn) (begin : ReactorTurn) (rest : List ReactorTurn) : Type 0 where
   pub there : b < length m.boards
   pub w : IsInWhole m s.switches b (clock_of (board_at m b)) (link_of m s b) planned begin rest
+  -- its last turn, and those before, of which the latest stands first
   pub turn : BoardTurn
   pub past : List BoardTurn
   pub are : behind [] w.made ≡ turn ∷ past
@@ -60,10 +62,10 @@ abbrev pub ComesLateIn : Machine → Scene → ℕ → ℕ → ℕ → ℕ → �
 ComesLateIn m s b first arrival spoiled spill planned [] last = ⊥
 ComesLateIn m s b first arrival spoiled spill planned (begin ∷ rest) last = ComesLate m s b first arrival spoiled spill planned begin (rest ++ last ∷ [])
 
--- It was a unit of the board's sections that came too late, one with this first tick. Of the turns of the busy stretch so many were spoiled up to the turn
--- in which it is due, its spill is the one that is told, and both are more than the lead: 250 turns, and 249 for a board whose clock is off.
-pub record HasLateUnit (m : Machine) (s : Scene) (b first arrival spoiled spill : ℕ) (planned : List MotionTurn) (begin : ReactorTurn) (rest : List ReactorTurn) (clocks : List Clocks) (begun : List Started)
-    (c : ComesLate m s b first arrival spoiled spill planned begin rest) : Type 0 where
+-- A unit of one of the late board's sections has this first tick. So many turns of the busy stretch were spoiled up to the turn in which it is due,
+-- and its spill is the one that is told. Together they are more than the lead: 250 turns, and 249 for a board whose clock is off.
+pub record HasLateUnit (m : Machine) (s : Scene) (b first arrival spoiled spill : ℕ) (planned : List MotionTurn) (begin : ReactorTurn) (rest : List ReactorTurn)
+    (clocks : List Clocks) (begun : List Started) (c : ComesLate m s b first arrival spoiled spill planned begin rest) : Type 0 where
   pub section : BoardSection
   pub release : Release
   pub among : IsIn section (parts_on m clocks begun b)
@@ -74,12 +76,15 @@ pub record HasLateUnit (m : Machine) (s : Scene) (b first arrival spoiled spill 
   pub disturbed : lead_of (board_at m b).drift < spoiled + spill
 
 -- so in a run, by its turns
-abbrev pub HasLateUnitIn : (m : Machine) (s : Scene) (b first arrival spoiled spill : ℕ) (planned : List MotionTurn) (turns : List ReactorTurn) (last : ReactorTurn) → List Clocks → List Started → ComesLateIn m s b first arrival spoiled spill planned turns last → Type 0
+abbrev pub HasLateUnitIn : (m : Machine) (s : Scene) (b first arrival spoiled spill : ℕ) (planned : List MotionTurn) (turns : List ReactorTurn) (last : ReactorTurn)
+    → List Clocks → List Started → ComesLateIn m s b first arrival spoiled spill planned turns last → Type 0
 HasLateUnitIn m s b first arrival spoiled spill planned [] last clocks begun c = ⊥
-HasLateUnitIn m s b first arrival spoiled spill planned (begin ∷ rest) last clocks begun c = HasLateUnit m s b first arrival spoiled spill planned begin (rest ++ last ∷ []) clocks begun c
+HasLateUnitIn m s b first arrival spoiled spill planned (begin ∷ rest) last clocks begun c =
+    HasLateUnit m s b first arrival spoiled spill planned begin (rest ++ last ∷ []) clocks begun c
 
 -- the units of each turn of the late board have at most 210 bytes
-abbrev pub HasFewUnits : (m : Machine) (s : Scene) (b first arrival spoiled spill : ℕ) (planned : List MotionTurn) (turns : List ReactorTurn) (last : ReactorTurn) → ComesLateIn m s b first arrival spoiled spill planned turns last → Type 0
+abbrev pub HasFewUnits : (m : Machine) (s : Scene) (b first arrival spoiled spill : ℕ) (planned : List MotionTurn) (turns : List ReactorTurn) (last : ReactorTurn)
+    → ComesLateIn m s b first arrival spoiled spill planned turns last → Type 0
 HasFewUnits m s b first arrival spoiled spill planned [] last c = ⊥
 HasFewUnits m s b first arrival spoiled spill planned (begin ∷ rest) last c = UnitsFit (behind [] c.w.made)
 

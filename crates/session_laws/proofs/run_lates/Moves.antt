@@ -1,13 +1,15 @@
 -- Each board of a whole run of moves, as the laws of boards ask for it.
-use Rattle.std.proofs.Common.{◌≡◌, ℕ, ◌+◌, ◌<◌, ◌≤◌, List, [], ◌∷◌, ◌++◌, length, Some, refl, sym, ◌∙◌, subst, arith, length-append}
+use Rattle.std.proofs.Common.{◌≡◌, ℕ, ◌+◌, ◌<◌, ◌≤◌, List, [], ◌∷◌, ◌++◌, length, Some, refl, ap, sym, ◌∙◌, subst, arith, length-append}
 use Rattle.std.proofs.lemmas.List.{length-map}
 use Rattle.gcode_program.specs.Programs.{program_sections}
 use Rattle.plan_types.specs.declared.cause.Cause.{Cause}
 use Rattle.plan_types.specs.declared.machine.Machine.{Machine}
+use Rattle.plan_types.specs.declared.plan.BoardState.TheVariants.{Shut}
 use Rattle.plan_types.specs.Clock.{clock_of}
 use Rattle.plan_types.specs.Machines.{IsValidMachine, board_at}
 use Rattle.plan_types.specs.Sections.{clocks_at}
 use Rattle.wire_scene.specs.declared.scene.Scene.{Scene}
+use Rattle.board_sim.specs.Board.{timer_too_close}
 use Rattle.board_world.specs.World.{Core, Step}
 use Rattle.link_work.specs.Ends.{EndSo, Ended}
 use Rattle.link_work.specs.Late.{AreFairTurns}
@@ -23,6 +25,8 @@ use Rattle.session_work.specs.declared.table.MotionTurn.{MotionTurn}
 use Rattle.session_work.specs.declared.table.ReactorTurn.{ReactorTurn}
 use Rattle.session_run.specs.Boards.{came_from}
 use Rattle.run_laws.specs.Ends.{MayBe}
+use Rattle.run_laws.specs.Late.{IsLateUnit}
+use Rattle.run_laws.proofs.Seeking.{late_unit}
 use Rattle.run_laws.specs.Links.{ends_of, steps_of, turns_told}
 use Rattle.run_laws.specs.Parts.{IsRun}
 use Rattle.run_laws.specs.Runs.{IsBoardRun}
@@ -115,3 +119,9 @@ module _ (m : Machine) (v : IsValidMachine m) (s : Scene) (ts : List MotionTurn)
         let May : Core → Type 0 = λ h. MayBe h.board.controller.state in
         subst May (sym (turns_are (clock_of (board_at m b)) 0 (orders_of w.made) (link_of m s b) After Turns).0)
         (ends_may_be (board_at m b) (pins_of (board_at m b) b s.switches) (Own m b (length rest)) (clocks_at t.clocks b) By (parts_on m t.clocks p.seen.begun b) (orders_of w.made) Steps runs)
+
+    -- and where it shut down since steps came too late, these were a unit's of its sections
+    pub names : (tick first : ℕ) → After.core.board.controller.state ≡ Shut timer_too_close tick first → IsLateUnit (parts_on m t.clocks p.seen.begun b) tick first
+    names tick first shut =
+        late_unit (board_at m b) (pins_of (board_at m b) b s.switches) (Own m b (length rest)) (clocks_at t.clocks b) By (parts_on m t.clocks p.seen.begun b) (orders_of w.made) Steps tick first runs
+        (ap (λ (h : Core). h.board.controller.state) (sym (turns_are (clock_of (board_at m b)) 0 (orders_of w.made) (link_of m s b) After Turns).0) ∙ shut)

@@ -53,6 +53,7 @@ use Rattle.run_laws.specs.Boards.{OnBoard}
 use Rattle.run_laws.specs.Homes.{AreOrdersIn, IsHomeBoard, RunSection}
 use Rattle.run_laws.specs.Links.{ends_of, steps_of, turns_told}
 use Rattle.run_laws.proofs.Halted.{all_fair}
+use Rattle.run_laws.specs.Late.{IsLateUnit}
 use Rattle.run_laws.proofs.Seeking.{Among}
 use Rattle.run_parts.proofs.Going.{own_on}
 use Rattle.homing_laws.proofs.home_runs.Along.{one_end}
@@ -332,11 +333,13 @@ module _ {F S : Type 0} (f : Files F) (o : Sink S) (m : Machine) (s : Scene) (na
 
   near_units : (p : Plans m (length m.boards) r.runs.0) (told : Option Told) → p.seen.told ≡ told → (rs : List ReactorTurn) → Facts m s r.runs.0 rs r.runs.2 t.cause → AreOfMoves (program_sections m p.seen.text) → AllTakeNear m s p.seen.text r.runs.0 (rs ++ r.runs.2 ∷ [])
       → (c : ComesLateIn m s b due arrival spoiled spill r.runs.0 rs r.runs.2)
-      → (heard : Told) × (p.seen.told ≡ Some heard) × (HasFewUnits m s b due arrival spoiled spill r.runs.0 rs r.runs.2 c → HasLateUnitIn m s b due arrival spoiled spill r.runs.0 rs r.runs.2 heard.clocks p.seen.begun c)
+      → (heard : Told) × (p.seen.told ≡ Some heard) × IsLateUnit (parts_on m heard.clocks p.seen.begun b) arrival due × (HasFewUnits m s b due arrival spoiled spill r.runs.0 rs r.runs.2 c → HasLateUnitIn m s b due arrival spoiled spill r.runs.0 rs r.runs.2 heard.clocks p.seen.begun c)
   near_units p told is [] g moves near c = absurd c
   near_units p None is (first ∷ rest) g moves near c = absurd (late_none m v s r.runs.0 p r.runs.2 t.cause first rest g b due arrival spoiled spill c (not_told m v s r.runs.0 p r.runs.2 t.cause is))
   near_units p (Some heard) is (first ∷ rest) g moves near c = elim (long m v s r.runs.0 p r.runs.2 t.cause first rest g moves) [
-    | inl l ↦ (heard, is, λ fits. moves_unit m v s r.runs.0 p heard first rest r.runs.2 t.cause is g short moves near l b due arrival spoiled spill c fits)
+    | inl l ↦
+        let Is : List BoardTurn → Type 0 = λ z. (stands_after (link_of m s b) z).core.board.controller.state ≡ Shut timer_too_close arrival due in
+        (heard, is, of_moves.names m v s r.runs.0 p heard first rest r.runs.2 t.cause is g short moves near l b c.there c.w arrival due (subst Is (sym c.are) c.shut), λ fits. moves_unit m v s r.runs.0 p heard first rest r.runs.2 t.cause is g short moves near l b due arrival spoiled spill c fits)
     | inr z ↦ absurd (late_none m v s r.runs.0 p r.runs.2 t.cause first rest g b due arrival spoiled spill c z.none)
   ]
 
@@ -358,7 +361,7 @@ module _ {F S : Type 0} (f : Files F) (o : Sink S) (m : Machine) (s : Scene) (na
         (w.0, w.1, late, home_units w.0.plans w.0.plans.seen.told refl r.runs.1 (facts f o m s name files files' out out' kept kept' t r other) (subst Little (sym w.1) little) late))
 
     pub run_near_units : AreOfMoves (program_sections m text) → AllTakeNear m s text r.runs.0 (r.runs.1 ++ r.runs.2 ∷ []) → ∥ ((made : IsMade m s r.runs.0 r.runs.1) × (made.plans.seen.text ≡ text) × (c : Late_in)
-        × ((heard : Told) × (made.plans.seen.told ≡ Some heard) × (HasFewUnits m s b due arrival spoiled spill r.runs.0 r.runs.1 r.runs.2 c
+        × ((heard : Told) × (made.plans.seen.told ≡ Some heard) × IsLateUnit (parts_on m heard.clocks made.plans.seen.begun b) arrival due × (HasFewUnits m s b due arrival spoiled spill r.runs.0 r.runs.1 r.runs.2 c
         → HasLateUnitIn m s b due arrival spoiled spill r.runs.0 r.runs.1 r.runs.2 heard.clocks made.plans.seen.begun c))) ∥₁
     run_near_units moves near =
         ∥∥₁_map (run_made f o m s name files files' out out' kept kept' t r text told at) (λ w.

@@ -72,7 +72,7 @@ use Rattle.session_laws.proofs.run_headline.Showing.{Facts, ends_own, first_at}
 use Rattle.session_laws.proofs.clear_runs.Bare.{latest_behind}
 use Rattle.session_laws.proofs.home_wholes.Going.{goes_running, stays_shut}
 use Rattle.session_laws.specs.run_lates.Late.{ComesLate, ComesLateIn, held_by, spoiled_by}
-use Rattle.session_laws.proofs.run_lates.Linked.{IsLast, controls_put, states_taken, walk}
+use Rattle.session_laws.proofs.run_lates.Linked.{IsLast, controls_put, item_same, states_taken, walk}
 
 -- the state that is told of a late board
 pub record LateAt (j b first arrival spoiled spill : ℕ) (states : List State) : Type 0 where
@@ -139,9 +139,6 @@ pub record Logged (m : Machine) (s : Scene) (b : ℕ) (ts : List MotionTurn) (rs
   pub batches : gather (λ t. item b t.batches) ts ≡ gather (λ u. u.batch ∷ []) us ++ left
   pub told_on : List State
   pub states : gather (λ u. u.state ∷ []) us ≡ gather (λ t. item b t.states) (rs ++ end ∷ []) ++ told_on
-
-item_same : {A : Type 0} (x y : A) → x ∷ [] ≡ y ∷ [] → x ≡ y
-item_same x y e = cc
 
 module _ {F S : Type 0} (f : Files F) (o : Sink S) where
   log_at : (ts : List MotionTurn) (rs : List ReactorTurn) (end : ReactorTurn) (n j b i : ℕ) (ss : List Seen) (xs : List LinkLog) (s : Seen) → AreLogs planner link reactor (desk_out f o) ts rs end n j ss xs → j + b ≡ i → item b ss ≡ s ∷ []

@@ -62,6 +62,9 @@ states_taken b (r ∷ rs) (s ∷ states) e = ap (λ (z : List State). z ++ gathe
 cons_both : {A : Type 0} (x y : A) (xs ys : List A) → x ∷ xs ≡ y ∷ ys → (x ≡ y) × (xs ≡ ys)
 cons_both x y xs ys e = (cc, cc)
 
+pub item_same : {A : Type 0} (x y : A) → x ∷ [] ≡ y ∷ [] → x ≡ y
+item_same x y e = cc
+
 none_cons : {A : Type 0} (x : A) (xs : List A) → [] ≡ x ∷ xs → ⊥
 none_cons x xs e = cc
 

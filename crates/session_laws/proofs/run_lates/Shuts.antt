@@ -48,7 +48,7 @@ use Rattle.run_plans.specs.Given.{TookControls}
 use Rattle.session_laws.proofs.clear_runs.Punctual.{NoUnits}
 use Rattle.session_laws.proofs.home_wholes.Going.{stays_shut}
 use Rattle.session_laws.specs.run_lates.Late.{AllMayTell, MayTell}
-use Rattle.session_laws.proofs.run_lates.Linked.{are_front}
+use Rattle.session_laws.proofs.run_lates.Linked.{are_front, item_same}
 
 -- the command that shut a board down is one of those that it took
 was_named : (steps : List Step) (h : Core) (reason tick first : ℕ) → WasShut h steps reason tick first → (m : Meant) × IsIn m (run steps h).taken × ((b : Controller) × Shuts b m.command reason first)
@@ -106,9 +106,6 @@ controls_may d pins place entries turns reason tick first are none controls shut
 behind_parts : (turns made : List BoardTurn) → (later : List BoardTurn) × (behind turns made ≡ later ++ turns)
 behind_parts turns [] = ([], refl)
 behind_parts turns (t ∷ made) = let rest = behind_parts (t ∷ turns) made in (rest.0 ++ t ∷ [], rest.1 ∙ sym (append_assoc rest.0 (t ∷ []) turns))
-
-item_same : {A : Type 0} (x y : A) → x ∷ [] ≡ y ∷ [] → x ≡ y
-item_same x y e = cc
 
 -- where a board ended for one of the two reasons, each of its states tells of none but these
 abbrev EachMayTell : ℕ → List ReactorTurn → Type 0

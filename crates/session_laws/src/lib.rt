@@ -9,6 +9,7 @@ pub mod home_wholes;
 pub mod run_causes;
 pub mod run_ends;
 pub mod run_headline;
+pub mod run_lates;
 pub mod run_limits;
 pub mod run_lines;
 pub mod run_links;

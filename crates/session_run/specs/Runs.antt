@@ -24,6 +24,7 @@ pub record IsFirstLink (s : Scene) (i : ℕ) (b : BoardDef) (l : Seen) : Type 0 
   pub clock : l.clock ≡ clock_of b
   pub turn : l.turn ≡ 0
   pub spoiled : l.spoiled ≡ spoiled_turns []
+  pub held : l.held ≡ []
 
 -- one for each of these boards, of which the first has a number
 abbrev pub AreFirstLinks : Scene → ℕ → List BoardDef → List Seen → Type 0

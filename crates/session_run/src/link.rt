@@ -42,6 +42,7 @@ impl BoardLink {
         ensures clock { IfOk result (λ l. l.clock ≡ clock_of b.now) }
         ensures turn { IfOk result (λ l. l.turn ≡ 0) }
         ensures spoiled { IfOk result (λ l. l.spoiled ≡ spoiled_turns []) }
+        ensures held { IfOk result (λ l. l.held ≡ []) }
     {
         Ok(BoardLink {
             link: Link::new(alloc, b, s, index)?,

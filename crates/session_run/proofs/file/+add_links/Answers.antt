@@ -13,4 +13,4 @@ returns-in_ok-push-in-len1-up n c =
     let f = c.in_ok-new-in-len1-up.ensures in
     subst (λ (bs : List BoardDef). OnOk c.add_links.result ((more : List Seen) × (c.add_links.new.links.items ≡ c.args.links.now.items ++ more) × AreFirstLinks c.args.scene.now c.args.index bs more)) (sym whole)
     (added c.add_links.result c.args.scene.now c.args.index c.board-item.result (drop 1 boards) c.args.links.now.items c.push.new.self.items c.add_links.new.links.items c.in_ok-new-in-len1-up.field-0 (search rules)
-    record { stands = f.stands; clock = f.clock; turn = f.turn; spoiled = f.spoiled } (simp rest_all at c.add_links.ensures))
+    record { stands = f.stands; clock = f.clock; turn = f.turn; spoiled = f.spoiled; held = f.held } (simp rest_all at c.add_links.ensures))

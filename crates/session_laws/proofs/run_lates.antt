@@ -1,0 +1,10 @@
+pub mod Linked
+pub mod Late
+pub mod Units
+pub mod Due
+pub mod Unbegun
+pub mod Boards
+pub mod Moves
+pub mod Shuts
+pub mod Ending
+pub mod Naming

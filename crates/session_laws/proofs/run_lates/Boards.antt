@@ -1,0 +1,102 @@
+-- Each board of a whole run in which axes home, whatever ended it, as the laws of boards ask for it.
+use Rattle.std.proofs.Common.{◌≡◌, inr, ℕ, ◌<◌, List, [], ◌∷◌, ◌++◌, length, map, Some, append_assoc, length-append, refl, ap, sym, ◌∙◌, arith}
+use Rattle.std.proofs.lemmas.List.{length-map}
+use Rattle.plan_types.specs.declared.cause.Cause.{Cause}
+use Rattle.plan_types.specs.declared.machine.Machine.{Machine}
+use Rattle.plan_types.specs.Clock.{clock_of}
+use Rattle.plan_types.specs.Machines.{IsValidMachine, board_at}
+use Rattle.plan_types.specs.Sections.{clocks_at}
+use Rattle.wire_scene.specs.declared.scene.Scene.{Scene}
+use Rattle.motion_work.specs.Told.{Told}
+use Rattle.session_work.specs.declared.table.MotionTurn.{MotionTurn}
+use Rattle.session_work.specs.declared.table.ReactorTurn.{ReactorTurn}
+use Rattle.session_work.specs.Rows.{gather, option_items}
+use Rattle.session_run.specs.Boards.{came_from}
+use Rattle.run_laws.specs.Homes.{IsHomeBoard}
+use Rattle.run_boards.specs.Boards.{IsInWhole, behind}
+use Rattle.run_plans.specs.Lines.{TookNotes}
+use Rattle.run_plans.specs.Planned.{Plans}
+use Rattle.run_plans.proofs.Running.{started_in}
+use Rattle.session_laws.specs.run_headline.Timely.{AreSound, link_of}
+use Rattle.session_laws.proofs.run_headline.Boarded.{Lined, Ready, lined, ready, sound_of, valid_at}
+use Rattle.session_laws.proofs.run_headline.Heard.{notes_cut}
+use Rattle.session_laws.proofs.run_headline.Showing.{EachNoted, Facts, each, none, notes_are, notes_of, took_noted}
+use Rattle.homing_laws.specs.home_plans.Notes.{AreInARow}
+use Rattle.homing_laws.proofs.home_plans.Noting.{begun_row}
+use Rattle.homing_laws.specs.home_parts.Answers.{MayHome}
+use Rattle.homing_laws.specs.home_parts.Cuts.{cuts_on}
+use Rattle.homing_laws.specs.home_parts.Known.{StartInRange}
+use Rattle.cause_runs.specs.Short.{HaveShortDictionaries}
+use Rattle.session_laws.proofs.clock_ages.Own.{Own}
+use Rattle.session_laws.proofs.clock_ages.Renews.{renews}
+use Rattle.session_laws.specs.home_headline.Little.{HomesLittle}
+use Rattle.session_laws.proofs.home_headline.Board.{Followed, Homing, boarded_by, here_by, homing_by, lines_of}
+use Rattle.session_laws.proofs.home_headline.Ranges.{may_all, on_small, range_all, starts_soon}
+use Rattle.session_laws.proofs.home_headline.Sections.{few}
+
+each_front : (xs ys : List ReactorTurn) → EachNoted (xs ++ ys) → EachNoted xs
+each_front [] ys h = tt
+each_front (x ∷ xs) ys h = (h.0, each_front xs ys h.1)
+
+notes_both : (xs ys : List ReactorTurn) → notes_of (xs ++ ys) ≡ notes_of xs ++ notes_of ys
+notes_both [] ys = refl
+notes_both (x ∷ xs) ys = ap (λ z. option_items x.note ++ z) (notes_both xs ys) ∙ sym (append_assoc (option_items x.note) (notes_of xs) (notes_of ys))
+
+module _ (m : Machine) (v : IsValidMachine m) (s : Scene) (ts : List MotionTurn) (p : Plans m (length m.boards) ts) (first : ReactorTurn) (rest : List ReactorTurn) (end : ReactorTurn) (c : Cause) (f : Facts m s ts (first ∷ rest) end c) where
+  -- the notes before the last
+  pub noted : TookNotes (map (λ d. d.note) p.made) (first ∷ rest)
+  noted =
+      let notes = map (λ (d : MotionTurn). d.note) p.made in
+      let others = gather (λ (d : MotionTurn). d.note ∷ []) p.bare in
+      let all : notes ++ others ≡ notes_of (rest ++ end ∷ []) ++ f.notes_left =
+      sym (notes_cut p.made p.bare) ∙ ap (gather (λ (d : MotionTurn). d.note ∷ [])) (sym p.are) ∙ notes_are m v s ts p end c first rest f in
+      let cut : notes ++ others ≡ notes_of rest ++ (notes_of (end ∷ []) ++ f.notes_left) =
+      all ∙ ap (λ z. z ++ f.notes_left) (notes_both rest (end ∷ [])) ∙ append_assoc (notes_of rest) (notes_of (end ∷ [])) f.notes_left in
+      let size = length-append rest (end ∷ []) in
+      let many = length-map p.made (λ (d : MotionTurn). d.note) in
+      let most = few m v s ts p end c first rest f in
+      (none m v s ts p end c first rest f, took_noted rest notes others (notes_of (end ∷ []) ++ f.notes_left) (each_front rest (end ∷ []) (each m v s ts p end c first rest f)) (omega (arith, most, size, many)) cut)
+
+module _ (m : Machine) (v : IsValidMachine m) (s : Scene) (ts : List MotionTurn) (p : Plans m (length m.boards) ts) (t : Told) (first : ReactorTurn) (rest : List ReactorTurn) (end : ReactorTurn) (c : Cause) (told : p.seen.told ≡ Some t) (f : Facts m s ts (first ∷ rest) end c)
+    (short : HaveShortDictionaries m) where
+  abbrev pub whole : (b : ℕ) → b < length m.boards → IsInWhole m s.switches b (clock_of (board_at m b)) (link_of m s b) ts first (rest ++ end ∷ [])
+  whole b h = f.boards b first rest h refl
+
+  front_notes : TookNotes (map (λ d. d.note) p.made) (first ∷ rest)
+  front_notes = noted m v s ts p first rest end c f
+
+  abbrev pub turn : Ready m v s ts p t first rest end told
+  turn = ready m v s ts p t first rest end told f.ahead f.words_left f.turns f.words
+
+  abbrev pub By : ℕ
+  By = length (came_from [] turn.past)
+
+  lines : (b : ℕ) → b < length m.boards → Followed m b (length rest) t.clocks By p.seen.begun
+  lines b h = lines_of m v s ts p t first rest end told b (whole b h) turn h (let size = length-append rest (end ∷ []) in let most = few m v s ts p end c first rest f in renews m v short s ts p t first rest end c told f front_notes (omega (arith, size, most)) b h)
+
+  sound : AreSound m t.clocks t.first
+  sound = sound_of m v s ts p t first rest end told turn whole
+
+  range : (b : ℕ) → b < length m.boards → StartInRange (clocks_at t.clocks b) p.seen.begun
+  range b h =
+      let l = lines b h in
+      let early = turn.early in
+      let row : AreInARow t.first p.seen.begun = begun_row m t.clocks t.first p.seen.begun (started_in m ts p t told) in
+      range_all m t.clocks (Own m b (length rest)) (clocks_at t.clocks b) By t.first p.seen.begun l.tracked (on_small m b (length rest) (valid_at m.boards b h v.boards)) (omega (arith, early)) row l.over (starts_soon m (length m.boards) ts p)
+
+  formed : MayHome m p.seen.begun
+  formed = may_all m v ts p t told
+
+  module _ (b : ℕ) (h : b < length m.boards) (w : IsInWhole m s.switches b (clock_of (board_at m b)) (link_of m s b) ts first (rest ++ end ∷ [])) where
+    -- the lines of a board are samples
+    pub sampled : Lined m v s ts p t first rest end told b (behind [] w.made) By
+    sampled = lined m v s ts p t first rest end told b turn w h
+
+    module _ (little : HomesLittle m s b ts first (rest ++ end ∷ []) (length p.made) t p.seen.begun w) where
+      -- what a board was sent
+      pub homing : Homing m v s ts p t first rest end told (length p.made) b turn (behind [] w.made)
+      homing = homing_by m v s ts p t first rest end told (length p.made) f.ahead b f.words_left w turn h f.turns f.words front_notes (omega arith) (inr (omega arith)) (few m v s ts p end c first rest f) little (lines b h) sound formed (range b h)
+
+      -- and what it did
+      pub on : IsHomeBoard b s.entries By (length (rest ++ end ∷ [])) (cuts_on m t.clocks (length p.made) p.seen.begun b) (here_by m v s ts p t first rest end told (length p.made) b w)
+      on = boarded_by m v s ts p t first rest end told (length p.made) f.ahead b f.words_left w turn h f.turns f.words front_notes (omega arith) (inr (omega arith)) (few m v s ts p end c first rest f) little (lines b h) sound formed (range b h)

@@ -19,7 +19,12 @@ follows_clock clock turns l freq drift x =
       sent = s.sent;
       got = s.got;
       at = refl;
+      freq = refl;
       soon = x.1.soon;
+      turn = x.1.turn;
+      from = x.1.from;
+      to = x.1.to;
+      own = x.1.own;
       near = λ k h. drifting_near clock turns s k freq (omega (arith, drift)) x.1 h;
       exact = λ zero k h. exact_near clock turns s k freq zero x.1 h;
     })

@@ -1,6 +1,5 @@
 -- The first section of a run starts behind connecting.
-use Rattle.std.proofs.Common.{◌≡◌, ℕ, ◌+◌, ◌∷◌, ◌++◌, List, [], length, Option, Some, refl, ap, sym, ◌∙◌, subst, arith}
-use Rattle.std.specs.Prelude.{max}
+use Rattle.std.proofs.Common.{◌≡◌, ◌+◌, ◌∷◌, List, [], length, Some, refl, ap, sym, ◌∙◌, subst, arith}
 use Rattle.plan_types.specs.declared.machine.Machine.{Machine}
 use Rattle.plan_types.specs.Machines.{IsValidMachine}
 use Rattle.msg_code.specs.declared.talk.WordMsg.{WordMsg}
@@ -9,9 +8,8 @@ use Rattle.motion_work.specs.Seen.{AreStarted, Started}
 use Rattle.motion_work.specs.Told.{Told, first_start}
 use Rattle.session_work.specs.declared.table.MotionTurn.{MotionTurn}
 use Rattle.session_work.specs.declared.table.ReactorTurn.{ReactorTurn}
-use Rattle.session_work.specs.Leads.{last_words}
 use Rattle.session_work.specs.Rows.{gather}
-use Rattle.session_run.specs.Boards.{AreReactorTurns, came_from}
+use Rattle.session_run.specs.Boards.{came_from}
 use Rattle.run_plans.specs.Planned.{Plans}
 use Rattle.run_plans.proofs.Running.{started_in}
 use Rattle.session_laws.proofs.run_headline.Boarded.{among_turn, came_long, ready}

@@ -9,3 +9,4 @@ pub mod home_wholes
 pub mod clear_homes
 pub mod run_causes
 pub mod run_turns
+pub mod run_clocks

@@ -7,6 +7,7 @@ pub mod clock_ages;
 pub mod home_headline;
 pub mod home_wholes;
 pub mod run_causes;
+pub mod run_clocks;
 pub mod run_ends;
 pub mod run_headline;
 pub mod run_limits;

@@ -1,0 +1,25 @@
+//! When the boards' clock lines of a whole run are exact, as a law.
+
+ghost use Rattle.std.specs.Prelude.{◌≡◌, ℕ, List, Some};
+ghost use Rattle.plan_types.specs.declared.machine.Machine.{Machine};
+ghost use Rattle.plan_types.specs.Machines.{IsValidMachine};
+ghost use Rattle.wire_scene.specs.declared.scene.Scene.{Scene};
+ghost use Rattle.host_reactor.specs.Reactor.{Run};
+ghost use Rattle.motion_work.specs.Told.{Told as Heard};
+ghost use Rattle.session_lanes.specs.declared.near.Told.{Told};
+ghost use Rattle.session_desk.specs.declared.tell.Kept.{Kept};
+ghost use Rattle.session_run.specs.Runs.{RunsOver};
+ghost use Rattle.session_laws.specs.run_clocks.First.{AreFirstTaken};
+ghost use Rattle.session_laws.specs.run_headline.Made.{IsMade};
+
+use io_core::{Files, Sink};
+use plan_types::Cause;
+
+/// The law of first lines: in whatever threads a run went that does not end for want of memory, where its planner knows the boards' clock lines, the
+/// first one of a board on whose link nothing was disturbed while connecting is taken at once (`AreFirstTaken`): its tick is the board's own of the turn
+/// with which it begins, and where the board's clock is exact, the line is.
+pub fn first_lines_are_taken_at_once<F: Files, S: Sink>()
+    ensures { (m : Machine) (s : Scene) (name : List ℕ) (files files' : F) (out out' : S) (kept kept' : Kept) (t : Told Run) →
+        (r : RunsOver F.Files S.Sink m s name files out kept t files' out' kept') → IsValidMachine m → (t.cause ≡ Cause.Memory → ⊥) →
+        (made : IsMade m s r.runs.0 r.runs.1) → (heard : Heard) → made.plans.seen.told ≡ Some heard → AreFirstTaken m s r.runs.0 r.runs.1 r.runs.2 heard.clocks }
+{}

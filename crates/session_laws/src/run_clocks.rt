@@ -1,16 +1,19 @@
-//! When the boards' clock lines of a whole run are exact, as a law.
+//! What the clock lines are that the boards have in a whole run, and when they are exact, as laws.
 
-ghost use Rattle.std.specs.Prelude.{◌≡◌, ℕ, List, Some};
+ghost use Rattle.std.specs.Prelude.{◌≡◌, ◌+◌, ◌++◌, ◌∷◌, ℕ, List, [], Some, length};
 ghost use Rattle.plan_types.specs.declared.machine.Machine.{Machine};
 ghost use Rattle.plan_types.specs.Machines.{IsValidMachine};
 ghost use Rattle.wire_scene.specs.declared.scene.Scene.{Scene};
 ghost use Rattle.host_reactor.specs.Reactor.{Run};
 ghost use Rattle.motion_work.specs.Told.{Told as Heard};
 ghost use Rattle.session_lanes.specs.declared.near.Told.{Told};
+ghost use Rattle.session_work.specs.Rows.{gather};
 ghost use Rattle.session_desk.specs.declared.tell.Kept.{Kept};
 ghost use Rattle.session_run.specs.Runs.{RunsOver};
 ghost use Rattle.session_laws.specs.run_clocks.First.{AreFirstTaken};
+ghost use Rattle.session_laws.specs.run_headline.Further.{TellFurther};
 ghost use Rattle.session_laws.specs.run_headline.Made.{IsMade};
+ghost use Rattle.session_laws.specs.run_headline.Timely.{AreSound, TellBoards};
 
 use io_core::{Files, Sink};
 use plan_types::Cause;
@@ -22,4 +25,15 @@ pub fn first_lines_are_taken_at_once<F: Files, S: Sink>()
     ensures { (m : Machine) (s : Scene) (name : List ℕ) (files files' : F) (out out' : S) (kept kept' : Kept) (t : Told Run) →
         (r : RunsOver F.Files S.Sink m s name files out kept t files' out' kept') → IsValidMachine m → (t.cause ≡ Cause.Memory → ⊥) →
         (made : IsMade m s r.runs.0 r.runs.1) → (heard : Heard) → made.plans.seen.told ≡ Some heard → AreFirstTaken m s r.runs.0 r.runs.1 r.runs.2 heard.clocks }
+{}
+
+/// The law of told lines: in whatever threads a run went that does not end for want of memory, where its planner knows the boards' clock lines, they are
+/// sound (`AreSound`): each is that of a sample of its board's clock, and as near it as that. The `board` lines of the report are of the first ones
+/// (`TellBoards`), and its `line` lines of further ones, in order (`TellFurther`). No section need start.
+pub fn clock_lines_follow_their_boards<F: Files, S: Sink>()
+    ensures { (m : Machine) (s : Scene) (name : List ℕ) (files files' : F) (out out' : S) (kept kept' : Kept) (t : Told Run) →
+        (r : RunsOver F.Files S.Sink m s name files out kept t files' out' kept') → IsValidMachine m → (t.cause ≡ Cause.Memory → ⊥) →
+        (made : IsMade m s r.runs.0 r.runs.1) → (heard : Heard) → made.plans.seen.told ≡ Some heard →
+        AreSound m heard.clocks heard.first × TellBoards heard.clocks heard.first (r.runs.1 ++ r.runs.2 ∷ []) ×
+        TellFurther m heard.clocks (length r.runs.1 + 271) t.cause (gather (λ t. t.lines) (r.runs.1 ++ r.runs.2 ∷ [])) }
 {}

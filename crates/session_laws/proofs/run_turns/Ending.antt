@@ -1,7 +1,8 @@
 -- A homing section of a run ends with its answer.
-use Rattle.std.proofs.Common.{◌≡◌, ℕ, zero, suc, ◌+◌, ◌<◌, ◌≤◌, true, List, [], ◌∷◌, ◌++◌, length, map, ap, sym, ◌∙◌, subst, arith, inl, inr, append_assoc, append-nil, length-append}
+use Rattle.std.proofs.Common.{◌≡◌, ℕ, zero, suc, ◌+◌, ◌<◌, ◌≤◌, true, List, [], ◌∷◌, ◌++◌, length, map, take, refl, ap, sym, ◌∙◌, subst, arith, inl, inr, append_assoc, append-nil, length-append}
 use Rattle.std.proofs.lemmas.Bool.Decides.{leb_tells}
-use Rattle.std.proofs.lemmas.List.{length-map}
+use Rattle.std.proofs.lemmas.List.{length-map, length-take, take_all}
+use Rattle.std.proofs.Math.Seq.{take-append_seam}
 use Rattle.plan_types.specs.declared.machine.Machine.{Machine}
 use Rattle.plan_types.specs.declared.plan.SectionKind.TheVariants.{Home}
 use Rattle.msg_code.specs.declared.talk.WordMsg.{WordMsg}
@@ -30,8 +31,8 @@ use Rattle.session_laws.proofs.run_headline.Joining.{row_none}
 use Rattle.session_laws.proofs.home_headline.Ended.{goes_behind, tells_end}
 use Rattle.session_laws.proofs.home_headline.Planned.{all_notes, others_silent, planned_on}
 use Rattle.session_laws.proofs.home_headline.Reported.{answer_told}
-use Rattle.session_laws.proofs.home_headline.Switches.{came_ahead}
-use Rattle.session_laws.specs.home_headline.Cuts.{cuts_of}
+use Rattle.session_laws.proofs.home_headline.Switches.{came_ahead, turns_tell}
+use Rattle.session_laws.specs.home_headline.Cuts.{TellEnds, cuts_of}
 use Rattle.session_laws.specs.run_turns.Ends.{EndsWithAnswer}
 use Rattle.session_laws.proofs.run_turns.Words.{Taken}
 
@@ -56,6 +57,7 @@ module _ (m : Machine) (s : Scene) (ts : List MotionTurn) (p : Plans m (length m
     turns : List ReactorTurn
     behind : List ReactorTurn
     are : rs ≡ turns ++ behind
+    own : AreReactorTurns m s.switches [] turns
     by : IsPlannedBy m s.switches (length m.boards) ts p (came_from [] turns)
 
   notes_in : (turns behind : List ReactorTurn) → rs ≡ turns ++ behind → length turns ≤ length p.made + 1 → CameNotes p.seen.begun (came_from [] turns)
@@ -91,21 +93,38 @@ module _ (m : Machine) (s : Scene) (ts : List MotionTurn) (p : Plans m (length m
         turns = turns;
         behind = behind;
         are = are;
+        own = own;
         by = planned_on m s.switches (length m.boards) ts p turns (gather said behind ++ last) x.left own words (notes_in turns behind are few) others few;
       }
 
-  front : Front
-  front = elim (leb_tells (length rs) (length p.made + 1)) [
-    | inl q ↦ front_of rs [] (sym (append-nil rs)) q.1 (others_silent m (length m.boards) x.ahead ts p rs x.left x.words)
+  -- those that are as many as some number, if there are so many
+  front_by : (n : ℕ) → length p.made ≤ n → n ≤ length p.made + 1 → (f : Front) × (f.turns ≡ take n rs)
+  unfolding front_of
+  front_by n least most = elim (leb_tells (length rs) n) [
+    | inl q ↦ let few = q.1 in (front_of rs [] (sym (append-nil rs)) (omega (arith, few, most)) (others_silent m (length m.boards) x.ahead ts p rs x.left x.words), sym (take_all n rs few))
     | inr q ↦
         let more = q.1 in
-        let c = cut_at (length p.made + 1) rs (omega (arith, more)) in
+        let c = cut_at n rs (omega (arith, more)) in
         let long = c.3 in
-        front_of c.0 c.1 c.2 (omega (arith, long)) (λ place w far is tells.
-        let low = item_low place (words_in p.made) w is in
-        let few = words_few 0 0 p.made (omega arith) p.ahead in
-        absurd (omega (arith, low, few, far, long)))
+        let cut : take n rs ≡ c.0 = ap (take n) c.2 ∙ ap (λ i. take i (c.0 ++ c.1)) (sym long) ∙ take-append_seam c.0 c.1 in
+        (front_of c.0 c.1 c.2 (omega (arith, long, most)) (λ place w far is tells.
+          let low = item_low place (words_in p.made) w is in
+          let few = words_few 0 0 p.made (omega arith) p.ahead in
+          absurd (omega (arith, low, few, far, long, least))), sym cut)
   ]
+
+  front : Front
+  front = (front_by (length p.made + 1) (omega arith) (omega arith)).0
+
+  -- in the turns that the planner made a turn tells of a switch exactly where a homing section ended in it
+  pub turns_end : TellEnds m s.switches p.seen.begun 0 (take (length p.made) rs)
+  turns_end =
+      let f = front_by (length p.made) (omega arith) (omega arith) in
+      let size = came_long [] f.0.turns in
+      let few = length-take (length p.made) rs in
+      let same = ap length f.1 in
+      let Ends : List ReactorTurn → Type 0 = λ z. TellEnds m s.switches p.seen.begun 0 z in
+      subst Ends f.1 (turns_tell m s.switches (length m.boards) ts p (came_from [] f.0.turns) f.0.by (omega (arith, size, few, same)) [] f.0.turns f.0.own refl)
 
   pub ends : (past : List Started) (y : Started) (others : List Started) (axis : ℕ) → p.seen.begun ≡ past ++ y ∷ others → y.section.kind ≡ Home axis → (y.end ≡ no_end → ⊥) → EndsWithAnswer m s.switches rs (length past) axis y
   ends past y others axis cut home known =

@@ -1,5 +1,5 @@
 -- Where no entry is used on a link while connecting, the board's first clock line is taken at once, and exact where its clock is.
-use Rattle.std.proofs.Common.{◌≡◌, ℕ, ◌+◌, ◌-◌, ◌*◌, ◌%◌, ◌^◌, ◌<◌, ◌≤◌, true, List, [], ◌∷◌, length, Option, Some, None, pos, refl, ap, sym, ◌∙◌, subst, arith}
+use Rattle.std.proofs.Common.{◌≡◌, ℕ, ◌+◌, ◌-◌, ◌*◌, ◌%◌, ◌^◌, ◌<◌, ◌≤◌, true, List, [], ◌∷◌, length, Option, Some, None, pos, ap, sym, ◌∙◌, subst, arith}
 use Rattle.std.specs.List.{All}
 use Rattle.plan_types.specs.declared.levels.Level.{Level}
 use Rattle.plan_types.specs.declared.machine.Machine.{Machine}
@@ -22,9 +22,9 @@ use Rattle.clock_line.specs.declared.sample.Sample.{Sample}
 use Rattle.clock_line.specs.Samples.{sampled}
 use Rattle.link_work.specs.Stands.{first_state}
 use Rattle.board_runs.specs.Turns.{BoardTurn, stands_after}
-use Rattle.clock_runs.specs.Near.{IsExact, IsTakenAtOnce, IsUndisturbed}
+use Rattle.clock_runs.specs.Near.{IsExact, IsUndisturbed}
 use Rattle.clock_runs.specs.Runs.{IsInRun}
-use Rattle.clock_runs.specs.Samples.{IsSample, IsSampled, lines_told}
+use Rattle.clock_runs.specs.Samples.{IsSample, IsSampled, IsSampledAtOnce, lines_told}
 use Rattle.clock_runs.proofs.Clear.{AllConnecting, sample_now, unused}
 use Rattle.clock_runs.proofs.Lines.{noted_phase, run_before, told_lines, turn_of}
 use Rattle.clock_runs.proofs.Near.{exact_near}
@@ -65,23 +65,18 @@ exact_line m b turns s k f d i e l =
     omega arith
 
 line_exact : (m : Machine) (b : ℕ) (turns : List BoardTurn) (line : Line) → (board_at m b).freq % 1_000 ≡ 0 → ((s : Sample) → IsSample (clock_of (board_at m b)) turns s → s.got ≡ s.sent) → IsSampled (clock_of (board_at m b)) turns line
-    → IsTakenAtOnce (clock_of (board_at m b)) line × ((board_at m b).drift ≡ pos 0 → IsExact (clock_of (board_at m b)) line)
+    → IsSampledAtOnce (clock_of (board_at m b)) turns line × ((board_at m b).drift ≡ pos 0 → IsExact (clock_of (board_at m b)) line)
 line_exact m b turns line f now x =
     let clock = clock_of (board_at m b) in
     let s = x.0 in
-    let i = x.1 in
-    let same = now s i in
-    let from = i.from in
-    let to = i.to in
-    let here : i.turn ≡ s.sent = omega (arith, same, from, to) in
-    subst (λ (l : Line). IsTakenAtOnce clock l × ((board_at m b).drift ≡ pos 0 → IsExact clock l)) (sym x.2) (
-      record { turn = s.sent; at = refl; own = i.own ∙ ap (board_tick clock) here },
-      λ z k from. let low : s.sent ≤ k = omega arith in exact_line m b turns s k f z i same low,
+    let same = now s x.1 in (
+      (s, x.1, x.2, same),
+      λ z. subst (λ (l : Line). IsExact clock l) (sym x.2) (λ k from. let low : s.sent ≤ k = omega arith in exact_line m b turns s k f z x.1 same low),
     )
 
 pub lines_exact : (m : Machine) (switches : List Switch) (pins : List (List Level)) (entries : List Entry) (b : ℕ) (c : Came) (before : List Came) (t : BoardTurn) (turns : List BoardTurn)
     → IsInRun m switches pins entries b (c ∷ before) (t ∷ turns) → (known_by m switches before).phase ≡ Connecting → IsUndisturbed (stands_after (first_state (board_at m b) pins b entries) turns) → (board_at m b).freq % 1_000 ≡ 0
-    → All (λ l. IsTakenAtOnce (clock_of (board_at m b)) l × ((board_at m b).drift ≡ pos 0 → IsExact (clock_of (board_at m b)) l)) (lines_told b (last_turn m switches c before).ordered.word.news)
+    → All (λ l. IsSampledAtOnce (clock_of (board_at m b)) turns l × ((board_at m b).drift ≡ pos 0 → IsExact (clock_of (board_at m b)) l)) (lines_told b (last_turn m switches c before).ordered.word.news)
 lines_exact m switches pins entries b c before t turns r p u f =
     let rest = run_before m switches pins entries b c before t turns r in
     let all = connecting_all m switches pins entries b before turns rest p in

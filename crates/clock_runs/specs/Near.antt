@@ -36,9 +36,3 @@ IsExact clock line = (turn : ℕ) → line.at ≤ turn * turn_ns → tick line (
 pub record IsUndisturbed (l : LinkState) : Type 0 where
   pub down : l.down.calm ≡ 0
   pub up : l.up.calm ≡ 0
-
--- A clock line of a board is taken at once: it begins with a turn, and its tick is the board's own tick of that turn.
-pub record IsTakenAtOnce (clock : BoardClock) (line : Line) : Type 0 where
-  pub turn : ℕ
-  pub at : line.at ≡ turn * turn_ns
-  pub own : line.clock ≡ board_tick clock turn

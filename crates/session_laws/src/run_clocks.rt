@@ -21,8 +21,8 @@ use io_core::{Files, Sink};
 use plan_types::Cause;
 
 /// The law of first lines: in whatever threads a run went that does not end for want of memory, where its planner knows the boards' clock lines, the
-/// first one of a board on whose link nothing was disturbed while connecting is taken at once (`AreFirstTaken`): its tick is the board's own of the turn
-/// with which it begins, and where the board's clock is exact, the line is.
+/// first one of a board whose link nothing disturbed while connecting is taken at once (`AreFirstTaken`): it is that of a sample which was got in the
+/// turn in which it was sent.
 pub fn first_lines_are_taken_at_once<F: Files, S: Sink>()
     ensures { (m : Machine) (s : Scene) (name : List ℕ) (files files' : F) (out out' : S) (kept kept' : Kept) (t : Told Run) →
         (r : RunsOver F.Files S.Sink m s name files out kept t files' out' kept') → IsValidMachine m → (t.cause ≡ Cause.Memory → ⊥) →

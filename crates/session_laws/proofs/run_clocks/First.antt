@@ -21,9 +21,9 @@ use Rattle.link_work.specs.Switches.{pins_of}
 use Rattle.host_reactor.specs.Reactor.{Run}
 use Rattle.host_reactor.specs.Runs.{Came}
 use Rattle.board_runs.specs.Turns.{BoardTurn, stands_after}
-use Rattle.clock_runs.specs.Near.{IsExact, IsTakenAtOnce, IsUndisturbed}
+use Rattle.clock_runs.specs.Near.{IsExact, IsUndisturbed}
 use Rattle.clock_runs.specs.Runs.{IsInRun}
-use Rattle.clock_runs.specs.Samples.{lines_told}
+use Rattle.clock_runs.specs.Samples.{IsSampledAtOnce, lines_told}
 use Rattle.clock_runs.proofs.Exact.{lines_exact, none_disturbs}
 use Rattle.clock_runs.proofs.Lines.{as_long}
 use Rattle.cause_runs.specs.Causes.{before_turn}
@@ -38,12 +38,13 @@ use Rattle.run_boards.specs.Boards.{IsInWhole, behind}
 use Rattle.run_plans.specs.Planned.{Plans}
 use Rattle.session_laws.specs.run_headline.Made.{IsMade}
 use Rattle.session_laws.specs.run_headline.Timely.{link_of}
-use Rattle.session_laws.proofs.run_headline.Boarded.{Ready, came_long, first_same, ready, run_of, valid_at}
+use Rattle.session_laws.proofs.run_headline.Boarded.{Ready, came_long, drift_few, first_same, ready, run_of, valid_at}
 use Rattle.session_laws.proofs.run_headline.Fronts.{front_of, one_less}
 use Rattle.session_laws.proofs.run_headline.Runs.{facts}
 use Rattle.session_laws.proofs.run_headline.Showing.{Facts, none_told}
 use Rattle.session_laws.proofs.run_headline.Words.{line_is}
-use Rattle.session_laws.specs.run_clocks.First.{AreFirstTaken}
+use Rattle.session_laws.proofs.run_headline.Near.{sample_follows}
+use Rattle.session_laws.specs.run_clocks.First.{AreFirstTaken, IsTakenAtOnce}
 
 -- those of some turns that come before one of them
 before_cut : (later : List BoardTurn) (t : BoardTurn) (turns : List BoardTurn) → before_turn (length turns) (later ++ t ∷ turns) ≡ turns
@@ -95,21 +96,24 @@ module _ (m : Machine) (v : IsValidMachine m) (s : Scene) (ts : List MotionTurn)
       subst Still (sym x.is) (none_disturbs m s.switches (pins_of (board_at m b) b s.switches) s.entries b (came_from [] r.past) x.turns x.before r.is.phase d u)
 
   taken : (b : ℕ) (w : IsInWhole m s.switches b (clock_of (board_at m b)) (link_of m s b) ts first (rest ++ end ∷ [])) → b < length m.boards → IsUndisturbed (stands_after (link_of m s b) (before_turn (length r.past) (behind [] w.made)))
-      → IsTakenAtOnce (clock_of (board_at m b)) (clocks_at t.clocks b).first × ((board_at m b).drift ≡ pos 0 → IsExact (clock_of (board_at m b)) (clocks_at t.clocks b).first)
+      → IsTakenAtOnce (clock_of (board_at m b)) (clocks_at t.clocks b).first
   taken b w h still =
       let x = at b w h in
       let clock = clock_of (board_at m b) in
       let past = came_from [] r.past in
-      let Good : Line → Type 0 = λ z. IsTakenAtOnce clock z × ((board_at m b).drift ≡ pos 0 → IsExact clock z) in
+      let Good : Line → Type 0 = λ z. IsSampledAtOnce clock x.turns z × ((board_at m b).drift ≡ pos 0 → IsExact clock z) in
       let Still : List BoardTurn → Type 0 = λ z. IsUndisturbed (stands_after (link_of m s b) z) in
-      let freq = (valid_at m.boards b h v.boards).freq.whole in
-      let all = lines_exact m s.switches (pins_of (board_at m b) b s.switches) s.entries b (came_in r.turn) past x.turn x.turns x.run r.is.phase (subst Still x.is still) freq in
+      let valid = valid_at m.boards b h v.boards in
+      let all = lines_exact m s.switches (pins_of (board_at m b) b s.switches) s.entries b (came_in r.turn) past x.turn x.turns x.run r.is.phase (subst Still x.is still) valid.freq.whole in
       let l = line_is (length past) b m.boards r.is.lines r.is.fit h in
       let Lines : List Line → Type 0 = λ ls. All Good ls in
       let News : List WordNews → Type 0 = λ ns. All Good (lines_told b ns) in
       let some = subst Lines (ap (λ ls. ls ++ []) l.1) (subst News r.is.news all) in
       let first_is : l.0 ≡ (clocks_at r.heard.clocks b).first = ap (λ (c : Clocks). c.first) (sym l.2 ∙ ap (λ cs. clocks_at cs b) (sym r.is.clocks_are)) in
-      subst Good (first_is ∙ sym (first_same m v s ts p t first rest end told b r h)) (All-head Good l.0 [] some)
+      let one = (All-head Good l.0 [] some).0 in
+      let At : Line → Type 0 = λ z. IsTakenAtOnce clock z in
+      let here = sample_follows clock x.turns one.0 valid.freq.whole (drift_few (board_at m b).drift valid.drift_low valid.drift_high) one.1 in
+      subst At (sym one.2 ∙ first_is ∙ sym (first_same m v s ts p t first rest end told b r h)) (here, one.3)
 
 first_of : (m : Machine) (v : IsValidMachine m) (s : Scene) (ts : List MotionTurn) (p : Plans m (length m.boards) ts) (t : Told) (end : ReactorTurn) (c : Cause) (rs : List ReactorTurn) → p.seen.told ≡ Some t → Facts m s ts rs end c
     → AreFirstTaken m s ts rs end t.clocks
@@ -121,8 +125,7 @@ first_of m v s ts p t end c (first ∷ rest) told f =
       connected = length r.past;
       ends = record { past = r.past; turn = r.turn; later = r.later; are = r.are; number = refl; before = r.is.phase; behind = r.is.then };
       unused = λ b h d u w. bare m v s ts p t first rest end told r b w h d u;
-      taken = λ b h still. (taken m v s ts p t first rest end told r b (whole b h) h (still (whole b h))).0;
-      exact = λ b h still. (taken m v s ts p t first rest end told r b (whole b h) h (still (whole b h))).1;
+      taken = λ b h still. taken m v s ts p t first rest end told r b (whole b h) h (still (whole b h));
     }
 
 pub run_first : {F S : Type 0} (f : Files F) (o : Sink S) (m : Machine) (s : Scene) (name : List ℕ) (files files' : F) (out out' : S) (kept kept' : Kept) (t : near.Told Run) (r : RunsOver f o m s name files out kept t files' out' kept') → IsValidMachine m

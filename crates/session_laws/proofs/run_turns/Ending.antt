@@ -106,11 +106,13 @@ module _ (m : Machine) (s : Scene) (ts : List MotionTurn) (p : Plans m (length m
         let more = q.1 in
         let c = cut_at n rs (omega (arith, more)) in
         let long = c.3 in
-        let cut : take n rs ≡ c.0 = ap (take n) c.2 ∙ ap (λ i. take i (c.0 ++ c.1)) (sym long) ∙ take-append_seam c.0 c.1 in
-        (front_of c.0 c.1 c.2 (omega (arith, long, most)) (λ place w far is tells.
-          let low = item_low place (words_in p.made) w is in
-          let few = words_few 0 0 p.made (omega arith) p.ahead in
-          absurd (omega (arith, low, few, far, long, least))), sym cut)
+        let cut : take n rs ≡ c.0 = ap (take n) c.2 ∙ ap (λ i. take i (c.0 ++ c.1)) (sym long) ∙ take-append_seam c.0 c.1 in (
+          front_of c.0 c.1 c.2 (omega (arith, long, most)) (λ place w far is tells.
+              let low = item_low place (words_in p.made) w is in
+              let few = words_few 0 0 p.made (omega arith) p.ahead in
+              absurd (omega (arith, low, few, far, long, least))),
+          sym cut,
+        )
   ]
 
   front : Front

@@ -32,7 +32,7 @@ pub fn first_lines_are_taken_at_once<F: Files, S: Sink>()
 /// The law of told lines: in whatever threads a run went that does not end for want of memory, where its planner knows the boards' clock lines, they are
 /// sound (`AreSound`): each is that of a sample of its board's clock, and as near it as that. The `board` lines of the report are of the first ones
 /// (`TellBoards`), and its `line` lines of further ones, in order (`TellFurther`). No section need start.
-pub fn clock_lines_follow_their_boards<F: Files, S: Sink>()
+pub fn told_clock_lines_are_sound<F: Files, S: Sink>()
     ensures { (m : Machine) (s : Scene) (name : List ℕ) (files files' : F) (out out' : S) (kept kept' : Kept) (t : Told Run) →
         (r : RunsOver F.Files S.Sink m s name files out kept t files' out' kept') → IsValidMachine m → (t.cause ≡ Cause.Memory → ⊥) →
         (made : IsMade m s r.runs.0 r.runs.1) → (heard : Heard) → made.plans.seen.told ≡ Some heard →
@@ -42,8 +42,9 @@ pub fn clock_lines_follow_their_boards<F: Files, S: Sink>()
 
 /// The law of board lines: in whatever threads a run went that does not end for want of memory, and whether or not its planner heard of it, the `board`
 /// lines of its report are none, or those of clock lines that follow the boards' clocks, one for each board (`TellKnownLines`).
-pub fn board_lines_follow_their_clocks<F: Files, S: Sink>()
+pub fn board_lines_follow_clocks<F: Files, S: Sink>()
     ensures { (m : Machine) (s : Scene) (name : List ℕ) (files files' : F) (out out' : S) (kept kept' : Kept) (t : Told Run) →
         (r : RunsOver F.Files S.Sink m s name files out kept t files' out' kept') → IsValidMachine m → (t.cause ≡ Cause.Memory → ⊥) →
-        (boards_of (gather (λ t. t.lines) (r.runs.1 ++ r.runs.2 ∷ [])) ≡ []) ⊎ TellKnownLines m s.switches r.runs.1 (gather (λ t. t.lines) (r.runs.1 ++ r.runs.2 ∷ [])) }
+        (boards_of (gather (λ t. t.lines) (r.runs.1 ++ r.runs.2 ∷ [])) ≡ []) ⊎
+        TellKnownLines m s.switches r.runs.1 (gather (λ t. t.lines) (r.runs.1 ++ r.runs.2 ∷ [])) }
 {}

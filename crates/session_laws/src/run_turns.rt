@@ -38,8 +38,8 @@ pub fn homing_sections_end_with_their_answers<F: Files, S: Sink>()
     ensures ends { (m : Machine) (s : Scene) (name : List ℕ) (files files' : F) (out out' : S) (kept kept' : Kept) (t : Told Run) →
         (r : RunsOver F.Files S.Sink m s name files out kept t files' out' kept') →
         (front later : List MotionTurn) → r.runs.0 ≡ front ++ later → (p : Plans m (length m.boards) front) →
-        (past : List Started) (x : Started) (others : List Started) (axis : ℕ) → p.seen.begun ≡ past ++ x ∷ others → x.section.kind ≡ Home axis → x.end ≢ no_end →
-        EndsWithAnswer m s.switches r.runs.1 (length past) axis x }
+        (past : List Started) (x : Started) (others : List Started) (axis : ℕ) → p.seen.begun ≡ past ++ x ∷ others →
+        x.section.kind ≡ Home axis → x.end ≢ no_end → EndsWithAnswer m s.switches r.runs.1 (length past) axis x }
     ensures cuts { (m : Machine) (s : Scene) (name : List ℕ) (files files' : F) (out out' : S) (kept kept' : Kept) (t : Told Run) →
         (r : RunsOver F.Files S.Sink m s name files out kept t files' out' kept') →
         (front later : List MotionTurn) → r.runs.0 ≡ front ++ later → (p : Plans m (length m.boards) front) →

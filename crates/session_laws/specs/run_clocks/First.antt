@@ -24,7 +24,8 @@ use Rattle.session_laws.specs.run_turns.Starts.{EndsConnecting}
 abbrev pub IsUndisturbedBefore : Machine → Scene → ℕ → ℕ → List MotionTurn → List ReactorTurn → Type 0
 IsUndisturbedBefore m s b k planned [] = Unit {0}
 IsUndisturbedBefore m s b k planned (first ∷ rest) =
-    (w : IsInWhole m s.switches b (clock_of (board_at m b)) (link_of m s b) planned first rest) → IsUndisturbed (stands_after (link_of m s b) (before_turn k (behind [] w.made)))
+    (w : IsInWhole m s.switches b (clock_of (board_at m b)) (link_of m s b) planned first rest) →
+    IsUndisturbed (stands_after (link_of m s b) (before_turn k (behind [] w.made)))
 
 -- a clock line of a board follows its clock, of a sample that was got in the turn in which it was sent
 abbrev pub IsTakenAtOnce : BoardClock → Line → Type 0
@@ -37,5 +38,7 @@ IsTakenAtOnce clock line = (x : FollowsClock clock line) × (x.got ≡ x.sent)
 pub record AreFirstTaken (m : Machine) (s : Scene) (planned : List MotionTurn) (turns : List ReactorTurn) (last : ReactorTurn) (clocks : List Clocks) : Type 0 where
   pub connected : ℕ
   pub ends : EndsConnecting m s.switches turns connected
-  pub unused : (b : ℕ) → b < length m.boards → entries_of b Down true s.entries ≡ [] → entries_of b Up true s.entries ≡ [] → IsUndisturbedBefore m s b connected planned (turns ++ last ∷ [])
-  pub taken : (b : ℕ) → b < length m.boards → IsUndisturbedBefore m s b connected planned (turns ++ last ∷ []) → IsTakenAtOnce (clock_of (board_at m b)) (clocks_at clocks b).first
+  pub unused : (b : ℕ) → b < length m.boards → entries_of b Down true s.entries ≡ [] → entries_of b Up true s.entries ≡ [] →
+      IsUndisturbedBefore m s b connected planned (turns ++ last ∷ [])
+  pub taken : (b : ℕ) → b < length m.boards → IsUndisturbedBefore m s b connected planned (turns ++ last ∷ []) →
+      IsTakenAtOnce (clock_of (board_at m b)) (clocks_at clocks b).first

@@ -10,3 +10,4 @@ pub mod clear_homes
 pub mod run_causes
 pub mod run_turns
 pub mod run_clocks
+pub mod run_links

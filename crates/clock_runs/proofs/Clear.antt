@@ -1,4 +1,4 @@
--- A link without entries for the time while connecting: each clock comes in the turn in which it was asked for.
+-- A link on which no entry is used while connecting: each clock comes in the turn in which it was asked for.
 use Rattle.std.proofs.Common.{◌≡◌, ℕ, suc, ◌+◌, ◌^◌, ◌<◌, ◌≤◌, inl, inr, Bool, true, false, cond, List, [], ◌∷◌, ◌++◌, map, length, Option, Some, None, refl, ap, sym, ◌∙◌, subst, arith}
 use Rattle.std.specs.Prelude.{◌&&◌, nat_le, nat_lt}
 use Rattle.std.proofs.lemmas.Bool.{le-leb}
@@ -26,6 +26,7 @@ use Rattle.link_work.proofs.Late.{drained_after}
 use Rattle.link_work.proofs.Turns.{turns_hold}
 use Rattle.board_runs.specs.Turns.{AreBoardTurns, BoardTurn, stands_after}
 use Rattle.clock_line.specs.declared.sample.Sample.{Sample}
+use Rattle.clock_runs.specs.Near.{IsUndisturbed}
 use Rattle.clock_runs.specs.Runs.{orders_in}
 use Rattle.clock_runs.specs.Samples.{IsAmong, IsSample, TellsClock, WasPut, WasTold}
 use Rattle.clock_runs.proofs.Dated.{Dated, sent_grows}
@@ -46,71 +47,121 @@ none_still : (turn : ℕ) (cs : List Copy) → AllDue turn cs → still turn cs 
 none_still turn [] k = refl
 none_still turn (c ∷ cs) k = ap (λ (b : Bool). cond b (still turn cs) (c ∷ cs)) (le-leb c.due turn k.0) ∙ none_still turn cs k.1
 
--- a line without entries in a turn
+-- entries are used on no line, in all that is put on it: its calm stays 0
+none_used : (l : Line) (turn : ℕ) (bytes : List ℕ) (d : Option Deed) → (put_with l turn bytes d).calm ≡ 0 → (d ≡ None) × (l.calm ≡ 0)
+none_used l turn bytes None e = (refl, e)
+none_used l turn bytes (Some deed) e = absurd (omega (arith, e))
+
+none_in_all : (l : Line) (turn : ℕ) (bs : List (List ℕ)) → (put_all l turn bs).calm ≡ 0 → l.calm ≡ 0
+none_in_all l turn [] e = e
+none_in_all l turn (b ∷ bs) e = (none_used l turn b (deed_of l.number l.entries) (none_in_all (put_on l turn b) turn bs e)).1
+
+-- a line in a turn, where no entry was used
 record IsFree (l : Line) (turn : ℕ) : Type 0 where
-  pub entries : l.entries ≡ []
   pub last : l.last ≤ turn
-  pub calm : l.calm ≡ 0
   pub due : AllDue turn l.copies
 
 free_with : (l : Line) (turn : ℕ) (bytes : List ℕ) (d : Option Deed) → d ≡ None → IsFree l turn → IsFree (put_with l turn bytes d) turn
 free_with l turn bytes (Some deed) e f = cc
-free_with l turn bytes None e f =
-    let last = f.last in
-    record {
-      entries = ap (behind l.number) f.entries;
-      last = omega arith;
-      calm = f.calm;
-      due = due_both turn l.copies _ f.due (omega arith, tt);
-    }
+free_with l turn bytes None e f = let last = f.last in record { last = omega arith; due = due_both turn l.copies _ f.due (omega arith, tt) }
 
-free_put : (l : Line) (turn : ℕ) (bytes : List ℕ) → IsFree l turn → IsFree (put_on l turn bytes) turn
-free_put l turn bytes f = free_with l turn bytes (deed_of l.number l.entries) (ap (deed_of l.number) f.entries) f
-
-free_all : (l : Line) (turn : ℕ) (bs : List (List ℕ)) → IsFree l turn → IsFree (put_all l turn bs) turn
-free_all l turn [] f = f
-free_all l turn (b ∷ bs) f = free_all (put_on l turn b) turn bs (free_put l turn b f)
+free_all : (l : Line) (turn : ℕ) (bs : List (List ℕ)) → (put_all l turn bs).calm ≡ 0 → IsFree l turn → IsFree (put_all l turn bs) turn
+free_all l turn [] e f = f
+free_all l turn (b ∷ bs) e f =
+    let none = none_used l turn b (deed_of l.number l.entries) (none_in_all (put_on l turn b) turn bs e) in
+    free_all (put_on l turn b) turn bs e (free_with l turn b (deed_of l.number l.entries) none.0 f)
 
 -- between two turns
 record IsClear (l : Line) (turn : ℕ) : Type 0 where
-  pub entries : l.entries ≡ []
   pub last : l.last ≤ turn
-  pub calm : l.calm ≡ 0
   pub none : l.copies ≡ []
 
 clear_free : (l : Line) (turn : ℕ) → IsClear l turn → IsFree l turn
-clear_free l turn c = record { entries = c.entries; last = c.last; calm = c.calm; due = subst (λ (cs : List Copy). AllDue turn cs) (sym c.none) tt }
+clear_free l turn c = record { last = c.last; due = subst (λ (cs : List Copy). AllDue turn cs) (sym c.none) tt }
 
 free_clear : (l : Line) (turn : ℕ) → IsFree l turn → IsClear (record l { copies = still turn l.copies }) (turn + 1)
-free_clear l turn f = let last = f.last in record { entries = f.entries; last = omega arith; calm = f.calm; none = none_still turn l.copies f.due }
-
-clear_turn : (clock : BoardClock) (turn : ℕ) (o : Orders) (l m : LinkState) → IsTurn clock turn o l m → o.control.connected ≡ false → IsClear l.down turn → IsClear l.up turn
-    → IsClear m.down (turn + 1) × IsClear m.up (turn + 1)
-clear_turn clock turn o l m t c d u =
-    let l1 = after_host turn o t.resent l in
-    let l2 = after_board clock turn l1 in
-    let kept : (x : Line) → line_for o.control.connected x ≡ x = λ x. ap (λ (b : Bool). line_for b x) c in
-    let down0 : IsFree (line_for o.control.connected l.down) turn = subst (λ (x : Line). IsFree x turn) (sym (kept l.down)) (clear_free l.down turn d) in
-    let up0 : IsFree (line_for o.control.connected l.up) turn = subst (λ (x : Line). IsFree x turn) (sym (kept l.up)) (clear_free l.up turn u) in
-    let down1 = free_all (line_for o.control.connected l.down) turn (newly Down l.core (run (host_steps turn o t.resent) l.core)) down0 in
-    let up1 = free_all (line_for o.control.connected l.up) turn (newly Up l1.core (run (board_steps clock turn l1.down.copies) l1.core)) up0 in
-    subst (λ (x : LinkState). IsClear x.down (turn + 1) × IsClear x.up (turn + 1)) (sym t.becomes) (free_clear l1.down turn down1, free_clear l2.up turn up1)
+free_clear l turn f = let last = f.last in record { last = omega arith; none = none_still turn l.copies f.due }
 
 -- over turns while connecting
 abbrev pub AllConnecting : List BoardTurn → Type 0
 AllConnecting [] = Unit {0}
 AllConnecting (t ∷ before) = (t.control.connected ≡ false) × AllConnecting before
 
+kept_line : (c : Bool) (x : Line) → c ≡ false → line_for c x ≡ x
+kept_line c x e = ap (λ (b : Bool). line_for b x) e
+
+-- where none was used by the end of a turn, none was by its beginning
+undisturbed_before : (clock : BoardClock) (turn : ℕ) (o : Orders) (l m : LinkState) → IsTurn clock turn o l m → o.control.connected ≡ false → IsUndisturbed m → IsUndisturbed l
+undisturbed_before clock turn o l m t c u =
+    let l1 = after_host turn o t.resent l in
+    let l2 = after_board clock turn l1 in
+    let v = subst IsUndisturbed t.becomes u in
+    let down = none_in_all (line_for o.control.connected l.down) turn (newly Down l.core (run (host_steps turn o t.resent) l.core)) v.down in
+    let up = none_in_all (line_for o.control.connected l.up) turn (newly Up l1.core (run (board_steps clock turn l1.down.copies) l1.core)) v.up in
+    record { down = ap (λ (x : Line). x.calm) (sym (kept_line o.control.connected l.down c)) ∙ down; up = ap (λ (x : Line). x.calm) (sym (kept_line o.control.connected l.up c)) ∙ up }
+
+clear_turn : (clock : BoardClock) (turn : ℕ) (o : Orders) (l m : LinkState) → IsTurn clock turn o l m → o.control.connected ≡ false → IsUndisturbed m → IsClear l.down turn → IsClear l.up turn
+    → IsClear m.down (turn + 1) × IsClear m.up (turn + 1)
+clear_turn clock turn o l m t c u d w =
+    let l1 = after_host turn o t.resent l in
+    let l2 = after_board clock turn l1 in
+    let v = subst IsUndisturbed t.becomes u in
+    let down0 : IsFree (line_for o.control.connected l.down) turn = subst (λ (x : Line). IsFree x turn) (sym (kept_line o.control.connected l.down c)) (clear_free l.down turn d) in
+    let up0 : IsFree (line_for o.control.connected l.up) turn = subst (λ (x : Line). IsFree x turn) (sym (kept_line o.control.connected l.up c)) (clear_free l.up turn w) in
+    let down1 = free_all (line_for o.control.connected l.down) turn (newly Down l.core (run (host_steps turn o t.resent) l.core)) v.down down0 in
+    let up1 = free_all (line_for o.control.connected l.up) turn (newly Up l1.core (run (board_steps clock turn l1.down.copies) l1.core)) v.up up0 in
+    subst (λ (x : LinkState). IsClear x.down (turn + 1) × IsClear x.up (turn + 1)) (sym t.becomes) (free_clear l1.down turn down1, free_clear l2.up turn up1)
+
+module _ (b : BoardDef) (pins : List (List Level)) (board : ℕ) (entries : List Entry) where
+  -- no entry was used on the link by the end of some turns
+  abbrev pub Undisturbed : List BoardTurn → Type 0
+  Undisturbed turns = IsUndisturbed (stands_after (first_state b pins board entries) turns)
+
+  pub before_too : (t : BoardTurn) (before : List BoardTurn) → AreBoardTurns (clock_of b) (first_state b pins board entries) (t ∷ before) → t.control.connected ≡ false → Undisturbed (t ∷ before) → Undisturbed before
+  before_too t before are c u = undisturbed_before (clock_of b) (length before) (orders t.control t.batch) (stands_after (first_state b pins board entries) before) t.after are.0.0 c u
+
 clear_lines : (b : BoardDef) (pins : List (List Level)) (board : ℕ) (entries : List Entry) (turns : List BoardTurn) → AreBoardTurns (clock_of b) (first_state b pins board entries) turns
-    → entries_of board Down true entries ≡ [] → entries_of board Up true entries ≡ [] → AllConnecting turns
+    → Undisturbed b pins board entries turns → AllConnecting turns
     → IsClear (stands_after (first_state b pins board entries) turns).down (length turns) × IsClear (stands_after (first_state b pins board entries) turns).up (length turns)
-clear_lines b pins board entries [] are d u c = (record { entries = d; last = omega arith; calm = refl; none = refl }, record { entries = u; last = omega arith; calm = refl; none = refl })
-clear_lines b pins board entries (t ∷ before) are d u c =
+clear_lines b pins board entries [] are u c = (record { last = omega arith; none = refl }, record { last = omega arith; none = refl })
+clear_lines b pins board entries (t ∷ before) are u c =
     let clock = clock_of b in
-    let old = clear_lines b pins board entries before are.1 d u c.1 in
+    let old = clear_lines b pins board entries before are.1 (before_too b pins board entries t before are c.0 u) c.1 in
     let next : length before + 1 ≡ suc (length before) = omega arith in
     subst (λ (n : ℕ). IsClear t.after.down n × IsClear t.after.up n) next
-    (clear_turn clock (length before) (orders t.control t.batch) (stands_after (first_state b pins board entries) before) t.after are.0.0 c.0 old.0 old.1)
+    (clear_turn clock (length before) (orders t.control t.batch) (stands_after (first_state b pins board entries) before) t.after are.0.0 c.0 u old.0 old.1)
+
+-- no entry is used where there are none for the time while connecting
+record IsBare (l : Line) : Type 0 where
+  pub entries : l.entries ≡ []
+  pub calm : l.calm ≡ 0
+
+bare_with : (l : Line) (turn : ℕ) (bytes : List ℕ) (d : Option Deed) → d ≡ None → IsBare l → IsBare (put_with l turn bytes d)
+bare_with l turn bytes (Some deed) e f = cc
+bare_with l turn bytes None e f = record { entries = ap (behind l.number) f.entries; calm = f.calm }
+
+bare_all : (l : Line) (turn : ℕ) (bs : List (List ℕ)) → IsBare l → IsBare (put_all l turn bs)
+bare_all l turn [] f = f
+bare_all l turn (b ∷ bs) f = bare_all (put_on l turn b) turn bs (bare_with l turn b (deed_of l.number l.entries) (ap (deed_of l.number) f.entries) f)
+
+bare_turn : (clock : BoardClock) (turn : ℕ) (o : Orders) (l m : LinkState) → IsTurn clock turn o l m → o.control.connected ≡ false → IsBare l.down → IsBare l.up → IsBare m.down × IsBare m.up
+bare_turn clock turn o l m t c d u =
+    let l1 = after_host turn o t.resent l in
+    let down = bare_all (line_for o.control.connected l.down) turn (newly Down l.core (run (host_steps turn o t.resent) l.core)) (subst IsBare (sym (kept_line o.control.connected l.down c)) d) in
+    let up = bare_all (line_for o.control.connected l.up) turn (newly Up l1.core (run (board_steps clock turn l1.down.copies) l1.core)) (subst IsBare (sym (kept_line o.control.connected l.up c)) u) in
+    subst (λ (x : LinkState). IsBare x.down × IsBare x.up) (sym t.becomes) (record { entries = down.entries; calm = down.calm }, record { entries = up.entries; calm = up.calm })
+
+bare_lines : (b : BoardDef) (pins : List (List Level)) (board : ℕ) (entries : List Entry) (turns : List BoardTurn) → AreBoardTurns (clock_of b) (first_state b pins board entries) turns
+    → entries_of board Down true entries ≡ [] → entries_of board Up true entries ≡ [] → AllConnecting turns
+    → IsBare (stands_after (first_state b pins board entries) turns).down × IsBare (stands_after (first_state b pins board entries) turns).up
+bare_lines b pins board entries [] are d u c = (record { entries = d; calm = refl }, record { entries = u; calm = refl })
+bare_lines b pins board entries (t ∷ before) are d u c =
+    let old = bare_lines b pins board entries before are.1 d u c.1 in
+    bare_turn (clock_of b) (length before) (orders t.control t.batch) (stands_after (first_state b pins board entries) before) t.after are.0.0 c.0 old.0 old.1
+
+pub unused : (b : BoardDef) (pins : List (List Level)) (board : ℕ) (entries : List Entry) (turns : List BoardTurn) → AreBoardTurns (clock_of b) (first_state b pins board entries) turns
+    → entries_of board Down true entries ≡ [] → entries_of board Up true entries ≡ [] → AllConnecting turns → Undisturbed b pins board entries turns
+unused b pins board entries turns are d u c = let r = bare_lines b pins board entries turns are d u c in record { down = r.0.calm; up = r.1.calm }
 
 -- at the end of each turn all was taken, and nothing is under way
 quiet_now : (l : Line) (turn : ℕ) → l.copies ≡ [] → l.calm ≡ 0 → is_quiet_line l turn ≡ true
@@ -123,17 +174,17 @@ both_quiet : (a b : Bool) → a ≡ true → b ≡ true → (a && b) ≡ true
 both_quiet a b e f = rw e f
 
 all_taken : (b : BoardDef) (pins : List (List Level)) (board : ℕ) (entries : List Entry) (turns : List BoardTurn) → AreBoardTurns (clock_of b) (first_state b pins board entries) turns
-    → entries_of board Down true entries ≡ [] → entries_of board Up true entries ≡ [] → AllConnecting turns
+    → Undisturbed b pins board entries turns → AllConnecting turns
     → (stands_after (first_state b pins board entries) turns).core.link.accepted ≡ sent (stands_after (first_state b pins board entries) turns).core.link
-all_taken b pins board entries [] are d u c = refl
-all_taken b pins board entries (t ∷ before) are d u c =
+all_taken b pins board entries [] are u c = refl
+all_taken b pins board entries (t ∷ before) are u c =
     let clock = clock_of b in
     let first = first_state b pins board entries in
-    let clear = clear_lines b pins board entries (t ∷ before) are d u c in
+    let clear = clear_lines b pins board entries (t ∷ before) are u c in
     let n = length (orders_in before) in
     let long : length before ≡ n = sym (order_length before) in
     let turn : IsTurn clock n (orders t.control t.batch) (stands_after first before) t.after = subst (λ (x : ℕ). IsTurn clock x (orders t.control t.batch) (stands_after first before) t.after) long are.0.0 in
-    let quiet = both_quiet (is_quiet_line t.after.down n) (is_quiet_line t.after.up n) (quiet_now t.after.down n clear.0.none clear.0.calm) (quiet_now t.after.up n clear.1.none clear.1.calm) in
+    let quiet = both_quiet (is_quiet_line t.after.down n) (is_quiet_line t.after.up n) (quiet_now t.after.down n clear.0.none u.down) (quiet_now t.after.up n clear.1.none u.up) in
     (drained_after b pins board entries clock (orders_in before) (orders t.control t.batch) (stands_after first before) t.after (turns_in_order clock first before are.1) turn quiet).1
 
 none_mapped : (rs : List Reply) → map reply_text rs ≡ [] → rs ≡ []
@@ -141,10 +192,10 @@ none_mapped [] e = refl
 none_mapped (r ∷ rs) e = cc
 
 none_up : (b : BoardDef) (pins : List (List Level)) (board : ℕ) (entries : List Entry) (turns : List BoardTurn) → AreBoardTurns (clock_of b) (first_state b pins board entries) turns
-    → entries_of board Down true entries ≡ [] → entries_of board Up true entries ≡ [] → AllConnecting turns → (stands_after (first_state b pins board entries) turns).core.link.up ≡ []
-none_up b pins board entries turns are d u c =
+    → Undisturbed b pins board entries turns → AllConnecting turns → (stands_after (first_state b pins board entries) turns).core.link.up ≡ []
+none_up b pins board entries turns are u c =
     let first = first_state b pins board entries in
-    let clear = clear_lines b pins board entries turns are d u c in
+    let clear = clear_lines b pins board entries turns are u c in
     let holds = turns_hold (clock_of b) 0 (orders_in turns) first (stands_after first turns) start_keeps (record { down = refl; up = refl }) (turns_in_order (clock_of b) first turns are) in
     none_mapped (stands_after first turns).core.link.up (sym holds.up ∙ ap bytes_of clear.1.none)
 
@@ -153,10 +204,10 @@ abbrev Now : BoardClock → ℕ → ℕ → (ℕ → (ℕ → Type 0))
 Now clock low turn = λ n v. (low ≤ n) × (v ≡ board_tick clock turn)
 
 told_here : (b : BoardDef) (pins : List (List Level)) (board : ℕ) (entries : List Entry) (t : BoardTurn) (before : List BoardTurn) → AreBoardTurns (clock_of b) (first_state b pins board entries) (t ∷ before)
-    → entries_of board Down true entries ≡ [] → entries_of board Up true entries ≡ [] → AllConnecting before → board_tick (clock_of b) (length before) < 2 ^ 64
+    → Undisturbed b pins board entries before → AllConnecting before → board_tick (clock_of b) (length before) < 2 ^ 64
     → (number value : ℕ) → TellsClock number value t.state.news
     → (n : ℕ) × (number ≡ n + 1) × Now (clock_of b) (sent (stands_after (first_state b pins board entries) before).core.link) (length before) n value
-told_here b pins board entries t before are d u c small number value told =
+told_here b pins board entries t before are u c small number value told =
     let clock = clock_of b in
     let first = first_state b pins board entries in
     let l = stands_after first before in
@@ -165,8 +216,8 @@ told_here b pins board entries t before are d u c small number value told =
     let low = sent l.core.link in
     let P = Now clock low turn in
     let s = sound b pins board entries before are.1 small in
-    let up = none_up b pins board entries before are.1 d u c in
-    let taken = all_taken b pins board entries before are.1 d u c in
+    let up = none_up b pins board entries before are.1 u c in
+    let taken = all_taken b pins board entries before are.1 u c in
     let at : IsAt clock P turn l = record { tick = s.tick; ordered = s.ordered; dated = subst (λ (rs : List Reply). Dated P rs) (sym up) tt } in
     let l1 = after_host turn o are.0.0.resent l in
     let done = turn_parts clock P turn low (sent t.after.core.link) o are.0.0.resent l l1 (after_board clock turn l1) t.after refl refl are.0.0.becomes at small (omega arith) (omega arith) (λ n above few. (above, refl)) in
@@ -224,32 +275,32 @@ told_before number value turn (t ∷ before) (inl k) = let e = k.0 in omega arit
 told_before number value turn (t ∷ before) (inr k) = let l = told_before number value turn before k in omega arith
 
 told_with : (b : BoardDef) (pins : List (List Level)) (board : ℕ) (entries : List Entry) (turns : List BoardTurn) → AreBoardTurns (clock_of b) (first_state b pins board entries) turns
-    → entries_of board Down true entries ≡ [] → entries_of board Up true entries ≡ [] → AllConnecting turns → board_tick (clock_of b) (length turns) < 2 ^ 64
+    → Undisturbed b pins board entries turns → AllConnecting turns → board_tick (clock_of b) (length turns) < 2 ^ 64
     → (block value got put : ℕ) → WasTold (block + 1) value got turns → WasPut block put turns → got ≤ put
-told_with b pins board entries [] are d u c small block value got put told was = absurd told
-told_with b pins board entries (t ∷ before) are d u c small block value got put (inl told) (inl was) = let e = told.0 in let f = was.0 in omega arith
-told_with b pins board entries (t ∷ before) are d u c small block value got put (inl told) (inr was) =
+told_with b pins board entries [] are u c small block value got put told was = absurd told
+told_with b pins board entries (t ∷ before) are u c small block value got put (inl told) (inl was) = let e = told.0 in let f = was.0 in omega arith
+told_with b pins board entries (t ∷ before) are u c small block value got put (inl told) (inr was) =
     let clock = clock_of b in
     let next : length before + 1 ≡ suc (length before) = omega arith in
     let now : board_tick clock (length before) < 2 ^ 64 = omega (arith, ticks_rise clock (length before), ap (board_tick clock) next) in
-    let here = told_here b pins board entries t before are d u c.1 now (block + 1) value told.1 in
+    let here = told_here b pins board entries t before are (before_too b pins board entries t before are c.0 u) c.1 now (block + 1) value told.1 in
     let same = here.1 in
     let low = here.2.0 in
     let few = put_sent clock (first_state b pins board entries) before block put are.1 was in
     absurd (omega arith)
-told_with b pins board entries (t ∷ before) are d u c small block value got put (inr told) (inl was) =
+told_with b pins board entries (t ∷ before) are u c small block value got put (inr told) (inl was) =
     let l = told_before (block + 1) value got before told in let f = was.0 in omega arith
-told_with b pins board entries (t ∷ before) are d u c small block value got put (inr told) (inr was) =
+told_with b pins board entries (t ∷ before) are u c small block value got put (inr told) (inr was) =
     let clock = clock_of b in
     let next : length before + 1 ≡ suc (length before) = omega arith in
     let now : board_tick clock (length before) < 2 ^ 64 = omega (arith, ticks_rise clock (length before), ap (board_tick clock) next) in
-    told_with b pins board entries before are.1 d u c.1 now block value got put told was
+    told_with b pins board entries before are.1 (before_too b pins board entries t before are c.0 u) c.1 now block value got put told was
 
 pub sample_now : (b : BoardDef) (pins : List (List Level)) (board : ℕ) (entries : List Entry) (turns : List BoardTurn) → AreBoardTurns (clock_of b) (first_state b pins board entries) turns
-    → entries_of board Down true entries ≡ [] → entries_of board Up true entries ≡ [] → AllConnecting turns → board_tick (clock_of b) (length turns) < 2 ^ 64
+    → Undisturbed b pins board entries turns → AllConnecting turns → board_tick (clock_of b) (length turns) < 2 ^ 64
     → (s : Sample) → IsSample (clock_of b) turns s → s.got ≡ s.sent
-sample_now b pins board entries turns are d u c small s i =
-    let late = told_with b pins board entries turns are d u c small i.block s.clock s.got s.sent i.told i.put in
+sample_now b pins board entries turns are u c small s i =
+    let late = told_with b pins board entries turns are u c small i.block s.clock s.got s.sent i.told i.put in
     let from = i.from in
     let to = i.to in
     omega arith

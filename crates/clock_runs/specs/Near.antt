@@ -5,6 +5,7 @@ use Rattle.plan_types.specs.declared.plan.Held.{Held}
 use Rattle.plan_types.specs.declared.plan.Line.{Line}
 use Rattle.plan_types.specs.Clock.{board_tick, tick, turn_ns}
 use Rattle.plan_types.specs.Lines.{Clocks, lines_tick}
+use Rattle.link_work.specs.Turn.{LinkState}
 
 -- as a turn begins, a clock line is at most a turn behind its board, and less than four turns ahead
 pub record KeepsUp (clock : BoardClock) (line : Line) (turn : ℕ) : Type 0 where
@@ -30,3 +31,8 @@ pub record LinesKeepUp (clock : BoardClock) (clocks : Clocks) (turn : ℕ) : Typ
 -- a clock line gives the board's own tick of each turn, from its own on
 abbrev pub IsExact : BoardClock → Line → Type 0
 IsExact clock line = (turn : ℕ) → line.at ≤ turn * turn_ns → tick line (turn * turn_ns) ≡ board_tick clock turn
+
+-- No entry of the scene was used on a link up to the end of a turn: on neither of its lines.
+pub record IsUndisturbed (l : LinkState) : Type 0 where
+  pub down : l.down.calm ≡ 0
+  pub up : l.up.calm ≡ 0

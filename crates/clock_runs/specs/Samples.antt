@@ -89,3 +89,7 @@ further_lines b (n ∷ news) = further_lines b news
 -- a clock line of a board is that of a sample of its clock, which was got in the latest of these turns
 abbrev pub IsFresh : BoardClock → List BoardTurn → Line → Type 0
 IsFresh clock turns line = (s : Sample) × IsSample clock turns s × (line ≡ sampled s clock.freq) × (s.got + 1 ≡ length turns)
+
+-- a clock line of a board is that of a sample of its clock, which was got in the turn in which it was sent
+abbrev pub IsSampledAtOnce : BoardClock → List BoardTurn → Line → Type 0
+IsSampledAtOnce clock turns line = (s : Sample) × IsSample clock turns s × (line ≡ sampled s clock.freq) × (s.got ≡ s.sent)

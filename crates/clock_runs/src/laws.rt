@@ -34,10 +34,10 @@ ghost use Rattle.plan_types.specs.Sections.{clocks_at};
 ghost use Rattle.clock_line.specs.Early.{turn_tick};
 ghost use Rattle.axis_homing.specs.declared.homing.Homing.{Homing};
 ghost use Rattle.clock_runs.specs.Clocked.{SetsTo};
-ghost use Rattle.clock_runs.specs.Near.{AllKeepUp, IsExact, KeepsUp, LinesKeepUp};
+ghost use Rattle.clock_runs.specs.Near.{AllKeepUp, IsExact, IsUndisturbed, KeepsUp, LinesKeepUp};
 ghost use Rattle.clock_runs.specs.Ordered.{MayOrder, commands_in, configures, times_made};
 ghost use Rattle.clock_runs.specs.Runs.{IsInRun, UnitsFit, ends_in, orders_in};
-ghost use Rattle.clock_runs.specs.Samples.{IsFresh, IsSample, IsSampled, WasPut, WasTold, first_line, further_lines, lines_told};
+ghost use Rattle.clock_runs.specs.Samples.{IsFresh, IsSample, IsSampled, IsSampledAtOnce, WasPut, WasTold, first_line, further_lines, lines_told};
 
 /// The law of answers: whatever the scene, a clock that comes to the host is the board's own tick of a turn no later than the one
 /// in which it comes; and its reply has the number behind that of a block, which was first put in that turn or before it.
@@ -154,13 +154,19 @@ pub fn controls_keep_limits()
         IsInRun m switches pins entries b (c ∷ before) (t ∷ turns) → closing_in (map on_wire (map plain t.control.commands)) ≤ 1 }
 {}
 
-/// The law of clear links: where the scene has no entries of a board's lines for the time while connecting, and the board's clock
-/// is exact, the clock line that is told as connecting ends gives the board's own tick of each turn.
+/// The law of clear links: where no entry of the scene was used on a board's link while connecting, the clock line that is told as connecting ends
+/// is that of a sample which was got in the turn in which it was sent. So the tick in it is the board's own of the turn with which it begins; and where
+/// the board's clock is exact, the line gives the board's own tick of each turn from then on. No entry is used where the scene has none of the link's
+/// lines for the time while connecting.
 pub fn clear_links_give_exact_lines()
-    ensures { (m : Machine) (switches : List Switch) (pins : List (List Level)) (entries : List Entry) (b : ℕ) (c : Came) (before : List Came) (t : BoardTurn) (turns : List BoardTurn) →
+    ensures exact { (m : Machine) (switches : List Switch) (pins : List (List Level)) (entries : List Entry) (b : ℕ) (c : Came) (before : List Came) (t : BoardTurn) (turns : List BoardTurn) →
         IsInRun m switches pins entries b (c ∷ before) (t ∷ turns) → (known_by m switches before).phase ≡ Connecting →
-        entries_of b Down true entries ≡ [] → entries_of b Up true entries ≡ [] → (board_at m b).freq % 1_000 ≡ 0 → (board_at m b).drift ≡ pos 0 →
-        All (IsExact (clock_of (board_at m b))) (lines_told b (last_turn m switches c before).ordered.word.news) }
+        IsUndisturbed (stands_after (first_state (board_at m b) pins b entries) turns) → (board_at m b).freq % 1_000 ≡ 0 →
+        All (λ l. IsSampledAtOnce (clock_of (board_at m b)) turns l × ((board_at m b).drift ≡ pos 0 → IsExact (clock_of (board_at m b)) l)) (lines_told b (last_turn m switches c before).ordered.word.news) }
+    ensures unused { (m : Machine) (switches : List Switch) (pins : List (List Level)) (entries : List Entry) (b : ℕ) (came : List Came) (turns : List BoardTurn) →
+        IsInRun m switches pins entries b came turns → (known_by m switches came).phase ≡ Connecting →
+        entries_of b Down true entries ≡ [] → entries_of b Up true entries ≡ [] →
+        IsUndisturbed (stands_after (first_state (board_at m b) pins b entries) turns) }
 {}
 
 /// The law of turns: the turns of a board, in their order, are turns of its link as the laws of links have them, which take what

@@ -8,5 +8,7 @@ pub mod home_headline
 pub mod home_wholes
 pub mod clear_homes
 pub mod run_causes
+pub mod run_turns
+pub mod run_clocks
 pub mod run_links
 pub mod run_lates

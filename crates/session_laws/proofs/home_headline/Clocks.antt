@@ -249,26 +249,31 @@ lines_clocks : (ls : List Line) → clocks_of ls ≡ map one_line ls
 lines_clocks [] = refl
 lines_clocks (l ∷ ls) = ap (λ z. one_line l ∷ z) (lines_clocks ls)
 
+-- the clock lines that are known behind the turn that connects are those that its word tells
+pub clocks_on : (m : Machine) (switches : List Switch) (c : Came) (before : List Came) (lines : List Line) → (last_turn m switches c before).ordered.end ≡ None → (known_by m switches before).phase ≡ Connecting
+    → (last_turn m switches c before).known.phase ≡ Running → (last_turn m switches c before).ordered.word.news ≡ word.Lines lines ∷ [] → (last_turn m switches c before).known.clocks ≡ map one_line lines
+clocks_on m switches c before lines g phase_was then news =
+    let r = known_by m switches before in
+    let now = noted m c.note r in
+    let phase : now.phase ≡ Connecting = noted_phase m c.note r ∙ phase_was in
+    elim (goes m switches r (length before) c.states c.note g) [
+      | inl a ↦ absurd (let f : Connecting ≡ Running = sym phase ∙ ap (λ (y : Reacted). y.known.phase) (sym a.is) ∙ then in cc)
+      | inr later ↦ elim later [
+        | inl a ↦
+            let ls = board_lines m 0 (ready_all m 0 (listen_all now.askings.items c.states)) in
+            let same : ls ≡ lines = (let f : word.Lines ls ∷ [] ≡ word.Lines lines ∷ [] = sym (ap (λ (y : Reacted). y.ordered.word.news) a.is) ∙ news in cc) in
+            ap (λ (y : Reacted). y.known.clocks) a.is ∙ lines_clocks ls ∙ ap (map one_line) same
+        | inr a ↦ absurd (let f : Connecting ≡ Running = sym phase ∙ a.phase in cc)
+      ]
+    ]
+
 -- the turn that connects
 connects_on : (m : Machine) (switches : List Switch) (c : Came) (before : List Came) (clocks : List Clocks) → (last_turn m switches c before).ordered.end ≡ None → Connected m (known_by m switches before) (length before) (last_turn m switches c before) clocks
     → IsOn m switches clocks (c ∷ before)
-connects_on m switches c before clocks g x =
-    let r = known_by m switches before in
-    let now = noted m c.note r in
-    let phase : now.phase ≡ Connecting = noted_phase m c.note r ∙ x.phase in
-    record {
-      past = λ e. (let f : Running ≡ Connecting = sym x.then ∙ e in cc);
-      clocks_are = elim (goes m switches r (length before) c.states c.note g) [
-        | inl a ↦ absurd (let f : Connecting ≡ Running = sym phase ∙ ap (λ (y : Reacted). y.known.phase) (sym a.is) ∙ x.then in cc)
-        | inr later ↦ elim later [
-          | inl a ↦
-              let ls = board_lines m 0 (ready_all m 0 (listen_all now.askings.items c.states)) in
-              let same : ls ≡ x.lines = (let f : word.Lines ls ∷ [] ≡ word.Lines x.lines ∷ [] = sym (ap (λ (y : Reacted). y.ordered.word.news) a.is) ∙ x.news in cc) in
-              ap (λ (y : Reacted). y.known.clocks) a.is ∙ lines_clocks ls ∙ ap (map one_line) same ∙ sym x.clocks_are
-          | inr a ↦ absurd (let f : Connecting ≡ Running = sym phase ∙ a.phase in cc)
-        ]
-      ];
-    }
+connects_on m switches c before clocks g x = record {
+  past = λ e. (let f : Running ≡ Connecting = sym x.then ∙ e in cc);
+  clocks_are = clocks_on m switches c before x.lines g x.phase x.then x.news ∙ sym x.clocks_are;
+}
 
 -- the notes that the reactor took behind some turns
 took_behind : (hp ms : List MotionTurn) (xs ys : List ReactorTurn) → length hp ≡ length xs → TookEach (map (λ (t : MotionTurn). t.note) (hp ++ ms)) (xs ++ ys) → TookEach (map (λ (t : MotionTurn). t.note) ms) ys

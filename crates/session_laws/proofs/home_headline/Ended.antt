@@ -15,7 +15,7 @@ use Rattle.homing_laws.specs.home_parts.Answers.{IsPlannedBy, TellsIn}
 use Rattle.homing_laws.proofs.home_parts.Ends.{Among, among_here, ends_told, in_row, ready, row_later, row_past}
 use Rattle.homing_laws.proofs.home_parts.Known.{known_silent, none_tells, tells_known}
 use Rattle.homing_laws.proofs.home_parts.Told.{tells_now, tells_tail}
-use Rattle.session_laws.specs.home_headline.Cuts.{cuts_of}
+use Rattle.session_laws.specs.home_headline.Cuts.{TellsCut, cuts_of}
 use Rattle.session_laws.proofs.home_headline.Cuts.{told_cut, told_section}
 
 -- two cuts of some sections
@@ -44,10 +44,16 @@ home_is a b e = cc
 pub some_same : (a b : Homing) → Some a ≡ Some b → a ≡ b
 some_same a b e = cc
 
-pub cut_ends : (m : Machine) (switches : List Switch) (n : ℕ) (ts : List MotionTurn) (p : Plans m n ts) (came past : List Came) (before : List Started) (s : Started) (later : List Started) (axis : ℕ) (c : Came) (ahead : List Came)
-    → IsPlannedBy m switches n ts p came → p.seen.begun ≡ before ++ s ∷ later → s.section.kind ≡ Home axis → came ≡ ahead ++ c ∷ past → length past ≡ s.end
-    → (tick : ℕ) × (cuts_of (last_turn m switches c past).ordered.lines ≡ cut_line m switches (length before) (axis_at m axis) (Some tick))
-cut_ends m switches n ts p came past before s later axis c ahead by cut home are at =
+-- In a turn it is told that a homing section ended: the section is known, by its number, its axis and its start, and the turn's line of a switch is its.
+pub record TellsEnd (m : Machine) (switches : List Switch) (number axis : ℕ) (s : Started) (c : Came) (before : List Came) : Type 0 where
+  pub tells : TellsCut m switches c before
+  pub number_is : tells.homing.section ≡ number
+  pub axis_is : tells.homing.axis ≡ axis
+  pub start_is : tells.homing.start ≡ s.start
+
+pub tells_end : (m : Machine) (switches : List Switch) (n : ℕ) (ts : List MotionTurn) (p : Plans m n ts) (came past : List Came) (before : List Started) (s : Started) (later : List Started) (axis : ℕ) (c : Came) (ahead : List Came)
+    → IsPlannedBy m switches n ts p came → p.seen.begun ≡ before ++ s ∷ later → s.section.kind ≡ Home axis → came ≡ ahead ++ c ∷ past → length past ≡ s.end → TellsEnd m switches (length before) axis s c past
+tells_end m switches n ts p came past before s later axis c ahead by cut home are at =
     let Goes : List Came → Type 0 = λ z. GoesOn m switches z in
     let Notes : List Came → Type 0 = λ z. CameNotes p.seen.begun z in
     let Tells : List Came → Type 0 = λ z. TellsIn m switches s.end z in
@@ -84,12 +90,21 @@ cut_ends m switches n ts p came past before s later axis c ahead by cut home are
         | inr a ↦ let far = row_later from was.1 before s later (subst Row cut row) a in omega (arith, far, start, late, at)
       ])
     ] in
-    let number : x.homing.section ≡ length before = was.8 ∙ sym found.0 in
-    let own_axis : x.homing.axis ≡ axis = was.9 ∙ home_is was.3 axis (sym was.5 ∙ ap (λ (z : Started). z.section.kind) (sym found.1) ∙ home) in (
-      x.tick,
-      x.lines ∙ ap (λ i. cut_line m switches i (axis_at m x.homing.axis) (Some x.tick)) number ∙ ap (λ i. cut_line m switches (length before) (axis_at m i) (Some x.tick)) own_axis,
-    )
+    record {
+      tells = x;
+      number_is = was.8 ∙ sym found.0;
+      axis_is = was.9 ∙ home_is was.3 axis (sym was.5 ∙ ap (λ (z : Started). z.section.kind) (sym found.1) ∙ home);
+      start_is = was.6 ∙ ap (λ (z : Started). z.start) (sym found.1);
+    }
   where
     row_start : (from : ℕ) (xs : List Started) (y : Started) (ys : List Started) → AreInARow from (xs ++ y ∷ ys) → y.start ≤ y.end
     row_start from [] y ys r = r.1
     row_start from (z ∷ xs) y ys r = row_start (z.end + 260) xs y ys r.2
+
+pub cut_ends : (m : Machine) (switches : List Switch) (n : ℕ) (ts : List MotionTurn) (p : Plans m n ts) (came past : List Came) (before : List Started) (s : Started) (later : List Started) (axis : ℕ) (c : Came) (ahead : List Came)
+    → IsPlannedBy m switches n ts p came → p.seen.begun ≡ before ++ s ∷ later → s.section.kind ≡ Home axis → came ≡ ahead ++ c ∷ past → length past ≡ s.end
+    → (tick : ℕ) × (cuts_of (last_turn m switches c past).ordered.lines ≡ cut_line m switches (length before) (axis_at m axis) (Some tick))
+cut_ends m switches n ts p came past before s later axis c ahead by cut home are at =
+    let e = tells_end m switches n ts p came past before s later axis c ahead by cut home are at in
+    let x = e.tells in
+    (x.tick, x.lines ∙ ap (λ i. cut_line m switches i (axis_at m x.homing.axis) (Some x.tick)) e.number_is ∙ ap (λ i. cut_line m switches (length before) (axis_at m i) (Some x.tick)) e.axis_is)

@@ -110,30 +110,46 @@ last_silent k l zero (suc j) w e t = no_words j w e
 last_silent k l (suc n) zero w e t = silent_word k false w (one_item (still_word k) w e) t
 last_silent k l (suc n) (suc j) w e t = last_silent (k + 1) l n j w e t
 
+-- the words that the reactor put, and behind them those that the planner took
+words_split : (m : Machine) (n : ℕ) (ts : List MotionTurn) (p : Plans m n ts) (put more left : List WordMsg) → put ++ more ≡ gather (λ t. t.words) ts ++ left → put ++ more ≡ words_in p.made ++ (gather (λ t. t.words) p.bare ++ left)
+words_split m n ts p put more left words =
+    words ∙ ap (λ z. gather (λ (t : MotionTurn). t.words) z ++ left) p.are ∙ ap (λ z. z ++ left) (gather_words p.made p.bare) ∙ append_assoc (words_in p.made) (gather (λ (t : MotionTurn). t.words) p.bare) left
+
+-- turns of the reactor that took the planner's notes, where none of the words that it took behind theirs tells of an answer
+pub planned_on : (m : Machine) (switches : List Switch) (n : ℕ) (ts : List MotionTurn) (p : Plans m n ts) (rs : List ReactorTurn) (more left : List WordMsg) → AreReactorTurns m switches [] rs
+    → gather (λ t. t.word ∷ []) rs ++ more ≡ gather (λ t. t.words) ts ++ left → CameNotes p.seen.begun (came_from [] rs)
+    → ((place : ℕ) (w : WordMsg) → length rs ≤ place → item place (words_in p.made) ≡ w ∷ [] → tells_homed w.news ≡ true → ⊥) → length rs ≤ length p.made + 1 → IsPlannedBy m switches n ts p (came_from [] rs)
+planned_on m switches n ts p rs more left turns words notes others long =
+    let mine = words_in p.made in
+    let behind = gather (λ (t : MotionTurn). t.words) p.bare ++ left in
+    let size = came_long [] rs in
+    let many = said_long rs in
+    record {
+      goes_on = all_on m switches [] rs turns tt;
+      notes = notes;
+      words = words_from m switches mine 0 [] rs refl turns (λ j w low is.
+          let same : 0 + j ≡ j = omega arith in
+          let own : item j mine ≡ w ∷ [] = ap (λ i. item i mine) (sym same) ∙ is in
+          let all : item j (Said rs ++ more) ≡ w ∷ [] = ap (item j) (words_split m n ts p (Said rs) more left words) ∙ item_front j mine behind w own in
+          sym (item_left j (Said rs) more (omega (arith, low, many))) ∙ all) tt;
+      others = λ j w far. others j w (omega (arith, far, size));
+      long = omega (arith, long, size);
+    }
+
+-- words behind those of the last turns tell of no answer
+pub others_silent : (m : Machine) (n ahead : ℕ) (ts : List MotionTurn) (p : Plans m n ts) (rs : List ReactorTurn) (left : List WordMsg) → gather (λ t. t.word ∷ []) rs ++ last_words (length rs) ahead ≡ gather (λ t. t.words) ts ++ left
+    → (place : ℕ) (w : WordMsg) → length rs ≤ place → item place (words_in p.made) ≡ w ∷ [] → tells_homed w.news ≡ true → ⊥
+others_silent m n ahead ts p rs left words j w far is tells =
+    let put = Said rs in
+    let last = last_words (length rs) ahead in
+    let many = said_long rs in
+    let all : item j (put ++ last) ≡ w ∷ [] = ap (item j) (words_split m n ts p put last left words) ∙ item_front j (words_in p.made) (gather (λ (t : MotionTurn). t.words) p.bare ++ left) w is in
+    let later = sym (item_right j put last (omega (arith, far, many))) ∙ all in
+    last_silent (length rs) (length rs + ahead) ahead (j - length put) w later tells
+
 pub planned_by : (m : Machine) (switches : List Switch) (n ahead : ℕ) (ts : List MotionTurn) (p : Plans m n ts) (first : ReactorTurn) (rest : List ReactorTurn) (left : List WordMsg) → AreReactorTurns m switches [] (first ∷ rest)
     → gather (λ t. t.word ∷ []) (first ∷ rest) ++ last_words (length (first ∷ rest)) ahead ≡ gather (λ t. t.words) ts ++ left → TookNotes (map (λ t. t.note) p.made) (first ∷ rest) → length (first ∷ rest) ≤ length p.made + 1
     → IsPlannedBy m switches n ts p (came_from [] (first ∷ rest))
 planned_by m switches n ahead ts p first rest left turns words notes long =
     let rs = first ∷ rest in
-    let put = Said rs in
-    let last = last_words (length rs) ahead in
-    let mine = words_in p.made in
-    let others = gather (λ (t : MotionTurn). t.words) p.bare in
-    let split : put ++ last ≡ mine ++ (others ++ left) =
-    words ∙ ap (λ z. gather (λ (t : MotionTurn). t.words) z ++ left) p.are ∙ ap (λ z. z ++ left) (gather_words p.made p.bare) ∙ append_assoc mine others left in
-    let size = came_long [] rs in
-    let many = said_long rs in
-    record {
-      goes_on = all_on m switches [] rs turns tt;
-      notes = all_notes m p.seen.text p.seen.begun p.made first rest p.put notes;
-      words = words_from m switches mine 0 [] rs refl turns (λ j w low is.
-          let same : 0 + j ≡ j = omega arith in
-          let own : item j mine ≡ w ∷ [] = ap (λ i. item i mine) (sym same) ∙ is in
-          let all : item j (put ++ last) ≡ w ∷ [] = ap (item j) split ∙ item_front j mine (others ++ left) w own in
-          sym (item_left j put last (omega (arith, low, many))) ∙ all) tt;
-      others = λ j w far is tells.
-          let all : item j (put ++ last) ≡ w ∷ [] = ap (item j) split ∙ item_front j mine (others ++ left) w is in
-          let later = sym (item_right j put last (omega (arith, far, size, many))) ∙ all in
-          last_silent (length rs) (length rs + ahead) ahead (j - length put) w later tells;
-      long = omega (arith, long, size);
-    }
+    planned_on m switches n ts p rs (last_words (length rs) ahead) left turns words (all_notes m p.seen.text p.seen.begun p.made first rest p.put notes) (others_silent m n ahead ts p rs left words) long

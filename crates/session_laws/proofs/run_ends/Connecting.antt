@@ -45,7 +45,7 @@ use Rattle.session_laws.specs.run_ends.Boards.{board_in, boards_of, lines_at}
 pub boards_append : (xs ys : List ReportLine) → boards_of (xs ++ ys) ≡ boards_of xs ++ boards_of ys
 boards_append xs ys = flat_map-append board_in xs ys
 
-both_none : (xs ys : List ReportLine) → boards_of xs ≡ [] → boards_of ys ≡ [] → boards_of (xs ++ ys) ≡ []
+pub both_none : (xs ys : List ReportLine) → boards_of xs ≡ [] → boards_of ys ≡ [] → boards_of (xs ++ ys) ≡ []
 both_none xs ys a b = boards_append xs ys ∙ ap (λ z. z ++ boards_of ys) a ∙ b
 
 -- the lines that stand in a turn whatever the phase tell no board

@@ -40,7 +40,7 @@ use Rattle.session_laws.proofs.run_headline.Making.{goes_cut, put_is}
 use Rattle.session_laws.proofs.run_headline.Showing.{EachNoted, Facts, first_at, go_on, goes_noted, none_out, notes_of, shows_link, turns_cut}
 
 -- a list up to a place in it
-cut_at : {A : Type 0} (k : ℕ) (xs : List A) → k ≤ length xs → (front : List A) × (later : List A) × (xs ≡ front ++ later) × (length front ≡ k)
+pub cut_at : {A : Type 0} (k : ℕ) (xs : List A) → k ≤ length xs → (front : List A) × (later : List A) × (xs ≡ front ++ later) × (length front ≡ k)
 cut_at zero xs h = ([], xs, refl, refl)
 cut_at (suc k) [] h = absurd (omega (arith, h))
 cut_at (suc k) (x ∷ xs) h = let r = cut_at k xs (omega (arith, h)) in (x ∷ r.0, r.1, ap (λ z. x ∷ z) r.2, ap suc r.3)

@@ -1,8 +1,9 @@
 -- The clock lines of a run follow the boards' clocks.
 use Rattle.std.proofs.Common.{◌≡◌, ◌%◌, ◌≤◌, All, List, [], ◌∷◌, arith, refl, subst, sym}
 use Rattle.std.proofs.lemmas.List.Elements.{All-cons, All-nil}
-use Rattle.clock_line.specs.Samples.{ppm_size}
-use Rattle.clock_runs.specs.Samples.{IsSampled}
+use Rattle.clock_line.specs.declared.sample.Sample.{Sample}
+use Rattle.clock_line.specs.Samples.{ppm_size, sampled}
+use Rattle.clock_runs.specs.Samples.{IsSample, IsSampled}
 use Rattle.clock_runs.proofs.Near.{drifting_near, exact_near}
 use Rattle.plan_types.specs.declared.clock.BoardClock.{BoardClock}
 use Rattle.plan_types.specs.declared.plan.Held.{Held}
@@ -11,18 +12,26 @@ use Rattle.board_runs.specs.Turns.{BoardTurn}
 use Rattle.run_parts.specs.Renewed.{AreSampled}
 use Rattle.session_laws.specs.run_headline.Near.{FollowsClock}
 
+-- the line of a sample
+abbrev pub sample_follows : (clock : BoardClock) (turns : List BoardTurn) (s : Sample) → clock.freq % 1_000 ≡ 0 → ppm_size clock.drift ≤ 200 → IsSample clock turns s → FollowsClock clock (sampled s clock.freq)
+sample_follows clock turns s freq drift x = record {
+  sent = s.sent;
+  got = s.got;
+  at = refl;
+  freq = refl;
+  soon = x.soon;
+  turn = x.turn;
+  from = x.from;
+  to = x.to;
+  own = x.own;
+  near = λ k h. drifting_near clock turns s k freq (omega (arith, drift)) x h;
+  exact = λ zero k h. exact_near clock turns s k freq zero x h;
+}
+
 pub follows_clock : (clock : BoardClock) (turns : List BoardTurn) (l : Line) → clock.freq % 1_000 ≡ 0 → ppm_size clock.drift ≤ 200 → IsSampled clock turns l → FollowsClock clock l
 follows_clock clock turns l freq drift x =
-    let s = x.0 in
     let At : Line → Type 0 = λ z. FollowsClock clock z in
-    subst At (sym x.2) (record {
-      sent = s.sent;
-      got = s.got;
-      at = refl;
-      soon = x.1.soon;
-      near = λ k h. drifting_near clock turns s k freq (omega (arith, drift)) x.1 h;
-      exact = λ zero k h. exact_near clock turns s k freq zero x.1 h;
-    })
+    subst At (sym x.2) (sample_follows clock turns x.0 freq drift x.1)
 
 pub follow_clock : (clock : BoardClock) (turns : List BoardTurn) (held : List Held) → clock.freq % 1_000 ≡ 0 → ppm_size clock.drift ≤ 200 → AreSampled clock turns held → All (λ h. FollowsClock clock h.line) held
 follow_clock clock turns [] freq drift x = All-nil (λ (h : Held). FollowsClock clock h.line)

@@ -18,6 +18,7 @@ use Rattle.session_work.specs.Rows.{gather, item}
 use Rattle.session_run.specs.Boards.{AreReactorTurns, came_from, came_in}
 use Rattle.run_plans.specs.Lines.{TookEach, TookNotes}
 use Rattle.run_plans.specs.Planned.{Plans, puts_of, words_in}
+use Rattle.run_plans.proofs.Heard.{heard_all}
 use Rattle.session_laws.proofs.run_headline.Words.{gather_words}
 use Rattle.session_laws.proofs.run_headline.Facts.{came_long}
 use Rattle.homing_laws.specs.home_runs.Words.{BeginsNone}
@@ -117,10 +118,11 @@ planned_by m switches n ahead ts p first rest left turns words notes long =
     let rs = first ∷ rest in
     let put = Said rs in
     let last = last_words (length rs) ahead in
-    let mine = words_in p.made in
-    let others = gather (λ (t : MotionTurn). t.words) p.bare in
+    let heard = heard_all m n ts p in
+    let mine = words_in (p.made ++ p.last) in
+    let others = gather (λ (t : MotionTurn). t.words) heard.later in
     let split : put ++ last ≡ mine ++ (others ++ left) =
-    words ∙ ap (λ z. gather (λ (t : MotionTurn). t.words) z ++ left) p.are ∙ ap (λ z. z ++ left) (gather_words p.made p.bare) ∙ append_assoc mine others left in
+    words ∙ ap (λ z. gather (λ (t : MotionTurn). t.words) z ++ left) heard.are ∙ ap (λ z. z ++ left) (gather_words (p.made ++ p.last) heard.later) ∙ append_assoc mine others left in
     let size = came_long [] rs in
     let many = said_long rs in
     record {

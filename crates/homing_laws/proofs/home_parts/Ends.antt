@@ -30,7 +30,7 @@ pub among_here : (past : List Started) (x : Started) (later : List Started) → 
 among_here [] x later = inl refl
 among_here (y ∷ past) x later = inr (among_here past x later)
 
-among_parts : (x : Started) (past : List Started) (s : Started) (later : List Started) → Among x (past ++ s ∷ later) → Among x past ⊎ ((x ≡ s) ⊎ Among x later)
+pub among_parts : (x : Started) (past : List Started) (s : Started) (later : List Started) → Among x (past ++ s ∷ later) → Among x past ⊎ ((x ≡ s) ⊎ Among x later)
 among_parts x [] s later a = inr a
 among_parts x (y ∷ past) s later (inl e) = inl (inl e)
 among_parts x (y ∷ past) s later (inr a) = elim (among_parts x past s later a) [ inl b ↦ inl (inr b) | inr b ↦ inr b ]

@@ -8,7 +8,7 @@ use Rattle.plan_types.specs.declared.machine.BoardDef.{BoardDef}
 use Rattle.plan_types.specs.declared.machine.Machine.{Machine}
 use Rattle.plan_types.specs.declared.plan.Section.{Section}
 use Rattle.plan_types.specs.declared.plan.SectionKind.{SectionKind}
-use Rattle.plan_types.specs.declared.plan.SectionKind.TheVariants.{Moves}
+use Rattle.plan_types.specs.declared.plan.SectionKind.TheVariants.{Home, Moves}
 use Rattle.plan_types.specs.Clock.{clock_of}
 use Rattle.plan_types.specs.Lines.{Clocks}
 use Rattle.plan_types.specs.Machines.{board_at, no_board}
@@ -204,14 +204,13 @@ first_pulses m begun place t spread (inl a) tells =
 
 -- of sections of moves the last one does not home
 pub homes_never : (k : ℕ) (ss : List Started) → All (λ s. s.section.kind ≡ Moves) ss → LastHomes k ss → ⊥
-homes_never k ss kinds h = by h.past (subst (λ z. All Plain z) h.are kinds)
+homes_never k ss kinds h =
+    let Plain : List Started → Type 0 = λ z. All (λ s. s.section.kind ≡ Moves) z in
+    by h.past (subst Plain h.are kinds)
   where
-    abbrev Plain : Started → Type 0
-    Plain s = s.section.kind ≡ Moves
-
-    by : (past : List Started) → All Plain (past ++ h.s ∷ []) → ⊥
-    by [] all = let e : Moves ≡ Home h.axis = sym (All-head Plain h.s [] all) ∙ h.home in cc
-    by (x ∷ past) all = by past (All-tail Plain x (past ++ h.s ∷ []) all)
+    by : (past : List Started) → All (λ s. s.section.kind ≡ Moves) (past ++ h.s ∷ []) → ⊥
+    by [] all = let e : Moves ≡ Home h.axis = sym (All-head (λ (s : Started). s.section.kind ≡ Moves) h.s [] all) ∙ h.home in cc
+    by (x ∷ past) all = by past (All-tail (λ (s : Started). s.section.kind ≡ Moves) x (past ++ h.s ∷ []) all)
 
 -- What is known of a run that does not end for want of memory; or of any run up to a turn that goes on, as if it ended there for a fault.
 pub record Facts (m : Machine) (s : Scene) (ts : List MotionTurn) (rs : List ReactorTurn) (end : ReactorTurn) (c : Cause) : Type 0 where

@@ -190,5 +190,9 @@ long_or_none m switches n ts p rs c stop_at x e notes left last words_left fresh
         let last_is = ap length one in
         elim (stop_at h (subst All (sym are) (stops_in h p.made d bare u.stops))) [
           | inl q ↦ absurd (omega (arith, q, low, less, few))
-          | inr q ↦ (u.early (omega (arith, q.0, low, less, few)), q.1, omega (arith, q.0, low, few, size, last_is))
+          | inr q ↦ (
+            elim (u.early (omega (arith, q.0, low, less, few))) [ inl none ↦ inl none | inr home ↦ (let same : 0 + length p.made ≡ length p.made = omega arith in let Homes : ℕ → Type 0 = λ i. LastHomes i p.seen.begun in inr (subst Homes same home)) ],
+            q.1,
+            omega (arith, q.0, low, few, size, last_is),
+          )
         ]

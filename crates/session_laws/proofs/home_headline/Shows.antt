@@ -1,5 +1,5 @@
 -- Why a whole run in which axes home shows the sections of its text.
-use Rattle.std.proofs.Common.{◌≡◌, inl, inr, ℕ, zero, suc, ◌+◌, ◌-◌, ◌*◌, ◌<◌, ◌≤◌, ◌⊎◌, List, [], ◌∷◌, ◌++◌, length, take, All, Option, None, Some, refl, ap, sym, ◌∙◌, subst, arith, length-append, append_assoc}
+use Rattle.std.proofs.Common.{◌≡◌, ℕ, zero, suc, ◌+◌, ◌-◌, ◌*◌, ◌<◌, ◌≤◌, List, [], ◌∷◌, ◌++◌, length, take, All, Option, None, Some, refl, ap, sym, ◌∙◌, subst, arith, length-append, append_assoc}
 use Rattle.std.proofs.Math.Logic.{∥∥₁_map}
 use Rattle.std.proofs.Math.Seq.{take-append_seam}
 use Rattle.std.proofs.lemmas.List.{length-map}
@@ -30,7 +30,7 @@ use Rattle.session_desk.specs.declared.tell.Kept.{Kept}
 use Rattle.session_run.specs.Runs.{RunsOver}
 use Rattle.run_laws.specs.Boards.{AreEnded, IsWindow, NextStart}
 use Rattle.run_plans.specs.Boards.{lines_between, times_of}
-use Rattle.run_plans.specs.Lines.{TellTurns, pulses_of}
+use Rattle.run_plans.specs.Lines.{pulses_of}
 use Rattle.run_plans.specs.Planned.{Plans, put_of}
 use Rattle.run_plans.proofs.Beginning.{Spread}
 use Rattle.run_plans.proofs.Running.{started_in}

@@ -1,5 +1,5 @@
 -- Each turn of a whole run tells of a switch exactly where a homing section ended in it.
-use Rattle.std.proofs.Common.{◌≡◌, ℕ, suc, ◌+◌, ◌-◌, ◌≤◌, ◌⊎◌, Bool, true, false, cond, List, [], ◌∷◌, ◌++◌, All, length, map, Option, Some, None, refl, ap, sym, ◌∙◌, subst, arith, inl, inr, append-nil, append_assoc, length-append}
+use Rattle.std.proofs.Common.{◌≡◌, ℕ, suc, ◌+◌, ◌-◌, ◌≤◌, ◌⊎◌, Bool, true, false, cond, List, [], ◌∷◌, ◌++◌, All, length, Option, Some, None, refl, ap, sym, ◌∙◌, subst, arith, inl, inr, append-nil, append_assoc, length-append}
 use Rattle.std.proofs.Math.Logic.{∥∥₁_elim, ∥∥₁_map}
 use Rattle.std.proofs.Props.{props}
 use Rattle.std.proofs.lemmas.Bool.Decides.{leb_tells}
@@ -67,7 +67,7 @@ use Rattle.cause_runs.specs.Short.{HaveShortDictionaries}
 use Rattle.session_laws.specs.home_headline.Little.{AllHomeLittle}
 use Rattle.session_laws.proofs.home_headline.Cuts.{answer_of, end_of, told_cut, told_section, turn_cuts, uncut, uncut_both}
 use Rattle.session_laws.proofs.home_headline.Ended.{goes_behind, notes_behind, some_same}
-use Rattle.session_laws.proofs.home_headline.Planned.{all_notes, all_on, planned_by}
+use Rattle.session_laws.proofs.home_headline.Planned.{all_notes, planned_by}
 use Rattle.session_laws.proofs.home_headline.Shows.{all_shows}
 
 -- a turn that ends a run for a cause tells of no switch; or the run went through, and a group answered in it

@@ -7,10 +7,8 @@ use Rattle.plan_types.specs.declared.cause.Cause.TheVariants as cause
 use Rattle.plan_types.specs.declared.machine.BoardDef.{BoardDef}
 use Rattle.plan_types.specs.declared.machine.Machine.{Machine}
 use Rattle.plan_types.specs.declared.plan.Section.{Section}
-use Rattle.plan_types.specs.declared.plan.SectionKind.{SectionKind}
 use Rattle.plan_types.specs.declared.plan.SectionKind.TheVariants.{Home, Moves}
 use Rattle.plan_types.specs.Clock.{clock_of}
-use Rattle.plan_types.specs.Lines.{Clocks}
 use Rattle.plan_types.specs.Machines.{board_at, no_board}
 use Rattle.msg_code.specs.declared.talk.Note.{Note}
 use Rattle.msg_code.specs.declared.talk.State.{State}
@@ -26,9 +24,7 @@ use Rattle.host_reactor.specs.Rows.{IsOwn}
 use Rattle.host_reactor.specs.Running.{all_ended}
 use Rattle.host_reactor.specs.Reactor.{reacts}
 use Rattle.host_reactor.specs.Runs.{Came, known_by}
-use Rattle.motion_work.specs.Puts.{ArePut}
-use Rattle.motion_work.specs.Feeds.{batches_at}
-use Rattle.motion_work.specs.Seen.{AreMoves, AreStarted, IsPlanned, Started}
+use Rattle.motion_work.specs.Seen.{AreMoves, Started}
 use Rattle.session_work.specs.declared.table.MotionTurn.{MotionTurn}
 use Rattle.session_work.specs.declared.table.ReactorTurn.{ReactorTurn}
 use Rattle.session_work.specs.declared.seat.Seat.{Seat}
@@ -46,7 +42,7 @@ use Rattle.run_boards.specs.Boards.{IsInWhole}
 use Rattle.run_boards.specs.Turns.{AllGoOn, AllHaveControls, ShowsLink}
 use Rattle.run_boards.proofs.Items.{in_memory}
 use Rattle.run_plans.specs.Lines.{AreLinesOf, TellsTurn, TookEach, pulses_of, starts_at}
-use Rattle.run_plans.specs.Planned.{AnyStops, LastHomes, puts_of}
+use Rattle.run_plans.specs.Planned.{AnyStops, LastHomes}
 use Rattle.run_plans.proofs.Beginning.{Spread}
 use Rattle.run_plans.proofs.Telling.{pulses_append}
 use Rattle.session_laws.specs.run_headline.Timely.{AreOfMoves, link_of}
@@ -54,7 +50,6 @@ use Rattle.host_reactor.specs.Report.{machine_line, pulse_lines}
 use Rattle.session_laws.specs.run_ends.Boards.{boards_of}
 use Rattle.session_laws.proofs.run_ends.Connecting.{after_boards, boards_append, end_none}
 use Rattle.session_laws.proofs.run_ends.Counting.{IsRead}
-use Rattle.session_laws.proofs.run_headline.Boarded.{ready}
 pub use Rattle.session_laws.proofs.run_headline.Boarded.{came_long}
 use Rattle.session_laws.proofs.run_headline.Heard.{NoneOut}
 

@@ -32,7 +32,6 @@ use Rattle.session_laws.specs.clock_ages.Renewed.{StayYoung}
 use Rattle.session_laws.proofs.clock_ages.Renews.{renews}
 use Rattle.host_reactor.specs.Reactor.{reacts}
 use Rattle.host_reactor.specs.Runs.{Came, known_by, last_turn}
-use Rattle.motion_work.specs.Puts.{ArePut}
 use Rattle.motion_work.specs.Boards.{parts_on}
 use Rattle.motion_work.specs.Seen.{AreStarted, Started}
 use Rattle.motion_work.specs.Told.{Told}
@@ -45,7 +44,7 @@ use Rattle.section_units.specs.Sections.{AreReleased}
 use Rattle.run_laws.specs.Boards.{IsWindow}
 use Rattle.run_laws.specs.Stops.{NeverStop}
 use Rattle.run_plans.specs.Boards.{TookStates, lines_between, times_of}
-use Rattle.run_plans.specs.Lines.{AreLinesOf, TellTurns, TookEach, TookNotes, pulse_in, pulses_of}
+use Rattle.run_plans.specs.Lines.{AreLinesOf, TellTurns, TookNotes, pulse_in, pulses_of}
 use Rattle.run_plans.specs.Planned.{AreBare, AreToldBy, LastHomes, Plans, put_of, puts_of}
 use Rattle.run_plans.proofs.Heard.{heard_few}
 use Rattle.run_plans.proofs.Beginning.{Spread}

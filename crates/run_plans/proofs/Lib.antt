@@ -16,4 +16,3 @@ pub mod Reporting
 pub mod Lasting
 pub mod Cutting
 pub mod Homed
-pub mod Lining

@@ -41,14 +41,14 @@ ghost use Rattle.homing_laws.specs.home_parts.Movers.{HaveMovers};
 ghost use Rattle.homing_laws.specs.home_parts.Reports.{IsHomeStepper};
 
 /// The law of answers: a homing section that has ended did so in the turn in which the reactor's word tells that its group answered, and from
-/// the note that begins it up to that turn no word tells of an answer, in the turns that the planner made.
+/// the note that begins it up to that turn no word tells of an answer, in the turns whose words the planner heard.
 pub fn sections_end_with_their_answer()
     ensures known { (m : Machine) (switches : List Switch) (n : ℕ) (ts : List MotionTurn) (p : Plans m n ts) (came : List Came) (past : List Started) (s : Started) (later : List Started) (axis : ℕ) →
         IsPlannedBy m switches n ts p came → p.seen.begun ≡ past ++ s ∷ later → s.section.kind ≡ Home axis → (s.end ≡ no_end → ⊥) → s.end < length came }
     ensures answer { (m : Machine) (switches : List Switch) (n : ℕ) (ts : List MotionTurn) (p : Plans m n ts) (came : List Came) (past : List Started) (s : Started) (later : List Started) (axis : ℕ) →
         IsPlannedBy m switches n ts p came → p.seen.begun ≡ past ++ s ∷ later → s.section.kind ≡ Home axis → s.end < length came → TellsIn m switches s.end came }
     ensures before { (m : Machine) (switches : List Switch) (n : ℕ) (ts : List MotionTurn) (p : Plans m n ts) (came ahead behind : List Came) (past : List Started) (s : Started) (later : List Started) (axis from : ℕ) →
-        IsPlannedBy m switches n ts p came → came ≡ ahead ++ behind → length behind ≤ length p.made → p.seen.begun ≡ past ++ s ∷ later → s.section.kind ≡ Home axis → from + 259 ≡ s.start →
+        IsPlannedBy m switches n ts p came → came ≡ ahead ++ behind → length behind ≤ length (p.made ++ p.last) → p.seen.begun ≡ past ++ s ∷ later → s.section.kind ≡ Home axis → from + 259 ≡ s.start →
         TellNone m switches from s.end behind }
 {}
 

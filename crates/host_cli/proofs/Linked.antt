@@ -71,7 +71,6 @@ use Rattle.homing_laws.proofs.home_plans.Noting.{begun_row}
 use Rattle.session_laws.specs.home_headline.Cuts.{TellEnds}
 use Rattle.session_laws.specs.home_headline.Follow.{AllShowBegun, AllShowHomes, HaveBegunLines, ShowHomes}
 use Rattle.session_laws.specs.home_headline.Little.{AllHomeLittle, ShownHoldLittle}
-use Rattle.session_laws.specs.home_headline.Reading.{ReadsOn}
 use Rattle.session_laws.proofs.home_headline.Clear.{clear_little}
 use Rattle.session_laws.proofs.home_headline.Heads.{begun_heads, home_boards, homes_apart, homes_further, homes_sound, show_begun}
 use Rattle.session_laws.proofs.home_headline.Before.{run_before}
@@ -826,22 +825,20 @@ module _ {F S : Type 0} (f : Files F) (o : Sink S) (m : Machine) (s : Scene) (gc
       (all_begun m v s r.runs.runs.0 w.0.plans r.runs.runs.2 r.told.cause r.runs.runs.1 (facts f o m s gcode files files' out r.behind r.kept r.kept' r.told r.runs other)) r.shown)
 
   -- and of any text
-  home_texts : (r : IsReported f o m s gcode files files' out out' c lines counts links) (text : List ℕ) → f.told files gcode ≡ Some text → ReadsOn m text r.runs.runs.0 r.told.cause → (r.told.cause ≡ cause.Memory → ⊥)
+  home_texts : (r : IsReported f o m s gcode files files' out out' c lines counts links) (text : List ℕ) → f.told files gcode ≡ Some text → (r.told.cause ≡ cause.Memory → ⊥)
       → AllHomeLittle m s text r.runs.runs.0 (r.runs.runs.1 ++ r.runs.runs.2 ∷ []) → ∥ ShowsHomes m s.switches text c r.said ∥₁
-  home_texts r text told on other little =
+  home_texts r text told other little =
       ∥∥₁_map (run_made f o m s gcode files files' out r.behind r.kept r.kept' r.told r.runs text told r.fresh.at) (λ w.
       let made = w.0 in
       let seen = made.plans.seen in
       let turns = r.runs.runs.1 ++ r.runs.runs.2 ∷ [] in
       let Little : List ℕ → Type 0 = λ z. AllHomeLittle m s z r.runs.runs.0 turns in
       let held = subst Little (sym w.1) little in
-      let Reads : List ℕ → Type 0 = λ z. ReadsOn m z r.runs.runs.0 r.told.cause in
-      let reads = subst Reads (sym w.1) on in
       let all = facts f o m s gcode files files' out r.behind r.kept r.kept' r.told r.runs other in
       homes_shown m s.switches seen (clocks_heard seen.told) (ready_heard seen.told) r.told.cause c text r.said r.rest (plans_spread m (length m.boards) r.runs.runs.0 made.plans) w.1 (shows_all r) turns (some_turns r.runs.runs.1 r.runs.runs.2)
       (all_shows m v s r.runs.runs.0 made.plans r.runs.runs.2 r.told.cause r.runs.runs.1 all short held)
-      (all_ends m v s r.runs.runs.0 made.plans r.runs.runs.2 r.told.cause r.runs.runs.1 (run_ended f o m s gcode files files' out r.behind r.kept r.kept' r.told r.runs other) reads)
-      (all_wholes m v s r.runs.runs.0 made.plans r.runs.runs.2 r.told.cause r.runs.runs.1 all reads short held) r.shown)
+      (all_ends m v s r.runs.runs.0 made.plans r.runs.runs.2 r.told.cause r.runs.runs.1 (run_ended f o m s gcode files files' out r.behind r.kept r.kept' r.told r.runs other))
+      (all_wholes m v s r.runs.runs.0 made.plans r.runs.runs.2 r.told.cause r.runs.runs.1 all short held) r.shown)
 
   -- and of any text, whatever ended the run
   front_texts : (r : IsReported f o m s gcode files files' out out' c lines counts links) (text : List ℕ) → f.told files gcode ≡ Some text → ShownHoldLittle m s text r.runs.runs.0 r.runs.runs.1 r.runs.runs.2 r.told.cause → ∥ ShowsFront m text c r.said ∥₁
@@ -917,7 +914,7 @@ module _ {F S : Type 0} (f : Files F) (o : Sink S) (m : Machine) (s : Scene) (gc
               let Through : Cause → Type 0 = λ z. GoesThrough z in
               let little = clear_little m s text r.runs.runs.0 (r.runs.runs.1 ++ r.runs.runs.2 ∷ []) clear (soon_all m text r.runs.runs.0 sends) in
               elim (homed.run_through f o m s gcode files files' out r.behind r.kept r.kept' r.told r.runs v short text told r.fresh.at clear own other goes sends) [
-                | inl through ↦ inl (inl (∥∥₁_elim (home_texts r text told (inl own) other little) (hlevel props) (λ z. z.cause (subst Through (sym w.2) through))))
+                | inl through ↦ inl (inl (∥∥₁_elim (home_texts r text told other little) (hlevel props) (λ z. z.cause (subst Through (sym w.2) through))))
                 | inr e ↦ inr (e.0, w.2 ∙ e.1)
               ]
         ]
@@ -960,7 +957,7 @@ module _ {F S : Type 0} (f : Files F) (o : Sink S) (m : Machine) (s : Scene) (gc
     begun = begun_texts r;
     fronts = front_texts r;
     homes = home_texts r;
-    own = λ text told on other little soon. run_own f o m s gcode files files' out r.behind r.kept r.kept' r.told r.runs v short text told r.fresh.at other on little soon;
+    own = λ text told other little soon. run_own f o m s gcode files files' out r.behind r.kept r.kept' r.told r.runs v short text told r.fresh.at other little soon;
     complete = completes r;
     complete_homes = homes_complete r;
     complete_switches = switches_complete r;

@@ -28,7 +28,6 @@ use Rattle.session_laws.specs.run_headline.Further.{AreNamed, BoardsFirst, Tells
 use Rattle.session_laws.specs.run_headline.Timely.{AreOfMoves, AreSound, HoldsNothingLong}
 use Rattle.session_laws.specs.run_lines.Due.{BoardsHave, StandApart}
 use Rattle.session_laws.specs.home_headline.Little.{AllHomeLittle, ShownHoldLittle}
-use Rattle.session_laws.specs.home_headline.Reading.{ReadsOn}
 use Rattle.session_laws.specs.home_wholes.Own.{AllHearSoon, TellOwn}
 use Rattle.session_laws.specs.clear_homes.Closes.{AllClose, MissesSwitch, TellFirst}
 use Rattle.session_laws.specs.clear_homes.First.{IsFirstExpired}
@@ -86,9 +85,8 @@ pub record ShowsText (m : Machine) (text : List ℕ) (c : Cause) (said : List Re
 -- of the text's sections, each in its turn, in order and with longest triples, the controls that the reactor orders, and the states of the board's turns, whose pulses its lines show (`AreLinksIn`). Its lines, as they were written, with those of pulses, show the sections that were begun, whatever its links hold, where it does not end for want of memory (`ShowsBegun`). Prefix and Sections hold of every run, whatever
 -- ended it, want of memory too, where no line holds a command for half a round of the 32-bit clock and each board takes the set-up of a homing
 -- section in time (`ShowsFront`). And they show the file's text; of a run of moves that does not end for want of memory, where no line holds a
--- command for half a round of the 32-bit clock; and of one of any text, where besides it was read on while axes homed (`ReadsOn`, as where the run
--- ends for a cause of its own) and each board takes the set-up of a homing section in time. Where moreover what a board's trigger does in a homing
--- section is heard of within half a round (`AllHearSoon`), the tick that a turn tells of a switch is one at which this very section's readings are
+-- command for half a round of the 32-bit clock; and of one of any text, where besides each board takes the set-up of a homing section in time. Where
+-- moreover what a board's trigger does in a homing section is heard of within half a round (`AllHearSoon`), the tick that a turn tells of a switch is one at which this very section's readings are
 -- complete (`TellOwn`). What suffices for these
 -- premises in a scene without entries is said by laws (`clear_links_hold_nothing_long`, `clear_scenes_hold_little`). Completeness: in a scene without entries, and where no line asks for a stop, a run of moves whose units are all sent soon (`SendsAllSoon`) ends as the reading
 -- of its text does, but for want of memory and for faults of files and output; and so does one of any text whose units are sent so, or a switch
@@ -109,9 +107,9 @@ pub record IsLinkReport {F S : Type 0} (f : Files F) (o : Sink S) (m : Machine) 
   pub begun : (text : List ℕ) → f.told files gcode ≡ Some text → (reported.told.cause ≡ cause.Memory → ⊥) → ∥ ShowsBegun m text c reported.said ∥₁
   pub fronts : (text : List ℕ) → f.told files gcode ≡ Some text → ShownHoldLittle m s text reported.runs.runs.0 reported.runs.runs.1 reported.runs.runs.2 reported.told.cause →
       ∥ ShowsFront m text c reported.said ∥₁
-  pub homes : (text : List ℕ) → f.told files gcode ≡ Some text → ReadsOn m text reported.runs.runs.0 reported.told.cause → (reported.told.cause ≡ cause.Memory → ⊥) →
+  pub homes : (text : List ℕ) → f.told files gcode ≡ Some text → (reported.told.cause ≡ cause.Memory → ⊥) →
       AllHomeLittle m s text reported.runs.runs.0 (reported.runs.runs.1 ++ reported.runs.runs.2 ∷ []) → ∥ ShowsHomes m s.switches text c reported.said ∥₁
-  pub own : (text : List ℕ) → f.told files gcode ≡ Some text → ReadsOn m text reported.runs.runs.0 reported.told.cause → (reported.told.cause ≡ cause.Memory → ⊥) →
+  pub own : (text : List ℕ) → f.told files gcode ≡ Some text → (reported.told.cause ≡ cause.Memory → ⊥) →
       AllHomeLittle m s text reported.runs.runs.0 (reported.runs.runs.1 ++ reported.runs.runs.2 ∷ []) → AllHearSoon m s text reported.runs.runs.0 (reported.runs.runs.1 ++ reported.runs.runs.2 ∷ []) →
       ∥ TellOwn m s.switches [] reported.runs.runs.1 ∥₁
   pub complete : (text : List ℕ) → f.told files gcode ≡ Some text → AreOfMoves (sections_over m text) → ((line : ℕ) → (program_end m text).stop ≡ read.Stop line → ⊥) → s.entries ≡ [] →

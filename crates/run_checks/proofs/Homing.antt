@@ -180,6 +180,6 @@ module _ {F S : Type 0} (f : Files F) (o : Sink S) (printer : List ℕ) (m : Mac
       let kept = home_limits f o m s gcode files files' out own.behind own.kept own.kept' own.told own.runs home_valid (short_dictionaries printer m configured) text told own.fresh.at some little went in
       let long = home_long f o m s gcode files files' out own.behind own.kept own.kept' own.told own.runs scene went in
       let telling = home_told f o m s gcode files files' out own.behind own.kept own.kept' own.told own.runs went in
-      ∥∥₁_elim (r.homes text told (inl (own_cause own.told.cause went)) (λ e. not.0 (w.2 ∙ e)) little) (hlevel props)
+      ∥∥₁_elim (r.homes text told (λ e. not.0 (w.2 ∙ e)) little) (hlevel props)
       (λ (shows : ShowsHomes m s.switches text c own.said). ∥∥₁_elim kept (hlevel props) (λ low. home-checks m s.switches text c own.said home_valid some shows through (subst AreLow said low) (subst (λ (z : List ReportLine). AreTold true m z) said telling) (subst (λ (z : List ReportLine). HaveLongCuts z) said long)
       (names-of-reading printer m configured) (shows.whole through) (text-cause m text c (shows.cause through))))

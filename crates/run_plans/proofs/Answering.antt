@@ -23,7 +23,7 @@ use Rattle.motion_stream.specs.Seen.{AreWhole, Going, IsContinued, Seen, homes_b
 use Rattle.motion_stream.specs.Wholes.{HasNoAnswer}
 use Rattle.session_work.specs.declared.table.MotionTurn.{MotionTurn}
 use Rattle.run_plans.specs.Answers.{AnyHomed, EndByWords, EndsByWord, TakesAnswer, WaitsIn}
-use Rattle.run_plans.specs.Planned.{AnyWaits, words_in}
+use Rattle.run_plans.specs.Planned.{LastHomes, words_in}
 
 clash : true ≡ false → ⊥
 clash e = cc
@@ -104,10 +104,30 @@ abbrev pub HaveAnswers : ℕ → List MotionTurn → List WordMsg → List Start
 HaveAnswers k done ws [] = Unit {0}
 HaveAnswers k done ws (s ∷ begun) = ((axis : ℕ) → s.section.kind ≡ Home axis → HasAnswer k done ws s) × HaveAnswers k done ws begun
 
--- the section that goes on homes
-abbrev pub Homes : Option Going → Type 0
-Homes None = ⊥
-Homes (Some g) = homes_by g.kind ≡ true
+-- the section that goes on homes, and starts by a turn; or none goes on, and the last one does
+abbrev pub Homing : ℕ → List Started → Option Going → Type 0
+Homing k begun None = LastHomes k begun
+Homing k begun (Some g) = (homes_by g.kind ≡ true) × (g.start ≤ k)
+
+home_axis : (kind : SectionKind) → homes_by kind ≡ true → (axis : ℕ) × (kind ≡ Home axis)
+home_axis Moves e = absurd (clash (sym e))
+home_axis (Home axis) e = (axis, refl)
+
+-- which a word leaves so: it may end the section
+homing_ends : (m : Machine) (k next : ℕ) (begun : List Started) (g : Going) (b : Bool) → Homing k begun (Some g)
+    → Homing k (begun_with begun (if b then Some (answered m next g) else None)) (going_with (Some g) (if b then Some (answered m next g) else None))
+homing_ends m k next begun g true h = let axis = home_axis g.kind h.0 in record { past = begun; s = answered m next g; are = refl; axis = axis.0; home = axis.1; by = h.1 }
+homing_ends m k next begun g false h = h
+
+homing_by : (m : Machine) (k next : ℕ) (begun : List Started) (going : Option Going) (tells : Bool) → Homing k begun going
+    → Homing k (begun_with begun (if tells then hears_answer m next going else None)) (going_with going (if tells then hears_answer m next going else None))
+homing_by m k next begun None true h = h
+homing_by m k next begun None false h = h
+homing_by m k next begun (Some g) true h = homing_ends m k next begun g (homes_by g.kind && nat_le g.start next) h
+homing_by m k next begun (Some g) false h = h
+
+pub homing_word : (m : Machine) (seen : Seen) (k : ℕ) (w : WordMsg) → Homing k seen.begun seen.going → Homing k (with_word m seen w).begun (with_word m seen w).going
+homing_word m seen k w h = homing_by m k seen.next seen.begun seen.going (tells_homed w.news) h
 
 -- it has waited from its start on
 abbrev pub WaitsSince : ℕ → List MotionTurn → List WordMsg → ℕ → Type 0
@@ -122,8 +142,8 @@ pub record HaveHeard (k : ℕ) (done : List MotionTurn) (ws : List WordMsg) (beg
   known : HaveAnswers k done ws begun
   waits : Waits k done ws going
 
-pub none_heard : HaveHeard 0 [] [] [] None
-none_heard = record { known = tt; waits = tt }
+pub none_heard : (k : ℕ) (done : List MotionTurn) → HaveHeard k done [] [] None
+none_heard k done = record { known = tt; waits = tt }
 
 -- a word
 answers_more : (k : ℕ) (done : List MotionTurn) (ws : List WordMsg) (w : WordMsg) (begun : List Started) → HaveAnswers k done ws begun → HaveAnswers k done (ws ++ w ∷ []) begun
@@ -245,10 +265,6 @@ last_open : (m : Machine) (next : ℕ) (begun more : List Started) (g : Going) (
 last_open m next begun more g s e unanswered c home =
     let axis = home_axis g.kind home in
     All-head HasNoAnswer s [] (subst (All HasNoAnswer) (append_cancel_left begun more (s ∷ []) e) unanswered) axis.0 (ap (λ (x : Section). x.kind) c.section ∙ axis.1)
-  where
-    home_axis : (kind : SectionKind) → homes_by kind ≡ true → (axis : ℕ) × (kind ≡ Home axis)
-    home_axis Moves e = absurd (clash (sym e))
-    home_axis (Home axis) e = (axis, refl)
 
 ends_snoc : (k : ℕ) (done : List MotionTurn) (begun more : List Started) → HaveAnswers k done [] begun → EndByWords 0 0 done more → EndByWords 0 0 done (begun ++ more)
 ends_snoc k done [] more h ends = ends
@@ -270,11 +286,12 @@ all_end m (Some t) next k done begun all more (Some g) a (s, are, c) e unanswere
     one) in
     subst (EndByWords 0 0 done) (sym are) (ends_snoc k done begun (s ∷ []) a.known (ends, tt))
 
-pub all_wait : (m : Machine) (told : Option Told) (next : ℕ) (begun all more : List Started) (going : Option Going) → AreWhole m told next begun going all → all ≡ begun ++ more → All HasNoAnswer more → Homes going → AnyWaits all
-all_wait m told next begun all more None w e unanswered home = absurd home
-all_wait m None next begun all more (Some g) w e unanswered home = absurd w
-all_wait m (Some t) next begun all more (Some g) (s, are, c) e unanswered home = subst AnyWaits (sym are) (in_last begun s (last_open m next begun more g s (sym e ∙ are) unanswered c home))
-  where
-    in_last : (past : List Started) (s : Started) → s.end ≡ no_end → AnyWaits (past ++ s ∷ [])
-    in_last [] s e = inl e
-    in_last (x ∷ past) s e = inr (in_last past s e)
+-- of which the last one homes
+pub all_homing : (m : Machine) (told : Option Told) (next k : ℕ) (begun all : List Started) (going : Option Going) → AreWhole m told next begun going all → Homing k begun going → LastHomes k all
+all_homing m told next k begun all None w h = subst (LastHomes k) (sym w) h
+all_homing m None next k begun all (Some g) w h = absurd w
+all_homing m (Some t) next k begun all (Some g) (s, are, c) h =
+    let axis = home_axis g.kind h.0 in
+    let start = c.start in
+    let late = h.1 in
+    record { past = begun; s = s; are = are; axis = axis.0; home = ap (λ (x : Section). x.kind) c.section ∙ axis.1; by = omega (arith, start, late) }

@@ -2,6 +2,7 @@ pub mod Answering
 pub mod Wholes
 pub mod Planning
 pub mod Giving
+pub mod Heard
 pub mod Running
 pub mod Shaping
 pub mod Beginning
@@ -15,4 +16,3 @@ pub mod Reporting
 pub mod Lasting
 pub mod Cutting
 pub mod Homed
-pub mod Lining

@@ -19,7 +19,7 @@ use Rattle.motion_stream.specs.declared.course.Open.{Open}
 use Rattle.motion_stream.specs.declared.course.Open.TheVariants as opens
 use Rattle.motion_stream.specs.Courses.{IsGoing, IsTold}
 use Rattle.plan_types.specs.Sections.{clocks_at}
-use Rattle.motion_stream.specs.Motions.{AreEarly, IsMore, IsPlannerOf, Planner, Reads, ended_in, going_with, lines_kept, waits_by, wants, with_lines, with_word}
+use Rattle.motion_stream.specs.Motions.{AreEarly, IsMore, IsPlannerOf, Planner, Reads, lines_kept, waits_by, wants, with_word}
 use Rattle.motion_stream.specs.Motions as motion
 use Rattle.motion_stream.specs.Puts.{ArePutBy}
 use Rattle.motion_stream.specs.Seen.{Going, Seen, nothing_seen}
@@ -32,10 +32,9 @@ use Rattle.session_work.specs.declared.table.MotionTurn.{MotionTurn}
 use Rattle.session_work.specs.Motions.{MotionStep, seated}
 use Rattle.session_work.specs.Seats.{MakeStep, PieceStep, Told as ToldTo, WordStep, hungers, is_wanted, needs}
 use Rattle.session_work.specs.Turns.{Goes}
-use Rattle.run_plans.specs.Planned.{AnyEnds, AnyStops, AnyWaits, AreBare, AreRead, BeginInRange, IsBare, IsPlanning, LoseNone, Plans, StopsAt, Text, TookInTime, fresh_in, heard_in, nothing_read, planning, put_of, puts_of, read_all, read_on, told_behind, words_in}
+use Rattle.run_plans.specs.Planned.{AnyEnds, AnyStops, AreBare, AreRead, BeginInRange, IsBare, IsPlanning, LastHomes, LoseNone, Plans, StopsAt, Text, TookInTime, fresh_in, heard_in, nothing_read, planning, put_of, puts_of, read_all, read_on, told_behind, words_in}
 use Rattle.run_plans.specs.Answers.{TookNoneAhead}
-use Rattle.run_plans.proofs.Answering.{HaveHeard, Homes, heard_piece, heard_turn, heard_word, none_heard, words_end, words_snoc}
-use Rattle.run_plans.proofs.Lining.{words_last}
+use Rattle.run_plans.proofs.Answering.{HaveHeard, Homing, heard_piece, heard_turn, heard_word, homing_word, none_heard, words_end, words_snoc}
 use Rattle.run_plans.proofs.Wholes.{Ran, whole_plans}
 
 clash : true ≡ false → ⊥
@@ -111,18 +110,13 @@ note_out g n k b y t d e (_, halted, _, inr s) =
       | inr q ↦ let (_, wants) = q in wants.2
     ]
 
--- a section that waits for its answer behind a word waited for it before
-homes_before : (going : Option Going) (ended : Option Started) → Homes (going_with going ended) → Homes going
-homes_before going None h = h
-homes_before going (Some s) h = absurd h
-
 -- a live worker hears a word
-record Told_on {M : Type 0} (view : M → Planner) (m : Machine) (k : ℕ) (done : List MotionTurn) (words : List WordMsg) (puts : List Put) (text : Text) (told : Option Told) (fresh : List BoardLine) (going : Option Going) (y : Seat M) : Type 0 where
+record Told_on {M : Type 0} (view : M → Planner) (m : Machine) (k : ℕ) (done : List MotionTurn) (words : List WordMsg) (puts : List Put) (text : Text) (told : Option Told) (fresh : List BoardLine) (from : Seen) (y : Seat M) : Type 0 where
   live : Live view m k done words puts text told fresh y
-  waits : Homes live.seen.going → Homes going
+  homing : Homing k from.begun from.going → Homing k live.seen.begun live.seen.going
 
 word_heard : {M : Type 0} (g : Motion M) (view : M → Planner) (m : Machine) (k : ℕ) (done : List MotionTurn) (us : List WordMsg) (puts : List Put) (text : Text) (told : Option Told) (fresh : List BoardLine) (x y : Seat M) (w : WordMsg) → IsPlanning g view → length puts ≡ k
-    → (l : Live view m k done us puts text told fresh x) → WordStep g.hears x w y → Told_on view m k done (us ++ w ∷ []) puts text (heard m k w told) (fresh ++ lines_kept (heard m k w told) (lines_in w.news)) l.seen.going y ⊎ (Dead y × ((w.end ≡ true) ⊎ (y.out ≡ true)))
+    → (l : Live view m k done us puts text told fresh x) → WordStep g.hears x w y → Told_on view m k done (us ++ w ∷ []) puts text (heard m k w told) (fresh ++ lines_kept (heard m k w told) (lines_in w.news)) l.seen y ⊎ (Dead y × ((w.end ≡ true) ⊎ (y.out ≡ true)))
 word_heard g view m k done us puts text told fresh x y w is long l (_, inl s) = inr (inl s.1, inl s.0)
 word_heard g view m k done us puts text told fresh x y w is long l (_, inr s) =
     let (_, halted, to) = s in
@@ -153,14 +147,14 @@ word_heard g view m k done us puts text told fresh x y w is long l (_, inr s) =
                 told_is = known;
                 fresh_are = ap (λ o. l.seen.fresh ++ lines_kept o (lines_in w.news)) known ∙ ap (λ ls. ls ++ lines_kept (heard m k w told) (lines_in w.news)) l.fresh_are;
               };
-              waits = homes_before l.seen.going (ended_in (view x.machine).machine (with_lines (view x.machine).machine l.seen w) w);
+              homing = homing_word (view x.machine).machine l.seen k w;
             })
         | inr r ↦ inr (inr r.1, inr r.2)
       ]
     ]
 
 -- The word that a worker takes before turn k has at most that number; and where it has, nothing is known of connecting, or a section
--- waits for its answer.
+-- that has started waits for its answer.
 by_word : (h q c w : Bool) (k n : ℕ) → cond h false (cond q (nat_lt (n + 63) k) (is_wanted (cond c (cond w (Some k) (cond (nat_lt k 64) None (Some (k - 64)))) (Some k)) n)) ≡ true → q ≡ false
     → (n ≤ k) × (n ≡ k → (c ≡ false) ⊎ (w ≡ true))
 by_word true q c w k n e f = absurd (clash (sym e))
@@ -179,13 +173,15 @@ untold : (m : Machine) (c : Course) (o : Option Told) (begun : List Started) (go
 untold m c None begun going h e = refl
 untold m c (Some t) begun going h e = absurd (clash (sym h.connected ∙ e))
 
-waiting : (m : Machine) (o : Open) (c : Course) (told : Option Told) (begun : List Started) (going : Option Going) (start k : ℕ) → IsGoing m o c told begun going → waits_by o start k ≡ true → Homes going
-waiting m opens.Nothing c told begun going start k h e = absurd (clash (sym e))
-waiting m (opens.Goes s true) c told begun going start k h e = subst Homes (sym h.is) (sym h.homes_is)
-waiting m (opens.Goes s false) c told begun going start k h e = absurd (clash (sym e))
+waiting : (m : Machine) (o : Open) (c : Course) (told : Option Told) (begun : List Started) (going : Option Going) (k : ℕ) → IsGoing m o c told begun going → waits_by o c.start k ≡ true → Homing k begun going
+waiting m opens.Nothing c told begun going k h e = absurd (clash (sym e))
+waiting m (opens.Goes s true) c told begun going k h e =
+    let start = h.start_is in
+    elim (leb_tells c.start k) [ inl p ↦ (let late = p.1 in subst (Homing k begun) (sym h.is) (sym h.homes_is, omega (arith, start, late))) | inr p ↦ absurd (clash (sym e ∙ p.0)) ]
+waiting m (opens.Goes s false) c told begun going k h e = absurd (clash (sym e))
 
 wanted : {M : Type 0} (g : Motion M) (view : M → Planner) (m : Machine) (k : ℕ) (done : List MotionTurn) (words : List WordMsg) (puts : List Put) (text : Text) (told : Option Told) (fresh : List BoardLine) (x : Seat M) → IsPlanning g view → (l : Live view m k done words puts text told fresh x)
-    → needs g.wants k x ≡ true → (x.heard ≤ k) × (x.heard ≡ k → (told ≡ None) ⊎ Homes l.seen.going)
+    → needs g.wants k x ≡ true → (x.heard ≤ k) × (x.heard ≡ k → (told ≡ None) ⊎ Homing k l.seen.begun l.seen.going)
 wanted g view m k done words puts text told fresh x is l e =
     let p = view x.machine in
     let Wants : Option ℕ → Type 0 = λ o. cond x.halted false (cond x.quiet (nat_lt (x.heard + 63) k) (is_wanted o x.heard)) ≡ true in
@@ -193,7 +189,7 @@ wanted g view m k done words puts text told fresh x is l e =
       h.0,
       λ z. elim (h.1 z) [
         | inl c ↦ inl (sym l.told_is ∙ untold p.machine p.course l.seen.told l.seen.begun l.seen.going l.is.told c)
-        | inr w ↦ inr (waiting p.machine p.course.current p.course l.seen.told l.seen.begun l.seen.going p.course.start k l.is.going w)
+        | inr w ↦ inr (waiting p.machine p.course.current p.course l.seen.told l.seen.begun l.seen.going k l.is.going w)
       ],
     )
 
@@ -202,19 +198,20 @@ heard_none m k w None e = refl
 heard_none m k w (Some t) e = e
 
 -- a live worker hears words
-record Spoken {M : Type 0} (view : M → Planner) (m : Machine) (k : ℕ) (done : List MotionTurn) (words : List WordMsg) (puts : List Put) (text : Text) (told after : Option Told) (fresh : List BoardLine) (going : Option Going) (first : ℕ) (a : Seat M) : Type 0 where
+record Spoken {M : Type 0} (view : M → Planner) (m : Machine) (k : ℕ) (done : List MotionTurn) (words : List WordMsg) (puts : List Put) (text : Text) (told after : Option Told) (fresh : List BoardLine) (from : Seen) (first : ℕ) (a : Seat M) : Type 0 where
   live : Live view m k done words puts text after fresh a
   low : a.heard ≤ k + 1
-  early : first ≤ k → a.heard ≡ k + 1 → (told ≡ None) ⊎ Homes going
+  early : first ≤ k → a.heard ≡ k + 1 → (told ≡ None) ⊎ Homing k live.seen.begun live.seen.going
+  homing : Homing k from.begun from.going → Homing k live.seen.begun live.seen.going
 
 words_heard : {M : Type 0} (g : Motion M) (view : M → Planner) (m : Machine) (k i : ℕ) (done : List MotionTurn) (us : List WordMsg) (puts : List Put) (text : Text) (told : Option Told) (fresh : List BoardLine) (ws : List WordMsg) (x a : Seat M) → IsPlanning g view → length puts ≡ k
     → x.heard ≤ k + 1 → (l : Live view m k done us puts text told fresh x) → Goes (λ _ y w z. (needs g.wants k y ≡ true) × WordStep g.hears y w z) i x ws a
-    → Spoken view m k done (us ++ ws) puts text told (heard_in m k ws told) (fresh ++ fresh_in m k ws told) l.seen.going x.heard a ⊎ (Dead a × (AnyEnds ws ⊎ (a.out ≡ true)))
+    → Spoken view m k done (us ++ ws) puts text told (heard_in m k ws told) (fresh ++ fresh_in m k ws told) l.seen x.heard a ⊎ (Dead a × (AnyEnds ws ⊎ (a.out ≡ true)))
 words_heard g view m k i done us puts text told fresh [] x a is long few l h =
-    let same = ap (λ (s : Seat _). s.heard) h in
-    let Of : List WordMsg → Type 0 = λ z. Live view m k done z puts text told (fresh ++ []) a in
-    let Fresh : List BoardLine → Type 0 = λ ls. Live view m k done us puts text told ls a in
-    inl (record { live = subst Of (sym (append-nil us)) (subst Fresh (sym (append-nil fresh)) (subst (Live view m k done us puts text told fresh) h l)); low = omega (arith, few, same); early = λ low late. absurd (omega (arith, low, late, same)) })
+    let Of : List WordMsg → Type 0 = λ z. Spoken view m k done z puts text told told (fresh ++ []) l.seen x.heard a in
+    let Fresh : List BoardLine → Type 0 = λ ls. Spoken view m k done us puts text told told ls l.seen x.heard a in
+    let here : Spoken view m k done us puts text told told fresh l.seen x.heard x = record { live = l; low = few; early = λ low late. absurd (omega (arith, low, late)); homing = λ home. home } in
+    inl (subst Of (sym (append-nil us)) (subst Fresh (sym (append-nil fresh)) (subst (Spoken view m k done us puts text told told fresh l.seen x.heard) h here)))
 words_heard g view m k i done us puts text told fresh (w ∷ ws) x a is long few l (y, step, more) =
     let (needed, took) = step in
     let want = wanted g view m k done us puts text told fresh x is l needed in
@@ -223,17 +220,20 @@ words_heard g view m k i done us puts text told fresh (w ∷ ws) x a is long few
     let next = heard m k w told in
     let own = lines_kept next (lines_in w.news) in
     let both : (fresh ++ own) ++ fresh_in m k ws next ≡ fresh ++ (own ++ fresh_in m k ws next) = append_assoc fresh own (fresh_in m k ws next) in
-    let Live_by : List WordMsg → List BoardLine → Type 0 = λ z ls. Live view m k done z puts text (heard_in m k ws next) ls a in
+    let Spoken_by : List WordMsg → List BoardLine → Type 0 = λ z ls. Spoken view m k done z puts text told (heard_in m k ws next) ls l.seen x.heard a in
     elim (word_heard g view m k done us puts text told fresh x y w is long l took) [
       | inl on ↦ elim (words_heard g view m k (i + 1) done (us ++ w ∷ []) puts text next (fresh ++ own) ws y a is long (omega (arith, one, here)) on.live more) [
-        | inl z ↦ inl (record {
-          live = subst (λ zs. Live_by zs (fresh ++ (own ++ fresh_in m k ws next))) (append_assoc us (w ∷ []) ws) (subst (Live_by ((us ++ w ∷ []) ++ ws)) both z.live);
-          low = z.low;
-          early = λ low late. elim (leb_tells k x.heard) [
-            | inl q ↦ want.1 (omega (arith, q.1, here))
-            | inr q ↦ elim (z.early (omega (arith, q.1, one)) late) [ inl e ↦ inl (heard_none m k w told e) | inr e ↦ inr (on.waits e) ]
-          ];
-        })
+        | inl z ↦
+            let all : Spoken_by ((us ++ w ∷ []) ++ ws) ((fresh ++ own) ++ fresh_in m k ws next) = record {
+              live = z.live;
+              low = z.low;
+              early = λ low late. elim (leb_tells k x.heard) [
+                | inl q ↦ elim (want.1 (omega (arith, q.1, here))) [ inl e ↦ inl e | inr home ↦ inr (z.homing (on.homing home)) ]
+                | inr q ↦ elim (z.early (omega (arith, q.1, one)) late) [ inl e ↦ inl (heard_none m k w told e) | inr home ↦ inr home ]
+              ];
+              homing = λ home. z.homing (on.homing home);
+            } in
+            inl (subst (λ zs. Spoken_by zs (fresh ++ (own ++ fresh_in m k ws next))) (append_assoc us (w ∷ []) ws) (subst (Spoken_by ((us ++ w ∷ []) ++ ws)) both all))
         | inr d ↦ inr (d.0, elim d.1 [ inl z ↦ inl (inr z) | inr z ↦ inr z ])
       ]
       | inr d ↦ inr (words_dead g k (i + 1) ws y a d.0 more, elim d.1 [ inl z ↦ inl (inl z) | inr z ↦ inr (words_out g k (i + 1) ws y a z more) ])
@@ -442,13 +442,18 @@ waits_now false false c false k n a b d e = absurd (clash (sym d))
 waits_now false false true true k n a b d e = elim (leb_tells (suc n) (k + 1)) [ inl p ↦ absurd (clash (sym p.0 ∙ e)) | inr p ↦ omega (arith, p.1) ]
 waits_now false false false true k n a b d e = elim (leb_tells (suc n) (k + 1)) [ inl p ↦ absurd (clash (sym p.0 ∙ e)) | inr p ↦ omega (arith, p.1) ]
 
-words_over : {M : Type 0} (g : Motion M) (view : M → Planner) (m : Machine) (k : ℕ) (done : List MotionTurn) (puts : List Put) (text : Text) (told : Option Told) (fresh : List BoardLine) (t : MotionTurn) (a : Seat M) → IsPlanning g view → length done ≡ k
-    → a.heard ≡ length (words_in (done ++ t ∷ [])) → Live view m k done t.words puts text told fresh a → needs g.wants k a ≡ false → Live view m (k + 1) (done ++ t ∷ []) [] puts text told fresh a
-words_over g view m k done puts text told fresh t a is size many l enough =
+answers_over : {M : Type 0} (g : Motion M) (view : M → Planner) (m : Machine) (k : ℕ) (done : List MotionTurn) (puts : List Put) (text : Text) (told : Option Told) (fresh : List BoardLine) (t : MotionTurn) (a : Seat M) → IsPlanning g view → length done ≡ k
+    → a.heard ≡ length (words_in (done ++ t ∷ [])) → (l : Live view m k done t.words puts text told fresh a) → needs g.wants k a ≡ false → HaveHeard (k + 1) (done ++ t ∷ []) [] l.seen.begun l.seen.going
+answers_over g view m k done puts text told fresh t a is size many l enough =
     let p = view a.machine in
     let Enough : Option ℕ → Type 0 = λ o. cond a.halted false (cond a.quiet (nat_lt (a.heard + 63) k) (is_wanted o a.heard)) ≡ false in
     let needed = subst Enough (is.wants a.machine k) enough in
     let wait = λ (w : waits_by p.course.current p.course.start k ≡ true). waits_now a.halted a.quiet p.course.connected (waits_by p.course.current p.course.start k) k a.heard l.halted l.quiet w needed in
+    words_end p.machine p.course l.seen k a.heard done t l.is.going size many wait l.answers
+
+words_over : {M : Type 0} (g : Motion M) (view : M → Planner) (m : Machine) (k : ℕ) (done : List MotionTurn) (puts : List Put) (text : Text) (told : Option Told) (fresh : List BoardLine) (t : MotionTurn) (a : Seat M) → IsPlanning g view → length done ≡ k
+    → a.heard ≡ length (words_in (done ++ t ∷ [])) → Live view m k done t.words puts text told fresh a → needs g.wants k a ≡ false → Live view m (k + 1) (done ++ t ∷ []) [] puts text told fresh a
+words_over g view m k done puts text told fresh t a is size many l enough =
     record {
       halted = l.halted;
       quiet = l.quiet;
@@ -456,7 +461,7 @@ words_over g view m k done puts text told fresh t a is size many l enough =
       machine_is = l.machine_is;
       is = l.is;
       put = l.put;
-      answers = words_end p.machine p.course l.seen k a.heard done t l.is.going size many wait l.answers;
+      answers = answers_over g view m k done puts text told fresh t a is size many l enough;
       text_is = l.text_is;
       ended_is = l.ended_is;
       told_is = l.told_is;
@@ -465,12 +470,12 @@ words_over g view m k done puts text told fresh t a is size many l enough =
 
 -- all turns from here on are bare
 ends_here : {M : Type 0} (view : M → Planner) (m : Machine) (n k : ℕ) (done : List MotionTurn) (puts : List Put) (text : Text) (told : Option Told) (x : Seat M) (ts : List MotionTurn)
-    → (l : Live view m k done [] puts text told [] x) → AreBare n k ts → ((begun : List Started) → (Homes l.seen.going → AnyWaits begun) → StopsAt k x.heard l.seen.told begun ts) → Ran m n k done puts text told x.heard ts
+    → (l : Live view m k done [] puts text told [] x) → AreBare n k ts → ((begun : List Started) → StopsAt k x.heard l.seen.told begun ts []) → Ran m n k done puts text told x.heard ts
 ends_here view m n k done puts text told x ts l bare why =
     let e : k + 0 ≡ k = omega arith in
     let f : x.heard + 0 ≡ x.heard = omega arith in
     let Bare : ℕ → Type 0 = λ i. AreBare n i ts in
-    let Stops_at : ℕ → ℕ → Type 0 = λ i j. (begun : List Started) → (Homes l.seen.going → AnyWaits begun) → StopsAt i j l.seen.told begun ts in
+    let Stops_at : ℕ → ℕ → Type 0 = λ i j. (begun : List Started) → StopsAt i j l.seen.told begun ts [] in
     let OfPut : List Put → Type 0 = λ y. ArePutBy m l.seen y in
     let Heard : ℕ → List MotionTurn → Type 0 = λ i y. HaveHeard i y [] l.seen.begun l.seen.going in
     record {
@@ -478,6 +483,7 @@ ends_here view m n k done puts text told x ts l bare why =
       seen = l.seen;
       made = [];
       bare = ts;
+      last = [];
       are = refl;
       machine_is = l.machine_is;
       is = l.is;
@@ -491,6 +497,90 @@ ends_here view m n k done puts text told x ts l bare why =
       ahead = tt;
       answers = subst (Heard (k + 0)) (sym (append-nil done)) (subst (λ i. Heard i done) (sym e) l.answers);
       are_bare = subst Bare (sym e) bare;
+      stops = λ begun home. subst (Stops_at (k + 0)) (sym f) (subst (λ i. Stops_at i x.heard) (sym e) why) begun;
+    }
+
+-- what is known of connecting stays so
+heard_some : (m : Machine) (k : ℕ) (ws : List WordMsg) (t : Told) → heard_in m k ws (Some t) ≡ Some t
+heard_some m k [] t = refl
+heard_some m k (w ∷ ws) t = heard_some m k ws t
+
+some_none : {X : Type 0} {x : X} → Some x ≡ None → ⊥
+some_none e = cc
+
+-- from a turn on, in which no more of the text could be read
+stops_here : {M : Type 0} (view : M → Planner) (m : Machine) (n k : ℕ) (done : List MotionTurn) (puts : List Put) (text : Text) (told : Option Told) (fresh : List BoardLine) (x a : Seat M) (t : MotionTurn) (ts : List MotionTurn) → (l : Live view m k done [] puts text told [] x)
+    → (la : Spoken view m k done t.words puts text told (heard_in m k t.words told) fresh l.seen x.heard a) → HaveHeard (k + 1) (done ++ t ∷ []) [] la.live.seen.begun la.live.seen.going → AreBare n k (t ∷ ts) → x.heard ≤ k → a.heard ≡ x.heard + length t.words
+    → AnyStops a.heard t.pieces → Ran m n k done puts text told x.heard (t ∷ ts)
+stops_here view m n k done puts text None fresh x a t ts l la answers bare low count stops =
+    let e : k + 0 ≡ k = omega arith in
+    let f : x.heard + 0 ≡ x.heard = omega arith in
+    let below = la.low in
+    let Bare : ℕ → Type 0 = λ i. AreBare n i (t ∷ ts) in
+    let Stops_at : ℕ → ℕ → Type 0 = λ i j. (begun : List Started) → StopsAt i j l.seen.told begun (t ∷ ts) (t ∷ []) in
+    let why : Stops_at k x.heard = λ begun. inr (record { stops = subst (λ i. AnyStops i t.pieces) count stops; low = omega (arith, below, count); early = λ late. inl l.told_is }, refl) in
+    let OfPut : List Put → Type 0 = λ y. ArePutBy m l.seen y in
+    let Of : Option Told → Type 0 = λ o. IsTold (view x.machine).machine (view x.machine).course o l.seen.begun l.seen.going in
+    let idle = subst Of l.told_is l.is.told in
+    let none = none_heard (k + 1) (done ++ t ∷ []) in
+    let Begun : List Started → Type 0 = λ z. HaveHeard (k + 1) (done ++ t ∷ []) [] z None in
+    let Going_on : Option Going → Type 0 = λ z. HaveHeard (k + 1) (done ++ t ∷ []) [] l.seen.begun z in
+    record {
+      planner = view x.machine;
+      seen = l.seen;
+      made = [];
+      bare = t ∷ ts;
+      last = t ∷ [];
+      are = refl;
+      machine_is = l.machine_is;
+      is = l.is;
+      put = subst OfPut (sym (append-nil puts)) l.put;
+      text_is = l.text_is;
+      ended_is = l.ended_is;
+      told_is = l.told_is;
+      lines = tt;
+      in_time = tt;
+      in_range = tt;
+      ahead = tt;
+      answers = subst Going_on (sym idle.2) (subst Begun (sym idle.1) none);
+      are_bare = subst Bare (sym e) bare;
+      stops = λ begun home. subst (Stops_at (k + 0)) (sym f) (subst (λ i. Stops_at i x.heard) (sym e) why) begun;
+    }
+stops_here view m n k done puts text (Some told) fresh x a t ts l la answers bare low count stops =
+    let e : k + 0 ≡ k = omega arith in
+    let f : x.heard + 0 ≡ x.heard = omega arith in
+    let below = la.low in
+    let seen = la.live.seen in
+    let Bare : ℕ → Type 0 = λ i. AreBare n i (t ∷ ts) in
+    let Stops_at : ℕ → ℕ → Type 0 = λ i j. (begun : List Started) → (Homing i seen.begun seen.going → LastHomes i begun) → StopsAt i j seen.told begun (t ∷ ts) (t ∷ []) in
+    let why : Stops_at k x.heard = λ begun home. inr (
+      record {
+        stops = subst (λ i. AnyStops i t.pieces) count stops;
+        low = omega (arith, below, count);
+        early = λ late. elim (la.early low (count ∙ late)) [ inl none ↦ absurd (some_none none) | inr h ↦ inr (home h) ];
+      },
+      refl,
+    ) in
+    let OfPut : List Put → Type 0 = λ y. ArePutBy m seen y in
+    record {
+      planner = view a.machine;
+      seen = seen;
+      made = [];
+      bare = t ∷ ts;
+      last = t ∷ [];
+      are = refl;
+      machine_is = la.live.machine_is;
+      is = la.live.is;
+      put = subst OfPut (sym (append-nil puts)) la.live.put;
+      text_is = la.live.text_is;
+      ended_is = la.live.ended_is;
+      told_is = la.live.told_is ∙ heard_some m k t.words told;
+      lines = tt;
+      in_time = tt;
+      in_range = tt;
+      ahead = tt;
+      answers = answers;
+      are_bare = subst Bare (sym e) bare;
       stops = subst (Stops_at (k + 0)) (sym f) (subst (λ i. Stops_at i x.heard) (sym e) why);
     }
 
@@ -501,7 +591,8 @@ one_ahead m n k done puts text told taken after t ts number low here soon range 
     let e : k + 1 + length p.made ≡ k + length (t ∷ p.made) = omega arith in
     let f : after + length (words_in p.made) ≡ taken + length (t.words ++ words_in p.made) = omega (arith, number, length-append t.words (words_in p.made)) in
     let Bare : ℕ → Type 0 = λ i. AreBare n i p.bare in
-    let Stops_at : ℕ → ℕ → Type 0 = λ i j. (begun : List Started) → (Homes p.seen.going → AnyWaits begun) → StopsAt i j p.seen.told begun p.bare in
+    let Stops_at : ℕ → ℕ → Type 0 = λ i j. (begun : List Started) → (Homing i p.seen.begun p.seen.going → LastHomes i begun) → StopsAt i j p.seen.told begun p.bare p.last in
+    let h : k + 1 + length (p.made ++ p.last) ≡ k + length (t ∷ (p.made ++ p.last)) = omega arith in
     let OfPut : List Put → Type 0 = λ y. ArePutBy m p.seen y in
     let Heard : ℕ → List MotionTurn → Type 0 = λ i y. HaveHeard i y [] p.seen.begun p.seen.going in
     record {
@@ -509,6 +600,7 @@ one_ahead m n k done puts text told taken after t ts number low here soon range 
       seen = p.seen;
       made = t ∷ p.made;
       bare = p.bare;
+      last = p.last;
       are = ap (λ y. t ∷ y) p.are;
       machine_is = p.machine_is;
       is = p.is;
@@ -524,17 +616,17 @@ one_ahead m n k done puts text told taken after t ts number low here soon range 
       ahead =
           let Ahead : ℕ → Type 0 = λ i. (i ≤ k + 1) × TookNoneAhead (k + 1) i p.made in
           subst Ahead number (low, p.ahead);
-      answers = subst (Heard (k + length (t ∷ p.made))) (append_assoc done (t ∷ []) p.made) (subst (λ i. Heard i ((done ++ t ∷ []) ++ p.made)) e p.answers);
+      answers = subst (Heard (k + length (t ∷ (p.made ++ p.last)))) (append_assoc done (t ∷ []) (p.made ++ p.last)) (subst (λ i. Heard i ((done ++ t ∷ []) ++ (p.made ++ p.last))) h p.answers);
       are_bare = subst Bare e p.are_bare;
       stops = subst (Stops_at (k + length (t ∷ p.made))) f (subst (λ i. Stops_at i (after + length (words_in p.made))) e p.stops);
     }
 
 live_goes : {M : Type 0} (g : Motion M) (view : M → Planner) (m : Machine) (n k : ℕ) (done : List MotionTurn) (puts : List Put) (text : Text) (told : Option Told) (ts : List MotionTurn) (x e : Seat M) → IsPlanning g view → length puts ≡ k → length done ≡ k
     → x.heard ≡ length (words_in done) → x.heard ≤ k → Live view m k done [] puts text told [] x → Goes (MotionStep g n) k x ts e → Ran m n k done puts text told x.heard ts
-live_goes g view m n k done puts text told [] x e is long size words low l h = ends_here view m n k done puts text told x [] l tt (λ begun home. tt)
+live_goes g view m n k done puts text told [] x e is long size words low l h = ends_here view m n k done puts text told x [] l tt (λ begun. refl)
 live_goes g view m n k done puts text told (t ∷ ts) x e is long size words low l (y, step, more) =
     let (a, b, heard, enough, fed, full, make) = step in
-    let dies = λ (bare : IsBare n k t × Dead y) (why : (begun : List Started) → (Homes l.seen.going → AnyWaits begun) → StopsAt k x.heard l.seen.told begun (t ∷ ts)). ends_here view m n k done puts text told x (t ∷ ts) l (bare.0, dead_goes g n (k + 1) ts y e bare.1 more) why in
+    let dies = λ (bare : IsBare n k t × Dead y) (why : AnyEnds t.words ⊎ (t.note.out ≡ true)). ends_here view m n k done puts text told x (t ∷ ts) l (bare.0, dead_goes g n (k + 1) ts y e bare.1 more) (λ begun. inl (why, refl)) in
     let count = words_taken g k 0 t.words x a heard in
     let all = done ++ t ∷ [] in
     let longer : length all ≡ k + 1 = omega (arith, size, length-append done (t ∷ [])) in
@@ -543,21 +635,18 @@ live_goes g view m n k done puts text told (t ∷ ts) x e is long size words low
       | inr d ↦
           let db = pieces_dead g k 0 t.pieces a b d.0 fed in
           dies (dead_makes g n k b y t db make)
-          (λ begun home. elim d.1 [ inl z ↦ inl z | inr z ↦ inr (inl (note_out g n k b y t db (pieces_out g k 0 t.pieces a b z fed) make)) ])
+          (elim d.1 [ inl z ↦ inl z | inr z ↦ inr (note_out g n k b y t db (pieces_out g k 0 t.pieces a b z fed) make) ])
       | inl la ↦ elim (pieces_read g view m k (k + 1) 0 all [] puts text (heard_in m k t.words told) (fresh_in m k t.words told) t.pieces a b is (words_over g view m k done puts text (heard_in m k t.words told) (fresh_in m k t.words told) t a is size many la.live enough) fed) [
         | inr db ↦
-            let below = la.low in
-            dies (dead_makes g n k b y t db.0 make)
-            (λ begun home. elim db.1 [
-              | inl stops ↦ inr (inr (record {
-                stops = subst (λ i. AnyStops i t.pieces) count stops;
-                low = omega (arith, below, count);
-                early = λ late. elim (la.early low (count ∙ late)) [ inl none ↦ inl (l.told_is ∙ none) | inr w ↦ inr (home w) ];
-              }))
-              | inr out ↦ inr (inl (note_out g n k b y t db.0 out make))
-            ])
+            let bare = dead_makes g n k b y t db.0 make in
+            elim db.1 [
+              | inl stops ↦
+                  stops_here view m n k done puts text told (fresh_in m k t.words told) x a t ts l la (answers_over g view m k done puts text (heard_in m k t.words told) (fresh_in m k t.words told) t a is size many la.live enough)
+                  (bare.0, dead_goes g n (k + 1) ts y e bare.1 more) low count stops
+              | inr out ↦ dies bare (inr (note_out g n k b y t db.0 out make))
+            ]
         | inl lb ↦ elim (live_makes g view m n k all puts (read_all text t.pieces) (heard_in m k t.words told) (fresh_in m k t.words told) b y t is (omega (arith, longer)) lb make) [
-          | inr bare ↦ dies (bare.0, bare.1) (λ begun home. inr (inl bare.2))
+          | inr bare ↦ dies (bare.0, bare.1) (inr bare.2)
           | inl ly ↦
               let pieces = pieces_taken g k 0 t.pieces a b fed in
               let number : y.heard ≡ x.heard + length t.words = make.0 ∙ pieces ∙ count in
@@ -585,7 +674,7 @@ ran M g view n p ts e is fresh h =
       machine_is = refl;
       is = fresh;
       put = none_put (view p).machine;
-      answers = none_heard;
+      answers = none_heard 0 [];
       text_is = refl;
       ended_is = refl;
       told_is = refl;

@@ -1,6 +1,8 @@
 -- The lines of the reactor's turns, section by section.
-use Rattle.std.proofs.Common.{◌≡◌, ℕ, ◌+◌, ◌≤◌, List, [], ◌∷◌, ◌++◌, length, map, Option, Some, None, refl, ap, sym, ◌∙◌, arith, append_assoc, append-nil}
+use Rattle.std.proofs.Common.{◌≡◌, ℕ, ◌+◌, ◌<◌, ◌≤◌, All, List, [], ◌∷◌, ◌++◌, length, map, Option, Some, None, refl, ap, sym, ◌∙◌, subst, arith, inl, inr, append_assoc, append-nil}
+use Rattle.std.proofs.lemmas.Bool.Decides.{eqb_tells}
 use Rattle.std.proofs.lemmas.Grind.{flat_map-append}
+use Rattle.std.proofs.lemmas.List.Elements.{All-head, All-tail}
 use Rattle.plan_types.specs.declared.machine.Machine.{Machine}
 use Rattle.plan_types.specs.declared.plan.Pulse.{Pulse}
 use Rattle.msg_code.specs.declared.talk.Note.{Note}
@@ -11,6 +13,7 @@ use Rattle.report_text.specs.declared.line.ReportLine.{ReportLine}
 use Rattle.report_text.specs.declared.line.ReportLine.TheVariants as report
 use Rattle.std.specs.List.{flat_map}
 use Rattle.wire_scene.specs.declared.scene.Switch.{Switch}
+use Rattle.host_reactor.specs.declared.ordered.Begun.{Begun}
 use Rattle.host_reactor.specs.declared.ordered.Known.{Known}
 use Rattle.host_reactor.specs.Notes.{noted, news_of, told, told_all}
 use Rattle.host_reactor.specs.Reactor.{reacts}
@@ -114,28 +117,57 @@ note_begun m (Some note) r q e = all_begun m note.news r q e
 known_then : (m : Machine) (switches : List Switch) (before : List Came) (t : ReactorTurn) → (known_by m switches (came_in t ∷ before)).begun ≡ (noted m t.note (known_by m switches before)).begun
 known_then m switches before t = (shaped m switches (known_by m switches before) (length before) t.states t.note).begun
 
--- the later turns
-each_tells : (m : Machine) (switches : List Switch) (text : List ℕ) (ss : List Started) (x k : ℕ) (made : List MotionTurn) (rs : List ReactorTurn) (before : List Came) → Spread x ss → length before ≡ k + 1
-    → (known_by m switches before).begun ≡ upto k 0 ss None → ArePut m text ss k (puts_of made) → TookEach (map (λ t. t.note) made) rs → AreLinesOf m switches before rs → TellTurns m ss (k + 1) rs
-each_tells m switches text ss x k made [] before spread long begun put took lines = tt
-each_tells m switches text ss x k [] (t ∷ rs) before spread long begun put took lines = absurd took
-each_tells m switches text ss x k (d ∷ made) (t ∷ rs) before spread long begun put took lines =
-    let r = known_by m switches before in
+-- the notes of some turns, from one on, begin the sections that start 260 turns behind them
+abbrev pub Begin : Machine → List Started → ℕ → List Note → Type 0
+Begin m ss k [] = Unit {0}
+Begin m ss k (n ∷ notes) = ((r : Known) → (noted m (Some n) r).begun ≡ latest k 0 ss r.begun) × Begin m ss (k + 1) notes
+
+pub put_begin : (m : Machine) (text : List ℕ) (ss : List Started) (k : ℕ) (made : List MotionTurn) → ArePut m text ss k (puts_of made) → Begin m ss k (map (λ t. t.note) made)
+put_begin m text ss k [] put = tt
+put_begin m text ss k (d ∷ made) put =
     let one = put.0 in
-    let noted_as : (noted m t.note r).begun ≡ (noted m (Some d.note) r).begun = ap (λ o. (noted m o r).begun) took.0 in
-    let sets = note_begins m text k ss d.note one.read one.further r one.is_read one.are_further one.news_are in
-    let now : (noted m t.note r).begun ≡ upto (k + 1) 0 ss None = noted_as ∙ sets ∙ ap (latest k 0 ss) begun ∙ upto_next k 0 x ss None spread in (
+    (λ r. note_begins m text k ss d.note one.read one.further r one.is_read one.are_further one.news_are, put_begin m text ss (k + 1) made put.1)
+
+-- one that tells nothing does where no section starts so late
+latest_late : (k i : ℕ) (ss : List Started) (b : Option Begun) → All (λ s. s.start < k + 260) ss → latest k i ss b ≡ b
+latest_late k i [] b soon = refl
+latest_late k i (s ∷ ss) b soon =
+    let here = All-head (λ (y : Started). y.start < k + 260) s ss soon in
+    elim (eqb_tells s.start (k + 260)) [ inl p ↦ absurd (let at = p.1 in omega (arith, here, at)) | inr p ↦ rw p.0 (latest_late k (i + 1) ss b (All-tail (λ (y : Started). y.start < k + 260) s ss soon)) ]
+
+pub begin_snoc : (m : Machine) (ss : List Started) (k : ℕ) (notes : List Note) (n : Note) → Begin m ss k notes → n.news ≡ [] → All (λ s. s.start < k + length notes + 260) ss → Begin m ss k (notes ++ n ∷ [])
+begin_snoc m ss k [] n begin none soon =
+    let same : k + 0 + 260 ≡ k + 260 = omega arith in
+    let Soon : ℕ → Type 0 = λ j. All (λ (s : Started). s.start < j) ss in
+    (λ r. ap (λ z. (told_all m z r).begun) none ∙ sym (latest_late k 0 ss r.begun (subst Soon same soon)), tt)
+begin_snoc m ss k (x ∷ notes) n begin none soon =
+    let same : k + length (x ∷ notes) + 260 ≡ k + 1 + length notes + 260 = omega arith in
+    let Soon : ℕ → Type 0 = λ j. All (λ (s : Started). s.start < j) ss in
+    (begin.0, begin_snoc m ss (k + 1) notes n begin.1 none (subst Soon same soon))
+
+-- the later turns
+each_tells : (m : Machine) (switches : List Switch) (ss : List Started) (x k : ℕ) (notes : List Note) (rs : List ReactorTurn) (before : List Came) → Spread x ss → length before ≡ k + 1
+    → (known_by m switches before).begun ≡ upto k 0 ss None → Begin m ss k notes → TookEach notes rs → AreLinesOf m switches before rs → TellTurns m ss (k + 1) rs
+each_tells m switches ss x k notes [] before spread long begun begin took lines = tt
+each_tells m switches ss x k [] (t ∷ rs) before spread long begun begin took lines = absurd took
+each_tells m switches ss x k (n ∷ notes) (t ∷ rs) before spread long begun begin took lines =
+    let r = known_by m switches before in
+    let noted_as : (noted m t.note r).begun ≡ (noted m (Some n) r).begun = ap (λ o. (noted m o r).begun) took.0 in
+    let now : (noted m t.note r).begun ≡ upto (k + 1) 0 ss None = noted_as ∙ begin.0 r ∙ ap (latest k 0 ss) begun ∙ upto_next k 0 x ss None spread in (
       turn_tells m switches ss x (k + 1) before t lines.0.0 spread long lines.0.2 (note_begun m t.note lines.0.0 r lines.0.1 ∙ now),
-      each_tells m switches text ss x (k + 1) made rs (came_in t ∷ before) spread (omega (arith, long)) (known_then m switches before t ∙ now) put.1 took.1 lines.1,
+      each_tells m switches ss x (k + 1) notes rs (came_in t ∷ before) spread (omega (arith, long)) (known_then m switches before t ∙ now) begin.1 took.1 lines.1,
     )
 
 -- all turns
-pub all_tell : (m : Machine) (switches : List Switch) (text : List ℕ) (ss : List Started) (x : ℕ) (made : List MotionTurn) (rs : List ReactorTurn) → Spread x ss → 260 ≤ x → ArePut m text ss 0 (puts_of made)
-    → TookNotes (map (λ t. t.note) made) rs → AreLinesOf m switches [] rs → TellTurns m ss 0 rs
-all_tell m switches text ss x made [] spread late put took lines = tt
-all_tell m switches text ss x made (t ∷ rs) spread late put took lines =
+pub notes_tell : (m : Machine) (switches : List Switch) (ss : List Started) (x : ℕ) (notes : List Note) (rs : List ReactorTurn) → Spread x ss → 260 ≤ x → Begin m ss 0 notes → TookNotes notes rs → AreLinesOf m switches [] rs → TellTurns m ss 0 rs
+notes_tell m switches ss x notes [] spread late begin took lines = tt
+notes_tell m switches ss x notes (t ∷ rs) spread late begin took lines =
     let none : (noted m t.note (known_by m switches [])).begun ≡ None = ap (λ o. (noted m o (known_by m switches [])).begun) took.0 in
     let now = none ∙ sym (upto_first x ss spread late) in (
       turn_tells m switches ss x 0 [] t lines.0.0 spread refl lines.0.2 (note_begun m t.note lines.0.0 (known_by m switches []) lines.0.1 ∙ now),
-      each_tells m switches text ss x 0 made rs (came_in t ∷ []) spread refl (known_then m switches [] t ∙ now) put took.1 lines.1,
+      each_tells m switches ss x 0 notes rs (came_in t ∷ []) spread refl (known_then m switches [] t ∙ now) begin took.1 lines.1,
     )
+
+pub all_tell : (m : Machine) (switches : List Switch) (text : List ℕ) (ss : List Started) (x : ℕ) (made : List MotionTurn) (rs : List ReactorTurn) → Spread x ss → 260 ≤ x → ArePut m text ss 0 (puts_of made)
+    → TookNotes (map (λ t. t.note) made) rs → AreLinesOf m switches [] rs → TellTurns m ss 0 rs
+all_tell m switches text ss x made rs spread late put took lines = notes_tell m switches ss x (map (λ (t : MotionTurn). t.note) made) rs spread late (put_begin m text ss 0 made put) took lines

@@ -17,8 +17,8 @@ use Rattle.motion_stream.specs.Wholes.{ArePlanned, IsToldOf, AreSentIn}
 use Rattle.motion_stream.proofs.Planning.{are_planned}
 use Rattle.session_work.specs.declared.table.MotionTurn.{MotionTurn}
 use Rattle.run_plans.specs.Answers.{TookNoneAhead}
-use Rattle.run_plans.proofs.Answering.{HaveHeard, Homes, all_end, all_wait}
-use Rattle.run_plans.specs.Planned.{AllInRange, AnyWaits, AreBare, AreKnown, AreRead, AreToldBy, Plans, StopsAt, TakeUpLines, Text, TookInTime, nothing_read, puts_of, read_by, told_of, words_in}
+use Rattle.run_plans.proofs.Answering.{HaveHeard, Homing, all_end, all_homing}
+use Rattle.run_plans.specs.Planned.{AllInRange, AreBare, AreKnown, AreRead, AreToldBy, LastHomes, Plans, StopsAt, TakeUpLines, Text, TookInTime, nothing_read, puts_of, read_by, told_of, words_in}
 
 -- Turns of a planner from turn k on, behind these turns, these that were put, this text, this that was told and so many words.
 pub record Ran (m : Machine) (n k : ℕ) (done : List MotionTurn) (before : List Put) (text : Text) (told : Option Told) (taken : ℕ) (ts : List MotionTurn) : Type 0 where
@@ -26,6 +26,7 @@ pub record Ran (m : Machine) (n k : ℕ) (done : List MotionTurn) (before : List
   pub seen : stream.Seen
   pub made : List MotionTurn
   pub bare : List MotionTurn
+  pub last : List MotionTurn
   pub are : ts ≡ made ++ bare
   pub machine_is : planner.machine ≡ m
   pub is : IsPlannerOf planner seen
@@ -37,9 +38,9 @@ pub record Ran (m : Machine) (n k : ℕ) (done : List MotionTurn) (before : List
   pub in_time : TookInTime m k taken made told
   pub in_range : AllInRange m k made told
   pub ahead : TookNoneAhead k taken made
-  pub answers : HaveHeard (k + length made) (done ++ made) [] seen.begun seen.going
+  pub answers : HaveHeard (k + length (made ++ last)) (done ++ (made ++ last)) [] seen.begun seen.going
   pub are_bare : AreBare n (k + length made) bare
-  pub stops : (begun : List Started) → (Homes seen.going → AnyWaits begun) → StopsAt (k + length made) (taken + length (words_in made)) seen.told begun bare
+  pub stops : (begun : List Started) → (Homing (k + length made) seen.begun seen.going → LastHomes (k + length made) begun) → StopsAt (k + length made) (taken + length (words_in made)) seen.told begun bare last
 
 told_by : (m : Machine) (o : Option Told) (all : List Started) → IsToldOf m o all → AreToldBy m o all
 told_by m None all h = h
@@ -86,6 +87,7 @@ whole_plans m n ts text r read =
         seen = record { text = text; told = r.seen.told; begun = w.0 };
         made = r.made;
         bare = r.bare;
+        last = r.last;
         are = r.are;
         goes_on = here;
         of_text = (a.others, a.sections);
@@ -100,9 +102,9 @@ whole_plans m n ts text r read =
         in_time = r.in_time;
         in_range = r.in_range;
         ahead = r.ahead;
-        answers = all_end m r.seen.told r.seen.next (0 + length r.made) r.made r.seen.begun w.0 a.more r.seen.going r.answers a.may.sections a.begun a.unanswered;
+        answers = all_end m r.seen.told r.seen.next (0 + length (r.made ++ r.last)) (r.made ++ r.last) r.seen.begun w.0 a.more r.seen.going r.answers a.may.sections a.begun a.unanswered;
         are_bare = r.are_bare;
-        stops = r.stops w.0 (all_wait m r.seen.told r.seen.next r.seen.begun w.0 a.more r.seen.going a.may.sections a.begun a.unanswered);
+        stops = r.stops w.0 (all_homing m r.seen.told r.seen.next (0 + length r.made) r.seen.begun w.0 r.seen.going a.may.sections);
       },
       refl,
     )))

@@ -8,10 +8,10 @@ use Rattle.msg_code.specs.declared.talk.WordMsg.{WordMsg}
 use Rattle.msg_code.specs.declared.unit.Batch.{Batch}
 use Rattle.plan_types.specs.declared.machine.Machine.{Machine}
 use Rattle.plan_types.specs.declared.plan.Section.{Section}
+use Rattle.plan_types.specs.declared.plan.SectionKind.TheVariants.{Home}
 use Rattle.plan_types.specs.Lines.{Clocks}
 use Rattle.plan_types.specs.Sections.{clocks_at}
 use Rattle.clock_line.specs.Kept.{AreKept}
-use Rattle.motion_work.specs.Homes.{no_end}
 use Rattle.motion_work.specs.Puts.{ArePut, Put}
 use Rattle.motion_work.specs.Seen.{AreBoardClocks, AreStarted, Started}
 use Rattle.motion_work.specs.declared.told.BoardLine.{BoardLine}
@@ -144,10 +144,14 @@ abbrev pub AreKnown : Machine → Option Told → Type 0
 AreKnown m None = Unit {0}
 AreKnown m (Some t) = AreBoardClocks m t.clocks t.first × AreAllKept m t.clocks × (1_260 ≤ t.first)
 
--- one of some sections that were begun homes, and has no answer yet
-abbrev pub AnyWaits : List Started → Type 0
-AnyWaits [] = ⊥
-AnyWaits (s ∷ begun) = (s.end ≡ no_end) ⊎ AnyWaits begun
+-- the last of some sections that were begun homes, and starts by a turn
+pub record LastHomes (k : ℕ) (begun : List Started) : Type 0 where
+  pub past : List Started
+  pub s : Started
+  pub are : begun ≡ past ++ s ∷ []
+  pub axis : ℕ
+  pub home : s.section.kind ≡ Home axis
+  pub by : s.start ≤ k
 
 -- one of some words ends the run
 abbrev pub AnyEnds : List WordMsg → Type 0
@@ -160,16 +164,17 @@ AnyStops heard [] = ⊥
 AnyStops heard (p ∷ ps) = ((p.stop ≡ true) × (p.turn + 1 ≡ heard)) ⊎ AnyStops heard ps
 
 -- In turn k, before which so many words were taken, no more of the text could be read. Where the word of turn k itself was taken in
--- it, nothing was known of connecting, or a section waited for its answer.
+-- it, nothing was known of connecting, or the last section homes and had started.
 pub record IsUnread (k taken : ℕ) (told : Option Told) (begun : List Started) (t : MotionTurn) : Type 0 where
   pub stops : AnyStops (taken + length t.words) t.pieces
   pub low : taken + length t.words ≤ k + 1
-  pub early : taken + length t.words ≡ k + 1 → (told ≡ None) ⊎ AnyWaits begun
+  pub early : taken + length t.words ≡ k + 1 → (told ≡ None) ⊎ LastHomes k begun
 
--- why nothing but bare messages is put from a turn on: no word follows, memory was wanted, or no more of the text could be read
-abbrev pub StopsAt : ℕ → ℕ → Option Told → List Started → List MotionTurn → Type 0
-StopsAt k taken told begun [] = Unit {0}
-StopsAt k taken told begun (t ∷ ts) = AnyEnds t.words ⊎ ((t.note.out ≡ true) ⊎ IsUnread k taken told begun t)
+-- Why nothing but bare messages is put from a turn on: no word follows, memory was wanted, or no more of the text could be read. In this
+-- last case alone the planner still heard the words of the first of these turns, its last one.
+abbrev pub StopsAt : ℕ → ℕ → Option Told → List Started → List MotionTurn → List MotionTurn → Type 0
+StopsAt k taken told begun [] last = last ≡ []
+StopsAt k taken told begun (t ∷ ts) last = ((AnyEnds t.words ⊎ (t.note.out ≡ true)) × (last ≡ [])) ⊎ (IsUnread k taken told begun t × (last ≡ t ∷ []))
 
 -- the words that were taken in some turns
 abbrev pub words_in : List MotionTurn → List WordMsg
@@ -196,15 +201,16 @@ TakeUpLines m k (t ∷ ts) told =
 
 -- Turns of a planner from turn k on, behind these that were put, this text, this that was told and so many words. The first turns
 -- are those of the planner: all that was put by their end is told by a text that goes on with what was read of it, and its first
--- sections, each of which was begun in one of these turns, and of which those that home end by the word that tells of their answer; what
--- was put of a section is in order, with triples that cover as many steps as one can; no
--- word is taken ahead of its turn; further clock lines are taken up in the turn in which the word that tells them is taken, and of each board
--- of which one is told that it may have, one is taken up. From the first turn on in which
--- memory was wanted, or no text could be read, or nothing was to follow, all is bare.
+-- sections, each of which was begun in one of these turns, and of which those that home end by the word that tells of their answer, in one
+-- of these turns or in the next one, where no more of the text could be read in it; what was put of a section is in order, with triples that
+-- cover as many steps as one can; no word is taken ahead of its turn; further clock lines are taken up in the turn in which the word that
+-- tells them is taken, and of each board of which one is told that it may have, one is taken up. From the first turn on in which memory was
+-- wanted, or no text could be read, or nothing was to follow, all is bare.
 pub record PlansFrom (m : Machine) (n k : ℕ) (before : List Put) (text : Text) (told : Option Told) (taken : ℕ) (ts : List MotionTurn) : Type 0 where
   pub seen : Seen
   pub made : List MotionTurn
   pub bare : List MotionTurn
+  pub last : List MotionTurn
   pub are : ts ≡ made ++ bare
   pub goes_on : MayBecome (read_by text made).ended (read_by text made).bytes seen.text
   pub of_text : AreFirstOf m seen.text seen.begun
@@ -219,9 +225,9 @@ pub record PlansFrom (m : Machine) (n k : ℕ) (before : List Put) (text : Text)
   pub in_time : TookInTime m k taken made told
   pub in_range : AllInRange m k made told
   pub ahead : TookNoneAhead k taken made
-  pub answers : EndByWords k taken made seen.begun
+  pub answers : EndByWords k taken (made ++ last) seen.begun
   pub are_bare : AreBare n (k + length made) bare
-  pub stops : StopsAt (k + length made) (taken + length (words_in made)) seen.told seen.begun bare
+  pub stops : StopsAt (k + length made) (taken + length (words_in made)) seen.told seen.begun bare last
 
 -- turns of a planner to which nothing was told before
 abbrev pub Plans : Machine → ℕ → List MotionTurn → Type 0

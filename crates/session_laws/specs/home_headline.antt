@@ -2,4 +2,3 @@ pub mod Little
 pub mod Follow
 pub mod Reports
 pub mod Cuts
-pub mod Reading

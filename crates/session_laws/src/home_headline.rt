@@ -33,7 +33,6 @@ ghost use Rattle.homing_laws.specs.home_parts.Answers.{IsPlannedBy};
 ghost use Rattle.session_laws.specs.home_headline.Cuts.{TellAnswers, TellEnds, TellsCut, cuts_of};
 ghost use Rattle.session_laws.specs.home_headline.Follow.{AllShowBegun, AllShowHomes, FollowHomes, HaveBegunLines, ShowBegun, ShowHomes};
 ghost use Rattle.session_laws.specs.home_headline.Little.{AllHomeLittle, HomesLittle, SendsAllInTime, SendsAllOut};
-ghost use Rattle.session_laws.specs.home_headline.Reading.{ReadsOn};
 ghost use Rattle.session_laws.specs.home_headline.Reports.{TellOfReadings};
 
 use io_core::{Files, Sink};
@@ -119,17 +118,16 @@ pub fn clear_scenes_hold_little()
     ensures out { (m : Machine) (text : List ℕ) (planned : List MotionTurn) → SendsAllInTime m text planned → SendsAllOut m text planned }
 {}
 
-/// The law of switches in whole runs: in whatever threads a run went that does not end for want of memory, and whose text was read on while
-/// axes homed (`ReadsOn`), each of the reactor's turns, the one that ends the run among them, tells of a switch exactly where a homing
-/// section ended in it: one line, of that section's number and its axis's endstop. This is said of the same run of the planner as what the
-/// lines show of its sections.
+/// The law of switches in whole runs: in whatever threads a run went that does not end for want of memory, each of the reactor's turns, the
+/// one that ends the run among them, tells of a switch exactly where a homing section ended in it: one line, of that section's number and
+/// its axis's endstop. This is said of the same run of the planner as what the lines show of its sections.
 pub fn homing_runs_tell_of_switches<F: Files, S: Sink>()
     ensures { (m : Machine) (s : Scene) (name : List ℕ) (files files' : F) (out out' : S) (kept kept' : Kept) (t : Told Run) →
         (r : RunsOver F.Files S.Sink m s name files out kept t files' out' kept') → IsValidMachine m → (text : List ℕ) → F.told files name ≡ Some text → kept.at ≡ 0 →
         ∥ ((made : IsMade m s r.runs.0 r.runs.1) × (made.plans.seen.text ≡ text) ×
         ((t.cause ≡ Cause.Memory → ⊥) → HaveShortDictionaries m → AllHomeLittle m s text r.runs.0 (r.runs.1 ++ r.runs.2 ∷ []) →
         AllShowHomes m made.plans.seen (clocks_heard made.plans.seen.told) (ready_heard made.plans.seen.told) t.cause (r.runs.1 ++ r.runs.2 ∷ [])) ×
-        ((t.cause ≡ Cause.Memory → ⊥) → ReadsOn m text r.runs.0 t.cause → TellEnds m s.switches made.plans.seen.begun 0 (r.runs.1 ++ r.runs.2 ∷ []))) ∥₁ }
+        ((t.cause ≡ Cause.Memory → ⊥) → TellEnds m s.switches made.plans.seen.begun 0 (r.runs.1 ++ r.runs.2 ∷ []))) ∥₁ }
 {}
 
 /// The law of begun sections: in whatever threads a run went that does not end for want of memory, of moves or homing, and whatever the

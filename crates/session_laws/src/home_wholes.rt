@@ -37,7 +37,6 @@ ghost use Rattle.session_laws.specs.run_headline.Timely.{clocks_heard, ready_hea
 ghost use Rattle.session_laws.specs.home_headline.Cuts.{TellEnds};
 ghost use Rattle.session_laws.specs.home_headline.Follow.{AllShowHomes};
 ghost use Rattle.session_laws.specs.home_headline.Little.{AllHomeLittle};
-ghost use Rattle.session_laws.specs.home_headline.Reading.{ReadsOn};
 ghost use Rattle.session_laws.specs.home_wholes.Own.{AllHearSoon, TellOwn};
 ghost use Rattle.session_laws.specs.home_wholes.Still.{IsStillIn};
 ghost use Rattle.session_laws.specs.home_wholes.Whole.{AllWholeHomes};
@@ -72,31 +71,30 @@ pub fn boards_are_still_in_sections_of_moves()
         (record { board = board_at m b; pins = pins; clocks = clocks; sections = sections; orders = orders_in turns; states = states }) }
 {}
 
-/// The law of whole sections where axes home: in whatever threads a run went that does not end for want of memory, and whose text was read
-/// on while axes homed (`ReadsOn`), the lines of its report follow the plans of the sections of the file's text (`AllShowHomes`), and of
-/// sections of moves they tell whole plans:
-/// where the run went through, of each stepper as many pulses as its plan of the section has steps; and so, whatever ended the run, where any
-/// pulse of a stepper of the same board is told behind the section. It is asked that each board holds nothing long (`AllHomeLittle`).
-/// Without that, each turn tells of a switch exactly where a homing section ended in it (`TellEnds`).
+/// The law of whole sections where axes home: in whatever threads a run went that does not end for want of memory, the lines of its report
+/// follow the plans of the sections of the file's text (`AllShowHomes`), and of sections of moves they tell whole plans: where the run went
+/// through, of each stepper as many pulses as its plan of the section has steps; and so, whatever ended the run, where any pulse of a stepper
+/// of the same board is told behind the section. It is asked that each board holds nothing long (`AllHomeLittle`). Without that, each turn
+/// tells of a switch exactly where a homing section ended in it (`TellEnds`).
 pub fn homing_runs_are_whole<F: Files, S: Sink>()
     ensures { (m : Machine) (s : Scene) (name : List ℕ) (files files' : F) (out out' : S) (kept kept' : Kept) (t : Told Run) →
         (r : RunsOver F.Files S.Sink m s name files out kept t files' out' kept') → IsValidMachine m → (text : List ℕ) → F.told files name ≡ Some text → kept.at ≡ 0 →
         ∥ ((made : IsMade m s r.runs.0 r.runs.1) × (made.plans.seen.text ≡ text) ×
-        ((t.cause ≡ Cause.Memory → ⊥) → ReadsOn m text r.runs.0 t.cause → HaveShortDictionaries m → AllHomeLittle m s text r.runs.0 (r.runs.1 ++ r.runs.2 ∷ []) →
+        ((t.cause ≡ Cause.Memory → ⊥) → HaveShortDictionaries m → AllHomeLittle m s text r.runs.0 (r.runs.1 ++ r.runs.2 ∷ []) →
         AllShowHomes m made.plans.seen (clocks_heard made.plans.seen.told) (ready_heard made.plans.seen.told) t.cause (r.runs.1 ++ r.runs.2 ∷ []) ×
         AllWholeHomes m made.plans.seen (clocks_heard made.plans.seen.told) t.cause (r.runs.1 ++ r.runs.2 ∷ [])) ×
-        ((t.cause ≡ Cause.Memory → ⊥) → ReadsOn m text r.runs.0 t.cause → TellEnds m s.switches made.plans.seen.begun 0 (r.runs.1 ++ r.runs.2 ∷ []))) ∥₁ }
+        ((t.cause ≡ Cause.Memory → ⊥) → TellEnds m s.switches made.plans.seen.begun 0 (r.runs.1 ++ r.runs.2 ∷ []))) ∥₁ }
 {}
 
-/// The law of own readings: in whatever threads a run went that does not end for want of memory, and whose text was read on while axes homed
-/// (`ReadsOn`), each of the reactor's turns before the last one that tells that the switch of a homing section closed tells of a tick at which
-/// this very section's readings of its axis's endstop are complete (`TellOwn`), whatever happens on the lines.
+/// The law of own readings: in whatever threads a run went that does not end for want of memory, each of the reactor's turns before the last
+/// one that tells that the switch of a homing section closed tells of a tick at which this very section's readings of its axis's endstop are
+/// complete (`TellOwn`), whatever happens on the lines.
 ///
 /// It is asked of each board that it holds nothing long (`AllHomeLittle`), and that what its trigger does in the section is heard of within half
 /// a round of its 32-bit clock (`AllHearSoon`).
 pub fn homing_runs_are_cut_by_their_own_readings<F: Files, S: Sink>()
     ensures { (m : Machine) (s : Scene) (name : List ℕ) (files files' : F) (out out' : S) (kept kept' : Kept) (t : Told Run) →
         (r : RunsOver F.Files S.Sink m s name files out kept t files' out' kept') → IsValidMachine m → HaveShortDictionaries m → (text : List ℕ) → F.told files name ≡ Some text → kept.at ≡ 0 →
-        (t.cause ≡ Cause.Memory → ⊥) → ReadsOn m text r.runs.0 t.cause → AllHomeLittle m s text r.runs.0 (r.runs.1 ++ r.runs.2 ∷ []) → AllHearSoon m s text r.runs.0 (r.runs.1 ++ r.runs.2 ∷ []) →
+        (t.cause ≡ Cause.Memory → ⊥) → AllHomeLittle m s text r.runs.0 (r.runs.1 ++ r.runs.2 ∷ []) → AllHearSoon m s text r.runs.0 (r.runs.1 ++ r.runs.2 ∷ []) →
         ∥ TellOwn m s.switches [] r.runs.1 ∥₁ }
 {}

@@ -32,7 +32,7 @@ pub fn first_sections_start_behind_connecting<F: Files, S: Sink>()
 
 /// The law of ends: in whatever threads a run went, and whatever ended it, each homing section that the first turns of its planner begun, and whose end
 /// they know, ended in the turn of the reactor in which its group answered that its switch closed; and that turn's line of a switch is the section's.
-/// And in the turns of the reactor that the planner made too, before it stopped, each tells of a switch exactly where a homing section ended in it
+/// And of the turns of the reactor whose words the planner heard, before it stopped, each tells of a switch exactly where a homing section ended in it
 /// (`TellEnds`).
 pub fn homing_sections_end_with_their_answers<F: Files, S: Sink>()
     ensures ends { (m : Machine) (s : Scene) (name : List ℕ) (files files' : F) (out out' : S) (kept kept' : Kept) (t : Told Run) →
@@ -43,5 +43,5 @@ pub fn homing_sections_end_with_their_answers<F: Files, S: Sink>()
     ensures cuts { (m : Machine) (s : Scene) (name : List ℕ) (files files' : F) (out out' : S) (kept kept' : Kept) (t : Told Run) →
         (r : RunsOver F.Files S.Sink m s name files out kept t files' out' kept') →
         (front later : List MotionTurn) → r.runs.0 ≡ front ++ later → (p : Plans m (length m.boards) front) →
-        TellEnds m s.switches p.seen.begun 0 (take (length p.made) r.runs.1) }
+        TellEnds m s.switches p.seen.begun 0 (take (length (p.made ++ p.last)) r.runs.1) }
 {}

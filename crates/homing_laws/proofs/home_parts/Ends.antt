@@ -12,7 +12,8 @@ use Rattle.motion_work.specs.Seen.{Started}
 use Rattle.motion_work.specs.Told.{Told}
 use Rattle.session_work.specs.declared.table.MotionTurn.{MotionTurn}
 use Rattle.session_work.specs.Rows.{item}
-use Rattle.run_plans.specs.Answers.{EndByWords, EndsByWord}
+use Rattle.run_plans.specs.Answers.{EndByWords, EndsByWord, TookNoneAhead}
+use Rattle.run_plans.proofs.Heard.{heard_all, heard_few}
 use Rattle.run_plans.specs.Planned.{AreToldBy, Plans, put_of, words_in}
 use Rattle.homing_laws.specs.home_plans.Notes.{AreInARow}
 use Rattle.homing_laws.proofs.home_plans.Noting.{begun_row}
@@ -29,7 +30,7 @@ pub among_here : (past : List Started) (x : Started) (later : List Started) → 
 among_here [] x later = inl refl
 among_here (y ∷ past) x later = inr (among_here past x later)
 
-among_parts : (x : Started) (past : List Started) (s : Started) (later : List Started) → Among x (past ++ s ∷ later) → Among x past ⊎ ((x ≡ s) ⊎ Among x later)
+pub among_parts : (x : Started) (past : List Started) (s : Started) (later : List Started) → Among x (past ++ s ∷ later) → Among x past ⊎ ((x ≡ s) ⊎ Among x later)
 among_parts x [] s later a = inr a
 among_parts x (y ∷ past) s later (inl e) = inl (inl e)
 among_parts x (y ∷ past) s later (inr a) = elim (among_parts x past s later a) [ inl b ↦ inl (inr b) | inr b ↦ inr b ]
@@ -55,11 +56,17 @@ row_later ready x [] s later r a = row_all (s.end + 260) x later r.2 a
 row_later ready x (y ∷ past) s later r a = row_later (y.end + 260) x past s later r.2 a
 
 module _ (m : Machine) (switches : List Switch) (n : ℕ) (ts : List MotionTurn) (p : Plans m n ts) (came : List Came) (by : IsPlannedBy m switches n ts p came) where
+  abbrev Hears : List MotionTurn
+  Hears = p.made ++ p.last
+
   abbrev Words : List WordMsg
-  Words = words_in p.made
+  Words = words_in Hears
 
   abbrev Count : ℕ → ℕ
-  Count turns = length (words_in (take turns p.made))
+  Count turns = length (words_in (take turns Hears))
+
+  ahead : TookNoneAhead 0 0 Hears
+  ahead = (heard_all m n ts p).ahead
 
   row : (told : Option Told) → AreToldBy m told p.seen.begun → (ready : ℕ) × AreInARow ready p.seen.begun
   row None e = (0, subst (AreInARow 0) (sym e) tt)
@@ -77,7 +84,7 @@ module _ (m : Machine) (switches : List Switch) (n : ℕ) (ts : List MotionTurn)
 
   -- a section whose answer was told in the turn in which it ends, by a word that was taken by then
   abbrev WasTold : Started → Type 0
-  WasTold s = (axis : ℕ) → s.section.kind ≡ Home axis → (s.end ≡ no_end → ⊥) → (s.end < length came) × TellsIn m switches s.end came × (s.end < Count (suc s.end)) × (s.end < length p.made)
+  WasTold s = (axis : ℕ) → s.section.kind ≡ Home axis → (s.end ≡ no_end → ⊥) → (s.end < length came) × TellsIn m switches s.end came × (s.end < Count (suc s.end)) × (s.end < length Hears)
 
   abbrev WereTold : List Started → Type 0
   WereTold [] = Unit {0}
@@ -134,18 +141,18 @@ module _ (m : Machine) (switches : List Switch) (n : ℕ) (ts : List MotionTurn)
       let long = by.long in
       e.none (omega (arith, far, from)) (were_at e.x past w e.among e.axis e.home (λ none. omega (arith, none, far, from, low, long, small))).1
 
-  ends_at : (past : List Started) (s : Started) (later : List Started) (axis : ℕ) (begun : List Started) → begun ≡ past ++ s ∷ later → s.section.kind ≡ Home axis → EndByWords 0 0 p.made begun → EndsByWord 0 0 p.made s
-  ends_at past s later axis begun cut home all = at past (subst (EndByWords 0 0 p.made) cut all)
+  ends_at : (past : List Started) (s : Started) (later : List Started) (axis : ℕ) (begun : List Started) → begun ≡ past ++ s ∷ later → s.section.kind ≡ Home axis → EndByWords 0 0 Hears begun → EndsByWord 0 0 Hears s
+  ends_at past s later axis begun cut home all = at past (subst (EndByWords 0 0 Hears) cut all)
     where
-      at : (ss : List Started) → EndByWords 0 0 p.made (ss ++ s ∷ later) → EndsByWord 0 0 p.made s
+      at : (ss : List Started) → EndByWords 0 0 Hears (ss ++ s ∷ later) → EndsByWord 0 0 Hears s
       at [] a = a.0 axis home
       at (y ∷ ss) a = at ss a.1
 
   -- nor while it waits
-  wait_none : (past : List Started) (s : Started) (later : List Started) (axis j : ℕ) → p.seen.begun ≡ past ++ s ∷ later → s.section.kind ≡ Home axis → s.start ≤ j → j < s.end → j < length p.made → TellsIn m switches j came → ⊥
+  wait_none : (past : List Started) (s : Started) (later : List Started) (axis j : ℕ) → p.seen.begun ≡ past ++ s ∷ later → s.section.kind ≡ Home axis → s.start ≤ j → j < s.end → j < length Hears → TellsIn m switches j came → ⊥
   wait_none past s later axis j cut home late soon few t =
       let a = ends_at past s later axis p.seen.begun cut home p.answers in
-      let w = waits_word s.start s.end 0 0 j p.made (omega arith) (omega arith) (omega (arith, few)) late soon a.waits p.ahead in
+      let w = waits_word s.start s.end 0 0 j Hears (omega arith) (omega arith) (omega (arith, few)) late soon a.waits ahead in
       let e : j ≡ j - 0 = omega arith in
       w.2 (turn_tells m switches Words j came w.0 by.words t (ap (λ i. item i Words) e ∙ w.1))
 
@@ -155,26 +162,27 @@ module _ (m : Machine) (switches : List Switch) (n : ℕ) (ts : List MotionTurn)
       let a = ends_at past s later axis p.seen.begun cut home p.answers in
       elim a.ends [
         | inl early ↦ absurd (omega (arith, early))
-        | inr e ↦ elim e [ inl none ↦ absurd (known none) | inr took ↦ told_by a (takes_word s.end 0 p.made took) ]
+        | inr e ↦ elim e [ inl none ↦ absurd (known none) | inr took ↦ told_by a (takes_word s.end 0 Hears took) ]
       ]
     where
       Row : List Started → Type 0
       Row ss = AreInARow ready ss
 
-      told_by : EndsByWord 0 0 p.made s → IsTelling s.end 0 p.made → (s.end < length came) × TellsIn m switches s.end came × (s.end < Count (suc s.end)) × (s.end < length p.made)
+      told_by : EndsByWord 0 0 Hears s → IsTelling s.end 0 Hears → (s.end < length came) × TellsIn m switches s.end came × (s.end < Count (suc s.end)) × (s.end < length Hears)
       told_by a t =
           let at = t.at in
           let less = t.low in
           let behind = t.behind in
           let before = t.before in
           let order = (row_start ready past s later (subst Row cut in_row)).1 in
-          let most = ahead_by 0 0 t.turn p.made p.ahead less in
+          let most = ahead_by 0 0 t.turn Hears ahead less in
+          let one_more = heard_few m n ts p in
           let low : t.place < length came = elim (leb_tells (suc t.place) (length came)) [ inl q ↦ q.1 | inr q ↦ absurd (by.others t.place t.word (let far = q.1 in omega (arith, far)) t.is t.tells) ] in
           let place : t.place ≡ s.end = elim (leb_tells (suc s.start) s.end) [
             | inl q ↦
                 let late = q.1 in
                 let d = s.end - 1 in
-                let least = waits_by s.start s.end 0 0 d p.made a.waits (omega (arith, at, less)) (omega (arith, late)) (omega (arith, late)) in
+                let least = waits_by s.start s.end 0 0 d Hears a.waits (omega (arith, at, less)) (omega (arith, late)) (omega (arith, late)) in
                 let same : suc d ≡ t.turn = omega (arith, late, at) in
                 let counts = ap (λ i. Count i) same in
                 omega (arith, least, counts, behind, before, most, at, late)
@@ -185,9 +193,9 @@ module _ (m : Machine) (switches : List Switch) (n : ℕ) (ts : List MotionTurn)
                   let u = word_tells m switches Words t.place came t.word by.words low t.is t.tells in
                   let e = earlier past s later t.place cut (omega (arith, soon, near, order)) u in
                   let far = (row_past ready e.x past s later (subst Row cut in_row) e.among).1 in
-                  let x = were_at e.x past w e.among e.axis e.home (λ none. omega (arith, none, far, near, at, less, small)) in
+                  let x = were_at e.x past w e.among e.axis e.home (λ none. omega (arith, none, far, near, at, less, one_more, small)) in
                   let taken = x.2 in
-                  let more = by_more (suc e.x.end) t.turn p.made (omega (arith, far, near, at)) in
+                  let more = by_more (suc e.x.end) t.turn Hears (omega (arith, far, near, at)) in
                   absurd (e.none (omega (arith, taken, more, behind)) x.1)
               | inr later_on ↦ let far = later_on.1 in omega (arith, far, before, most, at)
             ]
@@ -217,11 +225,11 @@ module _ (m : Machine) (switches : List Switch) (n : ℕ) (ts : List MotionTurn)
   pub told_low : (past : List Started) (s : Started) (later : List Started) (axis : ℕ) → p.seen.begun ≡ past ++ s ∷ later → s.section.kind ≡ Home axis → (s.end ≡ no_end → ⊥) → s.end < length came
   told_low past s later axis cut home known = (were_here past s later (subst WereTold cut all_told) axis home known).0
 
-  pub told_made : (past : List Started) (s : Started) (later : List Started) (axis : ℕ) → p.seen.begun ≡ past ++ s ∷ later → s.section.kind ≡ Home axis → (s.end ≡ no_end → ⊥) → s.end < length p.made
+  pub told_made : (past : List Started) (s : Started) (later : List Started) (axis : ℕ) → p.seen.begun ≡ past ++ s ∷ later → s.section.kind ≡ Home axis → (s.end ≡ no_end → ⊥) → s.end < length Hears
   told_made past s later axis cut home known = (were_here past s later (subst WereTold cut all_told) axis home known).3
 
   none_from : (past : List Started) (s : Started) (later : List Started) (axis from : ℕ) → p.seen.begun ≡ past ++ s ∷ later → s.section.kind ≡ Home axis → from + 259 ≡ s.start → (turns : List Came)
-      → ((j : ℕ) → TellsIn m switches j turns → TellsIn m switches j came) → length turns ≤ length p.made → TellNone m switches from s.end turns
+      → ((j : ℕ) → TellsIn m switches j turns → TellsIn m switches j came) → length turns ≤ length Hears → TellNone m switches from s.end turns
   none_from past s later axis from cut home at [] in_all few = tt
   none_from past s later axis from cut home at (c ∷ before) in_all few = (
     λ late soon t.
@@ -243,7 +251,7 @@ tells_more m switches j [] behind t = t
 tells_more m switches j (c ∷ ahead) behind t = inr (tells_more m switches j ahead behind t)
 
 pub waits_silent : (m : Machine) (switches : List Switch) (n : ℕ) (ts : List MotionTurn) (p : Plans m n ts) (came ahead behind : List Came) (past : List Started) (s : Started) (later : List Started) (axis from : ℕ) → IsPlannedBy m switches n ts p came
-    → came ≡ ahead ++ behind → length behind ≤ length p.made → p.seen.begun ≡ past ++ s ∷ later → s.section.kind ≡ Home axis → from + 259 ≡ s.start → TellNone m switches from s.end behind
+    → came ≡ ahead ++ behind → length behind ≤ length (p.made ++ p.last) → p.seen.begun ≡ past ++ s ∷ later → s.section.kind ≡ Home axis → from + 259 ≡ s.start → TellNone m switches from s.end behind
 waits_silent m switches n ts p came ahead behind past s later axis from by are few cut home at =
     none_from m switches n ts p came by past s later axis from cut home at behind (λ j t. subst (TellsIn m switches j) (sym are) (tells_more m switches j ahead behind t)) few
 
@@ -252,5 +260,5 @@ pub ends_low : (m : Machine) (switches : List Switch) (n : ℕ) (ts : List Motio
 ends_low m switches n ts p came past s later axis by cut home known = told_low m switches n ts p came by past s later axis cut home known
 
 pub ends_made : (m : Machine) (switches : List Switch) (n : ℕ) (ts : List MotionTurn) (p : Plans m n ts) (came : List Came) (past : List Started) (s : Started) (later : List Started) (axis : ℕ) → IsPlannedBy m switches n ts p came
-    → p.seen.begun ≡ past ++ s ∷ later → s.section.kind ≡ Home axis → (s.end ≡ no_end → ⊥) → s.end < length p.made
+    → p.seen.begun ≡ past ++ s ∷ later → s.section.kind ≡ Home axis → (s.end ≡ no_end → ⊥) → s.end < length (p.made ++ p.last)
 ends_made m switches n ts p came past s later axis by cut home known = told_made m switches n ts p came by past s later axis cut home known

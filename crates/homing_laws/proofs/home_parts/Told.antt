@@ -30,6 +30,7 @@ use Rattle.homing_laws.specs.home_plans.Notes.{AreInARow, CameNotes, IsSilentFro
 use Rattle.homing_laws.proofs.home_plans.Noting.{begun_in, begun_row, none_later}
 use Rattle.homing_laws.specs.home_parts.Answers.{ArePastConnecting, IsPlannedBy, MayHome, TakeSetUps, TellNone, TellsIn}
 use Rattle.homing_laws.specs.home_parts.Cuts.{cut_on, cuts_on}
+use Rattle.run_plans.proofs.Heard.{heard_few}
 use Rattle.homing_laws.proofs.home_parts.Ends.{ends_low, ends_made, ends_told, waits_silent}
 use Rattle.homing_laws.proofs.home_parts.Known.{tells_low}
 use Rattle.run_laws.proofs.Lists.{same_place}
@@ -175,7 +176,8 @@ module _ (m : Machine) (switches : List Switch) (pins : List (List Level)) (entr
       let All : List Came → Type 0 = λ z. CameNotes p.seen.begun z in
       let Past : List Came → Type 0 = λ z. ArePastConnecting m switches ready z in
       let notes = subst Notes cut (notes_tail p.seen.begun ahead behind (subst All came_is by.notes)) in
-      let none = waits_silent m switches (length m.boards) ts p came ahead behind xs s later axis from by came_is few cut home at in
+      let hears = length-append p.made p.last in
+      let none = waits_silent m switches (length m.boards) ts p came ahead behind xs s later axis from by came_is (omega (arith, few, hears)) cut home at in
       let calm = silent m switches ready from s.end behind (omega (arith, at, start, early)) low (past_tail m switches ready ahead behind (subst Past came_is past)) none in
       begun_in m switches t.first from axis xs s later behind row home (may_at m xs s later axis home (subst (MayHome m) cut may)) notes calm at (omega (arith, at, start, early)) (omega (arith, low))
 
@@ -205,6 +207,7 @@ module _ (m : Machine) (switches : List Switch) (pins : List (List Level)) (entr
       let small = p.small in
       let long_by = by.long in
       let made = ends_made m switches (length m.boards) ts p came xs s later axis by cut home (λ none. omega (arith, none, low, long_by, size, small)) in
+      let one_more = heard_few m (length m.boards) ts p in
       record {
         came = f.c;
         before = f.before;
@@ -217,7 +220,7 @@ module _ (m : Machine) (switches : List Switch) (pins : List (List Level)) (entr
         goes_on = f.run.goes_on.0;
         begin = from;
         members = members_from m (axis_at m axis) s.moving 0 m.boards;
-        begun = begun_by xs s later axis from (f.ahead ++ f.c ∷ []) f.before cut home at here (omega (arith, same)) (omega (arith, same, made));
+        begun = begun_by xs s later axis from (f.ahead ++ f.c ∷ []) f.before cut home at here (omega (arith, same)) (omega (arith, same, made, one_more));
         soon = omega (arith, at);
         far = far;
         none = none_later t.first from (length f.before) xs s later f.c.note row notes.0 at (omega (arith, same, at, far)) (omega (arith, same));

@@ -40,13 +40,13 @@ AreOfTurns m switches words [] = Unit {0}
 AreOfTurns m switches words (c ∷ before) =
     ((w : WordMsg) → item (length before) words ≡ w ∷ [] → w ≡ (last_turn m switches c before).ordered.word) × AreOfTurns m switches words before
 
--- Turns of a reactor that took the notes that a planner made, as the planner took its words; those that it took behind them tell of no
+-- Turns of a reactor that took the notes that a planner made, as the planner heard its words; those that it heard behind them tell of no
 -- answer. The planner may have made one turn less than the reactor.
 pub record IsPlannedBy (m : Machine) (switches : List Switch) (n : ℕ) (ts : List MotionTurn) (p : Plans m n ts) (came : List Came) : Type 0 where
   pub goes_on : GoesOn m switches came
   pub notes : CameNotes p.seen.begun came
-  pub words : AreOfTurns m switches (words_in p.made) came
-  pub others : (place : ℕ) (w : WordMsg) → length came ≤ place → item place (words_in p.made) ≡ w ∷ [] → tells_homed w.news ≡ true → ⊥
+  pub words : AreOfTurns m switches (words_in (p.made ++ p.last)) came
+  pub others : (place : ℕ) (w : WordMsg) → length came ≤ place → item place (words_in (p.made ++ p.last)) ≡ w ∷ [] → tells_homed w.news ≡ true → ⊥
   pub long : length came ≤ length p.made + 1
 
 -- behind a turn a run is past connecting

@@ -115,7 +115,7 @@ module _ {F S : Type 0} (f : Files F) (o : Sink S) (m : Machine) (s : Scene) (na
   firsts made clear own on sends [] x soon = tt
   firsts made clear own on sends (first ∷ rest) x soon =
       first_all m v short s r.runs.0 made.plans r.runs.2 t.cause clear on sends first rest x.facts own soon
-      (ends_front m s.switches made.plans.seen.begun 0 (first ∷ rest) (r.runs.2 ∷ []) (all_ends m v s r.runs.0 made.plans r.runs.2 t.cause (first ∷ rest) x (inl own)))
+      (ends_front m s.switches made.plans.seen.begun 0 (first ∷ rest) (r.runs.2 ∷ []) (all_ends m v s r.runs.0 made.plans r.runs.2 t.cause (first ∷ rest) x))
 
   -- each tick that it tells of is the first one
   pub run_firsts : (text : List ℕ) → f.told files name ≡ Some text → kept.at ≡ 0 → s.entries ≡ [] → IsOwn t.cause → (t.cause ≡ cause.Memory → ⊥) → ((line : ℕ) → (program_end m text).stop ≡ read.Stop line → ⊥) → SendsAllSoon m text r.runs.0

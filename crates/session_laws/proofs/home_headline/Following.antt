@@ -1,14 +1,12 @@
 -- Why the lines of a whole run in which axes home follow the plans of its sections.
-use Rattle.std.proofs.Common.{◌≡◌, inr, ℕ, ◌<◌, List, [], ◌∷◌, ◌++◌, length, map, Some, append_assoc, length-append, refl, ap, sym, ◌∙◌, subst, arith}
+use Rattle.std.proofs.Common.{◌≡◌, inr, ℕ, ◌<◌, List, [], ◌∷◌, ◌++◌, length, Some, length-append, refl, subst, arith}
 use Rattle.std.proofs.Math.Logic.{∥∥₁_map}
-use Rattle.std.proofs.lemmas.List.{length-map}
 use Rattle.plan_types.specs.declared.cause.Cause.{Cause}
 use Rattle.plan_types.specs.declared.cause.Cause.TheVariants as cause
 use Rattle.plan_types.specs.declared.machine.Machine.{Machine}
 use Rattle.plan_types.specs.Clock.{clock_of}
 use Rattle.plan_types.specs.Machines.{IsValidMachine, board_at, stepper_at}
 use Rattle.plan_types.specs.Sections.{clocks_at}
-use Rattle.msg_code.specs.declared.talk.Note.{Note}
 use Rattle.io_core.specs.declared.traits.Files.{Ghosts as Files}
 use Rattle.io_core.specs.declared.traits.Sink.{Ghosts as Sink}
 use Rattle.wire_scene.specs.declared.scene.Scene.{Scene}
@@ -18,22 +16,20 @@ use Rattle.motion_work.specs.Told.{Told}
 use Rattle.session_lanes.specs.declared.near.Told as near
 use Rattle.session_work.specs.declared.table.MotionTurn.{MotionTurn}
 use Rattle.session_work.specs.declared.table.ReactorTurn.{ReactorTurn}
-use Rattle.session_work.specs.Rows.{gather, option_items}
 use Rattle.session_desk.specs.declared.tell.Kept.{Kept}
 use Rattle.session_run.specs.Boards.{came_from}
 use Rattle.session_run.specs.Runs.{RunsOver}
 use Rattle.run_boards.specs.Boards.{IsInWhole}
-use Rattle.run_plans.specs.Lines.{TellTurns, TookEach, TookNotes}
+use Rattle.run_plans.specs.Lines.{TellTurns}
 use Rattle.run_plans.specs.Planned.{Plans}
 use Rattle.run_plans.proofs.Running.{started_in}
 use Rattle.session_laws.specs.run_headline.Made.{IsMade}
 use Rattle.session_laws.specs.run_headline.Timely.{AreSound, link_of}
 use Rattle.session_laws.proofs.run_headline.Boarded.{Ready, first_in_range, ready, sound_of, took, valid_at}
-use Rattle.session_laws.proofs.run_headline.Heard.{notes_cut}
 use Rattle.session_laws.proofs.run_headline.Joining.{of_sections}
 use Rattle.session_laws.proofs.run_headline.Making.{run_made}
 use Rattle.session_laws.proofs.run_headline.Runs.{facts}
-use Rattle.session_laws.proofs.run_headline.Showing.{EachNoted, Facts, each, none, notes_are, notes_of, took_noted}
+use Rattle.session_laws.proofs.run_headline.Showing.{Facts, all_lines, few, notes_before}
 use Rattle.homing_laws.specs.home_plans.Notes.{AreInARow}
 use Rattle.homing_laws.proofs.home_plans.Noting.{begun_row}
 use Rattle.homing_laws.specs.home_parts.Answers.{MayHome}
@@ -48,39 +44,11 @@ use Rattle.session_laws.proofs.clock_ages.Renews.{renews}
 use Rattle.session_laws.specs.home_headline.Little.{HomesLittle}
 use Rattle.session_laws.proofs.home_headline.Board.{Followed, boarded_by, here_by, lines_of}
 use Rattle.session_laws.proofs.home_headline.Ranges.{may_all, on_small, range_all, starts_soon}
-use Rattle.session_laws.proofs.home_headline.Sections.{all_lines, few}
 use Rattle.session_laws.proofs.home_headline.Soon.{home_early}
 use Rattle.session_laws.proofs.home_headline.Uncut.{planned_at}
 
-pub front_each : (notes : List Note) (xs ys : List ReactorTurn) → TookEach notes (xs ++ ys) → TookEach notes xs
-front_each notes [] ys h = tt
-front_each [] (x ∷ xs) ys h = absurd h
-front_each (n ∷ notes) (x ∷ xs) ys h = (h.0, front_each notes xs ys h.1)
-
-each_front : (xs ys : List ReactorTurn) → EachNoted (xs ++ ys) → EachNoted xs
-each_front [] ys h = tt
-each_front (x ∷ xs) ys h = (h.0, each_front xs ys h.1)
-
-notes_both : (xs ys : List ReactorTurn) → notes_of (xs ++ ys) ≡ notes_of xs ++ notes_of ys
-notes_both [] ys = refl
-notes_both (x ∷ xs) ys = ap (λ z. option_items x.note ++ z) (notes_both xs ys) ∙ sym (append_assoc (option_items x.note) (notes_of xs) (notes_of ys))
-
 module _ (m : Machine) (v : IsValidMachine m) (s : Scene) (ts : List MotionTurn) (p : Plans m (length m.boards) ts) (t : Told) (first : ReactorTurn) (rest : List ReactorTurn) (end : ReactorTurn) (c : Cause) (told : p.seen.told ≡ Some t) (f : Facts m s ts (first ∷ rest) end c)
     (short : HaveShortDictionaries m) (little : (b : ℕ) → b < length m.boards → (w : IsInWhole m s.switches b (clock_of (board_at m b)) (link_of m s b) ts first (rest ++ end ∷ [])) → HomesLittle m s b ts first (rest ++ end ∷ []) (length p.made) t p.seen.begun w) where
-  -- the notes before the last
-  front_notes : TookNotes (map (λ d. d.note) p.made) (first ∷ rest)
-  front_notes =
-      let notes = map (λ (d : MotionTurn). d.note) p.made in
-      let others = gather (λ (d : MotionTurn). d.note ∷ []) p.bare in
-      let all : notes ++ others ≡ notes_of (rest ++ end ∷ []) ++ f.notes_left =
-      sym (notes_cut p.made p.bare) ∙ ap (gather (λ (d : MotionTurn). d.note ∷ [])) (sym p.are) ∙ notes_are m v s ts p end c first rest f in
-      let cut : notes ++ others ≡ notes_of rest ++ (notes_of (end ∷ []) ++ f.notes_left) =
-      all ∙ ap (λ z. z ++ f.notes_left) (notes_both rest (end ∷ [])) ∙ append_assoc (notes_of rest) (notes_of (end ∷ [])) f.notes_left in
-      let size = length-append rest (end ∷ []) in
-      let many = length-map p.made (λ (d : MotionTurn). d.note) in
-      let most = few m v s ts p end c first rest f in
-      (none m v s ts p end c first rest f, took_noted rest notes others (notes_of (end ∷ []) ++ f.notes_left) (each_front rest (end ∷ []) (each m v s ts p end c first rest f)) (omega (arith, most, size, many)) cut)
-
   -- the boards
   turn : Ready m v s ts p t first rest end told
   turn = ready m v s ts p t first rest end told f.ahead f.words_left f.turns f.words
@@ -89,7 +57,7 @@ module _ (m : Machine) (v : IsValidMachine m) (s : Scene) (ts : List MotionTurn)
   whole b h = f.boards b first rest h refl
 
   lines : (b : ℕ) → b < length m.boards → Followed m b (length rest) t.clocks (length (came_from [] turn.past)) p.seen.begun
-  lines b h = lines_of m v s ts p t first rest end told b (whole b h) turn h (let size = length-append rest (end ∷ []) in let most = few m v s ts p end c first rest f in renews m v short s ts p t first rest end c told f front_notes (omega (arith, size, most)) b h)
+  lines b h = lines_of m v s ts p t first rest end told b (whole b h) turn h (let size = length-append rest (end ∷ []) in let most = few m v s ts p end c first rest f in renews m v short s ts p t first rest end c told f (notes_before m v s ts p end c first rest f) (omega (arith, size, most)) b h)
 
   row : AreInARow t.first p.seen.begun
   row = begun_row m t.clocks t.first p.seen.begun (started_in m ts p t told)
@@ -117,7 +85,7 @@ module _ (m : Machine) (v : IsValidMachine m) (s : Scene) (ts : List MotionTurn)
         there = h;
         board = refl;
         clocks_are = refl;
-        is = boarded_by m v s ts p t first rest end told (length p.made) f.ahead b f.words_left w turn small f.turns f.words front_notes (omega arith) (inr (omega arith)) (few m v s ts p end c first rest f) (little b small w) (lines b small) sound formed (range b small);
+        is = boarded_by m v s ts p t first rest end told (length p.made) f.ahead b f.words_left w turn small f.turns f.words (notes_before m v s ts p end c first rest f) (omega arith) (inr (omega arith)) (few m v s ts p end c first rest f) (little b small w) (lines b small) sound formed (range b small);
         states = took b (rest ++ end ∷ []) _ w.states;
       }
 

@@ -18,6 +18,7 @@ use Rattle.session_work.specs.Rows.{gather, item}
 use Rattle.session_run.specs.Boards.{AreReactorTurns, came_from, came_in}
 use Rattle.run_plans.specs.Lines.{TookEach, TookNotes}
 use Rattle.run_plans.specs.Planned.{Plans, puts_of, words_in}
+use Rattle.run_plans.proofs.Heard.{heard_all}
 use Rattle.session_laws.proofs.run_headline.Words.{gather_words}
 use Rattle.session_laws.proofs.run_headline.Facts.{came_long}
 use Rattle.homing_laws.specs.home_runs.Words.{BeginsNone}
@@ -110,18 +111,21 @@ last_silent k l zero (suc j) w e t = no_words j w e
 last_silent k l (suc n) zero w e t = silent_word k false w (one_item (still_word k) w e) t
 last_silent k l (suc n) (suc j) w e t = last_silent (k + 1) l n j w e t
 
--- the words that the reactor put, and behind them those that the planner took
-words_split : (m : Machine) (n : ℕ) (ts : List MotionTurn) (p : Plans m n ts) (put more left : List WordMsg) → put ++ more ≡ gather (λ t. t.words) ts ++ left → put ++ more ≡ words_in p.made ++ (gather (λ t. t.words) p.bare ++ left)
+-- the words that the reactor put, and behind them those that the planner heard
+words_split : (m : Machine) (n : ℕ) (ts : List MotionTurn) (p : Plans m n ts) (put more left : List WordMsg) → put ++ more ≡ gather (λ t. t.words) ts ++ left
+    → put ++ more ≡ words_in (p.made ++ p.last) ++ (gather (λ t. t.words) (heard_all m n ts p).later ++ left)
 words_split m n ts p put more left words =
-    words ∙ ap (λ z. gather (λ (t : MotionTurn). t.words) z ++ left) p.are ∙ ap (λ z. z ++ left) (gather_words p.made p.bare) ∙ append_assoc (words_in p.made) (gather (λ (t : MotionTurn). t.words) p.bare) left
+    let heard = heard_all m n ts p in
+    let mine = p.made ++ p.last in
+    words ∙ ap (λ z. gather (λ (t : MotionTurn). t.words) z ++ left) heard.are ∙ ap (λ z. z ++ left) (gather_words mine heard.later) ∙ append_assoc (words_in mine) (gather (λ (t : MotionTurn). t.words) heard.later) left
 
--- turns of the reactor that took the planner's notes, where none of the words that it took behind theirs tells of an answer
+-- turns of the reactor that took the planner's notes, where none of the words that the planner heard behind theirs tells of an answer
 pub planned_on : (m : Machine) (switches : List Switch) (n : ℕ) (ts : List MotionTurn) (p : Plans m n ts) (rs : List ReactorTurn) (more left : List WordMsg) → AreReactorTurns m switches [] rs
     → gather (λ t. t.word ∷ []) rs ++ more ≡ gather (λ t. t.words) ts ++ left → CameNotes p.seen.begun (came_from [] rs)
-    → ((place : ℕ) (w : WordMsg) → length rs ≤ place → item place (words_in p.made) ≡ w ∷ [] → tells_homed w.news ≡ true → ⊥) → length rs ≤ length p.made + 1 → IsPlannedBy m switches n ts p (came_from [] rs)
+    → ((place : ℕ) (w : WordMsg) → length rs ≤ place → item place (words_in (p.made ++ p.last)) ≡ w ∷ [] → tells_homed w.news ≡ true → ⊥) → length rs ≤ length p.made + 1 → IsPlannedBy m switches n ts p (came_from [] rs)
 planned_on m switches n ts p rs more left turns words notes others long =
-    let mine = words_in p.made in
-    let behind = gather (λ (t : MotionTurn). t.words) p.bare ++ left in
+    let mine = words_in (p.made ++ p.last) in
+    let behind = gather (λ (t : MotionTurn). t.words) (heard_all m n ts p).later ++ left in
     let size = came_long [] rs in
     let many = said_long rs in
     record {
@@ -138,12 +142,12 @@ planned_on m switches n ts p rs more left turns words notes others long =
 
 -- words behind those of the last turns tell of no answer
 pub others_silent : (m : Machine) (n ahead : ℕ) (ts : List MotionTurn) (p : Plans m n ts) (rs : List ReactorTurn) (left : List WordMsg) → gather (λ t. t.word ∷ []) rs ++ last_words (length rs) ahead ≡ gather (λ t. t.words) ts ++ left
-    → (place : ℕ) (w : WordMsg) → length rs ≤ place → item place (words_in p.made) ≡ w ∷ [] → tells_homed w.news ≡ true → ⊥
+    → (place : ℕ) (w : WordMsg) → length rs ≤ place → item place (words_in (p.made ++ p.last)) ≡ w ∷ [] → tells_homed w.news ≡ true → ⊥
 others_silent m n ahead ts p rs left words j w far is tells =
     let put = Said rs in
     let last = last_words (length rs) ahead in
     let many = said_long rs in
-    let all : item j (put ++ last) ≡ w ∷ [] = ap (item j) (words_split m n ts p put last left words) ∙ item_front j (words_in p.made) (gather (λ (t : MotionTurn). t.words) p.bare ++ left) w is in
+    let all : item j (put ++ last) ≡ w ∷ [] = ap (item j) (words_split m n ts p put last left words) ∙ item_front j (words_in (p.made ++ p.last)) (gather (λ (t : MotionTurn). t.words) (heard_all m n ts p).later ++ left) w is in
     let later = sym (item_right j put last (omega (arith, far, many))) ∙ all in
     last_silent (length rs) (length rs + ahead) ahead (j - length put) w later tells
 

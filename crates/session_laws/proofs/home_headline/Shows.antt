@@ -1,5 +1,5 @@
 -- Why a whole run in which axes home shows the sections of its text.
-use Rattle.std.proofs.Common.{◌≡◌, inl, inr, ℕ, zero, suc, ◌+◌, ◌-◌, ◌*◌, ◌<◌, ◌≤◌, ◌⊎◌, List, [], ◌∷◌, ◌++◌, length, take, All, Option, None, Some, refl, ap, sym, ◌∙◌, subst, arith, length-append, append_assoc}
+use Rattle.std.proofs.Common.{◌≡◌, ℕ, zero, suc, ◌+◌, ◌-◌, ◌*◌, ◌<◌, ◌≤◌, List, [], ◌∷◌, ◌++◌, length, take, All, Option, None, Some, refl, ap, sym, ◌∙◌, subst, arith, length-append, append_assoc}
 use Rattle.std.proofs.Math.Logic.{∥∥₁_map}
 use Rattle.std.proofs.Math.Seq.{take-append_seam}
 use Rattle.std.proofs.lemmas.List.{length-map}
@@ -30,7 +30,7 @@ use Rattle.session_desk.specs.declared.tell.Kept.{Kept}
 use Rattle.session_run.specs.Runs.{RunsOver}
 use Rattle.run_laws.specs.Boards.{AreEnded, IsWindow, NextStart}
 use Rattle.run_plans.specs.Boards.{lines_between, times_of}
-use Rattle.run_plans.specs.Lines.{TellTurns, pulses_of}
+use Rattle.run_plans.specs.Lines.{pulses_of}
 use Rattle.run_plans.specs.Planned.{Plans, put_of}
 use Rattle.run_plans.proofs.Beginning.{Spread}
 use Rattle.run_plans.proofs.Running.{started_in}
@@ -44,24 +44,19 @@ use Rattle.session_laws.proofs.run_headline.Boarded.{lined, ready}
 use Rattle.session_laws.proofs.run_headline.Joining.{of_sections, row_none}
 use Rattle.session_laws.proofs.run_headline.Making.{run_made}
 use Rattle.session_laws.proofs.run_headline.Runs.{facts}
-use Rattle.session_laws.proofs.run_headline.Showing.{Facts, Unread, alone_ends, boards_told, counts_so, first_pulses, further_by, heard, in_none, lines_all, long_answered, long_own, long_read, not_told, sound_by, started, starts_late, through_long, untold_alone}
+use Rattle.session_laws.proofs.run_headline.Showing.{Facts, all_lines, alone_ends, boards_told, counts_so, first_pulses, further_by, heard, in_none, lines_all, long_own, not_told, sound_by, started, starts_late, through_long, untold_alone}
 use Rattle.homing_laws.specs.home_plans.Notes.{AreInARow}
 use Rattle.homing_laws.proofs.home_plans.Noting.{begun_row}
 use Rattle.homing_laws.proofs.home_parts.Told.{row_from}
 use Rattle.session_laws.specs.home_headline.Follow.{AllShowHomes, FollowHomes, ShowHomes}
 use Rattle.cause_runs.specs.Short.{HaveShortDictionaries}
 use Rattle.session_laws.specs.home_headline.Little.{AllHomeLittle}
-use Rattle.session_laws.specs.home_headline.Reading.{ReadsOn}
 use Rattle.session_laws.proofs.home_headline.Following.{follows}
-use Rattle.session_laws.proofs.home_headline.Sections.{all_lines}
 
 module _ (m : Machine) (v : IsValidMachine m) (s : Scene) (ts : List MotionTurn) (p : Plans m (length m.boards) ts) (end : ReactorTurn) (c : Cause) where
   module _ (first : ReactorTurn) (rest : List ReactorTurn) (f : Facts m s ts (first ∷ rest) end c) (short : HaveShortDictionaries m) (little : AllHomeLittle m s p.seen.text ts (first ∷ (rest ++ end ∷ []))) where
     by_told : (t : Told) → p.seen.told ≡ Some t → FollowHomes m t p.seen first (rest ++ end ∷ [])
     by_told t told = follows m v s ts p t first rest end c told f short (λ b h w. little p t b refl told h w)
-
-    lines : TellTurns m p.seen.begun 0 (first ∷ (rest ++ end ∷ []))
-    lines = all_lines m v s ts p end c first rest f
 
     -- a run that went through has read on
     long : GoesThrough c → length (rest ++ end ∷ []) ≤ length p.made
@@ -99,7 +94,7 @@ module _ (m : Machine) (v : IsValidMachine m) (s : Scene) (ts : List MotionTurn)
         let whole : n - 0 ≡ n = omega arith in
         let many : length (rest ++ end ∷ []) ≡ n + length behind = ap length then ∙ length-append past behind in
         let none = (by_told t e).between [] (x ∷ later) 0 n place cut h (omega arith) (omega (arith, many)) tt (omega (arith, soon)) in
-        let now : pulses_of place y.lines ≡ [] = ap (λ (z : ReactorTurn). pulses_of place z.lines) (sym same) ∙ first_pulses m p.seen.begun place first (plans_spread m (length m.boards) ts p) f.turns.0.row lines.0 in
+        let now : pulses_of place y.lines ≡ [] = ap (λ (z : ReactorTurn). pulses_of place z.lines) (sym same) ∙ first_pulses m p.seen.begun place first (plans_spread m (length m.boards) ts p) f.turns.0.row (all_lines m v s ts p end c first rest f).0 in
         let front : lines_between 0 n (rest ++ end ∷ []) ≡ all past = ap (λ z. lines_between 0 n z) then ∙ ap (λ (k : ℕ). all (take k (past ++ behind))) whole ∙ ap all (take-append_seam past behind) in
         pulses_append place y.lines (all past) ∙ ap (λ z. z ++ pulses_of place (all past)) now ∙ ap (pulses_of place) (sym front) ∙ none
 
@@ -139,7 +134,7 @@ module _ (m : Machine) (v : IsValidMachine m) (s : Scene) (ts : List MotionTurn)
       late = (started m v s ts p end c p.seen.told refl).0;
       started = (started m v s ts p end c p.seen.told refl).1;
       boards = boards_told m v s ts p end c first rest f p.seen.told refl;
-      lines = lines;
+      lines = all_lines m v s ts p end c first rest f;
       fit = fits p.seen.told refl;
       behind = none_behind p.seen.told refl;
       early = none_early p.seen.told refl;
@@ -149,14 +144,6 @@ module _ (m : Machine) (v : IsValidMachine m) (s : Scene) (ts : List MotionTurn)
       further = further_by m v s ts p end c first rest f (length (rest ++ end ∷ []) + 271) (omega arith) p.seen.told refl;
       told = told_all p.seen.told refl;
     }
-
-  -- the planner went on, or no section was begun
-  module _ (first : ReactorTurn) (rest : List ReactorTurn) (f : Facts m s ts (first ∷ rest) end c) where
-    pub long_on : ReadsOn m p.seen.text ts c → (length (rest ++ end ∷ []) ≤ length p.made) ⊎ Unread m v s ts p end c first rest f
-    long_on on = elim on [
-      | inl own ↦ inl (long_own m v s ts p end c first rest f own)
-      | inr e ↦ elim e [ inl read ↦ inl (long_read m v s ts p end c first rest f read) | inr answered ↦ long_answered m v s ts p end c first rest f (answered p refl) ]
-    ]
 
   -- a run of one turn
   none_of : (place from to : ℕ) → from ≤ to → to ≤ 0 → pulses_of place (lines_between from to []) ≡ []

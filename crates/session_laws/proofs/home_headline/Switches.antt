@@ -1,5 +1,5 @@
 -- Each turn of a whole run tells of a switch exactly where a homing section ended in it.
-use Rattle.std.proofs.Common.{◌≡◌, ℕ, suc, ◌+◌, ◌-◌, ◌≤◌, ◌⊎◌, Bool, true, false, cond, List, [], ◌∷◌, ◌++◌, All, length, map, Option, Some, None, refl, ap, sym, ◌∙◌, subst, arith, inl, inr, append-nil, append_assoc, length-append}
+use Rattle.std.proofs.Common.{◌≡◌, ℕ, suc, ◌+◌, ◌-◌, ◌≤◌, ◌⊎◌, Bool, true, false, cond, List, [], ◌∷◌, ◌++◌, All, length, Option, Some, None, refl, ap, sym, ◌∙◌, subst, arith, inl, inr, append-nil, append_assoc, length-append}
 use Rattle.std.proofs.Math.Logic.{∥∥₁_elim, ∥∥₁_map}
 use Rattle.std.proofs.Props.{props}
 use Rattle.std.proofs.lemmas.Bool.Decides.{leb_tells}
@@ -52,7 +52,7 @@ use Rattle.session_laws.proofs.run_headline.Cutting.{run_silent}
 use Rattle.session_laws.proofs.run_headline.Earlier.{over_at}
 use Rattle.session_laws.proofs.run_headline.Making.{run_made}
 use Rattle.session_laws.proofs.run_headline.Runs.{facts, run_ended}
-use Rattle.session_laws.proofs.run_headline.Showing.{Ended, Facts, Unread, Unread_made, alone_ends, came_long, in_none, starts_late, through_long, took_notes, unread_notes, unread_put, untold_alone}
+use Rattle.session_laws.proofs.run_headline.Showing.{Ended, Facts, alone_ends, came_long, few, hears, in_none, long_own, notes_before, starts_late, through_long, took_notes, untold_alone}
 use Rattle.session_laws.proofs.run_headline.Telling.{first_told}
 use Rattle.homing_laws.specs.home_runs.Words.{TellsHomed}
 use Rattle.homing_laws.specs.home_plans.Notes.{AreInARow, CameNotes, WasBegun}
@@ -65,12 +65,10 @@ use Rattle.session_laws.specs.home_headline.Cuts.{EndsIn, TellEnds, TellsNone, T
 use Rattle.session_laws.specs.home_headline.Follow.{AllShowHomes}
 use Rattle.cause_runs.specs.Short.{HaveShortDictionaries}
 use Rattle.session_laws.specs.home_headline.Little.{AllHomeLittle}
-use Rattle.session_laws.specs.home_headline.Reading.{ReadsOn}
 use Rattle.session_laws.proofs.home_headline.Cuts.{answer_of, end_of, told_cut, told_section, turn_cuts, uncut, uncut_both}
 use Rattle.session_laws.proofs.home_headline.Ended.{goes_behind, notes_behind, some_same}
-use Rattle.session_laws.proofs.home_headline.Following.{front_each}
-use Rattle.session_laws.proofs.home_headline.Planned.{all_notes, all_on, planned_by}
-use Rattle.session_laws.proofs.home_headline.Shows.{all_shows, long_on}
+use Rattle.session_laws.proofs.home_headline.Planned.{all_notes, planned_by}
+use Rattle.session_laws.proofs.home_headline.Shows.{all_shows}
 
 -- a turn that ends a run for a cause tells of no switch; or the run went through, and a group answered in it
 abbrev Ending : Reacted → Cause → Option ℕ → Type 0
@@ -181,7 +179,7 @@ ends_snoc m switches begun k (x ∷ xs) y tells one =
     (tells.0, ends_snoc m switches begun (k + 1) xs y tells.1 (subst At e one))
 
 -- the turns that go on
-module _ (m : Machine) (switches : List Switch) (n : ℕ) (ts : List MotionTurn) (p : Plans m n ts) (came : List Came) (by : IsPlannedBy m switches n ts p came) (few : length came ≤ length p.made) where
+module _ (m : Machine) (switches : List Switch) (n : ℕ) (ts : List MotionTurn) (p : Plans m n ts) (came : List Came) (by : IsPlannedBy m switches n ts p came) (few : length came ≤ length (p.made ++ p.last)) where
   -- the answer of a section that ended in a turn is told in it
   told_of : (ahead : List Came) (c : Came) (before : List Came) (number axis : ℕ) → came ≡ ahead ++ c ∷ before → EndsIn p.seen.begun (length before) number axis → TellsHomed (last_turn m switches c before).ordered.word.news
   told_of ahead c before number axis are e =
@@ -260,31 +258,9 @@ module _ (m : Machine) (switches : List Switch) (n : ℕ) (ts : List MotionTurn)
       let next : length (came_in r ∷ before) ≡ length before + 1 = omega arith in
       (one, subst At next (turns_tell (came_in r ∷ before) rs turns.1 are))
 
--- where no section was begun none of them tells of a switch
-unbegun : (k : ℕ) (lines : List ReportLine) → cuts_of lines ≡ [] → TellsNone [] k lines
-unbegun k lines none = record { none = λ number axis e. in_none e.past e.s e.later [] refl e.cut; lines_are = none }
-
-unbegun_cuts : (m : Machine) (switches : List Switch) (c : Came) (before : List Came) → GoesOn m switches (c ∷ before) → CameNotes [] (c ∷ before) → cuts_of (last_turn m switches c before).ordered.lines ≡ []
-unbegun_cuts m switches c before goes notes = elim (turn_cuts m switches (known_by m switches before) (length before) c.states c.note goes.0) [
-  | inl x ↦ let was = told_section m switches [] c before goes.1 notes (told_cut m switches c before goes.0 x.tells) in absurd (in_none was.0 was.1 was.2 [] refl was.4)
-  | inr u ↦ u.lines
-]
-
-unbegun_tell : (m : Machine) (switches : List Switch) (came : List Came) → GoesOn m switches came → CameNotes [] came → (before : List Came) (rs : List ReactorTurn) → AreReactorTurns m switches before rs → came ≡ came_from before rs → TellEnds m switches [] (length before) rs
-unbegun_tell m switches came goes notes before [] turns are = tt
-unbegun_tell m switches came goes notes before (r ∷ rs) turns are =
-    let a = came_ahead (came_in r ∷ before) rs in
-    let cut = are ∙ a.1 in
-    let Goes : List Came → Type 0 = λ z. GoesOn m switches z in
-    let Notes : List Came → Type 0 = λ z. CameNotes [] z in
-    let here = unbegun_cuts m switches (came_in r) before (goes_behind m switches a.0 (came_in r ∷ before) (subst Goes cut goes)) (notes_behind [] a.0 (came_in r ∷ before) (subst Notes cut notes)) in
-    let At : ℕ → Type 0 = λ i. TellEnds m switches [] i rs in
-    let next : length (came_in r ∷ before) ≡ length before + 1 = omega arith in
-    (inr (unbegun (length before) r.lines (ap cuts_of turns.0.lines_are ∙ here)), subst At next (unbegun_tell m switches came goes notes (came_in r ∷ before) rs turns.1 are))
-
 -- and the one that ends the run
 module _ (m : Machine) (v : IsValidMachine m) (s : Scene) (ts : List MotionTurn) (p : Plans m (length m.boards) ts) (end : ReactorTurn) (c : Cause) where
-  module _ (first : ReactorTurn) (rest : List ReactorTurn) (f : Facts m s ts (first ∷ rest) end c) (long : length (rest ++ end ∷ []) ≤ length p.made)
+  module _ (first : ReactorTurn) (rest : List ReactorTurn) (f : Facts m s ts (first ∷ rest) end c)
       (is : Some c ≡ (reacts m s.switches f.known (length (came_from [] (first ∷ rest))) end.states end.note).ordered.end) where
     abbrev came : List Came
     came = came_from [] (first ∷ rest)
@@ -295,12 +271,11 @@ module _ (m : Machine) (v : IsValidMachine m) (s : Scene) (ts : List MotionTurn)
     planned : IsPlannedBy m s.switches (length m.boards) ts p came
     planned =
         let size = length-append rest (end ∷ []) in
-        let took = took_notes m v s ts p end c first rest f long in
-        let l = long in
-        planned_by m s.switches (length m.boards) f.ahead ts p first rest f.words_left f.turns f.words (took.0, front_each (map (λ (d : MotionTurn). d.note) p.made) rest (end ∷ []) took.1) (omega (arith, l, size))
+        let l = few m v s ts p end c first rest f in
+        planned_by m s.switches (length m.boards) f.ahead ts p first rest f.words_left f.turns f.words (notes_before m v s ts p end c first rest f) (omega (arith, l, size))
 
-    notes : CameNotes p.seen.begun (came_in end ∷ came)
-    notes =
+    notes : length (rest ++ end ∷ []) ≤ length p.made → CameNotes p.seen.begun (came_in end ∷ came)
+    notes long =
         let Notes : List Came → Type 0 = λ z. CameNotes p.seen.begun z in
         subst Notes (came_snoc [] (first ∷ rest) end) (all_notes m p.seen.text p.seen.begun p.made first (rest ++ end ∷ []) p.put (took_notes m v s ts p end c first rest f long))
 
@@ -308,20 +283,20 @@ module _ (m : Machine) (v : IsValidMachine m) (s : Scene) (ts : List MotionTurn)
     none_ended : (number axis : ℕ) → EndsIn p.seen.begun (length came) number axis → ⊥
     none_ended number axis e =
         let at = e.end in
-        let few = planned.long in
+        let most = planned.long in
         let made = length-map p.made put_of in
         let small = p.small in
-        let low = ends_low m s.switches (length m.boards) ts p came e.past e.s e.later axis planned e.cut e.home (λ q. omega (arith, q, at, few, made, small)) in
+        let low = ends_low m s.switches (length m.boards) ts p came e.past e.s e.later axis planned e.cut e.home (λ q. omega (arith, q, at, most, made, small)) in
         omega (arith, low, at)
 
     -- where the run went through no group answered in it
-    none_answers : GoesThrough c → (tick : ℕ) → (homing_turn (noted m end.note (known_by m s.switches came)).clocks (length came) end.states (noted m end.note (known_by m s.switches came)).homing).cut ≡ Some tick → ⊥
-    none_answers g tick cut =
+    none_answers : GoesThrough c → length (rest ++ end ∷ []) ≤ length p.made → (tick : ℕ) → (homing_turn (noted m end.note (known_by m s.switches came)).clocks (length came) end.states (noted m end.note (known_by m s.switches came)).homing).cut ≡ Some tick → ⊥
+    none_answers g long tick cut =
         let n = noted m end.note (known_by m s.switches came) in
         let a = answer_of n.clocks (length came) end.states n.homing tick cut in
         let h = a.0 in
         let Was : Option Homing → Type 0 = λ o. WasBegun p.seen.begun o in
-        let was : WasBegun p.seen.begun (Some h) = subst Was a.1 (now_was m s.switches p.seen.begun (came_in end) came planned.goes_on notes) in
+        let was : WasBegun p.seen.begun (Some h) = subst Was a.1 (now_was m s.switches p.seen.begun (came_in end) came planned.goes_on (notes long)) in
         let x = was.1 in
         let Over : List Started → Type 0 = λ z. All (λ (y : Started). y.end + 5 ≤ length (rest ++ end ∷ [])) z in
         let over = over_at (length (rest ++ end ∷ [])) was.0 x was.2 (subst Over was.4 (through_long m v s ts p end c first rest f g long).over) in
@@ -331,7 +306,7 @@ module _ (m : Machine) (v : IsValidMachine m) (s : Scene) (ts : List MotionTurn)
         let order = (row_from (ready m s.switches (length m.boards) ts p came planned) was.0 x was.2 (subst Row was.4 (in_row m s.switches (length m.boards) ts p came planned))).1 in
         let start = was.6 in
         let told = ends_told m s.switches (length m.boards) ts p came was.0 x was.2 was.3 planned was.4 was.5 (omega (arith, over, size, many)) in
-        let silent = known_silent m s.switches p.seen.begun (came_in end) came h x.end (x.end + 1) planned.goes_on notes a.1 (omega (arith, start, order)) in
+        let silent = known_silent m s.switches p.seen.begun (came_in end) came h x.end (x.end + 1) planned.goes_on (notes long) a.1 (omega (arith, start, order)) in
         none_tells m s.switches x.end (x.end + 1) x.end came silent (omega arith) (omega arith) told
 
     -- what is known in it where the run went through
@@ -347,27 +322,15 @@ module _ (m : Machine) (v : IsValidMachine m) (s : Scene) (ts : List MotionTurn)
             | inl none ↦ ap cuts_of f.lines_are ∙ none
             | inr t ↦
                 let Cut : Known → Type 0 = λ r. (homing_turn (noted m end.note r).clocks k end.states (noted m end.note r).homing).cut ≡ Some t.1.0 in
-                absurd (none_answers t.0 t.1.0 (subst Cut (known_then t.0) t.1.1))
+                absurd (none_answers t.0 (long_own m v s ts p end c first rest f (own_cause c t.0)) t.1.0 (subst Cut (known_then t.0) t.1.1))
           ];
         })
 
-    ends_long : TellEnds m s.switches p.seen.begun 0 (first ∷ (rest ++ end ∷ []))
-    ends_long =
+    ends_whole : TellEnds m s.switches p.seen.begun 0 (first ∷ (rest ++ end ∷ []))
+    ends_whole =
         let At : ℕ → Type 0 = λ i. TellsSwitch m s.switches p.seen.begun i end.lines ⊎ TellsNone p.seen.begun i end.lines in
         let e : length came ≡ 0 + length (first ∷ rest) = (let many = count in omega (arith, many)) in
-        ends_snoc m s.switches p.seen.begun 0 (first ∷ rest) end (turns_tell m s.switches (length m.boards) ts p came planned (let many = count in let size = length-append rest (end ∷ []) in let l = long in omega (arith, l, size, many)) [] (first ∷ rest) f.turns refl) (subst At e last_tells)
-
-  -- where no section was begun
-  ends_unread : (first : ReactorTurn) (rest : List ReactorTurn) (f : Facts m s ts (first ∷ rest) end c) → Some c ≡ (reacts m s.switches f.known (length (came_from [] (first ∷ rest))) end.states end.note).ordered.end → Unread m v s ts p end c first rest f → TellEnds m s.switches p.seen.begun 0 (first ∷ (rest ++ end ∷ []))
-  ends_unread first rest f is z =
-      let took = unread_notes m v s ts p end c first rest f in
-      let made = Unread_made m v s ts p end c first rest f in
-      let came = came_from [] (first ∷ rest) in
-      let notes : CameNotes [] came = all_notes m p.seen.text [] made first rest (unread_put m v s ts p end c first rest f z) (took.0, front_each (map (λ (d : MotionTurn). d.note) made) rest (end ∷ []) took.1) in
-      let k = length came in
-      let cuts : cuts_of end.lines ≡ [] = elim (turn_last m s.switches f.known k end.states end.note c (sym is)) [ inl none ↦ ap cuts_of f.lines_are ∙ none | inr t ↦ absurd (z.never (own_cause c t.0)) ] in
-      let Tells : List Started → Type 0 = λ ss. TellEnds m s.switches ss 0 (first ∷ (rest ++ end ∷ [])) in
-      subst Tells (sym z.none) (ends_snoc m s.switches [] 0 (first ∷ rest) end (unbegun_tell m s.switches came (all_on m s.switches [] (first ∷ rest) f.turns tt) notes [] (first ∷ rest) f.turns refl) (inr (unbegun (0 + length (first ∷ rest)) end.lines cuts)))
+        ends_snoc m s.switches p.seen.begun 0 (first ∷ rest) end (turns_tell m s.switches (length m.boards) ts p came planned (let many = count in let size = length-append rest (end ∷ []) in let l = hears m v s ts p end c first rest f in omega (arith, l, size, many)) [] (first ∷ rest) f.turns refl) (subst At e last_tells)
 
   -- a run of one turn
   ends_alone : (f : Facts m s ts [] end c) → Some c ≡ (reacts m s.switches f.known 0 end.states end.note).ordered.end → TellEnds m s.switches p.seen.begun 0 (end ∷ [])
@@ -379,9 +342,9 @@ module _ (m : Machine) (v : IsValidMachine m) (s : Scene) (ts : List MotionTurn)
     tt,
   )
 
-  pub all_ends : (rs : List ReactorTurn) → Ended m s ts rs end c → ReadsOn m p.seen.text ts c → TellEnds m s.switches p.seen.begun 0 (rs ++ end ∷ [])
-  all_ends [] e on = ends_alone e.facts e.end_is
-  all_ends (first ∷ rest) e on = elim (long_on m v s ts p end c first rest e.facts on) [ inl l ↦ ends_long first rest e.facts l e.end_is | inr z ↦ ends_unread first rest e.facts e.end_is z ]
+  pub all_ends : (rs : List ReactorTurn) → Ended m s ts rs end c → TellEnds m s.switches p.seen.begun 0 (rs ++ end ∷ [])
+  all_ends [] e = ends_alone e.facts e.end_is
+  all_ends (first ∷ rest) e = ends_whole first rest e.facts e.end_is
 
   -- the turn that ends the run tells of no switch, whatever ended it
   pub last_cuts : (rs : List ReactorTurn) → Ended m s ts rs end c → cuts_of end.lines ≡ []
@@ -391,12 +354,9 @@ module _ (m : Machine) (v : IsValidMachine m) (s : Scene) (ts : List MotionTurn)
       let k = length (came_from [] (first ∷ rest)) in
       elim (turn_last m s.switches f.known k end.states end.note c (sym e.end_is)) [
         | inl none ↦ ap cuts_of f.lines_are ∙ none
-        | inr t ↦ elim (long_on m v s ts p end c first rest f (inl (own_cause c t.0))) [
-          | inl l ↦
-              let Cut : Known → Type 0 = λ r. (homing_turn (noted m end.note r).clocks k end.states (noted m end.note r).homing).cut ≡ Some t.1.0 in
-              absurd (none_answers first rest f l e.end_is t.0 t.1.0 (subst Cut (known_then first rest f l e.end_is t.0) t.1.1))
-          | inr z ↦ absurd (z.never (own_cause c t.0))
-        ]
+        | inr t ↦
+            let Cut : Known → Type 0 = λ r. (homing_turn (noted m end.note r).clocks k end.states (noted m end.note r).homing).cut ≡ Some t.1.0 in
+            absurd (none_answers first rest f e.end_is t.0 (long_own m v s ts p end c first rest f (own_cause c t.0)) t.1.0 (subst Cut (known_then first rest f e.end_is t.0) t.1.1))
       ]
 
 none_of : (lines : List ReportLine) → length (cuts_of lines) ≡ 0 → cuts_of lines ≡ []
@@ -423,14 +383,13 @@ run_last f o m s name files files' out out' kept kept' t r v text told at = by t
 pub run_ends : {F S : Type 0} (f : Files F) (o : Sink S) (m : Machine) (s : Scene) (name : List ℕ) (files files' : F) (out out' : S) (kept kept' : Kept) (t : near.Told Run) (r : RunsOver f o m s name files out kept t files' out' kept') → IsValidMachine m → (text : List ℕ)
     → f.told files name ≡ Some text → kept.at ≡ 0 → ∥ ((made : IsMade m s r.runs.0 r.runs.1) × (made.plans.seen.text ≡ text)
     × ((t.cause ≡ cause.Memory → ⊥) → HaveShortDictionaries m → AllHomeLittle m s text r.runs.0 (r.runs.1 ++ r.runs.2 ∷ []) → AllShowHomes m made.plans.seen (clocks_heard made.plans.seen.told) (ready_heard made.plans.seen.told) t.cause (r.runs.1 ++ r.runs.2 ∷ []))
-    × ((t.cause ≡ cause.Memory → ⊥) → ReadsOn m text r.runs.0 t.cause → TellEnds m s.switches made.plans.seen.begun 0 (r.runs.1 ++ r.runs.2 ∷ []))) ∥₁
+    × ((t.cause ≡ cause.Memory → ⊥) → TellEnds m s.switches made.plans.seen.begun 0 (r.runs.1 ++ r.runs.2 ∷ []))) ∥₁
 run_ends f o m s name files files' out out' kept kept' t r v text told at =
     ∥∥₁_map (run_made f o m s name files files' out out' kept kept' t r text told at) (λ w.
     let made = w.0 in
-    let Little : List ℕ → Type 0 = λ z. AllHomeLittle m s z r.runs.0 (r.runs.1 ++ r.runs.2 ∷ []) in
-    let Reads : List ℕ → Type 0 = λ z. ReadsOn m z r.runs.0 t.cause in (
+    let Little : List ℕ → Type 0 = λ z. AllHomeLittle m s z r.runs.0 (r.runs.1 ++ r.runs.2 ∷ []) in (
       made,
       w.1,
       λ other short little. all_shows m v s r.runs.0 made.plans r.runs.2 t.cause r.runs.1 (facts f o m s name files files' out out' kept kept' t r other) short (subst Little (sym w.1) little),
-      λ other on. all_ends m v s r.runs.0 made.plans r.runs.2 t.cause r.runs.1 (run_ended f o m s name files files' out out' kept kept' t r other) (subst Reads (sym w.1) on),
+      λ other. all_ends m v s r.runs.0 made.plans r.runs.2 t.cause r.runs.1 (run_ended f o m s name files files' out out' kept kept' t r other),
     ))

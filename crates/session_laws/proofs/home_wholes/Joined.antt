@@ -63,14 +63,12 @@ use Rattle.homing_laws.specs.switch_runs.Runs.{IsReadIn}
 use Rattle.session_laws.specs.home_headline.Cuts.{EndsIn, TellEnds, TellsAnswer}
 use Rattle.cause_runs.specs.Short.{HaveShortDictionaries}
 use Rattle.session_laws.specs.home_headline.Little.{AllHomeLittle, HomesLittle}
-use Rattle.session_laws.specs.home_headline.Reading.{ReadsOn}
 use Rattle.session_laws.proofs.home_headline.Ended.{goes_behind, notes_behind}
-use Rattle.session_laws.proofs.home_headline.Shows.{long_on}
 use Rattle.session_laws.proofs.home_headline.Switches.{all_ends, came_ahead, came_snoc}
 use Rattle.session_laws.specs.home_wholes.Own.{AllHearSoon, IsOwnReading, TellOwn}
 use Rattle.session_laws.proofs.home_wholes.Going.{goes_running, may_front}
 use Rattle.session_laws.proofs.home_wholes.Axes.{axis_low}
-use Rattle.session_laws.proofs.home_wholes.Lines.{By, Came_all, N, Turns_of, by, connected, end_at, formed, knows, lines, may_end, on, row, run_of, set_ups, turn, whole}
+use Rattle.session_laws.proofs.home_wholes.Lines.{By, Came_all, Made, Turns_of, by, connected, end_at, formed, knows, lines, may_end, on, row, run_of, set_ups, turn, whole}
 use Rattle.session_laws.proofs.home_wholes.Own.{one_axis, own_told}
 use Rattle.run_laws.proofs.Lists.{one_place}
 
@@ -95,11 +93,11 @@ ends_front m switches begun k [] ys ends = tt
 ends_front m switches begun k (x ∷ xs) ys ends = (ends.0, ends_front m switches begun (k + 1) xs ys ends.1)
 
 module _ (m : Machine) (v : IsValidMachine m) (s : Scene) (ts : List MotionTurn) (p : Plans m (length m.boards) ts) (t : Told) (first : ReactorTurn) (rest : List ReactorTurn) (end : ReactorTurn) (c : Cause) (told : p.seen.told ≡ Some t) (f : Facts m s ts (first ∷ rest) end c)
-    (long : length (rest ++ end ∷ []) ≤ length p.made) (short : HaveShortDictionaries m)
+    (short : HaveShortDictionaries m)
     (little : (b : ℕ) → b < length m.boards → (w : IsInWhole m s.switches b (clock_of (board_at m b)) (link_of m s b) ts first (rest ++ end ∷ [])) → HomesLittle m s b ts first (rest ++ end ∷ []) (length p.made) t p.seen.begun w)
     (soon : AllHearSoon m s p.seen.text ts (first ∷ (rest ++ end ∷ []))) where
   abbrev Came_by : List Came
-  Came_by = Came_all m v s ts p t first rest end c told f long short little
+  Came_by = Came_all m v s ts p t first rest end c told f short little
 
   -- the axis of a section that ended, by what the planner began
   module _ (ahead : List Came) (y : Came) (before : List Came) (are : Came_by ≡ ahead ++ y ∷ before) (past : List Started) (st : Started) (later : List Started) (axis : ℕ) (cut : p.seen.begun ≡ past ++ st ∷ later) (home : st.section.kind ≡ Home axis) (ends : st.end ≡ length before) where
@@ -119,20 +117,20 @@ module _ (m : Machine) (v : IsValidMachine m) (s : Scene) (ts : List MotionTurn)
     there = axis_board m m.axes axis small v.axes
 
     abbrev Turns : List BoardTurn
-    Turns = Turns_of m v s ts p t first rest end c told f long short little Board there
+    Turns = Turns_of m v s ts p t first rest end c told f short little Board there
 
     section : (x : IsToldIn m s.switches Pins s.entries Board st.start st.end Turns) × (x.came ≡ y) × (x.before ≡ before) × (x.members ≡ members_from m (axis_at m axis) st.moving 0 m.boards)
     section =
-        let r = turn m v s ts p t first rest end c told f long short little in
-        section_told m s.switches Pins s.entries Board ts p t (By m v s ts p t first rest end c told f long short little) Came_by (by m v s ts p t first rest end c told f long short little) told r.early
-        (connected m v s ts p t first rest end c told f long short little) (formed m v s ts p t first rest end c told f long short little) Turns (run_of m v s ts p t first rest end c told f long short little Board there)
-        (set_ups m v s ts p t first rest end c told f long short little Board there) past st later axis cut home ahead y before are (sym ends)
+        let r = turn m v s ts p t first rest end c told f short little in
+        section_told m s.switches Pins s.entries Board ts p t (By m v s ts p t first rest end c told f short little) Came_by (by m v s ts p t first rest end c told f short little) told r.early
+        (connected m v s ts p t first rest end c told f short little) (formed m v s ts p t first rest end c told f short little) Turns (run_of m v s ts p t first rest end c told f short little Board there)
+        (set_ups m v s ts p t first rest end c told f short little Board there) past st later axis cut home ahead y before are (sym ends)
 
     unset : (from : ℕ) → from + 254 ≡ st.start → SetNoClockFrom from section.0.past
     unset =
-        let k = on m v s ts p t first rest end c told f long short little Board there in
-        let Upto = N m v s ts p t first rest end c told f long short little in
-        let From = By m v s ts p t first rest end c told f long short little in
+        let k = on m v s ts p t first rest end c told f short little Board there in
+        let Upto = Made m v s ts p t first rest end c told f short little in
+        let From = By m v s ts p t first rest end c told f short little in
         let Run : List RunSection → Type 0 = λ ss. IsHomeRun k.own (clocks_at t.clocks Board) (board_at m Board).freq (board_at m Board).slots From k.stops ss (orders_in Turns) in
         none_set m s.switches Pins s.entries Board (board_at m Board).freq (board_at m Board).slots From st.end k.own (clocks_at t.clocks Board) k.stops
         (cuts_on m t.clocks Upto past Board) (cut_on m t.clocks Upto Board st) (cuts_on m t.clocks Upto later Board) Turns
@@ -141,29 +139,29 @@ module _ (m : Machine) (v : IsValidMachine m) (s : Scene) (ts : List MotionTurn)
     runs : (stands_after (link_of m s Board) section.0.past).core.board.controller.state ≡ Running
     runs =
         let x = section.0 in
-        let w = whole m v s ts p t first rest end c told f long short little Board there in
+        let w = whole m v s ts p t first rest end c told f short little Board there in
         let clock = clock_of (board_at m Board) in
         let link = link_of m s Board in
         let May : List BoardTurn → Type 0 = λ z. MayBe (stands_after link z).core.board.controller.state in
         let Are : List BoardTurn → Type 0 = λ z. AreBoardTurns clock link z in
         goes_running m s.switches Pins s.entries Board x.came x.before x.past x.run_is x.states x.goes_on
-        (may_front clock link x.later x.past (subst Are x.are w.turns_are) (subst May x.are (may_end m v s ts p t first rest end c told f long short little Board there)))
+        (may_front clock link x.later x.past (subst Are x.are w.turns_are) (subst May x.are (may_end m v s ts p t first rest end c told f short little Board there)))
 
     hears : HearSoon m s.switches Board st.start (y ∷ before) section.0.past
     hears =
         let x = section.0 in
-        soon p Board refl there (whole m v s ts p t first rest end c told f long short little Board there) past st later axis cut home refl (came_in end ∷ ahead) y before x.later x.past
+        soon p Board refl there (whole m v s ts p t first rest end c told f short little Board there) past st later axis cut home refl (came_in end ∷ ahead) y before x.later x.past
         (came_snoc (came_in first ∷ []) rest end ∙ ap (λ z. came_in end ∷ z) are) x.are (sym ends) x.long
 
     -- as the section starts the board is no more than a turn ahead of its lines
     order : board_tick (clock_of (board_at m Board)) (st.start - 1) ≤ lines_tick (clocks_at t.clocks Board) (st.start * turn_ns)
     order =
-        let r = turn m v s ts p t first rest end c told f long short little in
-        let l = lines m v s ts p t first rest end c told f long short little Board there in
+        let r = turn m v s ts p t first rest end c told f short little in
+        let l = lines m v s ts p t first rest end c told f short little Board there in
         let early = r.early in
         let Row : List Started → Type 0 = λ z. AreInARow t.first z in
         let Ends : List Started → Type 0 = λ z. AreOverBefore m t.clocks l.tracked.until z in
-        let at = row_from t.first past st later (subst Row cut (row m v s ts p t first rest end c told f long short little)) in
+        let at = row_from t.first past st later (subst Row cut (row m v s ts p t first rest end c told f short little)) in
         let start = at.0 in
         let over = end_at m t.clocks l.tracked.until past st later (subst Ends cut l.over) in
         let after = over_late st.section.kind m t.clocks st at.1 in
@@ -177,7 +175,7 @@ module _ (m : Machine) (v : IsValidMachine m) (s : Scene) (ts : List MotionTurn)
         subst (λ (n : ℕ). board_tick (clock_of (board_at m Board)) (st.start - 1) ≤ lines_tick (clocks_at t.clocks Board) (n * turn_ns)) next (omega (arith, same, behind_so))
 
     known_so : KnowsLately m s.switches t.clocks (y ∷ before)
-    known_so = let Knows : List Came → Type 0 = λ z. KnowsLately m s.switches t.clocks z in knows_tail m s.switches t.clocks ahead (y ∷ before) (subst Knows are (knows m v s ts p t first rest end c told f long short little))
+    known_so = let Knows : List Came → Type 0 = λ z. KnowsLately m s.switches t.clocks z in knows_tail m s.switches t.clocks ahead (y ∷ before) (subst Knows are (knows m v s ts p t first rest end c told f short little))
 
     -- what the group answered
     own_answer : (h : Homing) (tick turn : ℕ) → h.start ≡ st.start → (noted m y.note (known_by m s.switches before)).homing ≡ Some h
@@ -190,9 +188,9 @@ module _ (m : Machine) (v : IsValidMachine m) (s : Scene) (ts : List MotionTurn)
         → WasReported m s.switches Board h.start (record { reason = 1; tick = tick; turn = turn }) (cc ∷ bb) → CameNotes p.seen.begun bb → HearSoon m s.switches Board st.start (cc ∷ bb) x.past → KnowsLately m s.switches t.clocks (cc ∷ bb) → IsReadIn m s.switches Pins Board h.start axis bb tick in
         let Row : List Started → Type 0 = λ z. AreInARow t.first z in
         let Notes : List Started → Type 0 = λ z. CameNotes z x.before in
-        let kept = (lines m v s ts p t first rest end c told f long short little Board there).tracked.kept in
+        let kept = (lines m v s ts p t first rest end c told f short little Board there).tracked.kept in
         let here : Says x.came x.before = λ is says was came hear clocks.
-        own_told m s.switches Pins s.entries Board st.end axis t.first Turns past st later h tick turn v (subst Row cut (row m v s ts p t first rest end c told f long short little)) home small refl x (subst Notes cut came) unset runs is says begin was hear t.clocks kept order clocks in
+        own_told m s.switches Pins s.entries Board st.end axis t.first Turns past st later h tick turn v (subst Row cut (row m v s ts p t first rest end c told f short little)) home small refl x (subst Notes cut came) unset runs is says begin was hear t.clocks kept order clocks in
         let now : Says y x.before = subst (λ (z : Came). Says z x.before) section.1 here in
         let both : Says y before = subst (λ (z : List Came). Says y z) section.2 now in
         both known answer reported notes hears known_so
@@ -200,7 +198,7 @@ module _ (m : Machine) (v : IsValidMachine m) (s : Scene) (ts : List MotionTurn)
   own_cut : (ahead : List Came) (y : Came) (before : List Came) (lines : List ReportLine) (x : TellsAnswer m s.switches y before lines) → Came_by ≡ ahead ++ y ∷ before → (number axis : ℕ) (e : EndsIn p.seen.begun (length before) number axis) → number ≡ x.homing.section
       → IsOwnReading m s.switches x.homing.start x.homing.axis before x.tick
   own_cut ahead y before lines x are number axis e same_number =
-      let plan = by m v s ts p t first rest end c told f long short little in
+      let plan = by m v s ts p t first rest end c told f short little in
       let Goes : List Came → Type 0 = λ z. GoesOn m s.switches z in
       let Notes : List Came → Type 0 = λ z. CameNotes p.seen.begun z in
       let goes = goes_behind m s.switches ahead (y ∷ before) (subst Goes are plan.goes_on) in
@@ -239,26 +237,22 @@ none_own m switches begun k before (r ∷ rs) none ends = (
 )
 
 module _ (m : Machine) (v : IsValidMachine m) (s : Scene) (ts : List MotionTurn) (p : Plans m (length m.boards) ts) (end : ReactorTurn) (c : Cause) where
-  own_by : HaveShortDictionaries m → (o : Option Told) (first : ReactorTurn) (rest : List ReactorTurn) → Facts m s ts (first ∷ rest) end c → p.seen.told ≡ o → length (rest ++ end ∷ []) ≤ length p.made → AllHomeLittle m s p.seen.text ts (first ∷ (rest ++ end ∷ [])) → AllHearSoon m s p.seen.text ts (first ∷ (rest ++ end ∷ []))
+  own_by : HaveShortDictionaries m → (o : Option Told) (first : ReactorTurn) (rest : List ReactorTurn) → Facts m s ts (first ∷ rest) end c → p.seen.told ≡ o → AllHomeLittle m s p.seen.text ts (first ∷ (rest ++ end ∷ [])) → AllHearSoon m s p.seen.text ts (first ∷ (rest ++ end ∷ []))
       → TellEnds m s.switches p.seen.begun 0 (first ∷ rest) → TellOwn m s.switches [] (first ∷ rest)
-  own_by short None first rest f told long little soon ends = none_own m s.switches p.seen.begun 0 [] (first ∷ rest) (not_told m v s ts p end c told) ends
-  own_by short (Some t) first rest f told long little soon ends = own_turns m v s ts p t first rest end c told f long short (λ b h w. little p t b refl told h w) soon [] (first ∷ rest) refl ends
+  own_by short None first rest f told little soon ends = none_own m s.switches p.seen.begun 0 [] (first ∷ rest) (not_told m v s ts p end c told) ends
+  own_by short (Some t) first rest f told little soon ends = own_turns m v s ts p t first rest end c told f short (λ b h w. little p t b refl told h w) soon [] (first ∷ rest) refl ends
 
-  all_own : HaveShortDictionaries m → (rs : List ReactorTurn) → Ended m s ts rs end c → ReadsOn m p.seen.text ts c → AllHomeLittle m s p.seen.text ts (rs ++ end ∷ []) → AllHearSoon m s p.seen.text ts (rs ++ end ∷ []) → TellOwn m s.switches [] rs
-  all_own short [] e on little soon = tt
-  all_own short (first ∷ rest) e on little soon =
-      let ends = ends_front m s.switches p.seen.begun 0 (first ∷ rest) (end ∷ []) (all_ends m v s ts p end c (first ∷ rest) e on) in
-      elim (long_on m v s ts p end c first rest e.facts on) [
-        | inl l ↦ own_by short p.seen.told first rest e.facts refl l little soon ends
-        | inr z ↦ none_own m s.switches p.seen.begun 0 [] (first ∷ rest) z.none ends
-      ]
+  all_own : HaveShortDictionaries m → (rs : List ReactorTurn) → Ended m s ts rs end c → AllHomeLittle m s p.seen.text ts (rs ++ end ∷ []) → AllHearSoon m s p.seen.text ts (rs ++ end ∷ []) → TellOwn m s.switches [] rs
+  all_own short [] e little soon = tt
+  all_own short (first ∷ rest) e little soon =
+      let ends = ends_front m s.switches p.seen.begun 0 (first ∷ rest) (end ∷ []) (all_ends m v s ts p end c (first ∷ rest) e) in
+      own_by short p.seen.told first rest e.facts refl little soon ends
 
 pub run_own : {F S : Type 0} (f : Files F) (o : Sink S) (m : Machine) (s : Scene) (name : List ℕ) (files files' : F) (out out' : S) (kept kept' : Kept) (t : near.Told Run) (r : RunsOver f o m s name files out kept t files' out' kept') → IsValidMachine m → HaveShortDictionaries m → (text : List ℕ)
-    → f.told files name ≡ Some text → kept.at ≡ 0 → (t.cause ≡ cause.Memory → ⊥) → ReadsOn m text r.runs.0 t.cause → AllHomeLittle m s text r.runs.0 (r.runs.1 ++ r.runs.2 ∷ []) → AllHearSoon m s text r.runs.0 (r.runs.1 ++ r.runs.2 ∷ []) → ∥ TellOwn m s.switches [] r.runs.1 ∥₁
-run_own f o m s name files files' out out' kept kept' t r v short text told at other on little soon =
+    → f.told files name ≡ Some text → kept.at ≡ 0 → (t.cause ≡ cause.Memory → ⊥) → AllHomeLittle m s text r.runs.0 (r.runs.1 ++ r.runs.2 ∷ []) → AllHearSoon m s text r.runs.0 (r.runs.1 ++ r.runs.2 ∷ []) → ∥ TellOwn m s.switches [] r.runs.1 ∥₁
+run_own f o m s name files files' out out' kept kept' t r v short text told at other little soon =
     ∥∥₁_map (run_made f o m s name files files' out out' kept kept' t r text told at) (λ w.
     let made = w.0 in
     let Little : List ℕ → Type 0 = λ z. AllHomeLittle m s z r.runs.0 (r.runs.1 ++ r.runs.2 ∷ []) in
     let Soon : List ℕ → Type 0 = λ z. AllHearSoon m s z r.runs.0 (r.runs.1 ++ r.runs.2 ∷ []) in
-    let Reads : List ℕ → Type 0 = λ z. ReadsOn m z r.runs.0 t.cause in
-    all_own m v s r.runs.0 made.plans r.runs.2 t.cause short r.runs.1 (run_ended f o m s name files files' out out' kept kept' t r other) (subst Reads (sym w.1) on) (subst Little (sym w.1) little) (subst Soon (sym w.1) soon))
+    all_own m v s r.runs.0 made.plans r.runs.2 t.cause short r.runs.1 (run_ended f o m s name files files' out out' kept kept' t r other) (subst Little (sym w.1) little) (subst Soon (sym w.1) soon))

@@ -1,12 +1,12 @@
 -- What the lines of a whole run tell of a section of moves, where the board of the stepper ran on behind it.
-use Rattle.std.proofs.Common.{◌≡◌, ◌≢◌, ℕ, true, ◌+◌, ◌<◌, ◌≤◌, List, [], ◌∷◌, ◌++◌, length, map, take, Some, refl, ap, sym, ◌∙◌, subst, arith, inl, inr, length-append}
+use Rattle.std.proofs.Common.{◌≡◌, ◌≢◌, ℕ, true, ◌+◌, ◌<◌, ◌≤◌, List, [], ◌∷◌, ◌++◌, length, map, take, None, Some, refl, ap, sym, ◌∙◌, subst, arith, inl, inr, length-append}
 use Rattle.std.proofs.lemmas.List.{length-map, map-append}
 use Rattle.plan_types.specs.declared.cause.Cause.{Cause}
 use Rattle.plan_types.specs.declared.machine.Machine.{Machine}
 use Rattle.plan_types.specs.declared.plan.Planned.{Planned}
 use Rattle.plan_types.specs.declared.plan.Pulse.{Pulse}
 use Rattle.plan_types.specs.declared.plan.SectionKind.{SectionKind}
-use Rattle.plan_types.specs.declared.plan.SectionKind.TheVariants.{Moves}
+use Rattle.plan_types.specs.declared.plan.SectionKind.TheVariants.{Home, Moves}
 use Rattle.plan_types.specs.Clock.{clock_of}
 use Rattle.plan_types.specs.Lines.{Clocks}
 use Rattle.plan_types.specs.Machines.{IsValidMachine, board_at, stepper_at}
@@ -43,7 +43,7 @@ use Rattle.run_plans.proofs.Fitting.{between, plan_is}
 use Rattle.run_plans.proofs.Running.{started_in}
 use Rattle.session_laws.specs.run_headline.Timely.{AreSound, link_of}
 use Rattle.session_laws.proofs.run_headline.Boarded.{Ready, came_cut, ready, sound_of, took, valid_at}
-use Rattle.session_laws.proofs.run_headline.Showing.{Facts, front_notes, lines_long, took_notes}
+use Rattle.session_laws.proofs.run_headline.Showing.{Facts, all_lines, few, long_or, notes_before}
 use Rattle.homing_laws.specs.home_runs.Settled.{AreHomed}
 use Rattle.homing_laws.specs.home_plans.Notes.{AreInARow}
 use Rattle.homing_laws.proofs.home_plans.Noting.{begun_row}
@@ -58,7 +58,7 @@ use Rattle.cause_runs.specs.Short.{HaveShortDictionaries}
 use Rattle.session_laws.proofs.clock_ages.Own.{Own}
 use Rattle.session_laws.proofs.clock_ages.Renews.{renews}
 use Rattle.session_laws.specs.home_headline.Little.{HomesLittle}
-use Rattle.session_laws.proofs.home_headline.Board.{Followed, boarded, here, lines_of, may_by}
+use Rattle.session_laws.proofs.home_headline.Board.{Followed, boarded_by, here_by, lines_of, may_by}
 use Rattle.session_laws.proofs.home_headline.Clocks.{run_knows}
 use Rattle.session_laws.proofs.home_headline.Planned.{planned_by}
 use Rattle.session_laws.proofs.home_headline.Ranges.{may_all, on_small, range_all, starts_soon}
@@ -67,20 +67,35 @@ use Rattle.session_laws.proofs.home_wholes.Between.{still_between}
 use Rattle.session_laws.proofs.home_wholes.Board.{whole_idle, whole_passed}
 use Rattle.session_laws.proofs.home_wholes.Told.{all_homed}
 use Rattle.session_laws.proofs.home_headline.Uncut.{cut_many, cut_released, out_at, planned_at, released_by}
+use Rattle.homing_laws.proofs.home_parts.Ends.{Among, among_here, among_parts, row_past}
 use Rattle.homing_laws.proofs.home_parts.Lines.{next_behind}
+
+none_some : {X : Type 0} {x : X} → None ≡ Some x → ⊥
+none_some e = cc
+
+-- a section of moves ends 260 turns before the last one starts, where that homes
+before_last : (ready : ℕ) (past : List Started) (x : Started) (later before : List Started) (y : Started) (axis : ℕ) → past ++ x ∷ later ≡ before ++ y ∷ [] → x.section.kind ≡ Moves → y.section.kind ≡ Home axis → AreInARow ready (before ++ y ∷ []) → x.end + 260 ≤ y.start
+before_last ready past x later before y axis are moves home row =
+    elim (among_parts x before y [] (subst (Among x) are (among_here past x later))) [
+      | inl a ↦ (row_past ready x before y [] row a).1
+      | inr a ↦ elim a [ inl e ↦ absurd (let f : Moves ≡ Home axis = sym moves ∙ ap (λ (z : Started). z.section.kind) e ∙ home in cc) | inr a ↦ absurd a ]
+    ]
 
 pub end_at : (m : Machine) (clocks : List Clocks) (until : ℕ) (xs : List Started) (x : Started) (later : List Started) → AreOverBefore m clocks until (xs ++ x ∷ later) → over_in x.section.kind m clocks x < until
 end_at m clocks until [] x later h = h.0
 end_at m clocks until (y ∷ xs) x later h = end_at m clocks until xs x later h.1
 
 module _ (m : Machine) (v : IsValidMachine m) (s : Scene) (ts : List MotionTurn) (p : Plans m (length m.boards) ts) (t : Told) (first : ReactorTurn) (rest : List ReactorTurn) (end : ReactorTurn) (c : Cause) (told : p.seen.told ≡ Some t) (f : Facts m s ts (first ∷ rest) end c)
-    (long : length (rest ++ end ∷ []) ≤ length p.made) (short : HaveShortDictionaries m)
+    (short : HaveShortDictionaries m)
     (little : (b : ℕ) → b < length m.boards → (w : IsInWhole m s.switches b (clock_of (board_at m b)) (link_of m s b) ts first (rest ++ end ∷ [])) → HomesLittle m s b ts first (rest ++ end ∷ []) (length p.made) t p.seen.begun w) where
   notes : TookNotes (map (λ d. d.note) p.made) (first ∷ rest)
-  notes = front_notes m v s ts p end c first rest f (took_notes m v s ts p end c first rest f long)
+  notes = notes_before m v s ts p end c first rest f
+
+  most : length (rest ++ end ∷ []) ≤ length p.made + 1
+  most = few m v s ts p end c first rest f
 
   tells : TellTurns m p.seen.begun 0 (first ∷ (rest ++ end ∷ []))
-  tells = lines_long m v s ts p end c first rest f long
+  tells = all_lines m v s ts p end c first rest f
 
   -- the boards, as for the lines that follow the plans
   pub turn : Ready m v s ts p t first rest end told
@@ -92,6 +107,10 @@ module _ (m : Machine) (v : IsValidMachine m) (s : Scene) (ts : List MotionTurn)
   abbrev pub N : ℕ
   N = length (rest ++ end ∷ [])
 
+  -- the turns that the planner made
+  abbrev pub Made : ℕ
+  Made = length p.made
+
   abbrev pub By : ℕ
   By = length (came_from [] turn.past)
 
@@ -102,10 +121,10 @@ module _ (m : Machine) (v : IsValidMachine m) (s : Scene) (ts : List MotionTurn)
   Turns_of b h = behind [] (whole b h).made
 
   abbrev pub Here : (b : ℕ) → b < length m.boards → OnBoard
-  Here b h = here m v s ts p t first rest end told b (whole b h)
+  Here b h = here_by m v s ts p t first rest end told Made b (whole b h)
 
   pub lines : (b : ℕ) → b < length m.boards → Followed m b (length rest) t.clocks By p.seen.begun
-  lines b h = lines_of m v s ts p t first rest end told b (whole b h) turn h (let size = length-append rest (end ∷ []) in renews m v short s ts p t first rest end c told f notes (omega (arith, size, long)) b h)
+  lines b h = lines_of m v s ts p t first rest end told b (whole b h) turn h (let size = length-append rest (end ∷ []) in let l = most in renews m v short s ts p t first rest end c told f notes (omega (arith, size, l)) b h)
 
   pub row : AreInARow t.first p.seen.begun
   row = begun_row m t.clocks t.first p.seen.begun (started_in m ts p t told)
@@ -122,12 +141,12 @@ module _ (m : Machine) (v : IsValidMachine m) (s : Scene) (ts : List MotionTurn)
   pub formed : MayHome m p.seen.begun
   formed = may_all m v ts p t told
 
-  pub on : (b : ℕ) (h : b < length m.boards) → IsHomeBoard b s.entries By N (cuts_on m t.clocks N p.seen.begun b) (Here b h)
-  on b h = boarded m v s ts p t first rest end told f.ahead b f.words_left (whole b h) turn h f.turns f.words notes long (little b h (whole b h)) (lines b h) sound formed (range b h)
+  pub on : (b : ℕ) (h : b < length m.boards) → IsHomeBoard b s.entries By N (cuts_on m t.clocks Made p.seen.begun b) (Here b h)
+  on b h = boarded_by m v s ts p t first rest end told Made f.ahead b f.words_left (whole b h) turn h f.turns f.words notes (omega arith) (inr (omega arith)) most (little b h (whole b h)) (lines b h) sound formed (range b h)
 
   -- and behind its last turn it runs, or shut down for one of the two reasons
   pub may_end : (b : ℕ) (h : b < length m.boards) → MayBe (stands_after (link_of m s b) (Turns_of b h)).core.board.controller.state
-  may_end b h = may_by m v s ts p t first rest end told N f.ahead b f.words_left (whole b h) turn h f.turns f.words notes long (inl (omega arith)) (omega (arith, long)) (little b h (whole b h)) (lines b h) sound formed (range b h)
+  may_end b h = may_by m v s ts p t first rest end told Made f.ahead b f.words_left (whole b h) turn h f.turns f.words notes (omega arith) (inr (omega arith)) most (little b h (whole b h)) (lines b h) sound formed (range b h)
 
   pub run_of : (b : ℕ) (h : b < length m.boards) → IsInRun m s.switches (pins_of (board_at m b) b s.switches) s.entries b Came_all (Turns_of b h)
   run_of b h =
@@ -137,7 +156,7 @@ module _ (m : Machine) (v : IsValidMachine m) (s : Scene) (ts : List MotionTurn)
       subst Run (came_cut [] first rest end) run_first
 
   pub by : IsPlannedBy m s.switches (length m.boards) ts p Came_all
-  by = let size = length-append rest (end ∷ []) in planned_by m s.switches (length m.boards) f.ahead ts p first rest f.words_left f.turns f.words notes (omega (arith, long, size))
+  by = let size = length-append rest (end ∷ []) in let l = most in planned_by m s.switches (length m.boards) f.ahead ts p first rest f.words_left f.turns f.words notes (omega (arith, l, size))
 
   -- the clock lines that the reactor knows
   pub knows : KnowsLately m s.switches t.clocks Came_all
@@ -154,7 +173,7 @@ module _ (m : Machine) (v : IsValidMachine m) (s : Scene) (ts : List MotionTurn)
   set_ups b h =
       let k = on b h in
       let pins = pins_of (board_at m b) b s.switches in
-      let units = turns_fit k.own (clocks_at t.clocks b) (board_at m b).freq (board_at m b).slots By k.stops (cuts_on m t.clocks N p.seen.begun b) (Turns_of b h) k.run_is in
+      let units = turns_fit k.own (clocks_at t.clocks b) (board_at m b).freq (board_at m b).slots By k.stops (cuts_on m t.clocks Made p.seen.begun b) (Turns_of b h) k.run_is in
       let limits = limited m v s.switches pins s.entries b Came_all (Turns_of b h) (run_of b h) units in
       let early = turn.early in
       elim (little b h (whole b h)).set_up [
@@ -166,8 +185,8 @@ module _ (m : Machine) (v : IsValidMachine m) (s : Scene) (ts : List MotionTurn)
   homed b h =
       let k = on b h in
       let pins = pins_of (board_at m b) b s.switches in
-      let told_all = all_told m s.switches pins s.entries b By N ts p t Came_all (Turns_of b h) by told turn.early connected formed (run_of b h) (set_ups b h) in
-      all_homed m s.switches pins s.entries b (board_at m b).freq (board_at m b).slots By k.own (clocks_at t.clocks b) k.stops (stops_of p.seen.begun) (cuts_on m t.clocks N p.seen.begun b) (Turns_of b h) k.run_is told_all
+      let told_all = all_told m s.switches pins s.entries b By Made ts p t Came_all (Turns_of b h) by told turn.early connected formed (run_of b h) (set_ups b h) in
+      all_homed m s.switches pins s.entries b (board_at m b).freq (board_at m b).slots By k.own (clocks_at t.clocks b) k.stops (stops_of p.seen.begun) (cuts_on m t.clocks Made p.seen.begun b) (Turns_of b h) k.run_is told_all
 
   pub took_states : (b : ℕ) (h : b < length m.boards) → TookStates b (rest ++ end ∷ []) (Here b h).states
   took_states b h = took b (rest ++ end ∷ []) (Here b h).states (whole b h).states
@@ -176,12 +195,12 @@ module _ (m : Machine) (v : IsValidMachine m) (s : Scene) (ts : List MotionTurn)
   module _ (past : List Started) (x : Started) (later : List Started) (cut : p.seen.begun ≡ past ++ x ∷ later) (moves : x.section.kind ≡ Moves) (from to : ℕ)
       (w : IsWindow (length (rest ++ end ∷ [])) from to (record { start = x.start; end = x.end }) (times_of later)) (over : x.end + 5 ≤ to) (b : ℕ) (h : b < length m.boards) where
     abbrev Cut : RunSection
-    Cut = cut_on m t.clocks N b x
+    Cut = cut_on m t.clocks Made b x
 
-    home : IsHomeBoard b s.entries By N (cuts_on m t.clocks N past b ++ Cut ∷ cuts_on m t.clocks N later b) (Here b h)
+    home : IsHomeBoard b s.entries By N (cuts_on m t.clocks Made past b ++ Cut ∷ cuts_on m t.clocks Made later b) (Here b h)
     home =
         let Home : List RunSection → Type 0 = λ ss. IsHomeBoard b s.entries By N ss (Here b h) in
-        subst Home (ap (map (cut_on m t.clocks N b)) cut ∙ map-append (cut_on m t.clocks N b) past (x ∷ later)) (on b h)
+        subst Home (ap (map (cut_on m t.clocks Made b)) cut ∙ map-append (cut_on m t.clocks Made b) past (x ∷ later)) (on b h)
 
     starts : (t.first ≤ x.start) × (x.start ≤ x.end)
     starts = let Row : List Started → Type 0 = λ ss. AreInARow t.first ss in row_from t.first past x later (subst Row cut row)
@@ -205,33 +224,44 @@ module _ (m : Machine) (v : IsValidMachine m) (s : Scene) (ts : List MotionTurn)
         let At : SectionKind → Type 0 = λ k. IsPlanned k m t.clocks x in
         subst At moves (planned_at m t.clocks t.first past x later (subst Begun cut (started_in m ts p t told)))
 
+    -- it was over in the turns that the planner made: where these are not all, the last section homes
+    made_over : x.end + 5 ≤ Made
+    made_over =
+        let within = w.within in
+        elim (long_or m v s ts p end c first rest f) [
+          | inl l ↦ omega (arith, over, within, l)
+          | inr z ↦ elim z.0 [
+            | inl none ↦ absurd (none_some (sym none ∙ told))
+            | inr last ↦ (let far = before_last t.first past x later last.past last.s last.axis (sym cut ∙ last.are) moves last.home (let Row : List Started → Type 0 = λ ss. AreInARow t.first ss in subst Row last.are row) in let late = last.by in omega (arith, far, late))
+          ]
+        ]
+
     released : AreBefore (x.end + 5) (part_on m t.clocks x b).releases
     released =
         let l = lines b h in
         let early = turn.early in
         let start = starts.0 in
-        let within = w.within in
+        let upto = made_over in
         let Ends : List Started → Type 0 = λ ss. AreOverBefore m t.clocks l.tracked.until ss in
         let Out : List Started → Type 0 = λ ss. AreOut (length p.made) (runs_on m t.clocks ss b) in
         released_by m (Own m b (length rest)) t.clocks b By (length p.made) x (own_on (board_at m b) 0 (length rest + 349) (valid_at m.boards b h v.boards) (omega arith)).ticks l.tracked moved h (omega (arith, early, start))
-        (subst (λ (k : SectionKind). over_in k m t.clocks x < l.tracked.until) moves (end_at m t.clocks l.tracked.until past x later (subst Ends cut l.over))) (out_at m t.clocks (length p.made) b past x later (subst Out cut (little b h (whole b h)).out) (ap is_home moves)) (omega (arith, over, within, long))
+        (subst (λ (k : SectionKind). over_in k m t.clocks x < l.tracked.until) moves (end_at m t.clocks l.tracked.until past x later (subst Ends cut l.over))) (out_at m t.clocks (length p.made) b past x later (subst Out cut (little b h (whole b h)).out) (ap is_home moves)) (omega (arith, upto))
 
     as_planned : (oid : ℕ) → length (Cut.section.plan oid) ≡ length ((part_on m t.clocks x b).plan oid)
-    as_planned oid = let within = w.within in cut_many m t.clocks b N x moved h released (omega (arith, over, within)) oid
+    as_planned oid = cut_many m t.clocks b Made x moved h released made_over oid
 
     -- the link was idle in a turn, and the board wasn't stopped
     pub idle_many : (n : ℕ) (states others : List State) (last : State) → to ≤ n → n ≤ length (rest ++ end ∷ []) → (Here b h).states ≡ (states ++ last ∷ []) ++ others → length (states ++ last ∷ []) ≡ n → NeverStop (take n (orders_in (Turns_of b h)))
         → ((z : ShutNews) → last.shut ≡ Some z → z.reason ≡ 1 → ⊥) → last.idle ≡ true → (oid : ℕ) → length (only oid (told_in from to (Here b h))) ≡ length ((part_on m t.clocks x b).plan oid)
     idle_many n states others last reach upto are size never in_time idle oid =
-        let within = w.within in
-        whole_idle b s.entries By N from to (Here b h) (cuts_on m t.clocks N past b) Cut (cuts_on m t.clocks N later b) home (ap is_home moves) w.begins w.order (next_behind m t.clocks N b to later w.next) over still
-        n states others last reach upto (cut_released m t.clocks b N n x released (omega (arith, over, within)) (omega (arith, over, reach))) are size never in_time idle oid
+        whole_idle b s.entries By N from to (Here b h) (cuts_on m t.clocks Made past b) Cut (cuts_on m t.clocks Made later b) home (ap is_home moves) w.begins w.order (next_behind m t.clocks Made b to later w.next) over still
+        n states others last reach upto (cut_released m t.clocks b Made n x released made_over (omega (arith, over, reach))) are size never in_time idle oid
         ∙ as_planned oid
 
     -- or it told any pulse behind them
     pub passed_many : told_in to (length (rest ++ end ∷ [])) (Here b h) ≢ [] → (oid : ℕ) → length (only oid (told_in from to (Here b h))) ≡ length ((part_on m t.clocks x b).plan oid)
     passed_many some oid =
-        whole_passed b s.entries By N from to (Here b h) (cuts_on m t.clocks N past b) Cut (cuts_on m t.clocks N later b) home (ap is_home moves) w.begins w.order (next_behind m t.clocks N b to later w.next) over still some oid
+        whole_passed b s.entries By N from to (Here b h) (cuts_on m t.clocks Made past b) Cut (cuts_on m t.clocks Made later b) home (ap is_home moves) w.begins w.order (next_behind m t.clocks Made b to later w.next) over still some oid
         ∙ as_planned oid
 
   -- as many pulses in the report as planned steps

@@ -62,15 +62,14 @@ use Rattle.session_laws.proofs.run_headline.Going.{Gone, gone, lasts, one_idle, 
 use Rattle.session_laws.proofs.run_headline.Joining.{of_sections}
 use Rattle.session_laws.proofs.run_headline.Making.{run_made}
 use Rattle.session_laws.proofs.run_headline.Runs.{facts, run_ended}
-use Rattle.session_laws.proofs.run_headline.Showing.{Facts, Unread, alone_ends, came_long, cut_last, ends_own, front_notes, in_none, not_told, starts_late, took_notes, turns_cut}
+use Rattle.session_laws.proofs.run_headline.Showing.{Facts, alone_ends, came_long, cut_last, ends_own, in_none, not_told, notes_before, starts_late, turns_cut}
 use Rattle.session_laws.specs.home_headline.Follow.{AllShowHomes, FollowHomes}
 use Rattle.session_laws.specs.home_headline.Cuts.{TellEnds}
 use Rattle.cause_runs.specs.Short.{HaveShortDictionaries}
 use Rattle.session_laws.specs.home_headline.Little.{AllHomeLittle, HomesLittle}
-use Rattle.session_laws.specs.home_headline.Reading.{ReadsOn}
 use Rattle.session_laws.proofs.home_headline.Switches.{all_ends}
 use Rattle.session_laws.proofs.home_headline.Following.{follows}
-use Rattle.session_laws.proofs.home_headline.Shows.{all_shows, long_on}
+use Rattle.session_laws.proofs.home_headline.Shows.{all_shows}
 use Rattle.session_laws.specs.home_wholes.Whole.{AllWholeHomes, WholeHomes}
 use Rattle.session_laws.proofs.home_wholes.Lines.{Here, Turns_of, as_told_by, count, idle_many, passed_told, run_of, took_states}
 use Rattle.session_laws.proofs.home_wholes.Places.{orders_front}
@@ -104,7 +103,7 @@ module _ (m : Machine) (v : IsValidMachine m) (s : Scene) (ts : List MotionTurn)
       let At : Known → Type 0 = λ r. EndsSo m (noted m end.note r) (length (came_from [] rs)) end.states c in
       subst At own.0 (ends_so m s.switches f.known (length (came_from [] rs)) end.states end.note c own.1 f.other (sym (ends_own m s ts rs end c f (own_cause c g))))
 
-  module _ (first : ReactorTurn) (rest : List ReactorTurn) (f : Facts m s ts (first ∷ rest) end c) (long : length (rest ++ end ∷ []) ≤ length p.made) (short : HaveShortDictionaries m) (little : AllHomeLittle m s p.seen.text ts (first ∷ (rest ++ end ∷ []))) where
+  module _ (first : ReactorTurn) (rest : List ReactorTurn) (f : Facts m s ts (first ∷ rest) end c) (short : HaveShortDictionaries m) (little : AllHomeLittle m s p.seen.text ts (first ∷ (rest ++ end ∷ []))) where
     abbrev Came_all : List Came
     Came_all = came_from [] (first ∷ rest)
 
@@ -156,7 +155,7 @@ module _ (m : Machine) (v : IsValidMachine m) (s : Scene) (ts : List MotionTurn)
         let before = came_from [] (first ∷ x.front) in
         let now = noted m x.turn.note (known_by m s.switches before) in
         let Took : List ReactorTurn → Type 0 = λ z. TookNotes (map (λ (y : MotionTurn). y.note) p.made) (first ∷ z) in
-        let notes = front_notes m v s ts p end c first rest f (took_notes m v s ts p end c first rest f long) in
+        let notes = notes_before m v s ts p end c first rest f in
         let counts = run_counts m p.seen.text s.switches p.seen.begun p.made first x.front x.turn p.put (subst Took x.are notes) in
         let size = came_long [] (first ∷ x.front) in
         let place : length (first ∷ x.front) ≡ length rest = (let e = ap length x.are in omega (arith, e, length-append x.front (x.turn ∷ []))) in
@@ -178,21 +177,21 @@ module _ (m : Machine) (v : IsValidMachine m) (s : Scene) (ts : List MotionTurn)
           let b = (stepper_at m place).board in
           let low : b < length m.boards = (v.steppers place h).board in
           let n = length (rest ++ end ∷ []) in
-          let all = Turns_of m v s ts p t first rest end c told f long short small b low in
-          let states = (Here m v s ts p t first rest end c told f long short small b low).states in
-          let took = took_states m v s ts p t first rest end c told f long short small b low in
+          let all = Turns_of m v s ts p t first rest end c told f short small b low in
+          let states = (Here m v s ts p t first rest end c told f short small b low).states in
+          let took = took_states m v s ts p t first rest end c told f short small b low in
           let last = lasts b rest end states took in
           let idle = one_idle b end.states last.last w_all.2.through.idle last.at in
           let in_order = one_in_time 0 b end.states last.last w_all.2.none_late last.at in
           let size : length (last.front ++ last.last ∷ []) ≡ n = ap length (sym last.are) ∙ states_long b (rest ++ end ∷ []) states took in
-          let many = count m v s ts p t first rest end c told f long short small b low in
+          let many = count m v s ts p t first rest end c told f short small b low in
           let orders = order_length all in
           let Never : List Orders → Type 0 = λ os. NeverStop os in
           let never = subst Never (sym (take_all n (orders_in all) (omega (arith, many, orders))))
-          (never_stop m s.switches (pins_of (board_at m b) b s.switches) s.entries b Came_all all (run_of m v s ts p t first rest end c told f long short small b low) (not_stopping w_all)) in
+          (never_stop m s.switches (pins_of (board_at m b) b s.switches) s.entries b Came_all all (run_of m v s ts p t first rest end c told f short small b low) (not_stopping w_all)) in
           let within = w.within in
-          as_told_by m v s ts p t first rest end c told f long short small x from to place h
-          (idle_many m v s ts p t first rest end c told f long short small past x later cut moves from to w over b low n last.front [] last.last within (omega arith) (last.are ∙ sym (append-nil (last.front ++ last.last ∷ []))) size never
+          as_told_by m v s ts p t first rest end c told f short small x from to place h
+          (idle_many m v s ts p t first rest end c told f short small past x later cut moves from to w over b low n last.front [] last.last within (omega arith) (last.are ∙ sym (append-nil (last.front ++ last.last ∷ []))) size never
           (not_late in_order.0 last.last.shut in_order.1) idle (stepper_at m place).oid)
 
       -- where it was asked to stop, by the turns before the last one
@@ -207,9 +206,9 @@ module _ (m : Machine) (v : IsValidMachine m) (s : Scene) (ts : List MotionTurn)
             let b = (stepper_at m place).board in
             let low : b < length m.boards = (v.steppers place h).board in
             let n = length rest in
-            let all = Turns_of m v s ts p t first rest end c told f long short small b low in
-            let states = (Here m v s ts p t first rest end c told f long short small b low).states in
-            let last = lasts b rest end states (took_states m v s ts p t first rest end c told f long short small b low) in
+            let all = Turns_of m v s ts p t first rest end c told f short small b low in
+            let states = (Here m v s ts p t first rest end c told f short small b low).states in
+            let last = lasts b rest end states (took_states m v s ts p t first rest end c told f short small b low) in
             let Took : List ReactorTurn → Type 0 = λ z. TookStates b z last.front in
             let took = subst Took y.are last.took in
             let here = lasts b y.front y.turn last.front took in
@@ -217,12 +216,12 @@ module _ (m : Machine) (v : IsValidMachine m) (s : Scene) (ts : List MotionTurn)
             let in_order = one_in_time 0 b y.turn.states here.last y.went.none_late here.at in
             let size : length (here.front ++ here.last ∷ []) ≡ n = ap length (sym here.are) ∙ states_long b (y.front ++ y.turn ∷ []) last.front took ∙ ap length (sym y.are) in
             let more = length-append rest (end ∷ []) in
-            let many = count m v s ts p t first rest end c told f long short small b low in
+            let many = count m v s ts p t first rest end c told f short small b low in
             let Run : List Came → Type 0 = λ z. IsInRun m s.switches (pins_of (board_at m b) b s.switches) s.entries b z all in
-            let run = subst Run y.came (run_of m v s ts p t first rest end c told f long short small b low) in
+            let run = subst Run y.came (run_of m v s ts p t first rest end c told f short small b low) in
             let never = front_never m s.switches (pins_of (board_at m b) b s.switches) s.entries b (came_in y.turn) (came_from [] (first ∷ y.front)) all n run not_about (omega (arith, many, more)) in
-            as_told_by m v s ts p t first rest end c told f long short small x from to place h
-            (idle_many m v s ts p t first rest end c told f long short small past x later cut moves from to w over b low n here.front (last.last ∷ []) here.last reach (omega (arith, more)) (last.are ∙ ap (λ (z : List State). z ++ last.last ∷ []) here.are) size never
+            as_told_by m v s ts p t first rest end c told f short small x from to place h
+            (idle_many m v s ts p t first rest end c told f short small past x later cut moves from to w over b low n here.front (last.last ∷ []) here.last reach (omega (arith, more)) (last.are ∙ ap (λ (z : List State). z ++ last.last ∷ []) here.are) size never
             (not_late in_order.0 here.last.shut in_order.1) idle (stepper_at m place).oid)
 
         -- the last turn has no pulses
@@ -275,19 +274,12 @@ module _ (m : Machine) (v : IsValidMachine m) (s : Scene) (ts : List MotionTurn)
         let all : At (Some t) = record {
           whole = λ g past x later from to place cut moves h w over. whole_told t e g past x later from to place cut moves h w over;
           passed = λ past x later from to place other cut moves h k same w over some.
-              passed_told m v s ts p t first rest end c e f long short (small t e) past x later from to place other cut moves h k same w over some;
+              passed_told m v s ts p t first rest end c e f short (small t e) past x later from to place other cut moves h k same w over some;
         } in
         subst At (sym e) all
 
     pub wholes : WholeHomes m p.seen (clocks_heard p.seen.told) c (rest ++ end ∷ [])
     wholes = wholes_by p.seen.told refl
-
-  -- where no section was begun
-  wholes_unread : (first : ReactorTurn) (rest : List ReactorTurn) (f : Facts m s ts (first ∷ rest) end c) → Unread m v s ts p end c first rest f → WholeHomes m p.seen (clocks_heard p.seen.told) c (rest ++ end ∷ [])
-  wholes_unread first rest f z = record {
-    whole = λ g past x later from to place cut moves h w over. absurd (in_none past x later p.seen.begun z.none cut);
-    passed = λ past x later from to place other cut moves h k same w over some. absurd (in_none past x later p.seen.begun z.none cut);
-  }
 
   -- a run of one turn
   wholes_alone : Facts m s ts [] end c → WholeHomes m p.seen (clocks_heard p.seen.told) c []
@@ -304,28 +296,26 @@ module _ (m : Machine) (v : IsValidMachine m) (s : Scene) (ts : List MotionTurn)
             absurd (omega (arith, late, begins, order, within));
       }
 
-  pub all_wholes : (rs : List ReactorTurn) → Facts m s ts rs end c → ReadsOn m p.seen.text ts c → HaveShortDictionaries m → AllHomeLittle m s p.seen.text ts (rs ++ end ∷ []) → AllWholeHomes m p.seen (clocks_heard p.seen.told) c (rs ++ end ∷ [])
-  all_wholes [] f on short little = wholes_alone f
-  all_wholes (first ∷ rest) f on short little = elim (long_on m v s ts p end c first rest f on) [ inl l ↦ wholes first rest f l short little | inr z ↦ wholes_unread first rest f z ]
+  pub all_wholes : (rs : List ReactorTurn) → Facts m s ts rs end c → HaveShortDictionaries m → AllHomeLittle m s p.seen.text ts (rs ++ end ∷ []) → AllWholeHomes m p.seen (clocks_heard p.seen.told) c (rs ++ end ∷ [])
+  all_wholes [] f short little = wholes_alone f
+  all_wholes (first ∷ rest) f short little = wholes first rest f short little
 
 pub run_wholes : {F S : Type 0} (f : Files F) (o : Sink S) (m : Machine) (s : Scene) (name : List ℕ) (files files' : F) (out out' : S) (kept kept' : Kept) (t : near.Told Run) (r : RunsOver f o m s name files out kept t files' out' kept') → IsValidMachine m → (text : List ℕ)
-    → f.told files name ≡ Some text → kept.at ≡ 0 → ∥ ((made : IsMade m s r.runs.0 r.runs.1) × (made.plans.seen.text ≡ text) × ((t.cause ≡ cause.Memory → ⊥) → ReadsOn m text r.runs.0 t.cause → HaveShortDictionaries m → AllHomeLittle m s text r.runs.0 (r.runs.1 ++ r.runs.2 ∷ [])
+    → f.told files name ≡ Some text → kept.at ≡ 0 → ∥ ((made : IsMade m s r.runs.0 r.runs.1) × (made.plans.seen.text ≡ text) × ((t.cause ≡ cause.Memory → ⊥) → HaveShortDictionaries m → AllHomeLittle m s text r.runs.0 (r.runs.1 ++ r.runs.2 ∷ [])
     → AllShowHomes m made.plans.seen (clocks_heard made.plans.seen.told) (ready_heard made.plans.seen.told) t.cause (r.runs.1 ++ r.runs.2 ∷ [])
     × AllWholeHomes m made.plans.seen (clocks_heard made.plans.seen.told) t.cause (r.runs.1 ++ r.runs.2 ∷ []))
-    × ((t.cause ≡ cause.Memory → ⊥) → ReadsOn m text r.runs.0 t.cause → TellEnds m s.switches made.plans.seen.begun 0 (r.runs.1 ++ r.runs.2 ∷ []))) ∥₁
+    × ((t.cause ≡ cause.Memory → ⊥) → TellEnds m s.switches made.plans.seen.begun 0 (r.runs.1 ++ r.runs.2 ∷ []))) ∥₁
 run_wholes f o m s name files files' out out' kept kept' t r v text told at =
     ∥∥₁_map (run_made f o m s name files files' out out' kept kept' t r text told at) (λ w.
     let made = w.0 in
-    let Little : List ℕ → Type 0 = λ z. AllHomeLittle m s z r.runs.0 (r.runs.1 ++ r.runs.2 ∷ []) in
-    let Reads : List ℕ → Type 0 = λ z. ReadsOn m z r.runs.0 t.cause in (
+    let Little : List ℕ → Type 0 = λ z. AllHomeLittle m s z r.runs.0 (r.runs.1 ++ r.runs.2 ∷ []) in (
       made,
       w.1,
-      λ other on short little.
+      λ other short little.
           let all = facts f o m s name files files' out out' kept kept' t r other in
-          let reads = subst Reads (sym w.1) on in
           let held = subst Little (sym w.1) little in (
             all_shows m v s r.runs.0 made.plans r.runs.2 t.cause r.runs.1 all short held,
-            all_wholes m v s r.runs.0 made.plans r.runs.2 t.cause r.runs.1 all reads short held,
+            all_wholes m v s r.runs.0 made.plans r.runs.2 t.cause r.runs.1 all short held,
           ),
-      λ other on. all_ends m v s r.runs.0 made.plans r.runs.2 t.cause r.runs.1 (run_ended f o m s name files files' out out' kept kept' t r other) (subst Reads (sym w.1) on),
+      λ other. all_ends m v s r.runs.0 made.plans r.runs.2 t.cause r.runs.1 (run_ended f o m s name files files' out out' kept kept' t r other),
     ))

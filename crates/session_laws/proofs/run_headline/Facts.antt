@@ -7,10 +7,8 @@ use Rattle.plan_types.specs.declared.cause.Cause.TheVariants as cause
 use Rattle.plan_types.specs.declared.machine.BoardDef.{BoardDef}
 use Rattle.plan_types.specs.declared.machine.Machine.{Machine}
 use Rattle.plan_types.specs.declared.plan.Section.{Section}
-use Rattle.plan_types.specs.declared.plan.SectionKind.{SectionKind}
-use Rattle.plan_types.specs.declared.plan.SectionKind.TheVariants.{Moves}
+use Rattle.plan_types.specs.declared.plan.SectionKind.TheVariants.{Home, Moves}
 use Rattle.plan_types.specs.Clock.{clock_of}
-use Rattle.plan_types.specs.Lines.{Clocks}
 use Rattle.plan_types.specs.Machines.{board_at, no_board}
 use Rattle.msg_code.specs.declared.talk.Note.{Note}
 use Rattle.msg_code.specs.declared.talk.State.{State}
@@ -26,9 +24,7 @@ use Rattle.host_reactor.specs.Rows.{IsOwn}
 use Rattle.host_reactor.specs.Running.{all_ended}
 use Rattle.host_reactor.specs.Reactor.{reacts}
 use Rattle.host_reactor.specs.Runs.{Came, known_by}
-use Rattle.motion_work.specs.Puts.{ArePut}
-use Rattle.motion_work.specs.Feeds.{batches_at}
-use Rattle.motion_work.specs.Seen.{AreMoves, AreStarted, IsPlanned, Started}
+use Rattle.motion_work.specs.Seen.{AreMoves, Started}
 use Rattle.session_work.specs.declared.table.MotionTurn.{MotionTurn}
 use Rattle.session_work.specs.declared.table.ReactorTurn.{ReactorTurn}
 use Rattle.session_work.specs.declared.seat.Seat.{Seat}
@@ -46,7 +42,7 @@ use Rattle.run_boards.specs.Boards.{IsInWhole}
 use Rattle.run_boards.specs.Turns.{AllGoOn, AllHaveControls, ShowsLink}
 use Rattle.run_boards.proofs.Items.{in_memory}
 use Rattle.run_plans.specs.Lines.{AreLinesOf, TellsTurn, TookEach, pulses_of, starts_at}
-use Rattle.run_plans.specs.Planned.{AnyStops, AnyWaits, AreBare, puts_of}
+use Rattle.run_plans.specs.Planned.{AnyStops, LastHomes}
 use Rattle.run_plans.proofs.Beginning.{Spread}
 use Rattle.run_plans.proofs.Telling.{pulses_append}
 use Rattle.session_laws.specs.run_headline.Timely.{AreOfMoves, link_of}
@@ -54,7 +50,6 @@ use Rattle.host_reactor.specs.Report.{machine_line, pulse_lines}
 use Rattle.session_laws.specs.run_ends.Boards.{boards_of}
 use Rattle.session_laws.proofs.run_ends.Connecting.{after_boards, boards_append, end_none}
 use Rattle.session_laws.proofs.run_ends.Counting.{IsRead}
-use Rattle.session_laws.proofs.run_headline.Boarded.{ready}
 pub use Rattle.session_laws.proofs.run_headline.Boarded.{came_long}
 use Rattle.session_laws.proofs.run_headline.Heard.{NoneOut}
 
@@ -110,38 +105,26 @@ took_noted (t ∷ rs) (n ∷ notes) others left h long e =
     let then : notes ++ others ≡ notes_of rs ++ left = cc in
     (h.0.1 ∙ ap Some (sym same), took_noted rs notes others left h.1 (omega (arith, long)) then)
 
+-- what holds of turns holds of the first ones of them
+pub front_each : (notes : List Note) (xs ys : List ReactorTurn) → TookEach notes (xs ++ ys) → TookEach notes xs
+front_each notes [] ys h = tt
+front_each [] (x ∷ xs) ys h = absurd h
+front_each (n ∷ notes) (x ∷ xs) ys h = (h.0, front_each notes xs ys h.1)
+
+pub each_front : (xs ys : List ReactorTurn) → EachNoted (xs ++ ys) → EachNoted xs
+each_front [] ys h = tt
+each_front (x ∷ xs) ys h = (h.0, each_front xs ys h.1)
+
+pub notes_both : (xs ys : List ReactorTurn) → notes_of (xs ++ ys) ≡ notes_of xs ++ notes_of ys
+notes_both [] ys = refl
+notes_both (x ∷ xs) ys = ap (λ z. option_items x.note ++ z) (notes_both xs ys) ∙ sym (append_assoc (option_items x.note) (notes_of xs) (notes_of ys))
+
 pub none_out : (rs : List ReactorTurn) → EachNoted rs → NoneOut (notes_of rs) × (length (notes_of rs) ≡ length rs)
 none_out [] h = (tt, refl)
 none_out (t ∷ rs) h =
     let rest = none_out rs h.1 in
     let cut : option_items t.note ++ notes_of rs ≡ h.0.0 ∷ notes_of rs = ap (λ x. option_items x ++ notes_of rs) h.0.1 in
     (subst NoneOut (sym cut) (h.0.2, rest.0), ap length cut ∙ ap suc rest.1)
-
--- a planner that made no turn
-abbrev pub as_put : ℕ → ℕ → List MotionTurn → List MotionTurn
-as_put n k [] = []
-as_put n k (t ∷ ts) = record t { batches = batches_at n k [] } ∷ as_put n (k + 1) ts
-
-pub bare_put : (m : Machine) (text : List ℕ) (n k : ℕ) (ts : List MotionTurn) → n ≡ length m.boards → AreBare n k ts → ArePut m text [] k (puts_of (as_put n k ts))
-bare_put m text n k [] e h = tt
-bare_put m text n k (t ∷ ts) e h =
-    let note = h.0.3 in (
-      record {
-        batches_are = ap (λ i. batches_at i k []) e;
-        turn = ap (λ (x : Note). x.turn) note;
-        read = [];
-        is_read = inl refl;
-        out = inl refl;
-        further = [];
-        are_further = tt;
-        news_are = ap (λ (x : Note). x.news) note;
-      },
-      bare_put m text n (k + 1) ts e h.1,
-    )
-
-pub put_notes : (n k : ℕ) (ts : List MotionTurn) → map (λ t. t.note) (as_put n k ts) ≡ gather (λ t. t.note ∷ []) ts
-put_notes n k [] = refl
-put_notes n k (t ∷ ts) = ap (λ x. t.note ∷ x) (put_notes n (k + 1) ts)
 
 pub no_turns : (xs : List MotionTurn) → length xs ≡ 0 → xs ≡ []
 no_turns [] e = refl
@@ -214,26 +197,15 @@ first_pulses m begun place t spread (inl a) tells =
     ap (pulses_of place) tells.are ∙ pulses_append place (machine_line m 0) (starts_at 0 0 begun ++ tells.rest) ∙ pulses_append place (starts_at 0 0 begun) tells.rest
     ∙ ap (λ x. x ++ pulses_of place tells.rest) (ap (pulses_of place) (none_at 0 0 260 begun spread (omega arith))) ∙ tells.pulses place ∙ ap (λ (states : List State). pulses_of place (pulse_lines m 0 states)) a.1
 
--- what was put in some turns and in others behind them
-pub puts_both : (m : Machine) (text : List ℕ) (begun : List Started) (k : ℕ) (xs ys : List MotionTurn) → ArePut m text begun k (puts_of xs) → ArePut m text begun (k + length xs) (puts_of ys) → ArePut m text begun k (puts_of (xs ++ ys))
-puts_both m text begun k [] ys h g = let e : k + 0 ≡ k = omega arith in subst (λ i. ArePut m text begun i (puts_of ys)) e g
-puts_both m text begun k (x ∷ xs) ys h g =
-    let e : k + length (x ∷ xs) ≡ k + 1 + length xs = omega arith in
-    (h.0, puts_both m text begun (k + 1) xs ys h.1 (subst (λ i. ArePut m text begun i (puts_of ys)) e g))
-
-pub notes_all : (n k : ℕ) (xs ys : List MotionTurn) → map (λ t. t.note) (xs ++ as_put n k ys) ≡ gather (λ t. t.note ∷ []) (xs ++ ys)
-notes_all n k [] ys = put_notes n k ys
-notes_all n k (x ∷ xs) ys = ap (λ z. x.note ∷ z) (notes_all n k xs ys)
-
--- no section of moves waits for an answer
-pub waits_never : (m : Machine) (clocks : List Clocks) (ready : ℕ) (ss : List Started) → AreStarted m clocks ready ss → All (λ s. s.section.kind ≡ Moves) ss → AnyWaits ss → ⊥
-waits_never m clocks ready [] a k w = w
-waits_never m clocks ready (s ∷ ss) a k (inl e) =
-    let kind = All-head (λ (x : Started). x.section.kind ≡ Moves) s ss k in
-    let moved = subst (λ (y : SectionKind). IsPlanned y m clocks s) kind a.0.planned in
-    let known = moved.known in
-    omega (arith, known, e)
-waits_never m clocks ready (s ∷ ss) a k (inr w) = waits_never m clocks (s.end + 260) ss a.1 (All-tail (λ (x : Started). x.section.kind ≡ Moves) s ss k) w
+-- of sections of moves the last one does not home
+pub homes_never : (k : ℕ) (ss : List Started) → All (λ s. s.section.kind ≡ Moves) ss → LastHomes k ss → ⊥
+homes_never k ss kinds h =
+    let Plain : List Started → Type 0 = λ z. All (λ s. s.section.kind ≡ Moves) z in
+    by h.past (subst Plain h.are kinds)
+  where
+    by : (past : List Started) → All (λ s. s.section.kind ≡ Moves) (past ++ h.s ∷ []) → ⊥
+    by [] all = let e : Moves ≡ Home h.axis = sym (All-head (λ (s : Started). s.section.kind ≡ Moves) h.s [] all) ∙ h.home in cc
+    by (x ∷ past) all = by past (All-tail (λ (s : Started). s.section.kind ≡ Moves) x (past ++ h.s ∷ []) all)
 
 -- What is known of a run that does not end for want of memory; or of any run up to a turn that goes on, as if it ended there for a fault.
 pub record Facts (m : Machine) (s : Scene) (ts : List MotionTurn) (rs : List ReactorTurn) (end : ReactorTurn) (c : Cause) : Type 0 where

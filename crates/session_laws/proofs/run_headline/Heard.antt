@@ -28,7 +28,7 @@ use Rattle.session_run.specs.declared.motion.Planning.{Planning}
 use Rattle.session_run.specs.Boards.{AreReactorTurns, came_in}
 use Rattle.session_run.specs.Machines.{planner}
 use Rattle.run_laws.proofs.Lists.{cons_same}
-use Rattle.run_plans.specs.Planned.{AnyEnds, AnyStops, AnyWaits, Plans, StopsAt, words_in}
+use Rattle.run_plans.specs.Planned.{AnyEnds, AnyStops, LastHomes, Plans, StopsAt, words_in}
 
 -- in turn k a worker takes words up to k
 small : (h q c w : Bool) (k n : ℕ) → cond h false (cond q (nat_lt (n + 63) k) (is_wanted (cond c (cond w (Some k) (cond (nat_lt k 64) None (Some (k - 64)))) (Some k)) n)) ≡ true → n ≤ k
@@ -150,23 +150,23 @@ stops_in h [] d bare a = stops_left h d.pieces (gather (λ (t : MotionTurn). t.p
 stops_in h (t ∷ made) d bare a = stops_right h t.pieces (gather (λ (x : MotionTurn). x.pieces) (made ++ d ∷ bare)) (stops_in h made d bare a)
 
 -- The planner makes a turn for each note that is taken. Or else no more of the text could be read in the turn before the last one of the
--- reactor, before any section was begun, unless one waits for its answer; then it makes a turn less.
+-- reactor, before any section was begun, unless the last one homes and has started; then it makes a turn less, in which it hears its words.
 pub long_or_none : (m : Machine) (switches : List Switch) (n : ℕ) (ts : List MotionTurn) (p : Plans m n ts) (rs : List ReactorTurn) (c : Cause)
     → ((heard : ℕ) → AnyStops heard (gather (λ t. t.pieces) ts) → (length rs + 1 ≤ heard) ⊎ ((heard ≡ length rs) × (IsOwn c → ⊥)))
     → (x e : Seat Planning) (notes left : List Note) (last words_left : List WordMsg)
     → x.heard ≡ 0 → Goes (MotionStep planner n) 0 x ts e → AreReactorTurns m switches [] rs
     → gather (λ t. t.word ∷ []) rs ++ last ≡ gather (λ t. t.words) ts ++ words_left
     → gather (λ t. t.note ∷ []) ts ≡ notes ++ left → NoneOut notes → length notes ≤ length rs
-    → (length notes ≤ length p.made) ⊎ (((p.seen.told ≡ None) ⊎ AnyWaits p.seen.begun) × (IsOwn c → ⊥) × (length notes ≤ length p.made + 1))
+    → (length notes ≤ length p.made) ⊎ (((p.seen.told ≡ None) ⊎ LastHomes (length p.made) p.seen.begun) × (IsOwn c → ⊥) × (length notes ≤ length (p.made ++ p.last)))
 long_or_none m switches n ts p rs c stop_at x e notes left last words_left fresh goes_all turns words_are notes_are none few =
     elim (leb_tells (length notes) (length p.made)) [ inl q ↦ inl q.1 | inr q ↦ inr (short p.bare p.are p.stops q.1) ]
   where
-    short : (bare : List MotionTurn) → ts ≡ p.made ++ bare → StopsAt (0 + length p.made) (0 + length (words_in p.made)) p.seen.told p.seen.begun bare → length p.made < length notes
-        → ((p.seen.told ≡ None) ⊎ AnyWaits p.seen.begun) × (IsOwn c → ⊥) × (length notes ≤ length p.made + 1)
+    short : (bare : List MotionTurn) → ts ≡ p.made ++ bare → StopsAt (0 + length p.made) (0 + length (words_in p.made)) p.seen.told p.seen.begun bare p.last → length p.made < length notes
+        → ((p.seen.told ≡ None) ⊎ LastHomes (length p.made) p.seen.begun) × (IsOwn c → ⊥) × (length notes ≤ length (p.made ++ p.last))
     short [] are stops less =
         let size = ap length (sym notes_are ∙ ap (gather (λ (t : MotionTurn). t.note ∷ [])) are ∙ notes_cut p.made []) in
         absurd (omega (arith, size, length-append notes left, length-append (map (λ (t : MotionTurn). t.note) p.made) [], length-map p.made (λ (t : MotionTurn). t.note), less))
-    short (d ∷ bare) are (inl ends) less =
+    short (d ∷ bare) are (inl (inl ends, none_last)) less =
         let Run : List MotionTurn → Type 0 = λ y. Goes (MotionStep planner n) 0 x y e in
         let heard = turns_heard n 0 p.made d bare x e (omega (arith, fresh)) (subst Run are goes_all) in
         let here = gather (λ (t : MotionTurn). t.words) p.made in
@@ -178,15 +178,21 @@ long_or_none m switches n ts p rs c stop_at x e notes left last words_left fresh
 
         words_all : (gather (λ (t : MotionTurn). t.words) p.made ++ d.words) ++ (gather (λ (t : MotionTurn). t.words) bare ++ words_left) ≡ gather (λ (t : ReactorTurn). t.word ∷ []) rs ++ last
         words_all = sym (words_cut p.made d bare words_left) ∙ ap (λ y. gather (λ (t : MotionTurn). t.words) y ++ words_left) (sym are) ∙ words_are'
-    short (d ∷ bare) are (inr (inl out)) less =
+    short (d ∷ bare) are (inl (inr out, none_last)) less =
         let cut = sym (notes_cut p.made (d ∷ bare)) ∙ ap (gather (λ (t : MotionTurn). t.note ∷ [])) (sym are) ∙ notes_are in
         let quiet = one_in (map (λ (t : MotionTurn). t.note) p.made) d.note (gather (λ (t : MotionTurn). t.note ∷ []) bare) notes left cut (omega (arith, length-map p.made (λ (t : MotionTurn). t.note), less)) none in
         absurd (let f : true ≡ false = sym out ∙ quiet in cc)
-    short (d ∷ bare) are (inr (inr u)) less =
+    short (d ∷ bare) are (inr (u, one)) less =
         let h = 0 + length (words_in p.made) + length d.words in
         let All : List MotionTurn → Type 0 = λ y. AnyStops h (gather (λ (t : MotionTurn). t.pieces) y) in
         let low = u.low in
+        let size = length-append p.made p.last in
+        let last_is = ap length one in
         elim (stop_at h (subst All (sym are) (stops_in h p.made d bare u.stops))) [
           | inl q ↦ absurd (omega (arith, q, low, less, few))
-          | inr q ↦ (u.early (omega (arith, q.0, low, less, few)), q.1, omega (arith, q.0, low, few))
+          | inr q ↦ (
+            elim (u.early (omega (arith, q.0, low, less, few))) [ inl none ↦ inl none | inr home ↦ (let same : 0 + length p.made ≡ length p.made = omega arith in let Homes : ℕ → Type 0 = λ i. LastHomes i p.seen.begun in inr (subst Homes same home)) ],
+            q.1,
+            omega (arith, q.0, low, few, size, last_is),
+          )
         ]

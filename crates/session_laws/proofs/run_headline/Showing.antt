@@ -32,7 +32,6 @@ use Rattle.session_laws.specs.clock_ages.Renewed.{StayYoung}
 use Rattle.session_laws.proofs.clock_ages.Renews.{renews}
 use Rattle.host_reactor.specs.Reactor.{reacts}
 use Rattle.host_reactor.specs.Runs.{Came, known_by, last_turn}
-use Rattle.motion_work.specs.Puts.{ArePut}
 use Rattle.motion_work.specs.Boards.{parts_on}
 use Rattle.motion_work.specs.Seen.{AreStarted, Started}
 use Rattle.motion_work.specs.Told.{Told}
@@ -45,11 +44,12 @@ use Rattle.section_units.specs.Sections.{AreReleased}
 use Rattle.run_laws.specs.Boards.{IsWindow}
 use Rattle.run_laws.specs.Stops.{NeverStop}
 use Rattle.run_plans.specs.Boards.{TookStates, lines_between, times_of}
-use Rattle.run_plans.specs.Lines.{AreLinesOf, TellTurns, TookEach, TookNotes, pulse_in, pulses_of}
-use Rattle.run_plans.specs.Planned.{AnyStops, AnyWaits, AreToldBy, Plans, puts_of}
+use Rattle.run_plans.specs.Lines.{AreLinesOf, TellTurns, TookNotes, pulse_in, pulses_of}
+use Rattle.run_plans.specs.Planned.{AreBare, AreToldBy, LastHomes, Plans, put_of, puts_of}
+use Rattle.run_plans.proofs.Heard.{heard_few}
 use Rattle.run_plans.proofs.Beginning.{Spread}
 use Rattle.run_plans.proofs.Spreading.{IsLate, plans_spread, turns_late}
-use Rattle.run_plans.proofs.Telling.{all_tell, pulses_append}
+use Rattle.run_plans.proofs.Telling.{all_tell, begin_snoc, notes_tell, pulses_append, put_begin}
 use Rattle.plan_types.specs.Clock.{clock_of}
 use Rattle.run_boards.specs.Boards.{IsInWhole}
 use Rattle.session_laws.specs.run_headline.Timely.{AllTakeNear, AreHeard, AreOfMoves, AreSound, AreThrough, HoldsLittle, ShowPlans, TakesNear, TellBoards, clocks_heard, link_of, ready_heard}
@@ -77,7 +77,7 @@ use Rattle.session_laws.proofs.run_headline.Plain.{all_moves}
 use Rattle.session_laws.proofs.run_headline.Further.{noted_boards}
 use Rattle.session_laws.proofs.run_headline.Telling.{turns_told}
 use Rattle.session_laws.proofs.run_headline.Words.{Among, among_left, gather_words, last_tells, made_numbered, news_in, turns_tell}
-pub use Rattle.session_laws.proofs.run_headline.Facts.{shows_link, first_at, go_on, notes_of, EachNoted, some_note, noted_so, goes_noted, took_noted, none_out, as_put, bare_put, put_notes, no_turns, starts_late, none_begun, in_none, kinds_of, none_homes, lines_all, came_long, turns_cut, cut_last, ended_read, over_later, none_at, first_pulses, puts_both, notes_all, waits_never, ends_own, last_boards, Ended, Facts}
+pub use Rattle.session_laws.proofs.run_headline.Facts.{shows_link, first_at, go_on, notes_of, EachNoted, some_note, noted_so, goes_noted, took_noted, none_out, front_each, each_front, notes_both, no_turns, starts_late, none_begun, in_none, kinds_of, none_homes, lines_all, came_long, turns_cut, cut_last, ended_read, over_later, none_at, first_pulses, homes_never, ends_own, last_boards, Ended, Facts}
 
 module _ (m : Machine) (v : IsValidMachine m) (s : Scene) (ts : List MotionTurn) (p : Plans m (length m.boards) ts) (end : ReactorTurn) (c : Cause) where
   spread : Spread 260 p.seen.begun
@@ -126,28 +126,26 @@ module _ (m : Machine) (v : IsValidMachine m) (s : Scene) (ts : List MotionTurn)
       pub none : p.seen.begun ≡ []
       pub never : IsOwn c → ⊥
 
-    -- where the reading stops in the turn before the last one alone, and a cause is none of the run's own where it does
-    long_by : (d : Cause) → ((heard : ℕ) → AnyStops heard (gather (λ x. x.pieces) ts) → (length (first ∷ rest) + 1 ≤ heard) ⊎ ((heard ≡ length (first ∷ rest)) × (IsOwn d → ⊥)))
-        → (length (rest ++ end ∷ []) ≤ length p.made) ⊎ (((p.seen.told ≡ None) ⊎ AnyWaits p.seen.begun) × (IsOwn d → ⊥) × (length (rest ++ end ∷ []) ≤ length p.made + 1))
-    long_by d stops =
+    -- the planner went on, or the reading stopped before any section was begun, or while the last one homes
+    pub long_or : (length (rest ++ end ∷ []) ≤ length p.made) ⊎ (((p.seen.told ≡ None) ⊎ LastHomes (length p.made) p.seen.begun) × (IsOwn c → ⊥) × (length (rest ++ end ∷ []) ≤ length (p.made ++ p.last)))
+    long_or =
         let n = none_out (rest ++ end ∷ []) each in
-        elim (long_or_none m s.switches (length m.boards) ts p (first ∷ rest) d stops f.from f.to (notes_of (rest ++ end ∷ [])) f.notes_left (last_words (length (first ∷ rest)) f.ahead) f.words_left f.fresh f.goes f.turns f.words notes_are n.0
+        elim (long_or_none m s.switches (length m.boards) ts p (first ∷ rest) c f.stops f.from f.to (notes_of (rest ++ end ∷ [])) f.notes_left (last_words (length (first ∷ rest)) f.ahead) f.words_left f.fresh f.goes f.turns f.words notes_are n.0
         (omega (arith, n.1, size))) [
           | inl l ↦ inl (omega (arith, l, n.1))
           | inr z ↦ inr (z.0, z.1, (let l = z.2 in omega (arith, l, n.1)))
         ]
 
-    -- the planner went on, or the reading stopped before any section was begun, or while one waited for its answer
-    pub long_or : (length (rest ++ end ∷ []) ≤ length p.made) ⊎ (((p.seen.told ≡ None) ⊎ AnyWaits p.seen.begun) × (IsOwn c → ⊥) × (length (rest ++ end ∷ []) ≤ length p.made + 1))
-    long_or = long_by c f.stops
+    -- or no section was begun, where the last one does not home
+    pub long_moves : (LastHomes (length p.made) p.seen.begun → ⊥) → (length (rest ++ end ∷ []) ≤ length p.made) ⊎ Unread
+    long_moves none = elim long_or [ inl l ↦ inl l | inr z ↦ inr (record { none = elim z.0 [ inl e ↦ not_told e | inr w ↦ absurd (none w) ]; never = z.1 }) ]
 
-    -- it went on where no piece says stop
-    pub long_read : ((heard : ℕ) → AnyStops heard (gather (λ x. x.pieces) ts) → ⊥) → length (rest ++ end ∷ []) ≤ length p.made
-    long_read none = elim (long_by cause.Done (λ heard a. absurd (none heard a))) [ inl l ↦ l | inr z ↦ absurd (z.1 tt) ]
+    -- it heard as many words as notes were taken, and made all turns but perhaps the last
+    pub hears : length (rest ++ end ∷ []) ≤ length (p.made ++ p.last)
+    hears = let more = length-append p.made p.last in elim long_or [ inl l ↦ omega (arith, l, more) | inr z ↦ z.2 ]
 
-    -- or no section was begun, where none waits
-    pub long_answered : (AnyWaits p.seen.begun → ⊥) → (length (rest ++ end ∷ []) ≤ length p.made) ⊎ Unread
-    long_answered none = elim long_or [ inl l ↦ inl l | inr z ↦ inr (record { none = elim z.0 [ inl e ↦ not_told e | inr w ↦ absurd (none w) ]; never = z.1 }) ]
+    pub few : length (rest ++ end ∷ []) ≤ length p.made + 1
+    few = let one = heard_few m (length m.boards) ts p in let all = hears in omega (arith, one, all)
 
     -- a run that ends for a cause of its own has read on
     pub long_own : IsOwn c → length (rest ++ end ∷ []) ≤ length p.made
@@ -163,45 +161,54 @@ module _ (m : Machine) (v : IsValidMachine m) (s : Scene) (ts : List MotionTurn)
         sym (notes_cut p.made p.bare) ∙ ap (gather (λ (t : MotionTurn). t.note ∷ [])) (sym p.are) ∙ notes_are in
         (none, took_noted (rest ++ end ∷ []) (map (λ (t : MotionTurn). t.note) p.made) (gather (λ (t : MotionTurn). t.note ∷ []) p.bare) f.notes_left each (omega (arith, l, length-map p.made (λ (t : MotionTurn). t.note))) cut)
 
-    front_each : (notes : List Note) (xs ys : List ReactorTurn) → TookEach notes (xs ++ ys) → TookEach notes xs
-    front_each notes [] ys h = tt
-    front_each [] (x ∷ xs) ys h = absurd h
-    front_each (n ∷ notes) (x ∷ xs) ys h = (h.0, front_each notes xs ys h.1)
-
     pub front_notes : TookNotes (map (λ t. t.note) p.made) (first ∷ (rest ++ end ∷ [])) → TookNotes (map (λ t. t.note) p.made) (first ∷ rest)
     front_notes h = (h.0, front_each (map (λ (x : MotionTurn). x.note) p.made) rest (end ∷ []) h.1)
+
+    -- the notes before the last, whether it goes on or not
+    pub notes_before : TookNotes (map (λ t. t.note) p.made) (first ∷ rest)
+    notes_before =
+        let notes = map (λ (d : MotionTurn). d.note) p.made in
+        let others = gather (λ (d : MotionTurn). d.note ∷ []) p.bare in
+        let cut : notes ++ others ≡ notes_of rest ++ (notes_of (end ∷ []) ++ f.notes_left) =
+        sym (notes_cut p.made p.bare) ∙ ap (gather (λ (d : MotionTurn). d.note ∷ [])) (sym p.are) ∙ notes_are ∙ ap (λ z. z ++ f.notes_left) (notes_both rest (end ∷ [])) ∙ append_assoc (notes_of rest) (notes_of (end ∷ [])) f.notes_left in
+        let many = length-map p.made (λ (d : MotionTurn). d.note) in
+        let most = few in
+        (none, took_noted rest notes others (notes_of (end ∷ []) ++ f.notes_left) (each_front rest (end ∷ []) each) (omega (arith, most, size, length-append rest (end ∷ []), many)) cut)
 
     -- the boards
     pub place : (b : ℕ) → (b < length m.boards) ⊎ (length m.boards ≤ b)
     place b = elim (leb_tells (suc b) (length m.boards)) [ inl q ↦ inl (omega (arith, q.1)) | inr q ↦ inr (omega (arith, q.1)) ]
 
-    -- the lines, where no section was begun
-    abbrev pub Unread_made : List MotionTurn
-    Unread_made = p.made ++ as_put (length m.boards) (0 + length p.made) p.bare
-
-    pub unread_put : Unread → ArePut m p.seen.text [] 0 (puts_of Unread_made)
-    unread_put z =
-        let n = length m.boards in
-        let k = 0 + length p.made in
-        puts_both m p.seen.text [] 0 p.made (as_put n k p.bare) (subst (λ (b : List Started). ArePut m p.seen.text b 0 (puts_of p.made)) z.none p.put) (bare_put m p.seen.text n k p.bare refl p.are_bare)
-
-    pub unread_notes : TookNotes (map (λ t. t.note) Unread_made) (first ∷ (rest ++ end ∷ []))
-    unread_notes =
-        let n = length m.boards in
-        let k = 0 + length p.made in
-        let made = p.made ++ as_put n k p.bare in
-        let all_notes : map (λ (t : MotionTurn). t.note) made ++ [] ≡ notes_of (rest ++ end ∷ []) ++ f.notes_left =
-        append-nil (map (λ (t : MotionTurn). t.note) made) ∙ notes_all n k p.made p.bare ∙ ap (gather (λ (t : MotionTurn). t.note ∷ [])) (sym p.are) ∙ notes_are in
-        let o = none_out (rest ++ end ∷ []) each in
-        let many : length (rest ++ end ∷ []) ≤ length (map (λ (t : MotionTurn). t.note) made) =
-        (let e = ap length all_notes in omega (arith, e, length-append (map (λ (t : MotionTurn). t.note) made) [], length-append (notes_of (rest ++ end ∷ [])) f.notes_left, o.1)) in
-        (none, took_noted (rest ++ end ∷ []) (map (λ (t : MotionTurn). t.note) made) [] f.notes_left each many all_notes)
-
-    pub unread_lines : Unread → TellTurns m [] 0 (first ∷ (rest ++ end ∷ []))
-    unread_lines z = all_tell m s.switches p.seen.text [] 260 Unread_made (first ∷ (rest ++ end ∷ [])) tt (omega arith) (unread_put z) unread_notes are_lines
-
     pub lines_long : length (rest ++ end ∷ []) ≤ length p.made → TellTurns m p.seen.begun 0 (first ∷ (rest ++ end ∷ []))
     lines_long l = all_tell m s.switches p.seen.text p.seen.begun 260 p.made (first ∷ (rest ++ end ∷ [])) spread (omega arith) p.put (took_notes l) are_lines
+
+    -- where the last note is not of a turn that the planner made it tells nothing
+    bare_lines : length p.made < length (rest ++ end ∷ []) → (bare : List MotionTurn) → p.bare ≡ bare → TellTurns m p.seen.begun 0 (first ∷ (rest ++ end ∷ []))
+    bare_lines more [] are =
+        let notes = map (λ (x : MotionTurn). x.note) p.made in
+        let whole = sym (notes_cut p.made []) ∙ ap (λ z. gather (λ (x : MotionTurn). x.note ∷ []) (p.made ++ z)) (sym are) ∙ ap (gather (λ (x : MotionTurn). x.note ∷ [])) (sym p.are) ∙ notes_are in
+        let o = none_out (rest ++ end ∷ []) each in
+        let long = ap length whole in
+        absurd (omega (arith, more, long, length-append notes [], length-append (notes_of (rest ++ end ∷ [])) f.notes_left, length-map p.made (λ (x : MotionTurn). x.note), o.1))
+    bare_lines more (d ∷ bare) are =
+        let notes = map (λ (x : MotionTurn). x.note) p.made in
+        let left = gather (λ (x : MotionTurn). x.note ∷ []) bare in
+        let Bare : List MotionTurn → Type 0 = λ z. AreBare (length m.boards) (0 + length p.made) z in
+        let quiet = (subst Bare are p.are_bare).0.3 in
+        let cut : (notes ++ d.note ∷ []) ++ left ≡ notes_of (rest ++ end ∷ []) ++ f.notes_left =
+        append_assoc notes (d.note ∷ []) left ∙ sym (notes_cut p.made (d ∷ bare)) ∙ ap (λ z. gather (λ (x : MotionTurn). x.note ∷ []) (p.made ++ z)) (sym are) ∙ ap (gather (λ (x : MotionTurn). x.note ∷ [])) (sym p.are) ∙ notes_are in
+        let most = few in
+        let made = length-map p.made (λ (x : MotionTurn). x.note) in
+        let puts = length-map p.made put_of in
+        let number : length (puts_of p.made) + 260 ≡ 0 + length notes + 260 = omega (arith, made, puts) in
+        let Soon : ℕ → Type 0 = λ j. All (λ (x : Started). x.start < j) p.seen.begun in
+        let took : TookNotes (notes ++ d.note ∷ []) (first ∷ (rest ++ end ∷ [])) =
+        (none, took_noted (rest ++ end ∷ []) (notes ++ d.note ∷ []) left f.notes_left each (omega (arith, most, made, length-append notes (d.note ∷ []))) cut) in
+        notes_tell m s.switches p.seen.begun 260 (notes ++ d.note ∷ []) (first ∷ (rest ++ end ∷ [])) spread (omega arith)
+        (begin_snoc m p.seen.begun 0 notes d.note (put_begin m p.seen.text p.seen.begun 0 p.made p.put) (ap (λ (x : Note). x.news) quiet) (subst Soon number p.started)) took are_lines
+
+    pub all_lines : TellTurns m p.seen.begun 0 (first ∷ (rest ++ end ∷ []))
+    all_lines = elim (leb_tells (length (rest ++ end ∷ [])) (length p.made)) [ inl q ↦ lines_long q.1 | inr q ↦ bare_lines q.1 p.bare refl ]
 
     -- the boards' lines
     lines_both : (xs ys : List ReactorTurn) → boards_of (gather (λ t. t.lines) (xs ++ ys)) ≡ boards_of (gather (λ t. t.lines) xs) ++ boards_of (gather (λ t. t.lines) ys)
@@ -389,12 +396,8 @@ module _ (m : Machine) (v : IsValidMachine m) (s : Scene) (ts : List MotionTurn)
       pub kinds : All (λ x. x.section.kind ≡ Moves) p.seen.begun
       kinds = kinds_of p.seen.begun (program_sections m p.seen.text) (length p.seen.begun) (of_sections m ts p) moves
 
-      none_waits : (o : Option Told) → p.seen.told ≡ o → AnyWaits p.seen.begun → ⊥
-      none_waits None e w = subst AnyWaits (not_told e) w
-      none_waits (Some t) e w = waits_never m t.clocks t.first p.seen.begun (subst (λ o. AreToldBy m o p.seen.begun) e p.sections) kinds w
-
       pub long : (length (rest ++ end ∷ []) ≤ length p.made) ⊎ Unread
-      long = long_answered (none_waits p.seen.told refl)
+      long = long_moves (homes_never (length p.made) p.seen.begun kinds)
 
       module _ (t : Told) (told : p.seen.told ≡ Some t) (short : HaveShortDictionaries m) (near : AllTakeNear m s p.seen.text ts (first ∷ (rest ++ end ∷ []))) (l : length (rest ++ end ∷ []) ≤ length p.made) where
         pub column_at : (b : ℕ) → (b < length m.boards) ⊎ (length m.boards ≤ b) → Column
@@ -414,9 +417,6 @@ module _ (m : Machine) (v : IsValidMachine m) (s : Scene) (ts : List MotionTurn)
 
         follows : FollowPlans m t p.seen (λ b. column_at b (place b)) first (rest ++ end ∷ [])
         follows = follow m v s ts p t (rest ++ end ∷ []) (length (came_from [] turn.past)) (λ b. column_at b (place b)) told (none_homes p.seen.begun kinds) l turn.early (λ b h. board_at_place b (place b) h) first (took_notes l) are_lines
-
-      lines : TellTurns m p.seen.begun 0 (first ∷ (rest ++ end ∷ []))
-      lines = elim long [ inl l ↦ lines_long l | inr z ↦ subst (λ (b : List Started). TellTurns m b 0 (first ∷ (rest ++ end ∷ []))) (sym z.none) (unread_lines z) ]
 
       through : GoesThrough c → AreThrough m p.seen c (length (rest ++ end ∷ []))
       through g = elim long [ inl l ↦ through_long g l | inr z ↦ absurd (z.never (own_cause c g)) ]
@@ -568,7 +568,7 @@ module _ (m : Machine) (v : IsValidMachine m) (s : Scene) (ts : List MotionTurn)
           | inr z ↦ absurd (in_none past x later p.seen.begun z.none cut)
           | inl l ↦ passed_by p.seen.told refl past x later from to place other cut h k same w over some l
         ];
-        lines = lines;
+        lines = all_lines;
         fit = λ past x later from to place cut h w. elim long [
           | inr z ↦ absurd (in_none past x later p.seen.begun z.none cut)
           | inl l ↦ by_told p.seen.told refl past x later from to place cut h w l
@@ -599,7 +599,7 @@ module _ (m : Machine) (v : IsValidMachine m) (s : Scene) (ts : List MotionTurn)
               pulses_append place y.lines (lines past) ∙ ap (λ z. z ++ pulses_of place (lines past)) now ∙ ap (pulses_of place) (sym front) ∙ none
             where
               tells : TellTurns m p.seen.begun 0 (first ∷ (rest ++ end ∷ []))
-              tells = lines
+              tells = all_lines
 
           passed_by : (o : Option Told) → p.seen.told ≡ o → (past : List Started) (x : Started) (later : List Started) (from to place other : ℕ) → p.seen.begun ≡ past ++ x ∷ later → place < length m.steppers → other < length m.steppers
               → (stepper_at m other).board ≡ (stepper_at m place).board → IsWindow (length (rest ++ end ∷ [])) from to (record { start = x.start; end = x.end }) (times_of later) → x.end + 5 ≤ to

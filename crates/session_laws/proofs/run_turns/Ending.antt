@@ -19,6 +19,7 @@ use Rattle.session_run.specs.Boards.{AreReactorTurns, came_from, came_in}
 use Rattle.run_plans.specs.Answers.{TookNoneAhead}
 use Rattle.run_plans.specs.Lines.{TookEach}
 use Rattle.run_plans.specs.Planned.{Plans, words_in}
+use Rattle.run_plans.proofs.Heard.{heard_all, heard_few}
 use Rattle.run_boards.proofs.Whole.{gather_both}
 use Rattle.homing_laws.specs.home_plans.Notes.{CameNotes}
 use Rattle.homing_laws.specs.home_parts.Answers.{IsPlannedBy}
@@ -81,7 +82,7 @@ module _ (m : Machine) (s : Scene) (ts : List MotionTurn) (p : Plans m (length m
       all_notes m p.seen.text p.seen.begun p.made first rest p.put (none, subst (λ (z : List ReactorTurn). TookEach made z) bare took)
 
   front_of : (turns behind : List ReactorTurn) → rs ≡ turns ++ behind → length turns ≤ length p.made + 1
-      → ((place : ℕ) (w : WordMsg) → length turns ≤ place → item place (words_in p.made) ≡ w ∷ [] → tells_homed w.news ≡ true → ⊥) → Front
+      → ((place : ℕ) (w : WordMsg) → length turns ≤ place → item place (words_in (p.made ++ p.last)) ≡ w ∷ [] → tells_homed w.news ≡ true → ⊥) → Front
   front_of turns behind are few others =
       let Turns : List ReactorTurn → Type 0 = λ z. AreReactorTurns m s.switches [] z in
       let own = (turns_cut m s.switches [] turns behind (subst Turns are x.turns)).0 in
@@ -98,7 +99,7 @@ module _ (m : Machine) (s : Scene) (ts : List MotionTurn) (p : Plans m (length m
       }
 
   -- those that are as many as some number, if there are so many
-  front_by : (n : ℕ) → length p.made ≤ n → n ≤ length p.made + 1 → (f : Front) × (f.turns ≡ take n rs)
+  front_by : (n : ℕ) → length (p.made ++ p.last) ≤ n → n ≤ length p.made + 1 → (f : Front) × (f.turns ≡ take n rs)
   unfolding front_of
   front_by n least most = elim (leb_tells (length rs) n) [
     | inl q ↦ let few = q.1 in (front_of rs [] (sym (append-nil rs)) (omega (arith, few, most)) (others_silent m (length m.boards) x.ahead ts p rs x.left x.words), sym (take_all n rs few))
@@ -108,22 +109,23 @@ module _ (m : Machine) (s : Scene) (ts : List MotionTurn) (p : Plans m (length m
         let long = c.3 in
         let cut : take n rs ≡ c.0 = ap (take n) c.2 ∙ ap (λ i. take i (c.0 ++ c.1)) (sym long) ∙ take-append_seam c.0 c.1 in (
           front_of c.0 c.1 c.2 (omega (arith, long, most)) (λ place w far is tells.
-              let low = item_low place (words_in p.made) w is in
-              let few = words_few 0 0 p.made (omega arith) p.ahead in
+              let low = item_low place (words_in (p.made ++ p.last)) w is in
+              let few = words_few 0 0 (p.made ++ p.last) (omega arith) (heard_all m (length m.boards) ts p).ahead in
               absurd (omega (arith, low, few, far, long, least))),
           sym cut,
         )
   ]
 
   front : Front
-  front = (front_by (length p.made + 1) (omega arith) (omega arith)).0
+  front = (front_by (length p.made + 1) (heard_few m (length m.boards) ts p) (omega arith)).0
 
-  -- in the turns that the planner made a turn tells of a switch exactly where a homing section ended in it
-  pub turns_end : TellEnds m s.switches p.seen.begun 0 (take (length p.made) rs)
+  -- in the turns whose words the planner heard each tells of a switch exactly where a homing section ended in it
+  pub turns_end : TellEnds m s.switches p.seen.begun 0 (take (length (p.made ++ p.last)) rs)
   turns_end =
-      let f = front_by (length p.made) (omega arith) (omega arith) in
+      let n = length (p.made ++ p.last) in
+      let f = front_by n (omega arith) (heard_few m (length m.boards) ts p) in
       let size = came_long [] f.0.turns in
-      let few = length-take (length p.made) rs in
+      let few = length-take n rs in
       let same = ap length f.1 in
       let Ends : List ReactorTurn → Type 0 = λ z. TellEnds m s.switches p.seen.begun 0 z in
       subst Ends f.1 (turns_tell m s.switches (length m.boards) ts p (came_from [] f.0.turns) f.0.by (omega (arith, size, few, same)) [] f.0.turns f.0.own refl)

@@ -20,7 +20,7 @@ use Rattle.run_plans.proofs.Running.{started_in}
 use Rattle.session_laws.specs.run_headline.Timely.{AreSound, link_of}
 use Rattle.session_laws.proofs.run_headline.Boarded.{Lined, Ready, lined, ready, sound_of, valid_at}
 use Rattle.session_laws.proofs.run_headline.Heard.{notes_cut}
-use Rattle.session_laws.proofs.run_headline.Showing.{EachNoted, Facts, each, none, notes_are, notes_of, took_noted}
+use Rattle.session_laws.proofs.run_headline.Showing.{Facts, few, notes_before}
 use Rattle.homing_laws.specs.home_plans.Notes.{AreInARow}
 use Rattle.homing_laws.proofs.home_plans.Noting.{begun_row}
 use Rattle.homing_laws.specs.home_parts.Answers.{MayHome}
@@ -32,30 +32,6 @@ use Rattle.session_laws.proofs.clock_ages.Renews.{renews}
 use Rattle.session_laws.specs.home_headline.Little.{HomesLittle}
 use Rattle.session_laws.proofs.home_headline.Board.{Followed, Homing, boarded_by, here_by, homing_by, lines_of}
 use Rattle.session_laws.proofs.home_headline.Ranges.{may_all, on_small, range_all, starts_soon}
-use Rattle.session_laws.proofs.home_headline.Sections.{few}
-
-each_front : (xs ys : List ReactorTurn) → EachNoted (xs ++ ys) → EachNoted xs
-each_front [] ys h = tt
-each_front (x ∷ xs) ys h = (h.0, each_front xs ys h.1)
-
-notes_both : (xs ys : List ReactorTurn) → notes_of (xs ++ ys) ≡ notes_of xs ++ notes_of ys
-notes_both [] ys = refl
-notes_both (x ∷ xs) ys = ap (λ z. option_items x.note ++ z) (notes_both xs ys) ∙ sym (append_assoc (option_items x.note) (notes_of xs) (notes_of ys))
-
-module _ (m : Machine) (v : IsValidMachine m) (s : Scene) (ts : List MotionTurn) (p : Plans m (length m.boards) ts) (first : ReactorTurn) (rest : List ReactorTurn) (end : ReactorTurn) (c : Cause) (f : Facts m s ts (first ∷ rest) end c) where
-  -- the notes before the last
-  pub noted : TookNotes (map (λ d. d.note) p.made) (first ∷ rest)
-  noted =
-      let notes = map (λ (d : MotionTurn). d.note) p.made in
-      let others = gather (λ (d : MotionTurn). d.note ∷ []) p.bare in
-      let all : notes ++ others ≡ notes_of (rest ++ end ∷ []) ++ f.notes_left =
-      sym (notes_cut p.made p.bare) ∙ ap (gather (λ (d : MotionTurn). d.note ∷ [])) (sym p.are) ∙ notes_are m v s ts p end c first rest f in
-      let cut : notes ++ others ≡ notes_of rest ++ (notes_of (end ∷ []) ++ f.notes_left) =
-      all ∙ ap (λ z. z ++ f.notes_left) (notes_both rest (end ∷ [])) ∙ append_assoc (notes_of rest) (notes_of (end ∷ [])) f.notes_left in
-      let size = length-append rest (end ∷ []) in
-      let many = length-map p.made (λ (d : MotionTurn). d.note) in
-      let most = few m v s ts p end c first rest f in
-      (none m v s ts p end c first rest f, took_noted rest notes others (notes_of (end ∷ []) ++ f.notes_left) (each_front rest (end ∷ []) (each m v s ts p end c first rest f)) (omega (arith, most, size, many)) cut)
 
 module _ (m : Machine) (v : IsValidMachine m) (s : Scene) (ts : List MotionTurn) (p : Plans m (length m.boards) ts) (t : Told) (first : ReactorTurn) (rest : List ReactorTurn) (end : ReactorTurn) (c : Cause) (told : p.seen.told ≡ Some t) (f : Facts m s ts (first ∷ rest) end c)
     (short : HaveShortDictionaries m) where
@@ -63,7 +39,7 @@ module _ (m : Machine) (v : IsValidMachine m) (s : Scene) (ts : List MotionTurn)
   whole b h = f.boards b first rest h refl
 
   front_notes : TookNotes (map (λ d. d.note) p.made) (first ∷ rest)
-  front_notes = noted m v s ts p first rest end c f
+  front_notes = notes_before m v s ts p end c first rest f
 
   abbrev pub turn : Ready m v s ts p t first rest end told
   turn = ready m v s ts p t first rest end told f.ahead f.words_left f.turns f.words

@@ -47,7 +47,7 @@ use Rattle.session_laws.proofs.run_headline.Cutting.{run_front}
 use Rattle.session_laws.proofs.run_headline.Making.{front_made, run_made}
 use Rattle.session_laws.proofs.run_headline.Plain.{AllMoves, all_moves}
 use Rattle.session_laws.proofs.run_headline.Runs.{facts}
-use Rattle.session_laws.proofs.run_headline.Showing.{Facts, long, not_told}
+use Rattle.session_laws.proofs.run_headline.Showing.{Facts, long, not_told, notes_before}
 use Rattle.session_laws.specs.run_lates.Late.{AllMayTell, MayTell}
 use Rattle.session_laws.proofs.run_lates.Boards as boards
 use Rattle.session_laws.proofs.run_lates.Moves as of_moves
@@ -58,7 +58,7 @@ module _ (m : Machine) (v : IsValidMachine m) (s : Scene) (ts : List MotionTurn)
   none_moves : p.seen.begun ≡ [] → AllMoves (came_from [] (first ∷ rest))
   none_moves e =
       let Of : List Started → Type 0 = λ z. All (λ (x : Started). x.section.kind ≡ Moves) z in
-      all_moves m p.seen.text p.seen.begun p.made first rest (subst Of (sym e) (All-nil (λ (x : Started). x.section.kind ≡ Moves))) p.put (boards.noted m v s ts p first rest end c f)
+      all_moves m p.seen.text p.seen.begun p.made first rest (subst Of (sym e) (All-nil (λ (x : Started). x.section.kind ≡ Moves))) p.put (notes_before m v s ts p end c first rest f)
 
   module _ (b : ℕ) (low : b < length m.boards) (w : IsInWhole m s.switches b (clock_of (board_at m b)) (link_of m s b) ts first (rest ++ end ∷ [])) where
     run : IsInRun m s.switches (pins_of (board_at m b) b s.switches) s.entries b (came_from [] (first ∷ rest)) (behind [] w.made)

@@ -31,7 +31,7 @@ use Rattle.session_laws.proofs.run_headline.Heard.{notes_cut}
 use Rattle.session_laws.proofs.run_headline.Joining.{row_none}
 use Rattle.session_laws.proofs.home_headline.Ended.{goes_behind, tells_end}
 use Rattle.session_laws.proofs.home_headline.Planned.{all_notes, others_silent, planned_on}
-use Rattle.session_laws.proofs.home_headline.Reported.{answer_told}
+use Rattle.homing_laws.proofs.fired_runs.Reported.{answer_told}
 use Rattle.session_laws.proofs.home_headline.Switches.{came_ahead, turns_tell}
 use Rattle.session_laws.specs.home_headline.Cuts.{TellEnds, cuts_of}
 use Rattle.session_laws.specs.run_turns.Ends.{EndsWithAnswer}

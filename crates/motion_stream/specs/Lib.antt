@@ -10,3 +10,4 @@ pub mod Motions
 pub mod Wholes
 pub mod Clear
 pub mod Uptakes
+pub mod Turns

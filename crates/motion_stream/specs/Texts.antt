@@ -28,6 +28,10 @@ pub record IsSourceOf (m : Machine) (s : Source) (text : List ℕ) (ended : Bool
   pub goes : s.end ≡ None → (ended ≡ false) × IsReaderOf s.reader m text (told ++ s.items.items)
   pub over : (e : ReadEnd) → s.end ≡ Some e → (whole : List ℕ) → MayBecome ended text whole → IsAll m whole e (told ++ s.items.items)
 
+-- It is known how a text is read of which this was read, and which may have ended: no reading of it goes on.
+abbrev pub IsReadOver : Machine → List ℕ → Bool → Type 0
+IsReadOver m text ended = (s : Source) (told : List Item) → IsSourceOf m s text ended told → s.end ≡ None → ⊥
+
 -- A source that went on: what it told behind it stands behind what waits; where the reading is over, nothing does.
 pub record HasGrown (old new : Source) : Type 0 where
   pub more : List Item

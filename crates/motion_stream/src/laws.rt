@@ -5,6 +5,7 @@ ghost use Rattle.msg_code.specs.declared.talk.Note.{Note};
 ghost use Rattle.msg_code.specs.declared.talk.WordMsg.{WordMsg};
 ghost use Rattle.msg_code.specs.declared.unit.Batch.{Batch};
 ghost use Rattle.plan_types.specs.declared.machine.Machine.{Machine};
+ghost use Rattle.motion_work.specs.Further.{told_on};
 ghost use Rattle.motion_work.specs.Puts.{Put};
 ghost use Rattle.motion_work.specs.Seen.{Started};
 ghost use Rattle.motion_stream.specs.Clear.{IsClearTo, clear_of, tells_sections};
@@ -12,6 +13,7 @@ ghost use Rattle.motion_stream.specs.Motions.{Can, Hears, IsMore, IsPlannerOf, M
 ghost use Rattle.motion_stream.specs.Puts.{ArePutBy};
 ghost use Rattle.motion_stream.specs.Seen.{Going, Seen, nothing_seen};
 ghost use Rattle.motion_stream.specs.Texts.{MayBecome};
+ghost use Rattle.motion_stream.specs.Turns.{IsTurnOf};
 ghost use Rattle.motion_stream.specs.Wholes.{AreOf, ArePlanned};
 
 /// The law of what was put: after any words, pieces of the text and turns, all batches and notes so far are told by any whole sections that
@@ -38,6 +40,15 @@ pub fn sections_are_there()
 pub fn texts_are_planned()
     ensures { (p : Planner) (seen : Seen) (ps : List Put) (whole : List ℕ) → IsPlannerOf p seen → ArePutBy p.machine seen ps → MayBecome seen.ended seen.text whole →
         ∥ ((all : List Started) × ArePlanned p.machine seen whole ps all) ∥₁ }
+{}
+
+/// The law of a turn: whatever text follows, the batches of turn k are exactly the units that the sections which were begun release in this
+/// turn, section by section. These are the first ones of the text, all that start by turn k + 260. The units of each, of moves or homing,
+/// mean the first steps of its plan, with exact first ticks; they are paced from 250 turns before its start on and stand in the order of
+/// their first ticks, with triples that cover as many steps as one can.
+pub fn turns_put_units()
+    ensures { (p q : Planner) (seen : Seen) (ps : List Put) (k : ℕ) (batches : List Batch) (note : Note) (whole : List ℕ) → IsPlannerOf p seen → ArePutBy p.machine seen ps → Can p k → Makes p k batches note q → MayBecome seen.ended seen.text whole →
+        ∥ ((begun : List Started) × IsTurnOf q.machine whole (told_on note.news seen.told) k begun (record { batches = batches; note = note })) ∥₁ }
 {}
 
 /// The law of clear turns: before the turn that a note tells as clear no section is begun or ends, whatever words and pieces of the text

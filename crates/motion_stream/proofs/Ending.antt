@@ -26,7 +26,7 @@ use Rattle.motion_stream.specs.Courses.{IsCourseBy, IsGoing, IsIdle, row_at}
 use Rattle.motion_stream.specs.News.{HasPutAll, IsPlain, begins_in, read_after, read_news, tells_read}
 use Rattle.motion_stream.specs.Puts.{TellsReading}
 use Rattle.motion_stream.specs.Seen.{Going, MayBe, Seen, count_of, items_read, sections_in}
-use Rattle.motion_stream.specs.Texts.{IsReadOver, IsSourceOf, MayBecome}
+use Rattle.motion_stream.specs.Texts.{IsSourceOf, MayBecome}
 use Rattle.motion_stream.proofs.Drawing.{boards_in_all, whole_none}
 
 clash : true ≡ false → ⊥
@@ -156,7 +156,7 @@ idle_by m opens.Nothing c seen i none = (refl, i.goes, i.ahead.units)
 idle_by m (opens.Goes s homes) c seen i none = absurd (none_some (sym i.is ∙ none))
 
 not_on : (m : Machine) (goes : Bool) (next k n : ℕ) (begun : List Started) → IsOpen goes next begun → next ≡ k + 1 → length begun ≤ n → AreOut (length m.boards) k n begun → goes ≡ false
-not_on m false next k n begun open at le out = refl
+not_on m false next k n begun on at le out = refl
 not_on m true next k n begun (past, s, are, done, late, start) at le out =
     let long = ap length are ∙ length-append past (s ∷ []) in
     let ended = out_last (length m.boards) k n past s (omega (arith, long, le)) (subst (AreOut (length m.boards) k n) are out) in

@@ -1,44 +1,36 @@
 -- A turn, from its parts.
-use Rattle.std.proofs.Common.{◌≡◌, ℕ, zero, suc, ◌+◌, ◌-◌, ◌<◌, ◌≤◌, ◌^◌, Bool, true, false, not, List, [], ◌∷◌, ◌++◌, All, length, append-nil, append_assoc, refl, ap, sym, subst, ◌∙◌, arith, inl, inr}
-use Rattle.std.proofs.lemmas.List.{length-map, take_more}
-use Rattle.std.proofs.Common.{get_or, take}
-use Rattle.std.specs.Prelude.{◌⊎◌, slice_index_or, Option, Some, None}
-use Rattle.gcode_program.specs.declared.items.Item.{Item}
-use Rattle.gcode_program.specs.declared.items.Item.TheVariants as items
-use Rattle.gcode_program.specs.Items.{ending, items_in, items_of, moves_in}
+use Rattle.std.proofs.Common.{◌≡◌, ℕ, ◌+◌, ◌<◌, ◌^◌, Bool, true, false, List, [], ◌∷◌, ◌++◌, All, length, append-nil, append_assoc, refl, ap, sym, subst, ◌∙◌, arith, inl, inr}
+use Rattle.std.specs.Prelude.{◌⊎◌, Option, Some, None}
 use Rattle.gcode_program.specs.Programs.{program_sections}
 use Rattle.msg_code.specs.declared.talk.Note.{Note}
 use Rattle.msg_code.specs.declared.talk.NoteNews.{NoteNews}
 use Rattle.msg_code.specs.declared.talk.NoteNews.TheVariants as news
 use Rattle.msg_code.specs.declared.unit.Batch.{Batch}
 use Rattle.plan_types.specs.declared.machine.Machine.{Machine}
-use Rattle.plan_types.specs.declared.plan.Move.{Move}
 use Rattle.plan_types.specs.declared.plan.ReadEnd.{ReadEnd}
-use Rattle.plan_types.specs.declared.plan.Section.{Section}
 use Rattle.plan_types.specs.Sections.{clocks_at}
 use Rattle.plan_types.specs.Lines.{Clocks}
-use Rattle.step_feed.specs.Pacing.{batch_at}
 use Rattle.step_feed.specs.Units.{StepUnit}
 use Rattle.motion_work.specs.Begins.{listed}
 use Rattle.motion_work.specs.Feeds.{batches_at, units_at}
 use Rattle.motion_work.specs.Puts.{IsPut, IsReadNews, begun_notes}
 use Rattle.motion_work.specs.declared.told.BoardLine.{BoardLine}
 use Rattle.motion_work.specs.Further.{AreFurther, WereHeard, told_on}
-use Rattle.motion_work.specs.Seen.{AreDone, AreMoves, AreOut, IsOpen, Started}
+use Rattle.motion_work.specs.Seen.{AreMoves, AreOut, Started}
 use Rattle.motion_work.specs.Turns.{done_notes, start_notes}
 use Rattle.motion_work.specs.Told.{Told}
 use Rattle.motion_work.proofs.Putting.{begun_before, begun_last, done_stay, same_on}
 use Rattle.motion_stream.specs.declared.course.Course.{Course}
 use Rattle.motion_stream.specs.declared.course.Open.{Open}
 use Rattle.motion_stream.specs.declared.course.Open.TheVariants as opens
-use Rattle.motion_stream.specs.Courses.{IsCourseBy, IsCourseOf, IsEarly, IsGoing, IsIdle, IsSoundBy, IsTold, row_at}
+use Rattle.motion_stream.specs.Courses.{IsCourseBy, IsCourseOf, IsEarly, IsGoing, IsSoundBy, IsTold}
 use Rattle.motion_stream.specs.Motions.{AreEarly, Turns}
 use Rattle.motion_stream.specs.News.{HasPutAll, IsPlain, begins_in, read_after, read_news}
 use Rattle.motion_stream.specs.Puts.{AreGrown, GoesOn, HaveBegun, IsNew}
-use Rattle.motion_stream.specs.Seen.{AreWhole, Going, MayBe, Seen, count_of, items_read, sections_in}
+use Rattle.motion_stream.specs.Seen.{AreWhole, Going, Seen}
 use Rattle.motion_stream.specs.Steps.{Advances, AreBegun, Begins, IsPassed}
 use Rattle.motion_stream.specs.Uptakes.{TakesUp, emptied, lined}
-use Rattle.motion_stream.proofs.Drawing.{boards_in_all, units_snoc, uptake_kept, whole_none}
+use Rattle.motion_stream.proofs.Drawing.{boards_in_all, units_snoc, uptake_kept}
 use Rattle.motion_stream.proofs.Leaving.{leaves_behind}
 use Rattle.motion_stream.proofs.Opening.{linked}
 use Rattle.motion_stream.proofs.Ending.{out_known, reading_told, tells_when, told_known}

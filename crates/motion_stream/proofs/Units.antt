@@ -1,5 +1,5 @@
 -- What is put in a turn, by the sections that were begun.
-use Rattle.std.proofs.Common.{◌≡◌, ℕ, ◌+◌, ◌<◌, ◌≤◌, Bool, true, false, List, [], ◌∷◌, ◌++◌, All, get_or, length, refl, ap, sym, subst, ◌∙◌, arith, inl, inr}
+use Rattle.std.proofs.Common.{◌≡◌, ℕ, ◌+◌, ◌<◌, true, false, List, [], ◌∷◌, ◌++◌, get_or, length, ap, sym, subst, ◌∙◌, arith, inl, inr}
 use Rattle.std.proofs.Math.Logic.{∥∥₁_map}
 use Rattle.std.specs.Prelude.{Option, Some, None}
 use Rattle.msg_code.specs.declared.talk.Note.{Note}
@@ -13,7 +13,6 @@ use Rattle.plan_types.specs.Sections.{clocks_at}
 use Rattle.section_units.specs.Plans.{IsFrontOnBy, section_on}
 use Rattle.section_units.proofs.Fronting.{section_front, section_whole}
 use Rattle.motion_work.specs.Homes.{before_turn}
-use Rattle.motion_work.specs.Known.{lines_by}
 use Rattle.motion_work.specs.Puts.{ArePut, IsPut, Put}
 use Rattle.motion_work.specs.Seen.{AreSentBy, AreStarted, IsPlanned, Started, lines_of}
 use Rattle.motion_work.specs.Told.{Told}

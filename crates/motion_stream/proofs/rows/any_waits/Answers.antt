@@ -1,4 +1,4 @@
-use Rattle.std.proofs.Common.{◌≡◌, ◌<◌, ◌∙◌, List, [], ap, arith, get_or, length}
+use Rattle.std.proofs.Common.{◌<◌, ◌∙◌, List, [], ap, arith, length}
 use Rattle.std.proofs.lemmas.List.{get_or_default}
 use Rattle.step_feed.specs.Units.{StepUnit}
 use Rattle.motion_stream.specs.Rows.{units_in}

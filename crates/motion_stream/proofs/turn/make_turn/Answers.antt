@@ -1,6 +1,6 @@
-use Rattle.std.proofs.Common.{◌∙◌, ◌+◌, ◌++◌, ap, arith, refl, subst, sym}
+use Rattle.std.proofs.Common.{◌≡◌, ◌∙◌, ◌+◌, ◌++◌, ℕ, ap, arith, refl, subst, sym}
 use Rattle.msg_code.specs.declared.talk.Note.{Note}
-use Rattle.std.specs.Prelude.{false}
+use Rattle.std.specs.Prelude.{◌⊎◌, None, false}
 use Rattle.motion_work.specs.Begins.{listed}
 use Rattle.motion_stream.specs.Courses.{IsCourseBy}
 use Rattle.motion_stream.specs.News.{HasPutAll, begins_in, read_news}

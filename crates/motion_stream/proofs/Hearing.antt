@@ -225,9 +225,9 @@ going_beside m s homes old new told begun going b i =
 -- a piece is read while a section goes on
 pub text_heard : (m : Machine) (old mid new : Course) (s later : SectionStream) (homes : Bool) (seen : Seen) (bytes : List ℕ) (end : Bool) → IsBeside old new → old.current ≡ opens.Goes s homes → new.current ≡ opens.Goes later homes
     → ((text : List ℕ) (ended : Bool) (told : List Item) → IsSourceOf m old.source text ended told → IsSourceOf m mid.source (text_after text ended bytes) (ended_after ended end) told)
-    → new.source.reader ≡ mid.source.reader → new.source.end ≡ mid.source.end → new.source.ended ≡ mid.source.ended → HasHeardBy (is_taking (queue_of s)) s later mid.source.items.items new.source.items.items → IsCourseOf m old seen
+    → new.source.reader ≡ mid.source.reader → new.source.end ≡ mid.source.end → new.source.ended ≡ mid.source.ended → new.source.opened ≡ mid.source.opened → HasHeardBy (is_taking (queue_of s)) s later mid.source.items.items new.source.items.items → IsCourseOf m old seen
     → (going : Option Going) × IsMore seen.going going × IsCourseOf m new (read_on seen bytes end going)
-text_heard m old mid new s later homes seen bytes end b was now reads reader stop over heard_is h =
+text_heard m old mid new s later homes seen bytes end b was now reads reader stop over opened heard_is h =
     let i : IsGoingOn m s homes old seen.told seen.begun seen.going = subst (λ o. IsGoing m o old seen.told seen.begun seen.going) was h.going in
     by_taking (is_taking (queue_of s)) refl heard_is i
   where
@@ -244,7 +244,7 @@ text_heard m old mid new s later homes seen bytes end b was now reads reader sto
           same_more seen.going,
           record {
             machine = h.machine;
-            source = source_on m mid.source new.source (text_after seen.text seen.ended bytes) (ended_after seen.ended end) (items_read seen.begun seen.going) (items_read seen.begun seen.going) reader stop over (ap (λ x. items_read seen.begun seen.going ++ x) (sym same.1)) (reads seen.text seen.ended (items_read seen.begun seen.going) h.source);
+            source = source_on m mid.source new.source (text_after seen.text seen.ended bytes) (ended_after seen.ended end) (items_read seen.begun seen.going) (items_read seen.begun seen.going) reader stop over opened (ap (λ x. items_read seen.begun seen.going ++ x) (sym same.1)) (reads seen.text seen.ended (items_read seen.begun seen.going) h.source);
             read = b.read ∙ h.read;
             told = told_beside m old new seen.told seen.begun seen.going seen.going b (λ e. e) (λ e. e) h.told;
             next = b.next ∙ h.next;
@@ -268,7 +268,7 @@ text_heard m old mid new s later homes seen bytes end b was now reads reader sto
           subst (λ o. IsMore o (Some g')) (sym i.is) (longer_is g taken.more taken.ends on),
           record {
             machine = h.machine;
-            source = source_on m mid.source new.source (text_after seen.text seen.ended bytes) (ended_after seen.ended end) (items_read seen.begun seen.going) (items_read seen.begun (Some g')) reader stop over
+            source = source_on m mid.source new.source (text_after seen.text seen.ended bytes) (ended_after seen.ended end) (items_read seen.begun seen.going) (items_read seen.begun (Some g')) reader stop over opened
                 (ap (λ o. items_read seen.begun o ++ mid.source.items.items) i.is ∙ longer_items seen.begun g taken.more taken.ends mid.source.items.items new.source.items.items on taken.items_are) (reads seen.text seen.ended (items_read seen.begun seen.going) h.source);
             read = b.read ∙ h.read;
             told = told_beside m old new seen.told seen.begun seen.going (Some g') b (λ e. absurd (none_some g' (sym e))) (λ e. absurd (none_some g (sym e ∙ i.is))) h.told;

@@ -12,6 +12,7 @@ pub mod Wholing
 pub mod Bounding
 pub mod Planning
 pub mod Units
+pub mod Hunger
 pub mod Clearing
 pub mod Keeping
 pub mod Limits

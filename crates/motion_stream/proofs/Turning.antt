@@ -236,4 +236,3 @@ turned m old first mid begun new k further batches done start note read end know
                     ∙ ap (λ n. done_notes k 0 (before ++ s ∷ []) ++ ((news.Start n s.section.kind s.start s.last s.moving ∷ []) ++ r)) (sym size) ∙ ap (λ x. done_notes k 0 (before ++ s ∷ []) ++ (x ++ r)) (sym last) ∙ ap (λ x. done_notes k 0 x ++ (begun_notes k 0 x ++ r)) (sym e.1);
               })
         ]
-

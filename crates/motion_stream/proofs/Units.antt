@@ -51,19 +51,20 @@ planned_front (Home axis) m clocks s b there h =
 units_by : (m : Machine) (clocks : List Clocks) (turn ready : ℕ) (begun : List Started) → AreStarted m clocks ready begun → AreSentBy m clocks turn begun → HaveUnits m clocks turn begun
 units_by m clocks turn ready [] started sent = tt
 units_by m clocks turn ready (s ∷ begun) started sent =
-    let lines = lines_of s.section.kind s.end clocks in
-    (λ b there.
-      let x = sent.0 b there in
-      let all = planned_front s.section.kind m clocks s b there started.0.planned in
-      record {
-        sent = x.sent;
-        later = x.later;
-        are = x.are;
-        behind = x.behind;
-        planned = section_front (homes_by s.section.kind) (clocks_at lines b) (board_at m b).freq (board_at m b).slots s.start _ _ x.sent x.later (subst (IsFrontOnBy (homes_by s.section.kind) m lines s.section.moves s.start b) x.are all);
-        longest = x.is;
-      },
-    units_by m clocks turn (s.end + 260) begun started.1 sent.1)
+    let lines = lines_of s.section.kind s.end clocks in (
+      λ b there.
+          let x = sent.0 b there in
+          let all = planned_front s.section.kind m clocks s b there started.0.planned in
+          record {
+            sent = x.sent;
+            later = x.later;
+            are = x.are;
+            behind = x.behind;
+            planned = section_front (homes_by s.section.kind) (clocks_at lines b) (board_at m b).freq (board_at m b).slots s.start _ _ x.sent x.later (subst (IsFrontOnBy (homes_by s.section.kind) m lines s.section.moves s.start b) x.are all);
+            longest = x.is;
+          },
+      units_by m clocks turn (s.end + 260) begun started.1 sent.1,
+    )
 
 units_told : (m : Machine) (told : Option Told) (turn : ℕ) (begun : List Started) → IsToldOf m told begun → AreSentIn m told turn begun → HaveUnitsBy m told turn begun
 units_told m None turn begun planned sent = planned

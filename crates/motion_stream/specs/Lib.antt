@@ -11,3 +11,4 @@ pub mod Wholes
 pub mod Clear
 pub mod Uptakes
 pub mod Turns
+pub mod Hunger

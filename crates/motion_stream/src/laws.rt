@@ -1,6 +1,6 @@
 //! The laws of what a motion machine puts.
 
-ghost use Rattle.std.specs.Prelude.{◌≡◌, ℕ, ◌<◌, ◌≤◌, ◌++◌, Bool, false, List, [], ◌∷◌, Option};
+ghost use Rattle.std.specs.Prelude.{◌≡◌, ℕ, ◌<◌, ◌≤◌, ◌++◌, Bool, false, List, [], ◌∷◌, Option, true};
 ghost use Rattle.msg_code.specs.declared.talk.Note.{Note};
 ghost use Rattle.msg_code.specs.declared.talk.WordMsg.{WordMsg};
 ghost use Rattle.msg_code.specs.declared.unit.Batch.{Batch};
@@ -9,7 +9,8 @@ ghost use Rattle.motion_work.specs.Further.{told_on};
 ghost use Rattle.motion_work.specs.Puts.{Put};
 ghost use Rattle.motion_work.specs.Seen.{Started};
 ghost use Rattle.motion_stream.specs.Clear.{IsClearTo, clear_of, tells_sections};
-ghost use Rattle.motion_stream.specs.Motions.{Can, Hears, IsMore, IsPlannerOf, Makes, Planner, Reads, read_on, with_word};
+ghost use Rattle.motion_stream.specs.Hunger.{IsSated, Lacks, wanted};
+ghost use Rattle.motion_stream.specs.Motions.{Can, Hears, IsMore, IsPlannerOf, Makes, Planner, Reads, hungry, read_on, wants, with_word};
 ghost use Rattle.motion_stream.specs.Puts.{ArePutBy};
 ghost use Rattle.motion_stream.specs.Seen.{Going, Seen, nothing_seen};
 ghost use Rattle.motion_stream.specs.Texts.{MayBecome};
@@ -49,6 +50,15 @@ pub fn texts_are_planned()
 pub fn turns_put_units()
     ensures { (p q : Planner) (seen : Seen) (ps : List Put) (k : ℕ) (batches : List Batch) (note : Note) (whole : List ℕ) → IsPlannerOf p seen → ArePutBy p.machine seen ps → Can p k → Makes p k batches note q → MayBecome seen.ended seen.text whole →
         ∥ ((begun : List Started) × IsTurnOf q.machine whole (told_on note.news seen.told) k begun (record { batches = batches; note = note })) ∥₁ }
+{}
+
+/// The law of what is asked for, over what was seen: the word that a planner wants before the batches of turn k. More of the text is asked for
+/// only while it is read on and the section that is planned next has no end in it: none that was not begun has begun in the text, or the end
+/// of the one that goes on was not taken. And none is asked for only where the reading is over, or what is needed for turn k was read.
+pub fn planners_hunger()
+    ensures wants { (p : Planner) (seen : Seen) (k : ℕ) → IsPlannerOf p seen → wants p k ≡ wanted seen k }
+    ensures hungry { (p : Planner) (seen : Seen) (k : ℕ) → IsPlannerOf p seen → hungry p k ≡ true → Lacks p.machine seen k }
+    ensures sated { (p : Planner) (seen : Seen) (k : ℕ) → IsPlannerOf p seen → hungry p k ≡ false → IsSated p.machine seen k }
 {}
 
 /// The law of clear turns: before the turn that a note tells as clear no section is begun or ends, whatever words and pieces of the text

@@ -4,10 +4,15 @@ use Rattle.std.proofs.lemmas.Bool.Decides.{leb_tells}
 use Rattle.std.specs.Prelude.{◌⊎◌, ◌&&◌, nat_lt, Option, Some, None, if◌then◌else◌, is_none}
 use Rattle.gcode_program.specs.declared.items.Item.{Item}
 use Rattle.gcode_program.specs.declared.items.Item.TheVariants as items
-use Rattle.gcode_program.specs.Items.{ending, items_of, moves_in}
+use Rattle.gcode_program.specs.Items.{ending, items_in, items_of, moves_in}
+use Rattle.gcode_program.specs.Programs.{program_sections}
+use Rattle.gcode_program.specs.Readers.{section_with}
+use Rattle.gcode_program.proofs.Sorting.{told_front}
 use Rattle.plan_types.specs.declared.machine.Machine.{Machine}
 use Rattle.plan_types.specs.declared.plan.Move.{Move}
 use Rattle.plan_types.specs.declared.plan.ReadEnd.{ReadEnd}
+use Rattle.plan_types.specs.declared.plan.Section.{Section}
+use Rattle.plan_types.specs.declared.plan.SectionKind.{SectionKind}
 use Rattle.plan_types.specs.Clock.{turn_ns}
 use Rattle.plan_types.specs.Sections.{end_time}
 use Rattle.plan_types.specs.Speeds.{greatest_speeds}
@@ -21,10 +26,12 @@ use Rattle.motion_work.specs.Told.{Told}
 use Rattle.motion_stream.specs.declared.course.Course.{Course}
 use Rattle.motion_stream.specs.declared.course.Open.{Open}
 use Rattle.motion_stream.specs.declared.course.Open.TheVariants as opens
-use Rattle.motion_stream.specs.Courses.{IsCourseOf, IsGoing, IsGoingOn, IsTold}
+use Rattle.motion_stream.specs.Courses.{IsCourseOf, IsEarly, IsStopped, IsGoing, IsGoingOn, IsTold}
 use Rattle.motion_stream.specs.Hunger.{AreSettled, HasEnough, HasNoEnd, IsReadOn, IsSated, IsShort, Lacks, awaits, wanted, wanted_by}
 use Rattle.motion_stream.specs.Motions.{IsPlannerOf, Planner, hungry, is_none_left, lacks, waits_by, wants}
 use Rattle.motion_stream.specs.Seen.{Going, Seen, homes_by, items_read, sections_in}
+use Rattle.motion_stream.specs.Texts.{MayBecome}
+use Rattle.motion_stream.proofs.Wholing.{source_front}
 
 clash : true ≡ false → ⊥
 clash p = cc
@@ -114,28 +121,70 @@ open_items begun g rest goes =
     let own = items_of (sections_in begun) in
     append_assoc own (items.Begin g.kind g.dwell ∷ (moves_in g.moves ++ ending (not g.goes))) rest ∙ ap (λ b. own ++ items.Begin g.kind g.dwell ∷ ((moves_in g.moves ++ ending (not b)) ++ rest)) goes ∙ ap (λ ms. own ++ items.Begin g.kind g.dwell ∷ (ms ++ rest)) (append-nil (moves_in g.moves))
 
+ended_items : (begun : List Started) (g : Going) (rest : List Item) → g.goes ≡ false → items_read begun (Some g) ++ rest ≡ items_of (sections_in begun) ++ (items_in (section_with g.kind g.moves g.dwell) ++ rest)
+ended_items begun g rest over =
+    let own = items_of (sections_in begun) in
+    append_assoc own (items.Begin g.kind g.dwell ∷ (moves_in g.moves ++ ending (not g.goes))) rest ∙ ap (λ b. own ++ ((items.Begin g.kind g.dwell ∷ (moves_in g.moves ++ ending (not b))) ++ rest)) over
+
+-- no section begins before the one that goes on ends
+moves_clash : (ms ns : List Move) (kind : SectionKind) (dwell : ℕ) (xs ys : List Item) → moves_in ns ++ items.End ∷ xs ≡ moves_in ms ++ items.Begin kind dwell ∷ ys → ⊥
+moves_clash [] [] kind dwell xs ys e = cc
+moves_clash [] (n ∷ ns) kind dwell xs ys e = cc
+moves_clash (m ∷ ms) [] kind dwell xs ys e = cc
+moves_clash (m ∷ ms) (n ∷ ns) kind dwell xs ys e = moves_clash ms ns kind dwell xs ys (tails e)
+  where
+    tails : {x y : Item} {us vs : List Item} → x ∷ us ≡ y ∷ vs → us ≡ vs
+    tails p = cc
+
+begin_clash : (others : List Section) (kind kind' : SectionKind) (dwell dwell' : ℕ) (ms : List Move) (rest : List Item) → items_of others ≡ items.Begin kind dwell ∷ (moves_in ms ++ items.Begin kind' dwell' ∷ rest) → ⊥
+begin_clash [] kind kind' dwell dwell' ms rest e = cc
+begin_clash (s ∷ later) kind kind' dwell dwell' ms rest e =
+    moves_clash ms s.moves kind' dwell' (items_of later) rest (sym (append_assoc (moves_in s.moves) (items.End ∷ []) (items_of later)) ∙ tails e)
+  where
+    tails : {x y : Item} {us vs : List Item} → x ∷ us ≡ y ∷ vs → us ≡ vs
+    tails p = cc
+
+-- so where it goes on, nothing waits
+none_left : (its more : List Item) (others : List Section) (g : Going) → IsStopped its → items_of others ≡ items.Begin g.kind g.dwell ∷ (moves_in g.moves ++ (its ++ more)) → its ≡ []
+none_left [] more others g stops e = refl
+none_left (items.Begin kind dwell ∷ its) more others g stops e = absurd (begin_clash others g.kind kind g.dwell dwell g.moves (its ++ more) e)
+none_left (items.Move one ∷ its) more others g stops e = absurd stops
+none_left (items.End ∷ its) more others g stops e = absurd stops
+
+nothing_waits : (m : Machine) (c : Course) (seen : Seen) (g : Going) → IsCourseOf m c seen → seen.going ≡ Some g → g.goes ≡ true → c.source.end ≡ None → IsStopped c.source.items.items → c.source.items.items ≡ []
+nothing_waits m c seen g h is goes end stops =
+    let its = c.source.items.items in
+    let may : MayBecome seen.ended seen.text seen.text = subst (λ b. MayBecome b seen.text seen.text) (sym (h.source.goes end).0) ([], sym (append-nil seen.text)) in
+    let f = source_front m c.source seen.text seen.text seen.ended (items_read seen.begun seen.going) h.source may in
+    let told = f.1 ∙ ap (λ x. items_read seen.begun x ++ (its ++ f.0)) is ∙ open_items seen.begun g (its ++ f.0) goes in
+    let t = told_front (sections_in seen.begun) (program_sections m seen.text) (items.Begin g.kind g.dwell ∷ (moves_in g.moves ++ (its ++ f.0))) told in
+    none_left its f.0 t.0 g stops t.2
+
 some_items : (begun : List Started) (g : Going) (rest : List Item) → items_read begun (Some g) ++ rest ≡ [] → ⊥
 some_items begun g rest e = no_items ((none_both (items_of (sections_in begun)) (items.Begin g.kind g.dwell ∷ (moves_in g.moves ++ ending (not g.goes))) (none_both (items_read begun (Some g)) rest e).0).1)
   where
     no_items : items.Begin g.kind g.dwell ∷ (moves_in g.moves ++ ending (not g.goes)) ≡ [] → ⊥
     no_items p = cc
 
-going_lacks : (m : Machine) (s : SectionStream) (homes : Bool) (c : Course) (seen : Seen) (k : ℕ) → IsCourseOf m c seen → IsGoingOn m s homes c seen.told seen.begun seen.going → c.source.end ≡ None → (c.source.opened ≡ false) ⊎ (lacks c (opens.Goes s homes) k ≡ true) → Lacks m seen k
-going_lacks m s homes c seen k h i end (inl fresh) = absurd (some_items seen.begun i.g c.source.items.items (ap (λ g. items_read seen.begun g ++ c.source.items.items) (sym i.is) ∙ h.source.first end fresh))
-going_lacks m s homes c seen k h i end (inr e) =
+going_lacks : (m : Machine) (s : SectionStream) (homes : Bool) (c : Course) (seen : Seen) (k : ℕ) → IsCourseOf m c seen → IsGoingOn m s homes c seen.told seen.begun seen.going → (is_taking (queue_of s) ≡ true → IsStopped c.source.items.items) → c.source.end ≡ None → (c.source.opened ≡ false) ⊎ (lacks c (opens.Goes s homes) k ≡ true) → Lacks m seen k
+going_lacks m s homes c seen k h i stops end (inl fresh) = absurd (some_items seen.begun i.g c.source.items.items (ap (λ g. items_read seen.begun g ++ c.source.items.items) (sym i.is) ∙ h.source.first end fresh))
+going_lacks m s homes c seen k h i stops end (inr e) =
     let on = both (is_taking (queue_of s)) (nat_lt (settled_to (queue_of s)) ((k + 261) * turn_ns)) e in
     let goes : i.g.goes ≡ true = sym i.takes ∙ on.0 in
     let told = items_read seen.begun seen.going ++ c.source.items.items in
     record {
       told = told;
       read = read_on m c seen h end;
-      no_end = subst (λ g. HasNoEnd seen.begun g told) (sym i.is) (goes, (c.source.items.items, ap (λ g. items_read seen.begun g ++ c.source.items.items) i.is ∙ open_items seen.begun i.g c.source.items.items goes));
+      no_end =
+          let none = nothing_waits m c seen i.g h i.is goes end (stops on.0) in
+          subst (λ g. HasNoEnd seen.begun g told) (sym i.is) (ap (λ g. items_read seen.begun g ++ c.source.items.items) i.is ∙ ap (λ its. items_read seen.begun (Some i.g) ++ its) none ∙ open_items seen.begun i.g [] goes
+          ∙ ap (λ ms. items_of (sections_in seen.begun) ++ items.Begin i.g.kind i.g.dwell ∷ ms) (append-nil (moves_in i.g.moves)));
       short = inr (subst (λ g. IsShort m seen.told seen.begun g k) (sym i.is) (settled_to (queue_of s), settled m s homes c seen.told seen.begun seen.going i, less (settled_to (queue_of s)) ((k + 261) * turn_ns) on.1));
     }
 
-by_open : (m : Machine) (o : Open) (c : Course) (seen : Seen) (k : ℕ) → IsCourseOf m c seen → IsGoing m o c seen.told seen.begun seen.going → c.source.end ≡ None → (c.source.opened ≡ false) ⊎ (lacks c o k ≡ true) → Lacks m seen k
-by_open m opens.Nothing c seen k h i end why = idle_lacks m c seen k h i.none end why
-by_open m (opens.Goes s homes) c seen k h i end why = going_lacks m s homes c seen k h i end why
+by_open : (m : Machine) (o : Open) (c : Course) (seen : Seen) (k : ℕ) → IsCourseOf m c seen → IsGoing m o c seen.told seen.begun seen.going → IsEarly o (c.next + 260) (c.next + 260) c → c.source.end ≡ None → (c.source.opened ≡ false) ⊎ (lacks c o k ≡ true) → Lacks m seen k
+by_open m opens.Nothing c seen k h i early end why = idle_lacks m c seen k h i.none end why
+by_open m (opens.Goes s homes) c seen k h i early end why = going_lacks m s homes c seen k h i early end why
 
 no_end : (o : Option ReadEnd) → is_none o ≡ true → o ≡ None
 no_end None e = refl
@@ -149,7 +198,7 @@ pub hungry_lacks : (p : Planner) (seen : Seen) (k : ℕ) → IsPlannerOf p seen 
 hungry_lacks p seen k h e =
     let c = p.course in
     let on = both (is_none c.source.end) (if c.source.opened then lacks c c.current k else true) e in
-    by_open p.machine c.current c seen k h h.going (no_end c.source.end on.0) (why_hungry c.source.opened (lacks c c.current k) on.1)
+    by_open p.machine c.current c seen k h h.going h.early (no_end c.source.end on.0) (why_hungry c.source.opened (lacks c c.current k) on.1)
 
 -- where nothing more is asked for
 one_false : (a b : Bool) → (a && b) ≡ false → (a ≡ false) ⊎ (b ≡ false)
@@ -172,9 +221,9 @@ idle_enough m c (Some t) begun k i e =
       | inr late ↦ (let l = not_less c.ready (k + 261) late in let ready = i.ready refl in inr (omega (arith, l, ready)))
     ]
 
-going_enough : (m : Machine) (s : SectionStream) (homes : Bool) (c : Course) (told : Option Told) (begun : List Started) (going : Option Going) (its : List Item) (k : ℕ) → (i : IsGoingOn m s homes c told begun going) → lacks c (opens.Goes s homes) k ≡ false → HasEnough m (Some i.t) begun (Some i.g) its k
-going_enough m s homes c told begun going its k i e = elim (one_false (is_taking (queue_of s)) (nat_lt (settled_to (queue_of s)) ((k + 261) * turn_ns)) e) as (λ _. HasEnough m (Some i.t) begun (Some i.g) its k) [
-  | inl over ↦ inl (sym i.takes ∙ over)
+going_enough : (m : Machine) (s : SectionStream) (homes : Bool) (c : Course) (told : Option Told) (begun : List Started) (going : Option Going) (k : ℕ) → (i : IsGoingOn m s homes c told begun going) → lacks c (opens.Goes s homes) k ≡ false → HasEnough m (Some i.t) begun (Some i.g) (items_read begun (Some i.g) ++ c.source.items.items) k
+going_enough m s homes c told begun going k i e = elim (one_false (is_taking (queue_of s)) (nat_lt (settled_to (queue_of s)) ((k + 261) * turn_ns)) e) as (λ _. HasEnough m (Some i.t) begun (Some i.g) (items_read begun (Some i.g) ++ c.source.items.items) k) [
+  | inl over ↦ inl (c.source.items.items, ended_items begun i.g c.source.items.items (sym i.takes ∙ over))
   | inr far ↦ inr (settled_to (queue_of s), settled m s homes c told begun going i, not_less (settled_to (queue_of s)) ((k + 261) * turn_ns) far)
 ]
 
@@ -182,8 +231,8 @@ enough_by : (m : Machine) (o : Open) (c : Course) (seen : Seen) (k : ℕ) → Is
 enough_by m opens.Nothing c seen k t i e =
     subst (λ g. HasEnough m seen.told seen.begun g (items_read seen.begun g ++ c.source.items.items) k) (sym i.none) (idle_enough m c seen.told seen.begun k (subst (λ g. IsTold m c seen.told seen.begun g) i.none t) e)
 enough_by m (opens.Goes s homes) c seen k t i e =
-    let its = items_read seen.begun seen.going ++ c.source.items.items in
-    subst (λ told. HasEnough m told seen.begun seen.going its k) (sym i.told_is) (subst (λ g. HasEnough m (Some i.t) seen.begun g its k) (sym i.is) (going_enough m s homes c seen.told seen.begun seen.going its k i e))
+    subst (λ told. HasEnough m told seen.begun seen.going (items_read seen.begun seen.going ++ c.source.items.items) k) (sym i.told_is)
+    (subst (λ g. HasEnough m (Some i.t) seen.begun g (items_read seen.begun g ++ c.source.items.items) k) (sym i.is) (going_enough m s homes c seen.told seen.begun seen.going k i e))
 
 not_hungry : (opened lacking : Bool) → (if opened then lacking else true) ≡ false → lacking ≡ false
 not_hungry true lacking e = e

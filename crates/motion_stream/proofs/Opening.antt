@@ -231,7 +231,7 @@ section_begun m old new seen k start dwell last moving kind rest s homes n h nex
           before = λ b. tt;
           ahead = subst (λ x. AreAhead m x.items new.next seen.begun) (sym o.ahead) (subst (λ x. AreAhead m old.ahead.items x seen.begun) (sym n') d.idle.ahead);
         });
-        early = subst (λ x. IsEarly x (new.next + 260) (new.next + 260) new) (sym current) tt;
+        early = subst (λ x. IsEarly x (new.next + 260) (new.next + 260) new) (sym current) opened.stops;
         uptake = uptake_kept old new (k + 261) (new.next + 260) seen.fresh o.connected o.lines (omega (arith, n', next)) h.uptake;
       },
     )
@@ -279,7 +279,7 @@ not_later c k (Some e) (items.End ∷ its) due l = tt
 still_early : (o : Open) (c : Course) (k : ℕ) → (o ≡ opens.Nothing → c.connected ≡ true → (kind : SectionKind) (dwell : ℕ) (rest : List Item) → c.source.items.items ≡ items.Begin kind dwell ∷ rest → k + 260 < c.ready + dwell)
     → IsEarly o (k + 260) (k + 261) c → IsEarly o (k + 261) (k + 261) c
 still_early opens.Nothing c k due e = λ on. not_later c k c.source.end c.source.items.items (due refl on) (e on)
-still_early (opens.Goes s homes) c k due e = tt
+still_early (opens.Goes s homes) c k due e = e
 
 pub none_begun : (m : Machine) (c : Course) (seen : Seen) (k : ℕ) → c.next ≡ k + 1 → IsNotDue c (k + 260) → IsCourseBy m c seen (k + 260) (k + 261) → (next : Seen) × IsBegun m seen next k None × IsCourseOf m c next
 none_begun m c seen k next due h =

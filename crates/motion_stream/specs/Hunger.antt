@@ -1,11 +1,11 @@
 -- Which words a planner wants, and when it asks for more of the text, by what it has seen.
-use Rattle.std.specs.Prelude.{◌≡◌, ◌⊎◌, ℕ, ◌+◌, ◌-◌, ◌*◌, ◌<◌, ◌≤◌, ◌&&◌, Bool, true, false, List, [], ◌∷◌, ◌++◌, drop, nat_le, nat_lt, Option, Some, None, if◌then◌else◌}
+use Rattle.std.specs.Prelude.{◌≡◌, ◌⊎◌, ℕ, ◌+◌, ◌-◌, ◌*◌, ◌<◌, ◌≤◌, ◌&&◌, Bool, false, List, [], ◌∷◌, ◌++◌, drop, nat_le, nat_lt, Option, Some, None, if◌then◌else◌}
 use Rattle.gcode_program.specs.declared.items.Item.{Item}
 use Rattle.gcode_program.specs.declared.items.Item.TheVariants as items
 use Rattle.gcode_program.specs.declared.reader.Reader.{Reader}
-use Rattle.gcode_program.specs.Items.{items_of, moves_in}
+use Rattle.gcode_program.specs.Items.{items_in, items_of, moves_in}
 use Rattle.gcode_program.specs.Reader.{IsAll}
-use Rattle.gcode_program.specs.Readers.{IsReaderOf, stop_of}
+use Rattle.gcode_program.specs.Readers.{IsReaderOf, section_with, stop_of}
 use Rattle.plan_types.specs.declared.machine.Machine.{Machine}
 use Rattle.plan_types.specs.declared.plan.Move.{Move}
 use Rattle.plan_types.specs.declared.plan.ReadEnd.{ReadEnd}
@@ -45,11 +45,14 @@ pub record IsReadOut (m : Machine) (text : List ℕ) (ended : Bool) : Type 0 whe
   pub told : List Item
   pub all : (whole : List ℕ) → MayBecome ended text whole → IsAll m whole end told
 
--- The section that is planned next has no end in what was told: none that was not begun has begun there; or the one that goes on has moves
--- there, and its end was not taken.
+-- The section that is planned next has no end in what was told: it has not begun there, or it goes on, and only moves of it were told.
 abbrev pub HasNoEnd : List Started → Option Going → List Item → Type 0
 HasNoEnd begun None told = told ≡ items_of (sections_in begun)
-HasNoEnd begun (Some g) told = (g.goes ≡ true) × ((rest : List Item) × (told ≡ items_of (sections_in begun) ++ items.Begin g.kind g.dwell ∷ (moves_in g.moves ++ rest)))
+HasNoEnd begun (Some g) told = told ≡ items_of (sections_in begun) ++ items.Begin g.kind g.dwell ∷ moves_in g.moves
+
+-- it has its end there
+abbrev pub HasEnd : List Started → Going → List Item → Type 0
+HasEnd begun g told = (rest : List Item) × (told ≡ items_of (sections_in begun) ++ (items_in (section_with g.kind g.moves g.dwell) ++ rest))
 
 -- The first ones of a section's moves end at a time, and the others follow from there, whatever moves come.
 pub record AreSettled (m : Machine) (g : Going) (time : ℕ) : Type 0 where
@@ -74,7 +77,7 @@ pub record Lacks (m : Machine) (seen : Seen) (k : ℕ) : Type 0 where
 abbrev pub HasEnough : Machine → Option Told → List Started → Option Going → List Item → ℕ → Type 0
 HasEnough m None begun going told k = Unit {0}
 HasEnough m (Some t) begun None told k = ((i : Item) × (rest : List Item) × (told ≡ items_of (sections_in begun) ++ i ∷ rest)) ⊎ (k + 261 ≤ ready_after t.first begun)
-HasEnough m (Some t) begun (Some g) told k = (g.goes ≡ false) ⊎ ((time : ℕ) × AreSettled m g time × ((k + 261) * turn_ns ≤ time))
+HasEnough m (Some t) begun (Some g) told k = HasEnd begun g told ⊎ ((time : ℕ) × AreSettled m g time × ((k + 261) * turn_ns ≤ time))
 
 -- so the reading of the text is over, or what is needed was read
 abbrev pub IsSated : Machine → Seen → ℕ → Type 0

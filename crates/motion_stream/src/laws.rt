@@ -53,8 +53,8 @@ pub fn turns_put_units()
 {}
 
 /// The law of what is asked for, over what was seen: the word that a planner wants before the batches of turn k. More of the text is asked for
-/// only while it is read on and the section that is planned next has no end in it: none that was not begun has begun in the text, or the end
-/// of the one that goes on was not taken. And none is asked for only where the reading is over, or what is needed for turn k was read.
+/// only while it is read on and the section that is planned next has no end in the text so far; so while it has its end there, none is. And none
+/// is asked for only where the reading is over, or what is needed for turn k was read.
 pub fn planners_hunger()
     ensures wants { (p : Planner) (seen : Seen) (k : ℕ) → IsPlannerOf p seen → wants p k ≡ wanted seen k }
     ensures hungry { (p : Planner) (seen : Seen) (k : ℕ) → IsPlannerOf p seen → hungry p k ≡ true → Lacks p.machine seen k }

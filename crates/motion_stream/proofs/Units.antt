@@ -1,7 +1,8 @@
 -- What is put in a turn, by the sections that were begun.
-use Rattle.std.proofs.Common.{◌≡◌, ℕ, ◌+◌, ◌<◌, true, false, List, [], ◌∷◌, ◌++◌, get_or, length, ap, sym, subst, ◌∙◌, arith, inl, inr}
+use Rattle.std.proofs.Common.{◌≡◌, ◌↔◌, ℕ, ◌+◌, ◌<◌, true, false, List, [], ◌∷◌, ◌++◌, get_or, length, refl, ap, sym, subst, ◌∙◌, arith, inl, inr}
 use Rattle.std.proofs.Math.Logic.{∥∥₁_map}
-use Rattle.std.specs.Prelude.{Option, Some, None}
+use Rattle.std.specs.Prelude.{◌||◌, Option, Some, None}
+use Rattle.gcode_program.specs.Programs.{program_sections}
 use Rattle.msg_code.specs.declared.talk.Note.{Note}
 use Rattle.msg_code.specs.declared.unit.Batch.{Batch}
 use Rattle.plan_types.specs.declared.machine.Machine.{Machine}
@@ -14,7 +15,7 @@ use Rattle.section_units.specs.Plans.{IsFrontOnBy, section_on}
 use Rattle.section_units.proofs.Fronting.{section_front, section_whole}
 use Rattle.motion_work.specs.Homes.{before_turn}
 use Rattle.motion_work.specs.Puts.{ArePut, IsPut, Put}
-use Rattle.motion_work.specs.Seen.{AreSentBy, AreStarted, IsPlanned, Started, lines_of}
+use Rattle.motion_work.specs.Seen.{AreOut, AreSentBy, AreStarted, IsPlanned, Started, lines_of}
 use Rattle.motion_work.specs.Told.{Told}
 use Rattle.motion_work.specs.Further.{told_on}
 use Rattle.motion_work.proofs.Feeding.{at_before}
@@ -22,6 +23,7 @@ use Rattle.motion_work.proofs.Sending.{cut_front}
 use Rattle.motion_stream.specs.Courses.{IsCourseOf}
 use Rattle.motion_stream.specs.Motions.{Can, IsPlannerOf, Makes, Planner}
 use Rattle.motion_stream.specs.Puts.{ArePutBy}
+use Rattle.motion_stream.specs.News.{tells_read}
 use Rattle.motion_stream.specs.Seen.{Seen, homes_by}
 use Rattle.motion_stream.specs.Texts.{MayBecome}
 use Rattle.motion_stream.specs.Turns.{HaveUnits, HaveUnitsBy, IsTurnOf}
@@ -98,3 +100,15 @@ turn_told p q seen ps k batches note whole of put can makes may =
     let puts : ArePutBy q.machine next (ps ++ one ∷ []) = subst (λ m. ArePutBy m next (ps ++ one ∷ [])) (sym makes.0) (turn_kept p.machine seen next ps k batches note at t.1 t.2 put) in
     let text : MayBecome next.ended next.text whole = subst (λ b. MayBecome b next.text whole) (sym t.1.ended) (subst (λ (x : List ℕ). MayBecome seen.ended x whole) (sym t.1.text) may) in
     ∥∥₁_map (are_planned q next (ps ++ one ∷ []) whole by puts text) (λ w. (w.0, turn_of q.machine next whole (told_on note.news seen.told) k ps one w.0 t.1.told (t.1.next ∙ ap (λ n. n + 1) (sym at)) (put.count ∙ sym at) w.1))
+
+-- the end of a text
+pub end_told : (p q : Planner) (seen : Seen) (k : ℕ) (batches : List Batch) (note : Note) → IsPlannerOf p seen → Makes p k batches note q → seen.ended ≡ true
+    → (next : Seen) × IsPlannerOf q next × (next.read ≡ (seen.read || tells_read note.news)) × (tells_read note.news ≡ true ↔ ((seen.read ≡ false) × AreOut (length p.machine.boards) k (length (program_sections p.machine seen.text)) next.begun))
+end_told p q seen k batches note of makes over =
+    let t = makes.1 seen of in
+    let r = t.1.reading in
+    let may : MayBecome seen.ended seen.text seen.text = subst (λ b. MayBecome b seen.text seen.text) (sym over) refl in
+    (t.0, subst (λ m. IsCourseOf m q.course t.0) (sym makes.0) t.3, r.read, (λ told. (r.once told, r.out told seen.text may), λ out. r.told out.0 (λ s told is none. clash (sym over ∙ (is.goes none).0)) seen.text may out.1))
+  where
+    clash : true ≡ false → ⊥
+    clash e = cc

@@ -1,16 +1,18 @@
 //! The laws of what a motion machine puts.
 
-ghost use Rattle.std.specs.Prelude.{◌≡◌, ℕ, ◌<◌, ◌≤◌, ◌++◌, Bool, false, List, [], ◌∷◌, Option, true};
+ghost use Rattle.std.specs.Prelude.{◌≡◌, ◌↔◌, ◌||◌, ℕ, ◌<◌, ◌≤◌, ◌++◌, Bool, false, List, [], ◌∷◌, Option, length, true};
+ghost use Rattle.gcode_program.specs.Programs.{program_sections};
 ghost use Rattle.msg_code.specs.declared.talk.Note.{Note};
 ghost use Rattle.msg_code.specs.declared.talk.WordMsg.{WordMsg};
 ghost use Rattle.msg_code.specs.declared.unit.Batch.{Batch};
 ghost use Rattle.plan_types.specs.declared.machine.Machine.{Machine};
 ghost use Rattle.motion_work.specs.Further.{told_on};
 ghost use Rattle.motion_work.specs.Puts.{Put};
-ghost use Rattle.motion_work.specs.Seen.{Started};
+ghost use Rattle.motion_work.specs.Seen.{AreOut, Started};
 ghost use Rattle.motion_stream.specs.Clear.{IsClearTo, clear_of, tells_sections};
 ghost use Rattle.motion_stream.specs.Hunger.{IsSated, Lacks, wanted};
 ghost use Rattle.motion_stream.specs.Motions.{Can, Hears, IsMore, IsPlannerOf, Makes, Planner, Reads, hungry, read_on, wants, with_word};
+ghost use Rattle.motion_stream.specs.News.{tells_read};
 ghost use Rattle.motion_stream.specs.Puts.{ArePutBy};
 ghost use Rattle.motion_stream.specs.Seen.{Going, Seen, nothing_seen};
 ghost use Rattle.motion_stream.specs.Texts.{MayBecome};
@@ -50,6 +52,14 @@ pub fn texts_are_planned()
 pub fn turns_put_units()
     ensures { (p q : Planner) (seen : Seen) (ps : List Put) (k : ℕ) (batches : List Batch) (note : Note) (whole : List ℕ) → IsPlannerOf p seen → ArePutBy p.machine seen ps → Can p k → Makes p k batches note q → MayBecome seen.ended seen.text whole →
         ∥ ((begun : List Started) × IsTurnOf q.machine whole (told_on note.news seen.told) k begun (record { batches = batches; note = note })) ∥₁ }
+{}
+
+/// The law of the text's end: behind the end of a text, how it was read is told in the first turn by which all its sections ended and none of
+/// their units waits for a later turn, and in no other one.
+pub fn ends_are_told()
+    ensures { (p q : Planner) (seen : Seen) (k : ℕ) (batches : List Batch) (note : Note) → IsPlannerOf p seen → Makes p k batches note q → seen.ended ≡ true →
+        (next : Seen) × IsPlannerOf q next × (next.read ≡ (seen.read || tells_read note.news)) ×
+        (tells_read note.news ≡ true ↔ ((seen.read ≡ false) × AreOut (length p.machine.boards) k (length (program_sections p.machine seen.text)) next.begun)) }
 {}
 
 /// The law of what is asked for, over what was seen: the word that a planner wants before the batches of turn k. More of the text is asked for

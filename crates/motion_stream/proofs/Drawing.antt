@@ -163,7 +163,7 @@ fed_on m c seen k at fed h =
   where
     by : (o : Open) → c.current ≡ o → IsEarly o (k + 260) (k + 260) c → IsEarly o (k + 260) (k + 261) c
     by opens.Nothing e early = λ on. later_fed k c.ready c.source.end c.source.items.items (fed e on) (early on)
-    by (opens.Goes s homes) e early = tt
+    by (opens.Goes s homes) e early = early
 
 -- what was seen behind a turn
 abbrev pub behind : Seen → List Started → Option Going → Seen

@@ -225,9 +225,9 @@ going_beside m s homes old new told begun going b i =
 -- a piece is read while a section goes on
 pub text_heard : (m : Machine) (old mid new : Course) (s later : SectionStream) (homes : Bool) (seen : Seen) (bytes : List ℕ) (end : Bool) → IsBeside old new → old.current ≡ opens.Goes s homes → new.current ≡ opens.Goes later homes
     → ((text : List ℕ) (ended : Bool) (told : List Item) → IsSourceOf m old.source text ended told → IsSourceOf m mid.source (text_after text ended bytes) (ended_after ended end) told)
-    → new.source.reader ≡ mid.source.reader → new.source.end ≡ mid.source.end → new.source.ended ≡ mid.source.ended → HasHeardBy (is_taking (queue_of s)) s later mid.source.items.items new.source.items.items → IsCourseOf m old seen
+    → new.source.reader ≡ mid.source.reader → new.source.end ≡ mid.source.end → new.source.ended ≡ mid.source.ended → new.source.opened ≡ mid.source.opened → HasHeardBy (is_taking (queue_of s)) s later mid.source.items.items new.source.items.items → IsCourseOf m old seen
     → (going : Option Going) × IsMore seen.going going × IsCourseOf m new (read_on seen bytes end going)
-text_heard m old mid new s later homes seen bytes end b was now reads reader stop over heard_is h =
+text_heard m old mid new s later homes seen bytes end b was now reads reader stop over opened heard_is h =
     let i : IsGoingOn m s homes old seen.told seen.begun seen.going = subst (λ o. IsGoing m o old seen.told seen.begun seen.going) was h.going in
     by_taking (is_taking (queue_of s)) refl heard_is i
   where
@@ -244,7 +244,7 @@ text_heard m old mid new s later homes seen bytes end b was now reads reader sto
           same_more seen.going,
           record {
             machine = h.machine;
-            source = source_on m mid.source new.source (text_after seen.text seen.ended bytes) (ended_after seen.ended end) (items_read seen.begun seen.going) (items_read seen.begun seen.going) reader stop over (ap (λ x. items_read seen.begun seen.going ++ x) (sym same.1)) (reads seen.text seen.ended (items_read seen.begun seen.going) h.source);
+            source = source_on m mid.source new.source (text_after seen.text seen.ended bytes) (ended_after seen.ended end) (items_read seen.begun seen.going) (items_read seen.begun seen.going) reader stop over opened (ap (λ x. items_read seen.begun seen.going ++ x) (sym same.1)) (reads seen.text seen.ended (items_read seen.begun seen.going) h.source);
             read = b.read ∙ h.read;
             told = told_beside m old new seen.told seen.begun seen.going seen.going b (λ e. e) (λ e. e) h.told;
             next = b.next ∙ h.next;
@@ -252,11 +252,12 @@ text_heard m old mid new s later homes seen bytes end b was now reads reader sto
             place = b.place ∙ h.place;
             few = few;
             going = subst (λ o. IsGoing m o new seen.told seen.begun seen.going) (sym now) (subst (λ x. IsGoingOn m x homes new seen.told seen.begun seen.going) (sym same.0) (going_beside m s homes old new seen.told seen.begun seen.going b i));
-            early = subst (λ o. IsEarly o (new.next + 260) (new.next + 260) new) (sym now) tt;
+            early = subst (λ o. IsEarly o (new.next + 260) (new.next + 260) new) (sym now) (λ on. absurd (clash (sym on ∙ ap (λ (x : SectionStream). is_taking (queue_of x)) same.0 ∙ t)));
             uptake = uptake_kept old new (old.next + 260) (new.next + 260) seen.fresh b.connected b.lines (let e = b.next in omega (arith, e)) h.uptake;
           },
         )
-    by_taking true t taken i =
+    by_taking true t all i =
+        let taken = all.taken in
         let g = i.g in
         let g' = longer g taken.more taken.ends in
         let on : g.goes ≡ true = sym i.takes ∙ t in
@@ -268,7 +269,7 @@ text_heard m old mid new s later homes seen bytes end b was now reads reader sto
           subst (λ o. IsMore o (Some g')) (sym i.is) (longer_is g taken.more taken.ends on),
           record {
             machine = h.machine;
-            source = source_on m mid.source new.source (text_after seen.text seen.ended bytes) (ended_after seen.ended end) (items_read seen.begun seen.going) (items_read seen.begun (Some g')) reader stop over
+            source = source_on m mid.source new.source (text_after seen.text seen.ended bytes) (ended_after seen.ended end) (items_read seen.begun seen.going) (items_read seen.begun (Some g')) reader stop over opened
                 (ap (λ o. items_read seen.begun o ++ mid.source.items.items) i.is ∙ longer_items seen.begun g taken.more taken.ends mid.source.items.items new.source.items.items on taken.items_are) (reads seen.text seen.ended (items_read seen.begun seen.going) h.source);
             read = b.read ∙ h.read;
             told = told_beside m old new seen.told seen.begun seen.going (Some g') b (λ e. absurd (none_some g' (sym e))) (λ e. absurd (none_some g (sym e ∙ i.is))) h.told;
@@ -295,7 +296,7 @@ text_heard m old mid new s later homes seen bytes end b was now reads reader sto
               before = λ z. subst (λ w. AreBefore w (g.released z)) (sym n) (i.before z);
               ahead = subst (λ a. AreAhead m a.items new.next seen.begun) (sym b.ahead) (subst (λ z. AreAhead m old.ahead.items z seen.begun) (sym b.next) i.ahead);
             });
-            early = subst (λ o. IsEarly o (new.next + 260) (new.next + 260) new) (sym now) tt;
+            early = subst (λ o. IsEarly o (new.next + 260) (new.next + 260) new) (sym now) all.stops;
             uptake = uptake_kept old new (old.next + 260) (new.next + 260) seen.fresh b.connected b.lines (let e = b.next in omega (arith, e)) h.uptake;
           },
         )
@@ -341,9 +342,9 @@ idle_going m opens.Nothing old new told more begun going none nil goes next ahea
 }
 idle_going m (opens.Goes s homes) old new told more begun going none nil goes next ahead h = absurd (none_some h.g (sym nil ∙ h.is))
 
-any_early : (o : Open) (turn : ℕ) (c : Course) → turn ≤ c.ready → IsEarly o turn turn c
-any_early opens.Nothing turn c le = λ on. later_easy turn turn c.ready c.source.end c.source.items.items le le
-any_early (opens.Goes s homes) turn c le = tt
+any_early : (m : Machine) (o : Open) (old c : Course) (told : Option Told) (begun : List Started) (going : Option Going) (turn : ℕ) → IsGoing m o old told begun going → going ≡ None → turn ≤ c.ready → IsEarly o turn turn c
+any_early m opens.Nothing old c told begun going turn i none le = λ on. later_easy turn turn c.ready c.source.end c.source.items.items le le
+any_early m (opens.Goes s homes) old c told begun going turn i none le = absurd (none_some i.g (sym none ∙ i.is))
 
 -- lines are told
 pub lines_told : (m : Machine) (old new : Course) (seen : Seen) (w : WordMsg) → old.connected ≡ false → told_of m w ≡ Some new.lines.each.items → new.lines.waiting ≡ old.lines.waiting → new.ready ≡ first_start (max old.next w.turn) → new.connected ≡ true → new.source ≡ old.source → new.read ≡ old.read → new.place ≡ old.place → new.goes ≡ old.goes → new.current ≡ old.current
@@ -377,7 +378,7 @@ lines_told m old new seen w off told waiting ready on source read place goes cur
       place = place ∙ h.place;
       few = omega (arith, few, place, next);
       going = subst (λ o. IsGoing m o new (heard m seen.next w seen.told) seen.begun seen.going) (sym current) (idle_going m old.current old new seen.told (heard m seen.next w seen.told) seen.begun seen.going u.1 u.2 (sym goes) (sym next) (sym ahead) h.going);
-      early = any_early new.current (new.next + 260) new (omega (arith, ready, next));
+      early = subst (λ o. IsEarly o (new.next + 260) (new.next + 260) new) (sym current) (any_early m old.current old new seen.told seen.begun seen.going (new.next + 260) h.going u.2 (omega (arith, ready, next)));
       uptake = record {
         waiting = ap (λ v. v.items) waiting ∙ h.uptake.waiting;
         none = λ no. absurd (clash (sym on ∙ no));

@@ -5,11 +5,14 @@ pub mod Drawing
 pub mod Streaming
 pub mod Opening
 pub mod Hearing
+pub mod Ending
 pub mod Turning
 pub mod Laying
 pub mod Wholing
 pub mod Bounding
 pub mod Planning
+pub mod Units
+pub mod Hunger
 pub mod Clearing
 pub mod Keeping
 pub mod Limits

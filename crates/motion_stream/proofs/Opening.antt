@@ -5,7 +5,7 @@ use Rattle.gcode_program.specs.declared.items.Item.{Item}
 use Rattle.gcode_program.specs.declared.items.Item.TheVariants as items
 use Rattle.gcode_program.specs.Items.{IsGood, ending, items_of, moves_in}
 use Rattle.gcode_program.specs.Reader.{IsAll}
-use Rattle.gcode_program.specs.Readers.{IsReaderOf}
+use Rattle.gcode_program.specs.Readers.{IsReaderOf, stop_of}
 use Rattle.msg_code.specs.declared.talk.NoteNews.{NoteNews}
 use Rattle.msg_code.specs.declared.talk.NoteNews.TheVariants as news
 use Rattle.plan_types.specs.declared.machine.Machine.{Machine}
@@ -130,12 +130,15 @@ pub record IsOpened (old new : Course) (start : ℕ) : Type 0 where
   pub reader : new.source.reader ≡ old.source.reader
   pub end : new.source.end ≡ old.source.end
   pub ended : new.source.ended ≡ old.source.ended
+  pub opened : new.source.opened ≡ old.source.opened
 
 -- the text with things taken
-pub source_on : (m : Machine) (old new : Source) (text : List ℕ) (ended : Bool) (told more : List Item) → new.reader ≡ old.reader → new.end ≡ old.end → new.ended ≡ old.ended → told ++ old.items.items ≡ more ++ new.items.items → IsSourceOf m old text ended told → IsSourceOf m new text ended more
-source_on m old new text ended told more reader end over same h = record {
+pub source_on : (m : Machine) (old new : Source) (text : List ℕ) (ended : Bool) (told more : List Item) → new.reader ≡ old.reader → new.end ≡ old.end → new.ended ≡ old.ended → new.opened ≡ old.opened → told ++ old.items.items ≡ more ++ new.items.items → IsSourceOf m old text ended told → IsSourceOf m new text ended more
+source_on m old new text ended told more reader end over opened same h = record {
   ended_is = over ∙ h.ended_is;
   goes = λ e. let g = h.goes (sym end ∙ e) in (g.0, subst (λ r. IsReaderOf r m text (more ++ new.items.items)) (sym reader) (subst (λ (is : List Item). IsReaderOf old.reader m text is) same g.1));
+  reads = λ e. ap stop_of reader ∙ h.reads (sym end ∙ e);
+  first = λ e fresh. sym same ∙ h.first (sym end ∙ e) (sym opened ∙ fresh);
   over = λ e is whole may. subst (λ (its : List Item). IsAll m whole e its) same (h.over e (sym end ∙ is) whole may);
 }
 
@@ -191,7 +194,7 @@ section_begun m old new seen k start dwell last moving kind rest s homes n h nex
       },
       record {
         machine = h.machine;
-        source = source_on m old.source new.source seen.text seen.ended (items_read seen.begun seen.going) (items_read seen.begun (Some g)) o.reader o.end o.ended
+        source = source_on m old.source new.source seen.text seen.ended (items_read seen.begun seen.going) (items_read seen.begun (Some g)) o.reader o.end o.ended o.opened
             (ap (λ x. items_read seen.begun x ++ old.source.items.items) none ∙ ap (λ is. items_of (sections_in seen.begun) ++ is) its ∙ section_source seen.begun kind dwell start last moving opened.moves opened.ends rest new.source.items.items opened.items_are) h.source;
         read = o.read ∙ h.read;
         told = subst (λ x. IsTold m new x seen.begun (Some g)) (sym d.told_is) (record {
@@ -228,7 +231,7 @@ section_begun m old new seen k start dwell last moving kind rest s homes n h nex
           before = λ b. tt;
           ahead = subst (λ x. AreAhead m x.items new.next seen.begun) (sym o.ahead) (subst (λ x. AreAhead m old.ahead.items x seen.begun) (sym n') d.idle.ahead);
         });
-        early = subst (λ x. IsEarly x (new.next + 260) (new.next + 260) new) (sym current) tt;
+        early = subst (λ x. IsEarly x (new.next + 260) (new.next + 260) new) (sym current) opened.stops;
         uptake = uptake_kept old new (k + 261) (new.next + 260) seen.fresh o.connected o.lines (omega (arith, n', next)) h.uptake;
       },
     )
@@ -276,7 +279,7 @@ not_later c k (Some e) (items.End ∷ its) due l = tt
 still_early : (o : Open) (c : Course) (k : ℕ) → (o ≡ opens.Nothing → c.connected ≡ true → (kind : SectionKind) (dwell : ℕ) (rest : List Item) → c.source.items.items ≡ items.Begin kind dwell ∷ rest → k + 260 < c.ready + dwell)
     → IsEarly o (k + 260) (k + 261) c → IsEarly o (k + 261) (k + 261) c
 still_early opens.Nothing c k due e = λ on. not_later c k c.source.end c.source.items.items (due refl on) (e on)
-still_early (opens.Goes s homes) c k due e = tt
+still_early (opens.Goes s homes) c k due e = e
 
 pub none_begun : (m : Machine) (c : Course) (seen : Seen) (k : ℕ) → c.next ≡ k + 1 → IsNotDue c (k + 260) → IsCourseBy m c seen (k + 260) (k + 261) → (next : Seen) × IsBegun m seen next k None × IsCourseOf m c next
 none_begun m c seen k next due h =

@@ -11,25 +11,32 @@ use Rattle.gcode_program.specs.Readers.{IsReaderOf, stop_of}
 use Rattle.motion_stream.specs.declared.source.Source.{Source}
 use Rattle.motion_stream.specs.Texts.{IsSourceOf, MayBecome, ended_after, text_after}
 
+clash : true ≡ false → ⊥
+clash p = cc
+
 no_end : {A : Type 0} (e : ReadEnd) → None ≡ Some e → A
 no_end e p = absurd cc
 
 -- nothing is read yet
-pub new_is : (m : Machine) (s : Source) → s.end ≡ None → s.ended ≡ false → s.items.items ≡ [] → IsReaderOf s.reader m [] [] → IsSourceOf m s [] false []
-new_is m s none open_is empty reader = record {
+pub new_is : (m : Machine) (s : Source) → s.end ≡ None → s.ended ≡ false → s.items.items ≡ [] → stop_of s.reader ≡ None → IsReaderOf s.reader m [] [] → IsSourceOf m s [] false []
+new_is m s none open_is empty goes reader = record {
   ended_is = open_is;
   goes = λ e. (refl, subst (λ (is : List Item). IsReaderOf s.reader m [] is) (sym empty) reader);
+  reads = λ e. goes;
+  first = λ e fresh. empty;
   over = λ e is. no_end e (sym none ∙ is);
 }
 
 -- more was read
-pub read_is : (m : Machine) (old new : Source) (text bytes : List ℕ) (told : List Item) → old.end ≡ None → new.ended ≡ false → new.end ≡ stop_of new.reader
+pub read_is : (m : Machine) (old new : Source) (text bytes : List ℕ) (told : List Item) → old.end ≡ None → new.ended ≡ false → new.opened ≡ true → new.end ≡ stop_of new.reader
     → (IsReaderOf old.reader m text (told ++ old.items.items) → IsReaderOf new.reader m (text ++ bytes) (told ++ new.items.items)) → IsSourceOf m old text false told → IsSourceOf m new (text ++ bytes) false told
-read_is m old new text bytes told none open_is end reads h =
+read_is m old new text bytes told none open_is opened end reads h =
     let reader = reads (h.goes none).1 in
     record {
       ended_is = open_is;
       goes = λ e. (refl, reader);
+      reads = λ e. sym end ∙ e;
+      first = λ e fresh. absurd (clash (sym opened ∙ fresh));
       over = λ e is whole may. subst (λ (t : List ℕ). IsAll m t e (told ++ new.items.items)) (sym may.1) ((reader.read may.0).over e (sym end ∙ is));
     }
 
@@ -38,6 +45,8 @@ pub more_is : (m : Machine) (old new : Source) (text bytes : List ℕ) (told : L
 more_is m old new text bytes told e some same open_is items h = record {
   ended_is = open_is;
   goes = λ none. no_end e (sym none ∙ same ∙ some);
+  reads = λ none. no_end e (sym none ∙ same ∙ some);
+  first = λ none. no_end e (sym none ∙ same ∙ some);
   over = λ x is whole may. subst (λ (i : List Item). IsAll m whole x (told ++ i)) (sym items) (h.over x (sym same ∙ is) whole (bytes ++ may.0, may.1 ∙ append_assoc text bytes may.0));
 }
 
@@ -45,6 +54,8 @@ pub ended_is : (m : Machine) (old new : Source) (text : List ℕ) (told : List I
 ended_is m old new text told e some same over items h = record {
   ended_is = over;
   goes = λ none. no_end e (sym none ∙ same ∙ some);
+  reads = λ none. no_end e (sym none ∙ same ∙ some);
+  first = λ none. no_end e (sym none ∙ same ∙ some);
   over = λ x is whole may. subst (λ (i : List Item). IsAll m whole x (told ++ i)) (sym items) (h.over x (sym same ∙ is) whole ([], may ∙ sym (append-nil text)));
 }
 
@@ -56,6 +67,8 @@ finished_is m old new text told e none some over ends h =
     record {
       ended_is = over;
       goes = λ n. no_end e (sym n ∙ some);
+      reads = λ n. no_end e (sym n ∙ some);
+      first = λ n. no_end e (sym n ∙ some);
       over = λ x is whole may.
           let same : e ≡ x = some_same e x (sym some ∙ is) in
           subst (λ (t : List ℕ). IsAll m t x (told ++ new.items.items)) (sym may) (subst (λ (y : ReadEnd). IsAll m text y (told ++ new.items.items)) same all);
@@ -65,9 +78,6 @@ finished_is m old new text told e none some over ends h =
     some_same x y p = cc
 
 -- a piece
-clash : true ≡ false → ⊥
-clash p = cc
-
 pub kept_piece : (m : Machine) (s : Source) (text bytes : List ℕ) (ended end : Bool) (told : List Item) → s.ended ≡ true → IsSourceOf m s text ended told → IsSourceOf m s (text_after text ended bytes) (ended_after ended end) told
 kept_piece m s text bytes true end told is h = h
 kept_piece m s text bytes false end told is h = absurd (clash (sym is ∙ h.ended_is))
@@ -78,13 +88,13 @@ took_piece m old new text bytes true end told is go h = absurd (clash (sym h.end
 took_piece m old new text bytes false end told is go h = go h
 
 -- the same, of things that are read apart from those that wait
-pub read_by : (m : Machine) (old new : Source) (text bytes : List ℕ) (told empty more : List Item) → old.end ≡ None → new.ended ≡ false → new.end ≡ stop_of new.reader → empty ≡ [] → new.items.items ≡ old.items.items ++ more
+pub read_by : (m : Machine) (old new : Source) (text bytes : List ℕ) (told empty more : List Item) → old.end ≡ None → new.ended ≡ false → new.opened ≡ true → new.end ≡ stop_of new.reader → empty ≡ [] → new.items.items ≡ old.items.items ++ more
     → ((t : List ℕ) (u : List Item) → IsReaderOf old.reader m t (u ++ empty) → IsReaderOf new.reader m (t ++ bytes) (u ++ more)) → IsSourceOf m old text false told → IsSourceOf m new (text ++ bytes) false told
-read_by m old new text bytes told empty more none open_is end nil are reads h =
+read_by m old new text bytes told empty more none open_is opened end nil are reads h =
     let apart = told ++ old.items.items in
     let same : apart ++ more ≡ told ++ new.items.items = append_assoc told old.items.items more ∙ ap (λ is. told ++ is) (sym are) in
     let was : IsReaderOf old.reader m text apart → IsReaderOf old.reader m text (apart ++ empty) = subst (λ (is : List Item). IsReaderOf old.reader m text is) (sym (ap (λ is. apart ++ is) nil ∙ append-nil apart)) in
-    read_is m old new text bytes told none open_is end (λ r. subst (λ (is : List Item). IsReaderOf new.reader m (text ++ bytes) is) same (reads text apart (was r))) h
+    read_is m old new text bytes told none open_is opened end (λ r. subst (λ (is : List Item). IsReaderOf new.reader m (text ++ bytes) is) same (reads text apart (was r))) h
 
 pub finished_by : (m : Machine) (old new : Source) (text : List ℕ) (told empty more : List Item) (e : ReadEnd) → old.end ≡ None → new.end ≡ Some e → new.ended ≡ true → empty ≡ [] → new.items.items ≡ old.items.items ++ more
     → ((t : List ℕ) (u : List Item) → IsReaderOf old.reader m t (u ++ empty) → IsAll m t e (u ++ more)) → IsSourceOf m old text false told → IsSourceOf m new text true told

@@ -1,106 +1,42 @@
 -- A turn, from its parts.
-use Rattle.std.proofs.Common.{◌≡◌, ℕ, zero, suc, ◌+◌, ◌-◌, ◌<◌, ◌≤◌, ◌^◌, Bool, true, false, not, List, [], ◌∷◌, ◌++◌, All, length, append-nil, append_assoc, refl, ap, sym, subst, ◌∙◌, arith, inl, inr}
-use Rattle.std.proofs.lemmas.List.{length-map, take_more}
-use Rattle.std.proofs.Common.{get_or, take}
-use Rattle.std.specs.Prelude.{◌⊎◌, slice_index_or, Option, Some, None}
-use Rattle.gcode_program.specs.declared.items.Item.{Item}
-use Rattle.gcode_program.specs.declared.items.Item.TheVariants as items
-use Rattle.gcode_program.specs.Items.{ending, items_in, items_of, moves_in}
+use Rattle.std.proofs.Common.{◌≡◌, ℕ, ◌+◌, ◌<◌, ◌^◌, Bool, true, false, List, [], ◌∷◌, ◌++◌, All, length, append-nil, append_assoc, refl, ap, sym, subst, ◌∙◌, arith, inl, inr}
+use Rattle.std.specs.Prelude.{◌⊎◌, Option, Some, None}
 use Rattle.gcode_program.specs.Programs.{program_sections}
 use Rattle.msg_code.specs.declared.talk.Note.{Note}
 use Rattle.msg_code.specs.declared.talk.NoteNews.{NoteNews}
 use Rattle.msg_code.specs.declared.talk.NoteNews.TheVariants as news
 use Rattle.msg_code.specs.declared.unit.Batch.{Batch}
 use Rattle.plan_types.specs.declared.machine.Machine.{Machine}
-use Rattle.plan_types.specs.declared.plan.Move.{Move}
 use Rattle.plan_types.specs.declared.plan.ReadEnd.{ReadEnd}
-use Rattle.plan_types.specs.declared.plan.Section.{Section}
 use Rattle.plan_types.specs.Sections.{clocks_at}
 use Rattle.plan_types.specs.Lines.{Clocks}
-use Rattle.step_feed.specs.Pacing.{batch_at}
 use Rattle.step_feed.specs.Units.{StepUnit}
 use Rattle.motion_work.specs.Begins.{listed}
 use Rattle.motion_work.specs.Feeds.{batches_at, units_at}
 use Rattle.motion_work.specs.Puts.{IsPut, IsReadNews, begun_notes}
 use Rattle.motion_work.specs.declared.told.BoardLine.{BoardLine}
 use Rattle.motion_work.specs.Further.{AreFurther, WereHeard, told_on}
-use Rattle.motion_work.specs.Seen.{AreDone, AreMoves, AreOut, IsOpen, Started}
+use Rattle.motion_work.specs.Seen.{AreMoves, AreOut, Started}
 use Rattle.motion_work.specs.Turns.{done_notes, start_notes}
 use Rattle.motion_work.specs.Told.{Told}
 use Rattle.motion_work.proofs.Putting.{begun_before, begun_last, done_stay, same_on}
 use Rattle.motion_stream.specs.declared.course.Course.{Course}
 use Rattle.motion_stream.specs.declared.course.Open.{Open}
 use Rattle.motion_stream.specs.declared.course.Open.TheVariants as opens
-use Rattle.motion_stream.specs.Courses.{IsCourseBy, IsCourseOf, IsEarly, IsGoing, IsIdle, IsSoundBy, IsTold, row_at}
+use Rattle.motion_stream.specs.Courses.{IsCourseBy, IsCourseOf, IsEarly, IsGoing, IsSoundBy, IsTold}
 use Rattle.motion_stream.specs.Motions.{AreEarly, Turns}
-use Rattle.motion_stream.specs.News.{HasPutAll, IsPlain, begins_in, read_news}
+use Rattle.motion_stream.specs.News.{HasPutAll, IsPlain, begins_in, read_after, read_news}
 use Rattle.motion_stream.specs.Puts.{AreGrown, GoesOn, HaveBegun, IsNew}
-use Rattle.motion_stream.specs.Seen.{AreWhole, Going, MayBe, Seen, count_of, items_read, sections_in}
+use Rattle.motion_stream.specs.Seen.{AreWhole, Going, Seen}
 use Rattle.motion_stream.specs.Steps.{Advances, AreBegun, Begins, IsPassed}
 use Rattle.motion_stream.specs.Uptakes.{TakesUp, emptied, lined}
-use Rattle.motion_stream.proofs.Drawing.{boards_in_all, units_snoc, uptake_kept, whole_none}
+use Rattle.motion_stream.proofs.Drawing.{boards_in_all, units_snoc, uptake_kept}
 use Rattle.motion_stream.proofs.Leaving.{leaves_behind}
 use Rattle.motion_stream.proofs.Opening.{linked}
-use Rattle.motion_stream.proofs.Rowing.{no_row}
+use Rattle.motion_stream.proofs.Ending.{out_known, reading_told, tells_when, told_known}
 
 clash : true ≡ false → ⊥
 clash p = cc
-
--- how many sections begin
-begins_append : (xs ys : List Item) → begins_in (xs ++ ys) ≡ begins_in xs + begins_in ys
-begins_append [] ys = omega arith
-begins_append (items.Begin kind dwell ∷ xs) ys = let e = begins_append xs ys in omega (arith, e)
-begins_append (items.Move one ∷ xs) ys = begins_append xs ys
-begins_append (items.End ∷ xs) ys = begins_append xs ys
-
-no_moves : (ms : List Move) (rest : List Item) → begins_in (moves_in ms ++ rest) ≡ begins_in rest
-no_moves [] rest = refl
-no_moves (m ∷ ms) rest = no_moves ms rest
-
-begins_of : (ss : List Section) → begins_in (items_of ss) ≡ length ss
-begins_of [] = refl
-begins_of (s ∷ ss) =
-    let own : begins_in (items_in s) ≡ 1 = (let e = no_moves s.moves (items.End ∷ []) in omega (arith, e)) in
-    let e = begins_append (items_in s) (items_of ss) in
-    let l = begins_of ss in
-    omega (arith, own, e, l)
-
-ending_none : (b : Bool) → begins_in (ending b) ≡ 0
-ending_none true = refl
-ending_none false = refl
-
-begins_read : (begun : List Started) (going : Option Going) → begins_in (items_read begun going) ≡ count_of begun going
-begins_read begun None = begins_of (sections_in begun) ∙ length-map begun (λ (s : Started). s.section)
-begins_read begun (Some g) =
-    let front = begins_of (sections_in begun) ∙ length-map begun (λ (s : Started). s.section) in
-    let own : begins_in (moves_in g.moves ++ ending (not g.goes)) ≡ 0 = no_moves g.moves (ending (not g.goes)) ∙ ending_none (not g.goes) in
-    let e = begins_append (items_of (sections_in begun)) (items.Begin g.kind g.dwell ∷ (moves_in g.moves ++ ending (not g.goes))) in
-    omega (arith, front, own, e)
-
--- how many sections it has
-read_count : (m : Machine) (c : Course) (seen : Seen) (whole : List ℕ) (all : List Started) (turn free : ℕ) (x : ReadEnd) → c.source.end ≡ Some x → IsCourseBy m c seen turn free → MayBe m seen whole all → c.place + begins_in c.source.items.items ≡ length (program_sections m whole)
-read_count m c seen whole all turn free x e h may =
-    let over = h.source.over x e whole may.text in
-    let p = h.place in
-    let b = begins_read seen.begun seen.going in
-    let a = begins_append (items_read seen.begun seen.going) c.source.items.items in
-    let o = ap begins_in over.items in
-    let s = begins_of (program_sections m whole) in
-    omega (arith, p, b, a, o, s)
-
--- how the text was read, as it is told
-told_read : (m : Machine) (c : Course) (seen : Seen) (whole : List ℕ) (all : List Started) (turn free : ℕ) (told : Bool) (end : Option ReadEnd) → c.source.end ≡ end → IsCourseBy m c seen turn free → MayBe m seen whole all → IsReadNews m whole (listed (read_news told end (c.place + begins_in c.source.items.items)))
-told_read m c seen whole all turn free told None e h may = inl refl
-told_read m c seen whole all turn free true (Some x) e h may = inl refl
-told_read m c seen whole all turn free false (Some x) e h may =
-    let over = h.source.over x e whole may.text in
-    inr (ap (λ n. news.Read x n ∷ []) (read_count m c seen whole all turn free x e h may) ∙ ap (λ y. news.Read y (length (program_sections m whole)) ∷ []) (sym over.end_is))
-
--- or not yet
-told_known : (m : Machine) (c : Course) (seen : Seen) (whole : List ℕ) (all : List Started) (turn free : ℕ) (told : Bool) (end : Option ReadEnd) → (end ≡ None) ⊎ (end ≡ c.source.end) → IsCourseBy m c seen turn free → MayBe m seen whole all
-    → IsReadNews m whole (listed (read_news told end (c.place + begins_in c.source.items.items)))
-told_known m c seen whole all turn free told end (inl e) h may = subst (λ x. IsReadNews m whole (listed (read_news told x (c.place + begins_in c.source.items.items)))) (sym e) (inl refl)
-told_known m c seen whole all turn free told end (inr e) h may = told_read m c seen whole all turn free told end (sym e) h may
 
 -- with how the text was read told
 read_on : (m : Machine) (old new : Course) (seen : Seen) (read : Bool) → new ≡ record old { read = read } → IsCourseOf m old seen → IsCourseOf m new (record { text = seen.text; ended = seen.ended; read = read; told = seen.told; fresh = seen.fresh; next = seen.next; begun = seen.begun; going = seen.going })
@@ -179,15 +115,26 @@ told_plain None ns t h = refl
 told_plain (Some n) ns None h = refl
 told_plain (Some (news.Start section kind turn last moving)) ns (Some t) h = refl
 told_plain (Some (news.Done section turn)) ns (Some t) h = refl
-told_plain (Some (news.Read end sections)) ns (Some t) h = refl
+told_plain (Some (news.Read end sections)) ns (Some t) h = absurd h
 told_plain (Some (news.Line board line from)) ns (Some t) h = absurd h
 
 heard_plain : (heard : List BoardLine) (o : Option NoteNews) (ns : List NoteNews) → IsPlain o → WereHeard heard ns → WereHeard heard (listed o ++ ns)
 heard_plain heard None ns h w = w
 heard_plain heard (Some (news.Start section kind turn last moving)) ns h w = w
 heard_plain heard (Some (news.Done section turn)) ns h w = w
-heard_plain heard (Some (news.Read end sections)) ns h w = w
+heard_plain heard (Some (news.Read end sections)) ns h w = absurd h
 heard_plain heard (Some (news.Line board line from)) ns h w = absurd h
+
+told_reading : (told : Bool) (end : Option ReadEnd) (sections : ℕ) (ns : List NoteNews) (t : Option Told) → told_on (listed (read_news told end sections) ++ ns) t ≡ told_on ns t
+told_reading told None sections ns t = refl
+told_reading true (Some end) sections ns t = refl
+told_reading false (Some end) sections ns None = refl
+told_reading false (Some end) sections ns (Some t) = refl
+
+heard_reading : (heard : List BoardLine) (told : Bool) (end : Option ReadEnd) (sections : ℕ) (ns : List NoteNews) → WereHeard heard ns → WereHeard heard (listed (read_news told end sections) ++ ns)
+heard_reading heard told None sections ns w = w
+heard_reading heard true (Some end) sections ns w = w
+heard_reading heard false (Some end) sections ns w = w
 
 -- whole sections don't ask which lines were told
 pub whole_lined : (m : Machine) (ns : List NoteNews) (told : Option Told) (next : ℕ) (begun all : List Started) (going : Option Going) → AreWhole m (told_on ns told) next begun going all → AreWhole m told next begun going all
@@ -195,43 +142,6 @@ whole_lined m ns None next begun all None w = w
 whole_lined m ns None next begun all (Some g) w = w
 whole_lined m ns (Some t) next begun all None w = w
 whole_lined m ns (Some t) next begun all (Some g) w = w
-
-none_left : {X : Type 0} (xs ys : List X) → xs ++ ys ≡ [] → (xs ≡ []) × (ys ≡ [])
-none_left [] ys e = (refl, e)
-none_left (x ∷ xs) ys e = absurd cc
-
--- sections that ended, none of whose units waits
-all_out : (boards k next n : ℕ) (begun : List Started) → n ≤ length begun → next ≡ k + 1 → AreDone next begun → ((b j : ℕ) → b < boards → k < j → units_at b j (boards_in_all begun) ≡ []) → AreOut boards k n begun
-all_out boards k next zero begun many at done none = tt
-all_out boards k next (suc n) [] many at done none = absurd (omega (arith, many))
-all_out boards k next (suc n) (s ∷ begun) many at done none =
-    let each : (b j : ℕ) → b < boards → k < j → (batch_at j (slice_index_or s.boards b []) ≡ []) × (units_at b j (boards_in_all begun) ≡ []) =
-    λ b j lt late. none_left (batch_at j (slice_index_or s.boards b [])) (units_at b j (boards_in_all begun)) (none b j lt late) in
-    let ended = done.0 in
-    ((omega (arith, at, ended), λ b j lt late. (each b j lt late).0), all_out boards k next n begun (omega (arith, many)) at done.1 (λ b j lt late. (each b j lt late).1))
-
-none_some : {X : Type 0} {x : X} → Some x ≡ None → ⊥
-none_some p = cc
-
--- so it is of all sections of a text, where how it was read is told
-out_known : (m : Machine) (c : Course) (seen : Seen) (whole : List ℕ) (all : List Started) (k turn free : ℕ) (told : Bool) (end : Option ReadEnd) → (end ≡ None) ⊎ ((end ≡ c.source.end) × HasPutAll c) → IsCourseBy m c seen turn free → MayBe m seen whole all → c.next ≡ k + 1
-    → (listed (read_news told end (c.place + begins_in c.source.items.items)) ≡ []) ⊎ AreOut (length m.boards) k (length (program_sections m whole)) all
-out_known m c seen whole all k turn free told None known h may at = inl refl
-out_known m c seen whole all k turn free true (Some x) known h may at = inl refl
-out_known m c seen whole all k turn free false (Some x) (inl e) h may at = absurd (none_some e)
-out_known m c seen whole all k turn free false (Some x) (inr (e, put)) h may at =
-    let n = length (program_sections m whole) in
-    let i : IsIdle m c seen.begun seen.going = subst (λ o. IsGoing m o c seen.told seen.begun seen.going) put.nothing h.going in
-    let done : AreDone c.next seen.begun = subst (λ (goes : Bool). IsOpen goes c.next seen.begun) put.ended i.goes in
-    let none : (b j : ℕ) → b < length m.boards → k < j → units_at b j (boards_in_all seen.begun) ≡ [] =
-    λ b j lt late.
-    (let is : c.next + (j - c.next) ≡ j = omega (arith, late, at) in
-    subst (λ l. units_at b l (boards_in_all seen.begun) ≡ []) is (i.ahead.units (j - c.next) b lt ∙ ap (λ rows. row_at rows (j - c.next) b) put.ahead ∙ no_row [] (j - c.next) b (omega arith))) in
-    let count = read_count m c seen whole all turn free x (sym e) h may in
-    let place : c.place ≡ length seen.begun = h.place ∙ ap (count_of seen.begun) i.none in
-    let left = ap begins_in put.items in
-    let is = whole_none m seen.told seen.next seen.begun all seen.going i.none may.sections in
-    inr (subst (AreOut (length m.boards) k n) (sym is) (all_out (length m.boards) k c.next n seen.begun (omega (arith, count, place, left)) at done none))
 
 -- one step behind another
 moves_both : (xs ys : List Started) → AreMoves xs → AreMoves ys → AreMoves (xs ++ ys)
@@ -250,10 +160,10 @@ both_go k a b c x y z h i = record {
 }
 
 -- a turn
-pub turned : (m : Machine) (old first mid begun new : Course) (k : ℕ) (further : List NoteNews) (batches : List Batch) (done start : Option NoteNews) (note : Note) (read : Bool) (end : Option ReadEnd) → (end ≡ None) ⊎ ((end ≡ begun.source.end) × HasPutAll begun) → old.next ≡ k → IsPlain done → IsPlain start
-    → IsPlain (read_news begun.read end (begun.place + begins_in begun.source.items.items)) → TakesUp m old k further first → Advances m first k batches done mid → Begins m mid k start begun → new ≡ record begun { read = read } → note.turn ≡ k
+pub turned : (m : Machine) (old first mid begun new : Course) (k : ℕ) (further : List NoteNews) (batches : List Batch) (done start : Option NoteNews) (note : Note) (read : Bool) (end : Option ReadEnd) → (end ≡ None) ⊎ ((end ≡ begun.source.end) × HasPutAll (length m.boards) begun)
+    → (HasPutAll (length m.boards) begun → end ≡ begun.source.end) → read ≡ read_after begun.read end → old.next ≡ k → IsPlain done → IsPlain start → TakesUp m old k further first → Advances m first k batches done mid → Begins m mid k start begun → new ≡ record begun { read = read } → note.turn ≡ k
     → note.news ≡ listed done ++ (listed start ++ (listed (read_news begun.read end (begun.place + begins_in begun.source.items.items)) ++ further)) → Turns m old k batches note new
-turned m old first mid begun new k further batches done start note read end known at plain_done plain_start plain_read takes passes begins new_is turn told seen h =
+turned m old first mid begun new k further batches done start note read end known told_all after at plain_done plain_start takes passes begins new_is turn told seen h =
     let u = takes seen h in
     let a = passes (lined (emptied seen) further) u.is in
     let b = begins a.0 a.2 in
@@ -265,16 +175,17 @@ turned m old first mid begun new k further batches done start note read end know
     let r = listed (read_news begun.read end (begun.place + begins_in begun.source.items.items)) in
     let tail = listed start ++ (r ++ further) in
     let same : told_on note.news seen.told ≡ told_on further seen.told =
-    ap (λ ns. told_on ns seen.told) told ∙ told_plain done tail seen.told plain_done ∙ told_plain start (r ++ further) seen.told plain_start ∙ told_plain (read_news begun.read end (begun.place + begins_in begun.source.items.items)) further seen.told plain_read in (
+    ap (λ ns. told_on ns seen.told) told ∙ told_plain done tail seen.told plain_done ∙ told_plain start (r ++ further) seen.told plain_start ∙ told_reading begun.read end (begun.place + begins_in begun.source.items.items) further seen.told in (
       now,
       record {
         text = q.text ∙ p.text;
         ended = q.ended ∙ p.ended;
         told = q.told ∙ p.told ∙ sym same;
         fresh = q.fresh ∙ p.fresh;
-        heard = subst (WereHeard seen.fresh) (sym told) (heard_plain seen.fresh done tail plain_done (heard_plain seen.fresh start (r ++ further) plain_start (heard_plain seen.fresh (read_news begun.read end (begun.place + begins_in begun.source.items.items)) further plain_read u.heard)));
+        heard = subst (WereHeard seen.fresh) (sym told) (heard_plain seen.fresh done tail plain_done (heard_plain seen.fresh start (r ++ further) plain_start (heard_reading seen.fresh begun.read end (begun.place + begins_in begun.source.items.items) further u.heard)));
         taken = λ t is. leaves_behind m t.clocks k further note.news (listed done) (listed start) r seen.fresh told (u.taken t is);
         next = q.next ∙ p.next;
+        reading = reading_told m begun seen next now k (begun.next + 260) (begun.next + 260) end note.news b.2 behind (q.text ∙ p.text) (q.ended ∙ p.ended) (b.2.read ∙ q.read ∙ p.read) refl after known told_all (tells_when done start begun.read end (begun.place + begins_in begun.source.items.items) k further note.news plain_done plain_start u.further_are told);
         sections = both_go k seen.begun a.0.begun next.begun seen.going a.0.going next.going p.sections q.sections;
         grown = λ all w. grown_by all (q.grown all w) p;
       },
@@ -325,7 +236,3 @@ turned m old first mid begun new k further batches done start note read end know
                     ∙ ap (λ n. done_notes k 0 (before ++ s ∷ []) ++ ((news.Start n s.section.kind s.start s.last s.moving ∷ []) ++ r)) (sym size) ∙ ap (λ x. done_notes k 0 (before ++ s ∷ []) ++ (x ++ r)) (sym last) ∙ ap (λ x. done_notes k 0 x ++ (begun_notes k 0 x ++ r)) (sym e.1);
               })
         ]
-
--- how many sections begin among the first things
-pub begins_next : (xs : List Item) (i : ℕ) (x : Item) → i < length xs → x ≡ get_or xs i x → begins_in (take (i + 1) xs) ≡ begins_in (take i xs) + begins_in (x ∷ [])
-begins_next xs i x lt is = ap begins_in (take_more xs i x lt ∙ ap (λ (y : Item). take i xs ++ y ∷ []) (sym is)) ∙ begins_append (take i xs) (x ∷ [])

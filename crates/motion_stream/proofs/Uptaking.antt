@@ -296,7 +296,7 @@ line_taken m old now lines seen heard_of k b turn line before h at is on early l
         made
         (subst (λ (x : Open). IsGoing m x new (told_on more seen.told) seen.begun seen.going) (sym a.1)
         (going_on m old new seen k b turn line h at is on lt early may s s' homes (told_on more seen.told) (told_later m old new seen k b turn line h at is on lt early may b (turn * turn_ns) refl refl) i a.2 refl refl refl))
-        (subst (λ (x : Open). IsEarly x (k + 260) (k + 261) new) (sym a.1) tt)
+        (subst (λ (x : Open). IsEarly x (k + 260) (k + 261) new) (sym a.1) (λ takes. soon (ap is_taking (sym a.2.queue) ∙ takes)))
 
 -- what may be asked of what goes on
 pub may_add_to : (m : Machine) (c : Course) (seen : Seen) (k b turn : ℕ) (line : Line) → IsCourseBy m c seen (k + 260) (k + 261) → c.next ≡ k → turn ≡ k + 277 → c.connected ≡ true → AreEarly m c → b < length m.boards → MayTake (clocks_at c.lines.each.items b) turn line → MayAddTo c.current b turn line

@@ -124,9 +124,16 @@ IsLater turn free ready (Some e) [] = Unit {0}
 IsLater turn free ready end (items.Begin kind dwell ∷ rest) = turn ≤ ready + dwell
 IsLater turn free ready end (other ∷ rest) = Unit {0}
 
+-- what waits of the text is not a section's own: nothing, or the next section
+abbrev pub IsStopped : List Item → Type 0
+IsStopped [] = Unit {0}
+IsStopped (items.Begin kind dwell ∷ rest) = Unit {0}
+IsStopped (other ∷ rest) = ⊥
+
+-- So it is where no section goes on. One that goes on, and may have more moves, has taken all of its own that was read.
 abbrev pub IsEarly : Open → ℕ → ℕ → Course → Type 0
 IsEarly opens.Nothing turn free c = c.connected ≡ true → IsLater turn free c.ready c.source.end c.source.items.items
-IsEarly (opens.Goes s homes) turn free c = Unit {0}
+IsEarly (opens.Goes s homes) turn free c = is_taking (queue_of s) ≡ true → IsStopped c.source.items.items
 
 -- The further lines that wait are those that words told since the last turn; none waits before connecting ended; and each that was taken up
 -- holds by 16 turns behind another.

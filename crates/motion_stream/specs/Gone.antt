@@ -11,6 +11,7 @@ use Rattle.section_feed.specs.On.{IsSectionOn}
 use Rattle.plan_types.specs.Clock.{turn_ns}
 use Rattle.motion_work.specs.Homes.{last_step, moving_in, no_end}
 use Rattle.motion_work.specs.Seen.{AreBoardClocks}
+use Rattle.motion_stream.specs.Courses.{IsStopped}
 use Rattle.motion_stream.specs.Seen.{homes_by}
 use Rattle.plan_types.specs.declared.plan.SectionKind.{SectionKind}
 use Rattle.plan_types.specs.declared.plan.SectionKind.TheVariants.{Home, Moves}
@@ -38,9 +39,14 @@ pub record HasTaken (old new : SectionStream) (waiting left : List Item) : Type 
   pub next : next_of new ≡ next_of old
   pub boards : boards_in new ≡ boards_in old
 
+-- and none of its own is left
+pub record HasTakenAll (old new : SectionStream) (waiting left : List Item) : Type 0 where
+  pub taken : HasTaken old new waiting left
+  pub stops : is_taking (queue_of new) ≡ true → IsStopped left
+
 -- a stream that took what waits for it, if its end was not read
 abbrev pub HasHeardBy : Bool → SectionStream → SectionStream → List Item → List Item → Type 0
-HasHeardBy true old new waiting left = HasTaken old new waiting left
+HasHeardBy true old new waiting left = HasTakenAll old new waiting left
 HasHeardBy false old new waiting left = (new ≡ old) × (left ≡ waiting)
 
 abbrev pub HasHeard : SectionStream → SectionStream → List Item → List Item → Type 0
@@ -70,6 +76,7 @@ pub record HasOpened (m : Machine) (clocks : List Clocks) (kind : SectionKind) (
   pub on : IsSectionOn m clocks start (homes_by kind) s moves (λ b. [])
   pub next : next_of s + 250 ≡ start
   pub tells : TellsAs kind m clocks start moves ends last moving
+  pub stops : is_taking (queue_of s) ≡ true → IsStopped left
 
 -- the units that a board releases in some turns one behind the other, of which this is the first
 abbrev pub released_in : ℕ → List (List (List StepUnit)) → ℕ → List Release

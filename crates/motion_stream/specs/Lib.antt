@@ -10,3 +10,5 @@ pub mod Motions
 pub mod Wholes
 pub mod Clear
 pub mod Uptakes
+pub mod Turns
+pub mod Hunger

@@ -6,6 +6,7 @@ use Rattle.msg_code.specs.declared.talk.NoteNews.{NoteNews}
 use Rattle.msg_code.specs.declared.talk.NoteNews.TheVariants as news
 use Rattle.plan_types.specs.declared.plan.ReadEnd.{ReadEnd}
 use Rattle.motion_stream.specs.declared.course.Course.{Course}
+use Rattle.motion_stream.specs.Rows.{NoneWaits}
 use Rattle.motion_stream.specs.declared.course.Open.TheVariants as opens
 
 -- how many sections begin among some things
@@ -20,20 +21,27 @@ read_news told None sections = None
 read_news true (Some end) sections = None
 read_news false (Some end) sections = Some (news.Read end sections)
 
--- All that a text told was begun and ended, and no unit waits for a later turn: so how it was read may be told.
-pub record HasPutAll (c : Course) : Type 0 where
+-- All that a text told was begun and ended, and on none of so many boards a unit waits for a later turn: so how it was read is told.
+pub record HasPutAll (boards : ℕ) (c : Course) : Type 0 where
   pub nothing : c.current ≡ opens.Nothing
   pub ended : c.goes ≡ false
   pub items : c.source.items.items ≡ []
-  pub ahead : c.ahead.items ≡ []
+  pub ahead : NoneWaits boards c.ahead.items
+
+-- some news tell how the text was read
+abbrev pub tells_read : List NoteNews → Bool
+tells_read [] = false
+tells_read (news.Read end sections ∷ ns) = true
+tells_read (other ∷ ns) = tells_read ns
 
 -- whether it was told behind a turn
 abbrev pub read_after : Bool → Option ReadEnd → Bool
 read_after told None = told
 read_after told (Some end) = true
 
--- news that tell no further clock line
+-- news that tell neither a further clock line nor how the text was read
 abbrev pub IsPlain : Option NoteNews → Type 0
 IsPlain None = Unit {0}
 IsPlain (Some (news.Line board line from)) = ⊥
+IsPlain (Some (news.Read end sections)) = ⊥
 IsPlain (Some other) = Unit {0}

@@ -16,3 +16,7 @@ batches_of boards turn ahead own = map (λ b. record { turn = turn; units = unit
 -- turn by turn and board by board the units of two, of the second behind those of the first
 pub record AreJoined (boards : ℕ) (one two joined : List (List (List StepUnit))) : Type 0 where
   pub units : (i b : ℕ) → b < boards → row_at joined i b ≡ row_at one i b ++ row_at two i b
+
+-- no unit waits in some rows, on so many boards
+abbrev pub NoneWaits : ℕ → List (List (List StepUnit)) → Type 0
+NoneWaits boards rows = (i b : ℕ) → b < boards → row_at rows i b ≡ []

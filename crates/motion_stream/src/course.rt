@@ -172,6 +172,7 @@ fn idle_sated(course: &Course) -> u64
 pub fn goes_on(course: &Course) -> bool
     ensures nothing { result ≡ false → course.now.current ≡ opens.Nothing }
     ensures ended { result ≡ false → course.now.goes ≡ false }
+    ensures on { result ≡ true → course.now.current ≡ opens.Nothing → course.now.goes ≡ true }
 {
     match &course.current {
         Open::Nothing => course.goes,

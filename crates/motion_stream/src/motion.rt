@@ -78,7 +78,8 @@ impl<'a> Motion<'a> {
         Some(k - WORD_LEAD)
     }
 
-    /// Whether more of the text must be taken before the batches of turn k.
+    /// Whether more of the text must be taken before the batches of turn k: none while the section that is planned next has its end in the
+    /// text so far (law `planners_hunger`).
     pub fn hungry(&self, k: u64) -> bool
         ensures { result ≡ hungry self.now k }
     {
@@ -134,7 +135,9 @@ impl<'a> Motion<'a> {
         Ok(())
     }
 
-    /// Makes turn k: the batches of all boards, and the note. After a refusal the machine is used no more.
+    /// Makes turn k: the batches of all boards, and the note. The batches are exactly the units that the sections which were begun release in
+    /// this turn (law `turns_put_units`). How the text was read is told in the first turn by which all its sections ended and none of their
+    /// units waits (law `ends_are_told`). After a refusal the machine is used no more.
     ///
     /// # Errors
     ///

@@ -7,6 +7,7 @@ ghost use Rattle.motion_stream.specs.News.{HasPutAll, IsPlain, begins_in, read_a
 
 use crate::OutOfMemory;
 use crate::course::{BETWEEN, Course, goes_on};
+use crate::rows::any_waits;
 use gcode_program::Item;
 use msg_code::NoteNews;
 use plan_types::{Listed, ReadEnd};
@@ -60,8 +61,7 @@ pub fn read_news(
     items: &VecDeque<Item>,
 ) -> Option<NoteNews>
     requires { place ≤ 2 ^ 42 }
-    ensures news { result ≡ read_news told end (place + begins_in items.now.items) }
-    ensures plain { IsPlain result }
+    ensures { result ≡ read_news told end (place + begins_in items.now.items) }
 {
     match end {
         Some(end) if !told => Some(NoteNews::Read {
@@ -74,10 +74,11 @@ pub fn read_news(
 
 /// How the text was read, where that is known and may be told: all sections ended, and none of their units waits. So a run doesn't
 /// end while a unit waits for room behind its section's end, and a note before the turn that was told as clear has no news.
-pub fn telling(course: &Course) -> Option<ReadEnd>
-    ensures { (result ≡ None) ⊎ ((result ≡ course.now.source.end) × HasPutAll course.now) }
+pub fn telling(course: &Course, boards: usize) -> Option<ReadEnd>
+    ensures told { HasPutAll boards course.now → result ≡ course.now.source.end }
+    ensures put { (result ≡ None) ⊎ ((result ≡ course.now.source.end) × HasPutAll boards course.now) }
 {
-    if goes_on(course) || !course.source.items.is_empty() || !course.ahead.is_empty() {
+    if goes_on(course) || !course.source.items.is_empty() || any_waits(&course.ahead, boards) {
         return None;
     }
     course.source.end

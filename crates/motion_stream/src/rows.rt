@@ -1,9 +1,9 @@
 //! The units of turns one behind the other.
 
-ghost use Rattle.std.specs.Prelude.{◌≡◌, ℕ, ◌+◌, ◌<◌, ◌++◌, [], IfOk, OnOk, drop, map, slice_index_or};
+ghost use Rattle.std.specs.Prelude.{◌≡◌, ℕ, ◌+◌, ◌<◌, ◌++◌, [], IfOk, OnOk, drop, false, map, slice_index_or, true};
 ghost use Rattle.std.specs.List.{range_with_len};
 ghost use Rattle.motion_work.specs.Feeds.{AreOfTurn};
-ghost use Rattle.motion_stream.specs.Rows.{AreJoined, batches_of, units_in};
+ghost use Rattle.motion_stream.specs.Rows.{AreJoined, NoneWaits, batches_of, units_in};
 
 use crate::OutOfMemory;
 use msg_code::{Batch, Unit};
@@ -114,4 +114,30 @@ pub fn merged(
         rows.push_back(row)?;
     }
     Ok(rows)
+}
+
+/// Whether a unit waits in a row, on one of so many boards.
+fn row_waits(row: &[Listed<Unit>], boards: usize) -> bool
+    ensures some { result ≡ true → ((b : ℕ) → b < boards → units_in row.now b ≡ []) → ⊥ }
+    ensures none { result ≡ false → (b : ℕ) → b < boards → units_in row.now b ≡ [] }
+{
+    for board in 0..boards {
+        if board < row.len() && !row[board].as_slice().is_empty() {
+            return true;
+        }
+    }
+    false
+}
+
+/// Whether a unit waits in some rows, on one of so many boards.
+pub fn any_waits(rows: &VecDeque<Row>, boards: usize) -> bool
+    ensures some { result ≡ true → NoneWaits boards rows.now.items → ⊥ }
+    ensures none { result ≡ false → NoneWaits boards rows.now.items }
+{
+    for place in 0..rows.len() {
+        if row_waits(rows[place].as_slice(), boards) {
+            return true;
+        }
+    }
+    false
 }

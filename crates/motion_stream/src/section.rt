@@ -12,7 +12,8 @@ ghost use Rattle.section_feed.specs.On.{IsSectionOn};
 ghost use Rattle.section_feed.specs.Queues.{count_in, is_taking};
 ghost use Rattle.section_feed.specs.Sections.{boards_in, next_of, queue_of};
 ghost use Rattle.motion_work.specs.Seen.{AreBoardClocks};
-ghost use Rattle.motion_stream.specs.Gone.{HasEnded, HasGivenRows, HasTaken, moves_ahead};
+ghost use Rattle.motion_stream.specs.Courses.{IsStopped};
+ghost use Rattle.motion_stream.specs.Gone.{HasEnded, HasGivenRows, HasTaken, HasTakenAll, moves_ahead};
 
 use crate::OutOfMemory;
 use crate::course::TURN_NS;
@@ -43,6 +44,7 @@ fn take_next(items: &mut VecDeque<Item>, section: &mut SectionStream) -> Result<
     ensures taken { IfOk result (λ goes. HasTaken section.old section.new items.old.items items.new.items) }
     ensures good { IfOk result (λ goes. All IsGood items.new.items) }
     ensures open { IfOk result (λ goes. goes ≡ true → is_taking (queue_of section.new) ≡ true) }
+    ensures stops { IfOk result (λ goes. goes ≡ false → is_taking (queue_of section.new) ≡ true → IsStopped items.new.items) }
     ensures few { IfOk result (λ goes. goes ≡ true → count_in (queue_of section.new) + moves_ahead items.new.items ≤ 2_000_000) }
 {
     match first_item(items) {
@@ -68,14 +70,15 @@ pub fn take_moves(
     requires good { All IsGood items.old.items }
     requires open { is_taking (queue_of section.old) ≡ true }
     requires few { count_in (queue_of section.old) + moves_ahead items.old.items ≤ 2_000_000 }
-    ensures { IfOk result (λ u. HasTaken section.old section.new items.old.items items.new.items) }
+    ensures { IfOk result (λ u. HasTakenAll section.old section.new items.old.items items.new.items) }
 {
     for _ in 0..u64::MAX {
         if !take_next(items, section)? {
             return Ok(());
         }
     }
-    Ok(())
+    // No queue is as long.
+    Err(OutOfMemory)
 }
 
 /// A section that starts in a turn, of which no move was read; in one that homes no clock is set.

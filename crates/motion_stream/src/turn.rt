@@ -38,7 +38,7 @@ pub fn make_turn(
     let further = take_up(alloc, machine, course, k)?;
     let Passed { batches, done } = advance(alloc, machine, course)?;
     let start = begin_next(alloc, machine, course, k)?;
-    let end = telling(course);
+    let end = telling(course, machine.boards.len());
     let read = read_news(course.read, end, course.place, &course.source.items);
     course.read = read_after(course.read, end);
     let news = news_of(alloc, done, start, read, further.as_slice())?;

@@ -42,4 +42,4 @@ returns-clause-begun c = λ seen h. (
     let opened = subst (λ (is : List Item). HasOpened m old.lines.each.items kind start is items.items o.section o.last o.moving) (c.pop_front.ensures.rest ∙ ap (λ (is : List Item). drop 1 is) due.items_are) (rw c.deref.ensures.value at c.in_ok-section.ensures) in
     section_begun m old new seen c.args.k start due.dwell o.last o.moving kind due.rest o.section c.homes_by.result (news.Start old.place kind start o.last o.moving) h c.requires.next c.requires.small
     (due_at m old seen c.args.k start kind due c.requires.next h) due.items_are opened
-    (record { read = refl; connected = refl; lines = refl; place = refl; start_is = refl; ahead = refl; next = refl; reader = refl; end = refl; ended = refl }) refl c.homes_by.ensures refl refl)
+    (record { read = refl; connected = refl; lines = refl; place = refl; start_is = refl; ahead = refl; next = refl; reader = refl; end = refl; ended = refl; opened = refl }) refl c.homes_by.ensures refl refl)

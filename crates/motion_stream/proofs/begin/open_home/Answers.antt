@@ -1,4 +1,4 @@
-use Rattle.std.proofs.Common.{◌<◌, ◌^◌, [], ◌∷◌, arith, refl, true}
+use Rattle.std.proofs.Common.{◌≡◌, ◌∙◌, ◌<◌, ◌^◌, [], ◌∷◌, arith, false, refl, sym, true}
 use Rattle.gcode_program.specs.declared.items.Item.TheVariants as items
 use Rattle.plan_types.specs.Valid.{IsValidMove}
 use Rattle.gcode_program.specs.Held.{IsNear}
@@ -8,6 +8,9 @@ use Rattle.motion_stream.proofs.Limits.{none_pushed}
 use Rattle.motion_stream.proofs.Opening.{home_good, home_ready, one_all}
 use Rattle.motion_stream.proofs.Taking.{first_short, home_on, may_start}
 use Rattle.motion_stream.proofs.begin.open_home.Goals as goal
+
+clash : false ≡ true → ⊥
+clash p = cc
 
 pub home_end-requires : goal.home_end-requires
 home_end-requires c =
@@ -59,4 +62,5 @@ returns c =
             omega (arith, known, is, small)),
         c.moving_in-moving.ensures,
       );
+      stops = λ takes. absurd (clash (sym f.open ∙ takes));
     }

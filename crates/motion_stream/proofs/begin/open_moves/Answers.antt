@@ -11,7 +11,7 @@ take_moves-requires-clause-few c =
 pub returns : goal.returns
 returns c =
     let e = c.in_ok-section.ensures in
-    let taken = c.in_ok-take_moves.ensures in
+    let taken = c.in_ok-take_moves.ensures.taken in
     let next = taken.next in
     let from = e.next in
     record {
@@ -22,4 +22,5 @@ returns c =
       on = taken.on c.args.machine.now c.args.lines.now c.args.start false [] (λ b. []) e.on;
       next = omega (arith, next, from);
       tells = (refl, refl);
+      stops = c.in_ok-take_moves.ensures.stops;
     }

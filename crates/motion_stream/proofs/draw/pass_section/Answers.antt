@@ -1,8 +1,10 @@
-use Rattle.std.proofs.Common.{◌+◌, ◌∙◌, [], List, ap, arith, drop, length, refl, subst, true}
+use Rattle.std.proofs.Common.{◌+◌, ◌∙◌, [], List, ap, arith, drop, length, refl, subst, true, sym}
 use Rattle.std.specs.Prelude.{slice_index_or}
 use Rattle.step_feed.specs.Units.{StepUnit}
 use Rattle.motion_stream.specs.declared.course.Course.{Course}
 use Rattle.motion_stream.specs.declared.course.Open.TheVariants as opens
+use Rattle.motion_stream.specs.declared.source.Source.{Source}
+use Rattle.motion_stream.specs.Courses.{IsStopped}
 use Rattle.motion_stream.specs.Rows.{AreJoined, batches_of}
 use Rattle.motion_stream.proofs.Drawing.{passed_kept}
 use Rattle.motion_stream.proofs.Streaming.{drawn_passed, ended_passed, has_drawn}
@@ -22,7 +24,7 @@ returns-then-not-is_over-clause-passed c = λ seen h. (
     let drawn = has_drawn c.args.section c.batches.new.self old.next c.in_ok-own.own.items c.requires.next c.batches.ensures.open e.next e.rested e.boards e.sets c.batches.ensures.cruise c.batches.ensures.begin e.on in
     drawn_passed m (record old { current = opens.Goes c.args.section c.args.homes }) (record new { current = opens.Goes c.batches.new.self c.args.homes }) c.args.section c.batches.new.self c.args.homes c.in_ok-own.own.items seen old.next c.in_ok-batches.batches.items h.going h
     (record { source = k.source; read = k.read; connected = k.connected; lines = k.lines; place = k.place }) (ap (λ (x : Course). x.ready) p.others) (ap (λ (x : Course). x.start) p.others) (ap (λ (x : Course). x.next) p.others) refl c.requires.small c.requires.from p.ahead
-    (p.are ∙ ap (λ (us : List (List StepUnit)). batches_of (length m.boards) old.next (slice_index_or old.ahead.items 0 []) us) c.deref.ensures.value) drawn e.packed (c.if-not-is_over.ensures.goes refl) (λ begun going x. x) tt)
+    (p.are ∙ ap (λ (us : List (List StepUnit)). batches_of (length m.boards) old.next (slice_index_or old.ahead.items 0 []) us) c.deref.ensures.value) drawn e.packed (c.if-not-is_over.ensures.goes refl) (λ begun going x. x) (λ takes. subst (λ (x : Source). IsStopped x.items.items) (sym k.source) (h.early (sym drawn.takes ∙ takes))))
 
 pub returns-clause-passed : goal.returns-clause-passed
 returns-clause-passed c = λ seen h. (

@@ -1,5 +1,5 @@
 use Rattle.std.proofs.Common.{arith}
-use Rattle.motion_stream.proofs.Turning.{begins_next}
+use Rattle.motion_stream.proofs.Ending.{begins_next}
 use Rattle.motion_stream.proofs.news.begins_in.Goals as goal
 
 pub loop-place-preserved : goal.loop-place-preserved

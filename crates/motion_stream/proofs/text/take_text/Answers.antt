@@ -37,4 +37,4 @@ returns-in_ok-take_waiting-in-Goes c = λ seen h. (
     let mid : Course = record old { source = c.take_piece.new.source } in
     let new : Course = record old { source = record c.take_piece.new.source { items = c.take_waiting.new.items }; current = opens.Goes c.take_waiting.new.section c.in-Goes.homes } in
     text_heard c.args.machine.now old mid new c.in-Goes.section c.take_waiting.new.section c.in-Goes.homes seen c.args.bytes.now c.args.end (record { read = refl; connected = refl; lines = refl; ready = refl; start = refl; place = refl; goes = refl; ahead = refl; next = refl }) (sym c.replace.ensures.value ∙ c.in-Goes.is) refl c.in_ok-take_piece.ensures.read refl
-    refl refl c.in_ok-take_waiting-in-Goes.ensures h)
+    refl refl refl c.in_ok-take_waiting-in-Goes.ensures h)

@@ -1,9 +1,9 @@
-use Rattle.std.proofs.Common.{◌∙◌, ◌+◌, ◌++◌, ap, arith, refl, subst, sym}
+use Rattle.std.proofs.Common.{◌≡◌, ◌∙◌, ◌+◌, ◌++◌, ℕ, ap, arith, refl, subst, sym}
 use Rattle.msg_code.specs.declared.talk.Note.{Note}
-use Rattle.std.specs.Prelude.{false}
+use Rattle.std.specs.Prelude.{◌⊎◌, None, false}
 use Rattle.motion_work.specs.Begins.{listed}
 use Rattle.motion_stream.specs.Courses.{IsCourseBy}
-use Rattle.motion_stream.specs.News.{IsPlain, begins_in, read_news}
+use Rattle.motion_stream.specs.News.{HasPutAll, begins_in, read_news}
 use Rattle.motion_stream.specs.Steps.{Advances}
 use Rattle.motion_stream.proofs.Turning.{by_next, early_on, turned}
 use Rattle.motion_stream.proofs.turn.make_turn.Goals as goal
@@ -46,7 +46,7 @@ returns-clause-made c =
     let first = c.take_up.new.course in
     let made = c.in_ok-batches.field-0 in
     let note : Note = record { turn = c.args.k; news = c.in_ok-news.news; clear = c.clear_turn-clear.result; out = false } in
-    turned m old first c.advance.new.course c.begin_next.new.course (record c.begin_next.new.course { read = c.read_after-course.result }) c.args.k c.in_ok-further.further made.batches.items made.done c.in_ok-start.start note c.read_after-course.result c.telling-end.result c.telling-end.ensures c.requires.next
-    c.in_ok-batches.ensures.plain c.in_ok-start.ensures.plain (subst IsPlain c.read_news-read.ensures.news c.read_news-read.ensures.plain) c.in_ok-further.ensures.taken
+    turned m old first c.advance.new.course c.begin_next.new.course (record c.begin_next.new.course { read = c.read_after-course.result }) c.args.k c.in_ok-further.further made.batches.items made.done c.in_ok-start.start note c.read_after-course.result c.telling-end.result (subst (λ (n : ℕ). (c.telling-end.result ≡ None) ⊎ ((c.telling-end.result ≡ c.begin_next.new.course.source.end) × HasPutAll n c.begin_next.new.course)) c.len.ensures c.telling-end.ensures.put) (λ all. c.telling-end.ensures.told (subst (λ (n : ℕ). HasPutAll n c.begin_next.new.course) (sym c.len.ensures) all)) c.read_after-course.ensures c.requires.next
+    c.in_ok-batches.ensures.plain c.in_ok-start.ensures.plain c.in_ok-further.ensures.taken
     (subst (λ n. Advances m first n made.batches.items made.done c.advance.new.course) (c.take_up.ensures.next ∙ c.requires.next) c.in_ok-batches.ensures.passed) c.in_ok-start.ensures.begun refl refl
-    (c.in_ok-news.ensures ∙ ap (λ r. listed made.done ++ (listed c.in_ok-start.start ++ (listed r ++ c.as_slice.result.now))) c.read_news-read.ensures.news ∙ ap (λ f. listed made.done ++ (listed c.in_ok-start.start ++ (listed (read_news c.begin_next.new.course.read c.telling-end.result (c.begin_next.new.course.place + begins_in c.begin_next.new.course.source.items.items)) ++ f))) c.as_slice.ensures)
+    (c.in_ok-news.ensures ∙ ap (λ r. listed made.done ++ (listed c.in_ok-start.start ++ (listed r ++ c.as_slice.result.now))) c.read_news-read.ensures ∙ ap (λ f. listed made.done ++ (listed c.in_ok-start.start ++ (listed (read_news c.begin_next.new.course.read c.telling-end.result (c.begin_next.new.course.place + begins_in c.begin_next.new.course.source.items.items)) ++ f))) c.as_slice.ensures)

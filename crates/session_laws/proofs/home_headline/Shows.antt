@@ -103,12 +103,12 @@ module _ (m : Machine) (v : IsValidMachine m) (s : Scene) (ts : List MotionTurn)
         let front : lines_between 0 n (rest ++ end ∷ []) ≡ all past = ap (λ z. lines_between 0 n z) then ∙ ap (λ (k : ℕ). all (take k (past ++ behind))) whole ∙ ap all (take-append_seam past behind) in
         pulses_append place y.lines (all past) ∙ ap (λ z. z ++ pulses_of place (all past)) now ∙ ap (pulses_of place) (sym front) ∙ none
 
-    -- in a run that went through, by the lines of the boards without those that hold behind its end
-    told_all : (o : Option Told) → p.seen.told ≡ o → GoesThrough c → (short : List Clocks) → ((b : ℕ) → b < length m.boards → AreFirstLines (clocks_at short b) (clocks_at (clocks_heard p.seen.told) b) (length (rest ++ end ∷ []) + 271))
+    -- by the lines of the boards without those that hold behind its end
+    told_all : (o : Option Told) → p.seen.told ≡ o → (short : List Clocks) → ((b : ℕ) → b < length m.boards → AreFirstLines (clocks_at short b) (clocks_at (clocks_heard p.seen.told) b) (length (rest ++ end ∷ []) + 271))
         → (past : List Started) (x : Started) (later : List Started) (from to place : ℕ) → p.seen.begun ≡ past ++ x ∷ later → place < length m.steppers → IsWindow (length (rest ++ end ∷ [])) from to (record { start = x.start; end = x.end }) (times_of later)
         → Fits (clocks_at short (stepper_at m place).board).first.freq (base_tick m short x.start place) (pulses_of place (lines_between from to (rest ++ end ∷ []))) (stepper_plan m short x.section.moves x.start place)
-    told_all None e g short firsts past x later from to place cut h w = absurd (in_none past x later p.seen.begun (not_told m v s ts p end c e) cut)
-    told_all (Some t) e g short firsts past x later from to place cut h w =
+    told_all None e short firsts past x later from to place cut h w = absurd (in_none past x later p.seen.begun (not_told m v s ts p end c e) cut)
+    told_all (Some t) e short firsts past x later from to place cut h w =
         let n = length (rest ++ end ∷ []) in
         let b = (stepper_at m place).board in
         let small = (v.steppers place h).board in
@@ -116,19 +116,15 @@ module _ (m : Machine) (v : IsValidMachine m) (s : Scene) (ts : List MotionTurn)
         let ps = pulses_of place (lines_between from to (rest ++ end ∷ [])) in
         let line = clocks_at clocks b in
         let heard_is : t.clocks ≡ clocks = sym (ap clocks_heard e) in
-        let Row : List Started → Type 0 = λ ss. AreInARow t.first ss in
-        let order = (row_from t.first past x later (subst Row cut (begun_row m t.clocks t.first p.seen.begun (started_in m ts p t e)))).1 in
-        let Ended : List Started → Type 0 = λ ss. All (λ (y : Started). y.end + 5 ≤ n) ss in
-        let over = at_place (λ (y : Started). y.end + 5 ≤ n) past x later (subst Ended cut (through_long m v s ts p end c first rest f g (long g)).over) in
-        let few = p.small in
-        let made = length-map p.made put_of in
-        let most = long g in
+        let begins = w.begins in
+        let order = w.order in
+        let within = w.within in
         let sound = sound_by m v s ts p end c first rest f p.seen.told refl (λ none. in_none past x later p.seen.begun none cut) in
-        let agree = plans-agree m short clocks x.section.moves x.start (n + 271) place (sound.kept b small) (firsts b small) (omega (arith, order, over)) in
-        let Lines : List Clocks → Type 0 = λ cs. All (λ (q : Pulse). q.tick + max_error (board_at m b).freq < lines_tick (clocks_at cs b) ((x.end + 276) * turn_ns)) ps in
-        let early = subst Lines heard_is ((by_told t e).early past x later from to place cut h w (omega (arith, over, made, few, most))) in
+        let agree = plans-agree m short clocks x.section.moves x.start (n + 271) place (sound.kept b small) (firsts b small) (omega (arith, begins, order, within)) in
+        let Lines : List Clocks → Type 0 = λ cs. All (λ (q : Pulse). q.tick + max_error (board_at m b).freq < lines_tick (clocks_at cs b) ((to + 7) * turn_ns)) ps in
+        let early = subst Lines heard_is ((by_told t e).soon past x later from to place cut h w) in
         let Freq : ℕ → Type 0 = λ f. All (λ (q : Pulse). q.tick + max_error f < lines_tick line ((n + 271) * turn_ns)) ps in
-        let up = tick_over-mono line.first 0 line.held ((x.end + 276) * turn_ns) ((n + 271) * turn_ns) (omega (arith, over)) in
+        let up = tick_over-mono line.first 0 line.held ((to + 7) * turn_ns) ((n + 271) * turn_ns) (omega (arith, within)) in
         let soon : All (λ (q : Pulse). q.tick + max_error (board_at m b).freq < lines_tick line ((n + 271) * turn_ns)) ps = λ k d low. (let own = early k d low in omega (arith, own, up)) in
         fits-agree m short clocks x.section.moves x.start place (lines_tick line ((n + 271) * turn_ns)) ps agree (subst Freq (sym (sound.clocks_are.freq b small)) soon) (fits p.seen.told refl past x later from to place cut h w)
 
@@ -172,23 +168,26 @@ module _ (m : Machine) (v : IsValidMachine m) (s : Scene) (ts : List MotionTurn)
     started = (started m v s ts p end c p.seen.told refl).1;
     boards = λ some. absurd (untold_alone m v s ts p end c p.seen.told refl f some);
     lines = all_tell m s.switches p.seen.text p.seen.begun 260 p.made (end ∷ []) spread (omega arith) p.put (row_none (length m.boards) end f.row, tt) (lines_all m s.switches [] [] end tt (f.known, f.begun, f.lines_are));
-    fit = λ past x later from to place cut h w.
-        let late = starts_late 260 past x later (subst (Spread 260) cut spread) in
-        let begins = w.begins in
-        let order = w.order in
-        let within = w.within in
-        absurd (omega (arith, late, begins, order, within));
+    fit = λ past x later from to place cut h w. absurd (no_window past x later from to cut w);
     behind = λ past x later from to place cut h order within ended next. none_of place from to order within;
     early = λ x later past behind place cut are soon h. absurd (untold_alone m v s ts p end c p.seen.told refl f (λ e. in_none [] x later p.seen.begun e cut));
     through = λ g. absurd (alone_ends m v s ts p end c f g);
     counts = λ g. absurd (alone_ends m v s ts p end c f g);
     sound = λ some. absurd (untold_alone m v s ts p end c p.seen.told refl f some);
     further = λ some. absurd (untold_alone m v s ts p end c p.seen.told refl f some);
-    told = λ g. absurd (alone_ends m v s ts p end c f g);
+    told = λ short firsts past x later from to place cut h w. absurd (no_window past x later from to cut w);
   }
     where
       spread : Spread 260 p.seen.begun
       spread = plans_spread m (length m.boards) ts p
+
+      no_window : (past : List Started) (x : Started) (later : List Started) (from to : ℕ) → p.seen.begun ≡ past ++ x ∷ later → IsWindow 0 from to (record { start = x.start; end = x.end }) (times_of later) → ⊥
+      no_window past x later from to cut w =
+          let late = starts_late 260 past x later (subst (Spread 260) cut spread) in
+          let begins = w.begins in
+          let order = w.order in
+          let within = w.within in
+          omega (arith, late, begins, order, within)
 
   pub all_shows : (rs : List ReactorTurn) → Facts m s ts rs end c → HaveShortDictionaries m → AllHomeLittle m s p.seen.text ts (rs ++ end ∷ []) → AllShowHomes m p.seen (clocks_heard p.seen.told) (ready_heard p.seen.told) c (rs ++ end ∷ [])
   all_shows [] f short little = shows_alone f

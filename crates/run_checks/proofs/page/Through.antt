@@ -81,7 +81,7 @@ module _ (m : Machine) (sections : List Section) (log : List LogLine) where
       let three = both-second b (c && (d && e)) two in
       same-number (length p.clocks) (length m.boards) (both-first c (d && e) three)
 
-  stands : (lines : List LogLine) (l : LogLine) → fault_at m sections (point m sections (further_among log) lines) l ≡ None → ((i turn : ℕ) (kind : SectionKind) → l ≡ line.Section i turn kind → IsNext m sections (further_among log) lines i turn kind) → StandsBehind m sections log lines l
+  stands : (lines : List LogLine) (l : LogLine) → fault_at m sections (point m sections (further_among log) lines) l ≡ None → ((i turn : ℕ) (kind : SectionKind) → l ≡ line.Section i turn kind → IsNext m sections (further_among log) lines i turn kind) → StandsBehind m sections (further_among log) lines l
   stands lines (line.Board b turn tick) fits next =
       let both = if-true misfit.BadLine ((begun lines == 0) && (b == length (clocks m (further_among log) lines))) (fault-open m sections (point m sections (further_among log) lines) (line.Board b turn tick) fits) in
       (same-number (begun lines) 0 (both-first (begun lines == 0) (b == length (clocks m (further_among log) lines)) both), same-number b (length (clocks m (further_among log) lines)) (both-second (begun lines == 0) (b == length (clocks m (further_among log) lines)) both))
@@ -100,10 +100,12 @@ module _ (m : Machine) (sections : List Section) (log : List LogLine) where
 
   from-plan : (through : Type 0) → FollowsPlan m sections log → Fine m sections (further_among log) log → Follows through m sections log
   from-plan through plan fine = record {
-    prefix = plan.prefix;
-    order = λ later lines l is.
-        let here = fine-behind m sections (further_among log) later (l ∷ lines) (subst (λ (x : List LogLine). Fine m sections (further_among log) x) is fine) in
-        (not-ended (is_ended lines) (open_fault m sections (point m sections (further_among log) lines) l) here.0, stands lines l here.0 (λ i turn kind e. plan.next later lines i turn kind (is ∙ ap (λ (x : LogLine). later ++ x ∷ lines) e)));
+    front = record {
+      prefix = plan.prefix;
+      order = λ later lines l is.
+          let here = fine-behind m sections (further_among log) later (l ∷ lines) (subst (λ (x : List LogLine). Fine m sections (further_among log) x) is fine) in
+          (not-ended (is_ended lines) (open_fault m sections (point m sections (further_among log) lines) l) here.0, stands lines l here.0 (λ i turn kind e. plan.next later lines i turn kind (is ∙ ap (λ (x : LogLine). later ++ x ∷ lines) e)));
+    };
     whole = λ later lines i turn kind is cut s inside why. plan.whole later lines i turn kind is cut s inside;
     last = λ why cut s inside. plan.last_whole cut s inside;
   }

@@ -1,2 +1,3 @@
 pub mod Through
 pub mod Front
+pub mod Going

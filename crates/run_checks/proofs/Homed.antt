@@ -445,6 +445,7 @@ module _ (m : Machine) (switches : List Switch) (text : List ℕ) (c : Cause) (s
   turns i = ap (section_turn i) facts.apart.are ∙ head-turn 0 i facts.apart.head From facts.heads
 
   ahead : Ahead m Text shows.clocks Told_lines 0 shows.ready From
+  unfolding facts short
   ahead =
       let pulses_are = λ (i s : ℕ). ap (pulses_in i s) facts.apart.are ∙ head-pulses 0 i s facts.apart.head From facts.heads in
       let cuts_are = λ (i : ℕ). ap (cuts_in i) facts.apart.are ∙ ap (λ (z : List ReportLine). cuts_of (lines_before z)) (head-behind 0 i facts.apart.head From facts.heads) in
@@ -458,19 +459,21 @@ module _ (m : Machine) (switches : List Switch) (text : List ℕ) (c : Cause) (s
             let a = same j at e in
             subst (λ (ps : List Pulse). Fits (clocks_at Told_lines (stepper_at m s).board).first.freq (base_tick m Told_lines at s) ps (stepper_plan m Told_lines (moves_of Text j) at s)) (pulses_are j s)
             (fits-same (pulses_in j s said) (a.freq s) (a.base s) (a.steps s) (follows j at s (turns j ∙ e) inside));
-        ends = λ j at then late e f home. (same j at e).end ∙ (same_plan j at (turns j ∙ e) (uncut_moves (kind_of Text j) home) (inl (then, next j then f))).end;
+        ends = λ j at after late e f home. (same j at e).end ∙ (same_plan j at (turns j ∙ e) (uncut_moves (kind_of Text j) home) (inl (after, next j after f))).end;
         uncut = λ j at late e home. sym (cuts_are j) ∙ uncut_at j at (turns j ∙ e) (uncut_moves (kind_of Text j) home);
         one = λ j at late e. subst (λ (z : List ReportLine). (z ≡ []) ⊎ IsOneCut j z) (cuts_are j) (one_at j at (turns j ∙ e));
-        ended = λ j at then late e f home none.
-            let one = ended_at j at (turns j ∙ e) (inl (then, next j then f)) home in
+        ended = λ j at after late e f home none.
+            let one = ended_at j at (turns j ∙ e) (inl (after, next j after f)) home in
             let g : [] ≡ report.Cut j one.0 one.1 one.2 one.3 ∷ [] = sym (cuts_are j ∙ none) ∙ one.4 in
             cc;
       }
 
   of_said : AreOfRun m said
+  unfolding facts short
   of_said = of_run true m shows.clocks shows.ready [] shows.clocks 0 said facts.sound refl refl told limits.small kinds_are facts.boards
 
   front : Fronted m Text (further_told (map logged said)) (onto (map logged said) [])
+  unfolding facts short
   front =
       let a = facts.apart in
       let fs = further_told (map logged said) in
@@ -524,6 +527,7 @@ module _ (m : Machine) (switches : List Switch) (text : List ℕ) (c : Cause) (s
         by (Home axis) is = inr (some_cut Text (homes_at Text j) j said (cut_or_not j turn e) (ap is_home is), λ s lt. follows j turn s e lt)
 
     pub home-checks : HasNames m → IsCompleteOfMovesBy shows.clocks m Text said → IsCauseOn m c → check_cause m text (report_text m (said ++ report.End c ∷ [])) ≡ cause.Done
+    unfolding facts short
     home-checks names whole on =
         let f = facts in
         let order = stands true m shows.clocks shows.ready shows.last Text said valid kinds_are f.apart heads f.sound f.boards told short limits planned_alike in

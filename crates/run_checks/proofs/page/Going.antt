@@ -130,9 +130,12 @@ module _ (m : Machine) (sections : List Section) (clocks lines : List Clocks) wh
         let home : is_home (section_at sections i).kind ≡ true = elim (home-or (is_home (section_at sections i).kind)) [
           | inl h ↦ h
           | inr h ↦ absurd (let g : report.Cut j board pin tick from ∷ cuts_of (lines_before rest) ≡ [] = (now.uncut h).1 in cc)
-        ] in
-        (same, home, goes i turn true rest behind.1 (record { shown = ahead.shown; fits = ahead.fits; ends = ahead.ends; uncut = ahead.uncut; one = ahead.one; ended = ahead.ended })
-        (record { end = now.end; uncut = λ h. absurd (let g : true ≡ false = sym home ∙ h in cc); one = inl none; ended = λ next e h. inl refl }))
+        ] in (
+          same,
+          home,
+          goes i turn true rest behind.1 (record { shown = ahead.shown; fits = ahead.fits; ends = ahead.ends; uncut = ahead.uncut; one = ahead.one; ended = ahead.ended })
+              (record { end = now.end; uncut = λ h. absurd (let g : true ≡ false = sym home ∙ h in cc); one = inl none; ended = λ next e h. inl refl }),
+        )
   ]
   goes i turn cut (report.Machine corexy many others ∷ rest) behind ahead now =
       goes i turn cut rest behind (record { shown = ahead.shown; fits = ahead.fits; ends = ahead.ends; uncut = ahead.uncut; one = ahead.one; ended = ahead.ended })

@@ -45,6 +45,7 @@ use Rattle.report_laws.proofs.Reading.{lines-read, words-said}
 use Rattle.report_laws.proofs.Retelling.{alike}
 use Rattle.report_laws.proofs.Running.{map-append, onto-append, onto-in-order}
 use Rattle.report_laws.proofs.Shortening.{AreShownShort, short-lines}
+use Rattle.run_plans.specs.Lines.{pulse_in, pulses_of}
 use Rattle.session_laws.specs.run_ends.Ends.{GoesThrough}
 use Rattle.session_laws.specs.run_headline.Further.{ShowsAll}
 use Rattle.session_laws.specs.run_headline.Told.{AreTold}
@@ -56,7 +57,7 @@ use Rattle.wire_scene.specs.declared.scene.Switch.{Switch}
 use Rattle.host_cli.specs.Body.{no_section}
 use Rattle.host_cli.specs.Checks.{check_cause}
 use Rattle.host_cli.specs.Cuts.{IsCutOf, cuts_in, lines_before, scene_line}
-use Rattle.host_cli.specs.Headline.{kind_of, moves_of}
+use Rattle.host_cli.specs.Headline.{kind_of, moves_of, plan_by}
 use Rattle.host_cli.specs.Homes.{ShowsHomes}
 use Rattle.host_cli.specs.Promises.{FollowsPlanBy, IsCompleteOfMovesBy, sections_over}
 use Rattle.host_cli.specs.Shown.{begins, lines_behind, pulses_in, section_turn, sections_shown}
@@ -68,10 +69,10 @@ use Rattle.run_checks.proofs.Ends.{section_end-after}
 use Rattle.run_checks.proofs.Limits.{AreSmall, HaveLongCuts, KeepLimits}
 use Rattle.run_checks.proofs.Low.{AreNumbered, Facts, IsDue, keep_by, numbered_begun, shorts_of, shown_turn, turn_low}
 use Rattle.run_checks.proofs.Shorts.{told_timed}
-use Rattle.run_checks.proofs.Standing.{AreAllKinds, apart_heads, are_behind, first_shown, of_run, shown_kinds, stands, told_parts}
-use Rattle.run_checks.specs.page.Log.{FollowsFront, SaysLog}
-use Rattle.run_checks.proofs.page.Front.{Fronted, front-follows, lines-follow}
-use Rattle.run_checks.proofs.page.Going.{Ahead, AreOf, goes-on}
+use Rattle.run_checks.proofs.Standing.{AreAllKinds, apart_heads, are_behind, first_shown, of_run, shown_kinds, some_pulse, stands, told_behind, told_parts}
+use Rattle.run_checks.specs.page.Log.{Follows, SaysLog, TellsPulseOf}
+use Rattle.run_checks.proofs.page.Front.{AreFronted, all-follows, lines-follow}
+use Rattle.run_checks.proofs.page.Going.{Ahead, AreOf, IsShown, goes-on}
 
 -- the sections of a text do what a log may tell
 abbrev HaveKinds : List Section → Type 0
@@ -251,13 +252,50 @@ of_first m sections clocks k soon [] ys h = tt
 of_first m sections clocks k soon (x ∷ xs) ys h = (h.0, h.1, h.2, h.3, of_first m sections clocks (suc k) _ xs ys h.4)
 
 -- lists from their end, twice
-in_order_last : {A : Type 0} (xs : List A) (x : A) → in_order (xs ++ x ∷ []) ≡ x ∷ in_order xs
-in_order_last [] x = refl
-in_order_last (y ∷ xs) x = ap (λ (z : List _). z ++ y ∷ []) (in_order_last xs x)
+in_order_append : {A : Type 0} (xs ys : List A) → in_order (xs ++ ys) ≡ in_order ys ++ in_order xs
+in_order_append [] ys = sym (append-nil (in_order ys))
+in_order_append (x ∷ xs) ys = ap (λ (z : List _). z ++ x ∷ []) (in_order_append xs ys) ∙ append_assoc (in_order ys) (in_order xs) (x ∷ [])
 
 in_order_twice : {A : Type 0} (xs : List A) → in_order (in_order xs) ≡ xs
 in_order_twice [] = refl
-in_order_twice (x ∷ xs) = in_order_last (in_order xs) x ∙ ap (λ (z : List _). x ∷ z) (in_order_twice xs)
+in_order_twice (x ∷ xs) = in_order_append (in_order xs) (x ∷ []) ∙ ap (λ (z : List _). x ∷ z) (in_order_twice xs)
+
+-- a pulse that a log tells is one of its stepper, which is there
+is_pulse : (m : Machine) (x : ReportLine) (lines : List ReportLine) (s tick : ℕ) (up : Bool) → AreTold true m (x ∷ lines) → logged x ≡ line.Pulse s tick up → (s < length m.steppers) × (pulses_of s (x ∷ lines) ≢ [])
+is_pulse m (report.Pulse board stepper at way) lines s tick up told e =
+    let same : stepper ≡ s = (let f : line.Pulse stepper at way ≡ line.Pulse s tick up = e in cc) in
+    let At : ℕ → Type 0 = λ n. (n < length m.steppers) × (pulses_of n (report.Pulse board stepper at way ∷ lines) ≢ []) in
+    subst At same (told.0.0, some_pulse board stepper at way lines)
+is_pulse m (report.Machine corexy many others) lines s tick up told e = absurd (let f : line.Note ≡ line.Pulse s tick up = e in cc)
+is_pulse m (report.Board board freq turn at) lines s tick up told e = absurd (let f : line.Board board turn at ≡ line.Pulse s tick up = e in cc)
+is_pulse m (report.Section i turn kind) lines s tick up told e = absurd (let f : line.Section i turn kind ≡ line.Pulse s tick up = e in cc)
+is_pulse m (report.Cut i board pin at from) lines s tick up told e = absurd (let f : line.Cut i ≡ line.Pulse s tick up = e in cc)
+is_pulse m (report.Drift board sent clock from) lines s tick up told e = absurd (let f : line.Line board sent clock from ≡ line.Pulse s tick up = e in cc)
+is_pulse m (report.Lines accepted passed) lines s tick up told e = absurd (let f : line.Note ≡ line.Pulse s tick up = e in cc)
+is_pulse m (report.Out board pin at on) lines s tick up told e = absurd told.0
+is_pulse m (report.Made seed many) lines s tick up told e = absurd told.0
+is_pulse m (report.Count stepper many) lines s tick up told e = absurd told.0
+is_pulse m (report.Fit section stepper many planned early late) lines s tick up told e = absurd told.0
+is_pulse m (report.End c) lines s tick up told e = absurd told.0
+
+later_none : (xs ys : List Pulse) → xs ++ ys ≡ [] → ys ≡ []
+later_none [] ys e = e
+later_none (x ∷ xs) ys e = absurd (let f : x ∷ (xs ++ ys) ≡ [] = e in cc)
+
+pulse_among : (m : Machine) (lines : List ReportLine) (ys zs : List LogLine) (s tick : ℕ) (up : Bool) → AreTold true m lines → map logged lines ≡ ys ++ line.Pulse s tick up ∷ zs → (s < length m.steppers) × (pulses_of s lines ≢ [])
+pulse_among m [] [] zs s tick up told e = absurd (let f : [] ≡ line.Pulse s tick up ∷ zs = e in cc)
+pulse_among m [] (y ∷ ys) zs s tick up told e = absurd (let f : [] ≡ y ∷ (ys ++ line.Pulse s tick up ∷ zs) = e in cc)
+pulse_among m (x ∷ lines) [] zs s tick up told e = is_pulse m x lines s tick up told (let f : logged x ∷ map logged lines ≡ line.Pulse s tick up ∷ zs = e in cc)
+pulse_among m (x ∷ lines) (y ∷ ys) zs s tick up told e =
+    let f : logged x ∷ map logged lines ≡ y ∷ (ys ++ line.Pulse s tick up ∷ zs) = e in
+    let r = pulse_among m lines ys zs s tick up told.1 cc in
+    (r.0, λ none. r.1 (later_none (pulse_in s x) (pulses_of s lines) none))
+
+told_pulse : (m : Machine) (b : ℕ) (lines : List ReportLine) → AreTold true m lines → (t : TellsPulseOf m b (in_order (map logged lines))) → (t.s < length m.steppers) × (pulses_of t.s lines ≢ [])
+told_pulse m b lines told t =
+    let p = line.Pulse t.s t.tick t.up in
+    pulse_among m lines (in_order t.before) (in_order t.later) t.s t.tick t.up told
+    (sym (in_order_twice (map logged lines)) ∙ ap in_order t.are ∙ in_order_append t.later (p ∷ t.before) ∙ append_assoc (in_order t.before) (p ∷ []) (in_order t.later))
 
 listed_told : (lines : List LogLine) → listed lines ≡ further_told lines
 listed_told [] = refl
@@ -444,7 +482,7 @@ module _ (m : Machine) (switches : List Switch) (text : List ℕ) (c : Cause) (s
   turns : (i : ℕ) → section_turn i said ≡ section_turn i From
   turns i = ap (section_turn i) facts.apart.are ∙ head-turn 0 i facts.apart.head From facts.heads
 
-  ahead : Ahead m Text shows.clocks Told_lines 0 shows.ready From
+  ahead : Ahead (GoesThrough c) m Text shows.clocks Told_lines 0 shows.ready From
   unfolding facts short
   ahead =
       let pulses_are = λ (i s : ℕ). ap (pulses_in i s) facts.apart.are ∙ head-pulses 0 i s facts.apart.head From facts.heads in
@@ -452,6 +490,7 @@ module _ (m : Machine) (switches : List Switch) (text : List ℕ) (c : Cause) (s
       let Of : List ReportLine → Type 0 = λ z. AreOf m Text shows.clocks 0 shows.ready z in
       let same = λ (j at : ℕ) (e : section_turn j From ≡ Some at). alike m short.short (moves_of Text j) shows.ready at valid short.have (due_at j at (turns j ∙ e)).late in
       let next = λ (j at : ℕ) (e : section_turn (suc j) From ≡ Some at). (let one : j + 1 ≡ suc j = omega arith in let f : section_turn (j + 1) said ≡ Some at = ap (λ (n : ℕ). section_turn n said) one ∙ turns (suc j) ∙ e in f) in
+      let why_so = λ (j : ℕ) (why : GoesThrough c ⊎ IsShown (suc j) From). elim why as (λ _. ((after : ℕ) × (section_turn (j + 1) said ≡ Some after)) ⊎ GoesThrough c) [ inl g ↦ inr g | inr x ↦ inl (x.0, next j x.0 x.1) ] in
       record {
         shown = subst Of (ap sections_shown facts.apart.are ∙ head-shown 0 facts.apart.head From facts.heads)
             (of_first m Text shows.clocks 0 shows.ready (sections_shown said) shows.sections.0 (subst Of shown (due_of m shows.clocks Text (map (λ x. x.section) shows.begun) [] More 0 shows.ready (begun_lines 0 shows.begun) of_text refl due)));
@@ -462,17 +501,33 @@ module _ (m : Machine) (switches : List Switch) (text : List ℕ) (c : Cause) (s
         ends = λ j at after late e f home. (same j at e).end ∙ (same_plan j at (turns j ∙ e) (uncut_moves (kind_of Text j) home) (inl (after, next j after f))).end;
         uncut = λ j at late e home. sym (cuts_are j) ∙ uncut_at j at (turns j ∙ e) (uncut_moves (kind_of Text j) home);
         one = λ j at late e. subst (λ (z : List ReportLine). (z ≡ []) ⊎ IsOneCut j z) (cuts_are j) (one_at j at (turns j ∙ e));
-        ended = λ j at after late e f home none.
-            let one = ended_at j at (turns j ∙ e) (inl (after, next j after f)) home in
+        ended = λ j at late e why home none.
+            let one = ended_at j at (turns j ∙ e) (why_so j why) home in
             let g : [] ≡ report.Cut j one.0 one.1 one.2 one.3 ∷ [] = sym (cuts_are j ∙ none) ∙ one.4 in
             cc;
+        whole = λ j at s late e home inside why.
+            let is = uncut_moves (kind_of Text j) home in
+            let shown_so : GoesThrough c ⊎ IsShown (suc j) From = elim why [ inl g ↦ inl g | inr x ↦ inr x.0 ] in
+            let plans = same_plan j at (turns j ∙ e) is (why_so j shown_so) in
+            let count : length (pulses_in j s said) ≡ length (plan_by shows.clocks m Text j at s) = elim why [
+              | inl g ↦ shows.whole g j at s (turns j ∙ e) is inside
+              | inr x ↦
+                  let behind_are : lines_behind (suc j) said ≡ lines_behind (suc j) From = ap (lines_behind (suc j)) facts.apart.are ∙ head-behind 0 (suc j) facts.apart.head From facts.heads in
+                  let Tells : List ReportLine → Type 0 = λ z. TellsPulseOf m (stepper_at m s).board (in_order (map logged z)) in
+                  let t = subst Tells (sym behind_are) x.1 in
+                  let found = told_pulse m (stepper_at m s).board (lines_behind (suc j) said) (told_behind true m (suc j) said told) t in
+                  let one : suc j ≡ j + 1 = omega arith in
+                  let Some_of : ℕ → Type 0 = λ n. pulses_of t.s (lines_behind n said) ≢ [] in
+                  shows.before j at s t.s (turns j ∙ e) is inside found.0 t.on (subst Some_of one found.1)
+            ] in
+            sym (ap length (pulses_are j s)) ∙ count ∙ ap length (sym ((same j at e).steps s ∙ plans.steps s inside));
       }
 
   of_said : AreOfRun m said
   unfolding facts short
   of_said = of_run true m shows.clocks shows.ready [] shows.clocks 0 said facts.sound refl refl told limits.small kinds_are facts.boards
 
-  front : Fronted m Text (further_told (map logged said)) (onto (map logged said) [])
+  front : AreFronted (GoesThrough c) m Text (further_told (map logged said)) (onto (map logged said) [])
   unfolding facts short
   front =
       let a = facts.apart in
@@ -491,12 +546,12 @@ module _ (m : Machine) (switches : List Switch) (text : List ℕ) (c : Cause) (s
       let when : a.turn ≡ sh.0 = cc in
       let soon = sh.3 in
       let late = facts.sound.late in
-      let rest = lines-follow m Text fs Told_lines a.head a.turn a.kind a.body stands.0 facts.heads told_is boards sh.2 kind (omega (arith, soon, when, late)) (λ s inside. ahead.fits 0 a.turn s (omega arith) refl inside)
-      (goes-on m Text shows.clocks Told_lines a.turn shows.ready a.kind a.body behind ahead) stands.1.1 of.1 in
+      let rest = lines-follow (GoesThrough c) m Text fs Told_lines a.head a.turn a.kind a.body stands.0 facts.heads told_is boards sh.2 kind (omega (arith, soon, when, late)) (λ s inside. ahead.fits 0 a.turn s (omega arith) refl inside)
+      (goes-on (GoesThrough c) m Text shows.clocks Told_lines a.turn shows.ready a.kind a.body behind ahead) stands.1.1 of.1 in
       let whole : onto (map logged said) [] ≡ onto (map logged a.body) (line.Section 0 a.turn a.kind ∷ onto head []) = ap (λ (l : List LogLine). onto l []) parted ∙ onto-append head (map logged From) [] in
-      subst (λ (l : List LogLine). Fronted m Text fs l) (sym whole) rest
+      subst (λ (l : List LogLine). AreFronted (GoesThrough c) m Text fs l) (sym whole) rest
 
-  pub home-front : HasNames m → (log : List LogLine) × SaysLog m (report_text m said) log × FollowsFront m Text log
+  pub home-front : HasNames m → (log : List LogLine) × SaysLog m (report_text m said) log × Follows (GoesThrough c) m Text log
   home-front names =
       let logs = map logged said in
       let log = in_order logs in
@@ -505,7 +560,7 @@ module _ (m : Machine) (switches : List Switch) (text : List ℕ) (c : Cause) (s
       let says : all_said m words ≡ map ok_line (in_order log) = own ∙ ap (map ok_line) (sym (in_order_twice logs)) in
       let among : further_told logs ≡ further_among log = sym (said-listed m words logs own ∙ listed_told logs) ∙ said-among m words log says in
       let on : onto logs [] ≡ log = onto-in-order logs [] ∙ append-nil log in
-      (log, ap (all_said m) (lines-read m said 1 valid names of_said) ∙ says, front-follows m Text log (subst (λ (f : List Further). Fronted m Text f log) among (subst (λ (x : List LogLine). Fronted m Text (further_told logs) x) on front)))
+      (log, ap (all_said m) (lines-read m said 1 valid names of_said) ∙ says, all-follows (GoesThrough c) m Text log (subst (λ (f : List Further). AreFronted (GoesThrough c) m Text f log) among (subst (λ (x : List LogLine). AreFronted (GoesThrough c) m Text (further_told logs) x) on front)))
 
   module _ (through : GoesThrough c) where
     begun_all : sections_shown said ≡ begun_lines 0 shows.begun

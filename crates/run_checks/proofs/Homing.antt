@@ -68,7 +68,7 @@ use Rattle.host_cli.specs.Promises.{sections_over}
 use Rattle.host_cli.specs.Scenes.{IsLinkReport}
 use Rattle.host_cli.specs.Shown.{section_turn, sections_shown}
 use Rattle.host_cli.proofs.Inside.{some_behind}
-use Rattle.run_checks.specs.page.Log.{FollowsFront, SaysLog}
+use Rattle.run_checks.specs.page.Log.{Follows, SaysLog}
 use Rattle.run_checks.proofs.Homed.{home-checks, home-front}
 use Rattle.run_checks.proofs.Linking.{text-cause, written-whole}
 use Rattle.run_checks.proofs.Low.{shown_turn}
@@ -230,7 +230,7 @@ module _ {F S : Type 0} (f : Files F) (o : Sink S) (printer : List ℕ) (m : Mac
       begun_first (x ∷ begun) e never = (x.start, first_shown 0 x.start x.section.kind (begun_lines 1 begun) r.reported.said e)
 
   -- what was printed before the end line follows the plan, as far as the run came
-  pub printed-front : IsOwn c → (c ≡ cause.Memory → ⊥) → (i turn : ℕ) → section_turn i r.reported.said ≡ Some turn → ∥ ((log : List LogLine) × SaysLog m (report_text m r.reported.said) log × FollowsFront m (sections_over m text) log) ∥₁
+  pub printed-front : IsOwn c → (c ≡ cause.Memory → ⊥) → (i turn : ℕ) → section_turn i r.reported.said ≡ Some turn → ∥ ((log : List LogLine) × SaysLog m (report_text m r.reported.said) log × Follows (GoesThrough c) m (sections_over m text) log) ∥₁
   printed-front own_one other i turn e =
       ∥∥₁_elim (showing own_one other) ∥∥₁_prop (λ (z : Showing). ∥∥₁_map (z.low (some_behind i turn r.reported.said e)) (λ low.
       home-front m s.switches text c r.reported.said home_valid (shown_some i turn e) z.shows (own_shows c own_one other) low z.told_all z.long (names-of-reading printer m configured)))

@@ -14,7 +14,7 @@ ghost use Rattle.report_text.specs.declared.line.ReportLine.TheVariants as repor
 ghost use Rattle.report_text.specs.Text.{report_text};
 ghost use Rattle.run_checks.specs.Read.{IsSceneFor};
 ghost use Rattle.run_checks.specs.page.Causes.{EndsSo};
-ghost use Rattle.run_checks.specs.page.Log.{Follows, FollowsFront, SaysLog};
+ghost use Rattle.run_checks.specs.page.Log.{Follows, SaysLog};
 ghost use Rattle.run_checks.specs.page.Report.{IsPrinted};
 ghost use Rattle.session_laws.specs.run_ends.Ends.{GoesThrough};
 ghost use Rattle.session_laws.specs.home_headline.Little.{AllHomeLittle};
@@ -41,12 +41,13 @@ pub fn runs_that_went_through_follow_the_plan<F: Files, S: Sink>()
         (r : IsLinkReport F.Files S.Sink m s gcode files files' out out' c lines counts links) → IsPrinted m (S.written out) (S.written out') c r.reported.own r.reported.said lines counts }
 {}
 
-/// The law of printed pulses: where a run over links ended for a cause of its own, whichever that is, of moves or homing, and a section has its line,
-/// the lines that were printed before the end line say a log that follows the plan of its text as far as the run came: by the clock lines that it tells, the
-/// pulses of every stepper in each section fit the first of its planned steps.
-pub fn printed_pulses_follow_the_plan<F: Files, S: Sink>()
+/// The law of printed lines: where a run over links ended for a cause of its own, whichever that is, of moves or homing, and a section has its line,
+/// the lines that were printed before the end line say a log that follows the plan of its text as far as the run came. By the clock lines that it
+/// tells the pulses of every stepper in each section fit the first of its planned steps; a section that was not cut, and behind whose next one's line
+/// a pulse of the same board stands, has them all; and where the run went through so has every section that was not cut.
+pub fn printed_lines_follow_the_plan<F: Files, S: Sink>()
     ensures { (printer : List ℕ) (m : Machine) (s : Scene) (gcode : List ℕ) (files files' : F) (out out' : S) (c : Cause) (lines : List ReportLine) (counts : List ℕ) (links : List LinkLog) →
         reading printer ≡ Ok m → (r : IsLinkReport F.Files S.Sink m s gcode files files' out out' c lines counts links) → (text : List ℕ) → F.told files gcode ≡ Some text →
         AllHomeLittle m s text r.reported.runs.runs.0 (r.reported.runs.runs.1 ++ r.reported.runs.runs.2 ∷ []) → IsSceneFor m s → IsOwn c → c ≢ Cause.Memory → (i turn : ℕ) → section_turn i r.reported.said ≡ Some turn →
-        ∥ ((log : List LogLine) × SaysLog m (report_text m r.reported.said) log × FollowsFront m (sections_over m text) log) ∥₁ }
+        ∥ ((log : List LogLine) × SaysLog m (report_text m r.reported.said) log × Follows (GoesThrough c) m (sections_over m text) log) ∥₁ }
 {}

@@ -1,5 +1,5 @@
 -- Lines of a report that go through the first sections of a text, as far as they go, follow its plan when they are read back as a log.
-use Rattle.std.proofs.Common.{◌≡◌, ◌∙◌, ℕ, suc, ◌+◌, ◌<◌, ◌≤◌, Bool, true, false, List, [], ◌∷◌, ◌++◌, length, map, ap, sym, refl, subst, arith, append_assoc, append-nil, length-append}
+use Rattle.std.proofs.Common.{◌≡◌, ◌∙◌, ◌⊎◌, ℕ, suc, ◌+◌, ◌<◌, ◌≤◌, Bool, true, false, List, [], ◌∷◌, ◌++◌, length, map, ap, sym, refl, subst, arith, append_assoc, append-nil, length-append}
 use Rattle.std.specs.Prelude.{◌==◌, ◌&&◌, if◌then◌else◌, slice_index_or}
 use Rattle.std.proofs.lemmas.Bool.Decides.{nat_tests}
 use Rattle.std.proofs.lemmas.List.FromFn.{get_or-map-range_with_len}
@@ -20,14 +20,15 @@ use Rattle.log_check.specs.declared.further.Further.{Further}
 use Rattle.log_check.specs.Behind.{begun, clocks, is_cut, is_ended, pulses, start, told_line, with_further}
 use Rattle.log_check.specs.Faults.{is_home, may_cut, ready}
 use Rattle.log_check.specs.Points.{end_by, first_turn, plans_by, section_at}
-use Rattle.log_laws.specs.Follows.{FitsHere, IsNext, base_at, freq_at, further_among, in_order, plan_at}
+use Rattle.log_laws.specs.Follows.{FitsHere, IsNext, IsWholeHere, base_at, freq_at, further_among, in_order, plan_at}
+use Rattle.log_laws.proofs.Following.{no-plan}
 use Rattle.log_laws.proofs.Standing.{onto}
 use Rattle.report_laws.specs.Further.{AllMayStand}
 use Rattle.report_laws.specs.Logged.{AreOfRun, logged}
 use Rattle.report_laws.specs.Through.{AreHeads}
 use Rattle.report_laws.specs.Within.{ready_behind}
 use Rattle.host_cli.specs.Shown.{pulses_before}
-use Rattle.run_checks.specs.page.Log.{FollowsFront, StandsBehind}
+use Rattle.run_checks.specs.page.Log.{Follows, FollowsFront, StandsBehind, TellsPulseOf}
 use Rattle.run_checks.proofs.Bridging.{fits-same}
 
 -- Each line stands as it may behind those before it, and with it the pulses of every stepper in the open section fit its plan.
@@ -49,6 +50,37 @@ front-follows m sections log f = record {
   order = λ later lines l is. (let h = fronted-behind m sections (further_among log) later (l ∷ lines) (subst (λ (x : List LogLine). Fronted m sections (further_among log) x) is f) in (h.0, h.1));
 }
 
+-- Behind the line of a section the one before is whole, where it was not cut, and the run went through or a pulse of the board stands among later lines.
+abbrev WholeBefore : Type 0 → Machine → List Section → List Further → List LogLine → List LogLine → LogLine → Type 0
+WholeBefore through m sections fs later before (line.Section i turn kind) = is_cut before ≡ false → (s : ℕ) → s < length m.steppers → through ⊎ TellsPulseOf m (stepper_at m s).board later → IsWholeHere m sections fs before s
+WholeBefore through m sections fs later before _ = Unit {0}
+
+-- so behind each of some lines, which others follow
+abbrev pub Wholed : Type 0 → Machine → List Section → List Further → List LogLine → List LogLine → Type 0
+Wholed through m sections fs later [] = Unit {0}
+Wholed through m sections fs later (l ∷ before) = WholeBefore through m sections fs later before l × Wholed through m sections fs (later ++ l ∷ []) before
+
+wholed-at : (through : Type 0) (m : Machine) (sections : List Section) (fs : List Further) (others later before : List LogLine) (l : LogLine) → Wholed through m sections fs others (later ++ l ∷ before) → WholeBefore through m sections fs (others ++ later) before l
+wholed-at through m sections fs others [] before l h = subst (λ (z : List LogLine). WholeBefore through m sections fs z before l) (sym (append-nil others)) h.0
+wholed-at through m sections fs others (x ∷ later) before l h = subst (λ (z : List LogLine). WholeBefore through m sections fs z before l) (append_assoc others (x ∷ []) later) (wholed-at through m sections fs (others ++ x ∷ []) later before l h.1)
+
+-- and the last section
+abbrev pub Lasted : Type 0 → Machine → List Section → List Further → List LogLine → Type 0
+Lasted through m sections fs log = through → is_cut log ≡ false → (s : ℕ) → s < length m.steppers → IsWholeHere m sections fs log s
+
+-- what lines are that follow a plan
+pub record AreFronted (through : Type 0) (m : Machine) (sections : List Section) (fs : List Further) (log : List LogLine) : Type 0 where
+  pub fronted : Fronted m sections fs log
+  pub wholed : Wholed through m sections fs [] log
+  pub lasted : Lasted through m sections fs log
+
+pub all-follows : (through : Type 0) (m : Machine) (sections : List Section) (log : List LogLine) → AreFronted through m sections (further_among log) log → Follows through m sections log
+all-follows through m sections log f = record {
+  front = front-follows m sections log f.fronted;
+  whole = λ later lines i turn kind is. wholed-at through m sections (further_among log) [] later lines (line.Section i turn kind) (subst (λ (x : List LogLine). Wholed through m sections (further_among log) [] x) is f.wholed);
+  last = f.lasted;
+}
+
 -- the first ones of pulses that fit
 fits-first : (freq base : ℕ) (ps qs : List Pulse) (plan : List Planned) → Fits freq base (ps ++ qs) plan → Fits freq base ps plan
 fits-first freq base [] qs plan h = tt
@@ -59,6 +91,11 @@ fits-first freq base (p ∷ ps) qs (s ∷ plan) h = (h.0, fits-first freq s.tick
 moved : (b : Bool) (p : Pulse) (ps others : List Pulse) → in_order (if b then p ∷ ps else ps) ++ others ≡ in_order ps ++ (if b then p ∷ others else others)
 moved true p ps others = append_assoc (in_order ps) (p ∷ []) others
 moved false p ps others = refl
+
+-- and as many are told in all
+counted : (b : Bool) (p : Pulse) (ps others : List Pulse) → length (if b then p ∷ ps else ps) + length others ≡ length ps + length (if b then p ∷ others else others)
+counted true p ps others = omega arith
+counted false p ps others = refl
 
 both-true : (a b : Bool) → a ≡ true → b ≡ true → (a && b) ≡ true
 both-true true b e f = f
@@ -75,24 +112,28 @@ ready-first : (cut : Bool) (begin end : ℕ) → ready cut 0 begin end ≡ first
 ready-first true begin end = refl
 ready-first false begin end = refl
 
-module _ (m : Machine) (sections : List Section) (lines : List Clocks) where
+module _ (through : Type 0) (m : Machine) (sections : List Section) (lines : List Clocks) where
   -- the pulses of a section fit its plan: those that were told, and those up to the next section
   abbrev FitWith : ℕ → ℕ → (ℕ → List Pulse) → Type 0
   FitWith i turn ps = (s : ℕ) → s < length m.steppers → Fits (clocks_at lines (stepper_at m s).board).first.freq (base_tick m lines turn s) (ps s) (stepper_plan m lines (section_at sections i).moves turn s)
 
-  -- Lines behind that of a section of a number, which started in a turn and was cut or not: the next section is the next one of the text, in its turn;
-  -- its pulses fit its plan; and a cut is of the section, which homes.
-  abbrev pub Goes : ℕ → ℕ → Bool → List ReportLine → Type 0
-  Goes i turn cut [] = Unit {0}
-  Goes i turn cut (report.Section j at kind ∷ rest) =
+  -- so many pulses of each stepper are as many as planned in a section of a number, where it was not cut, and something more holds
+  abbrev IsWholeIf : ℕ → ℕ → Bool → (ℕ → ℕ) → (ℕ → Type 0) → Type 0
+  IsWholeIf i turn cut total more = cut ≡ false → (s : ℕ) → s < length m.steppers → more (stepper_at m s).board → total s ≡ length (stepper_plan m lines (section_at sections i).moves turn s)
+
+  -- Lines behind that of a section of a number, which started in a turn, was cut or not, and has so many pulses of each stepper in all: the next section
+  -- is the next one of the text, in its turn; its pulses fit its plan; a cut is of the section, which homes; and sections are whole as they shall be.
+  abbrev pub Goes : ℕ → ℕ → Bool → (ℕ → ℕ) → List ReportLine → Type 0
+  Goes i turn cut total [] = IsWholeIf i turn cut total (λ b. through)
+  Goes i turn cut total (report.Section j at kind ∷ rest) =
       (j ≡ suc i) × (suc i < length sections) × (kind ≡ (section_at sections (suc i)).kind) × (ready_behind cut turn (section_end m lines (section_at sections i).moves turn) + (section_at sections (suc i)).dwell ≤ at)
-      × FitWith (suc i) at (λ s. pulses_before s rest) × Goes (suc i) at false rest
-  Goes i turn cut (report.Pulse board stepper tick up ∷ rest) = Goes i turn cut rest
-  Goes i turn cut (report.Cut j board pin tick from ∷ rest) = (j ≡ i) × (is_home (section_at sections i).kind ≡ true) × Goes i turn true rest
-  Goes i turn cut (report.Machine corexy boards steppers ∷ rest) = Goes i turn cut rest
-  Goes i turn cut (report.Drift board sent clock from ∷ rest) = Goes i turn cut rest
-  Goes i turn cut (report.Lines accepted passed ∷ rest) = Goes i turn cut rest
-  Goes i turn cut (_ ∷ rest) = ⊥
+      × FitWith (suc i) at (λ s. pulses_before s rest) × IsWholeIf i turn cut total (λ b. through ⊎ TellsPulseOf m b (in_order (map logged rest))) × Goes (suc i) at false (λ s. length (pulses_before s rest)) rest
+  Goes i turn cut total (report.Pulse board stepper tick up ∷ rest) = Goes i turn cut total rest
+  Goes i turn cut total (report.Cut j board pin tick from ∷ rest) = (j ≡ i) × (is_home (section_at sections i).kind ≡ true) × Goes i turn true total rest
+  Goes i turn cut total (report.Machine corexy boards steppers ∷ rest) = Goes i turn cut total rest
+  Goes i turn cut total (report.Drift board sent clock from ∷ rest) = Goes i turn cut total rest
+  Goes i turn cut total (report.Lines accepted passed ∷ rest) = Goes i turn cut total rest
+  Goes i turn cut total (_ ∷ rest) = ⊥
 
   module _ (fs : List Further) (boards : length lines ≡ length m.boards) where
     -- behind some lines such a section is open
@@ -152,25 +193,45 @@ module _ (m : Machine) (sections : List Section) (lines : List Clocks) where
         let next : Next j = subst Next (sym number) (record { number = sym h.begun_is; there = there; same = same; due = omega (arith, from, due) }) in
         record { fronted = (h.going, (next, ap length h.lines_are ∙ boards), λ s inside. tt, h.fronted); going = h.going; begun_is = ap suc h.begun_is; start_is = refl; lines_are = h.lines_are; cut_is = refl }
 
-    go : (i turn : ℕ) (cut : Bool) (rest : List ReportLine) (before : List LogLine) → FitWith i turn (λ s. in_order (pulses s before) ++ pulses_before s rest) → Goes i turn cut rest → AllMayStand m before (map logged rest) → AreOfRun m rest → IsOpen i turn cut before
-        → Fronted m sections fs (onto (map logged rest) before)
-    go i turn cut [] before fits goes stand of h = h.fronted
-    go i turn cut (report.Section j at kind ∷ rest) before fits goes stand of h = go (suc i) at false rest (line.Section j at kind ∷ before) goes.4 goes.5 stand.1 of.1 (section-on i turn cut before j at kind goes.0 goes.1 goes.2 goes.3 h)
-    go i turn cut (report.Pulse board stepper tick up ∷ rest) before fits goes stand of h =
+    -- as many pulses as planned make it whole
+    whole-here : (i turn : ℕ) (cut : Bool) (total : ℕ → ℕ) (more : ℕ → Type 0) (before : List LogLine) → ((s : ℕ) → length (pulses s before) + 0 ≡ total s) → IsWholeIf i turn cut total more → IsOpen i turn cut before
+        → is_cut before ≡ false → (s : ℕ) → s < length m.steppers → more (stepper_at m s).board → IsWholeHere m sections fs before s
+    whole-here i turn cut total more before count whole h uncut s inside why =
+        let all = whole (sym h.cut_is ∙ uncut) s inside why in
+        let many = count s in
+        let plan = ap length (plan-is i turn s before h.begun_is h.start_is h.lines_are inside) in
+        omega (arith, all, many, plan)
+
+    -- the pulses told so far, and those up to the next section
+    abbrev Count : (ℕ → ℕ) → List LogLine → List ReportLine → Type 0
+    Count total before rest = (s : ℕ) → length (pulses s before) + length (pulses_before s rest) ≡ total s
+
+    go : (i turn : ℕ) (cut : Bool) (total : ℕ → ℕ) (rest : List ReportLine) (before : List LogLine) → FitWith i turn (λ s. in_order (pulses s before) ++ pulses_before s rest) → Count total before rest → Goes i turn cut total rest → AllMayStand m before (map logged rest) → AreOfRun m rest
+        → IsOpen i turn cut before → Wholed through m sections fs (in_order (map logged rest)) before → AreFronted through m sections fs (onto (map logged rest) before)
+    go i turn cut total [] before fits count goes stand of h w = record {
+      fronted = h.fronted;
+      wholed = w;
+      lasted = λ gone uncut s inside. whole-here i turn cut total (λ b. through) before count goes h uncut s inside gone;
+    }
+    go i turn cut total (report.Section j at kind ∷ rest) before fits count goes stand of h w =
+        go (suc i) at false (λ s. length (pulses_before s rest)) rest (line.Section j at kind ∷ before) goes.4 (λ s. omega arith) goes.6 stand.1 of.1 (section-on i turn cut before j at kind goes.0 goes.1 goes.2 goes.3 h)
+        (whole-here i turn cut total (λ b. through ⊎ TellsPulseOf m b (in_order (map logged rest))) before count goes.5 h, w)
+    go i turn cut total (report.Pulse board stepper tick up ∷ rest) before fits count goes stand of h w =
         let p : Pulse = record { tick = tick; stepper = stepper; up = up } in
         let Of : ℕ → List Pulse → Type 0 = λ s ps. Fits (clocks_at lines (stepper_at m s).board).first.freq (base_tick m lines turn s) ps (stepper_plan m lines (section_at sections i).moves turn s) in
         let on : FitWith i turn (λ s. in_order (pulses s (line.Pulse stepper tick up ∷ before)) ++ pulses_before s rest) = λ s inside. subst (Of s) (sym (moved (stepper == s) p (pulses s before) (pulses_before s rest))) (fits s inside) in
-        go i turn cut rest (line.Pulse stepper tick up ∷ before) on goes stand.1 of.1 (pulse-on i turn cut before rest stepper tick up of.0.0 on h)
-    go i turn cut (report.Cut j board pin tick from ∷ rest) before fits goes stand of h = go i turn true rest (line.Cut j ∷ before) fits goes.2 stand.1 of.1 (cut-on i turn cut before rest j goes.0 goes.1 fits h)
-    go i turn cut (report.Machine corexy many others ∷ rest) before fits goes stand of h = go i turn cut rest (line.Note ∷ before) fits goes stand.1 of.1 (note-on i turn cut before rest fits h)
-    go i turn cut (report.Drift board sent clock from ∷ rest) before fits goes stand of h = go i turn cut rest (line.Line board sent clock from ∷ before) fits goes stand.1 of.1 (further-on i turn cut before rest board sent clock from stand.0 fits h)
-    go i turn cut (report.Lines accepted passed ∷ rest) before fits goes stand of h = go i turn cut rest (line.Note ∷ before) fits goes stand.1 of.1 (note-on i turn cut before rest fits h)
-    go i turn cut (report.Board board freq at tick ∷ rest) before fits goes stand of h = absurd goes
-    go i turn cut (report.Out board pin tick on ∷ rest) before fits goes stand of h = absurd goes
-    go i turn cut (report.Made seed many ∷ rest) before fits goes stand of h = absurd goes
-    go i turn cut (report.Count stepper many ∷ rest) before fits goes stand of h = absurd goes
-    go i turn cut (report.Fit section stepper many planned early late ∷ rest) before fits goes stand of h = absurd goes
-    go i turn cut (report.End c ∷ rest) before fits goes stand of h = absurd goes
+        go i turn cut total rest (line.Pulse stepper tick up ∷ before) on (λ s. counted (stepper == s) p (pulses s before) (pulses_before s rest) ∙ count s) goes stand.1 of.1 (pulse-on i turn cut before rest stepper tick up of.0.0 on h) (tt, w)
+    go i turn cut total (report.Cut j board pin tick from ∷ rest) before fits count goes stand of h w = go i turn true total rest (line.Cut j ∷ before) fits count goes.2 stand.1 of.1 (cut-on i turn cut before rest j goes.0 goes.1 fits h) (tt, w)
+    go i turn cut total (report.Machine corexy many others ∷ rest) before fits count goes stand of h w = go i turn cut total rest (line.Note ∷ before) fits count goes stand.1 of.1 (note-on i turn cut before rest fits h) (tt, w)
+    go i turn cut total (report.Drift board sent clock from ∷ rest) before fits count goes stand of h w =
+        go i turn cut total rest (line.Line board sent clock from ∷ before) fits count goes stand.1 of.1 (further-on i turn cut before rest board sent clock from stand.0 fits h) (tt, w)
+    go i turn cut total (report.Lines accepted passed ∷ rest) before fits count goes stand of h w = go i turn cut total rest (line.Note ∷ before) fits count goes stand.1 of.1 (note-on i turn cut before rest fits h) (tt, w)
+    go i turn cut total (report.Board board freq at tick ∷ rest) before fits count goes stand of h w = absurd goes
+    go i turn cut total (report.Out board pin tick on ∷ rest) before fits count goes stand of h w = absurd goes
+    go i turn cut total (report.Made seed many ∷ rest) before fits count goes stand of h w = absurd goes
+    go i turn cut total (report.Count stepper many ∷ rest) before fits count goes stand of h w = absurd goes
+    go i turn cut total (report.Fit section stepper many planned early late ∷ rest) before fits count goes stand of h w = absurd goes
+    go i turn cut total (report.End c ∷ rest) before fits count goes stand of h w = absurd goes
 
 -- before the first section
 record IsBefore (m : Machine) (sections : List Section) (fs : List Further) (b : ℕ) (before : List LogLine) : Type 0 where
@@ -184,49 +245,47 @@ record IsBefore (m : Machine) (sections : List Section) (fs : List Further) (b :
 silent-fits : (m : Machine) (sections : List Section) (fs : List Further) (before : List LogLine) (s : ℕ) → pulses s before ≡ [] → FitsHere m sections fs before s
 silent-fits m sections fs before s silent = subst (λ (ps : List Pulse). Fits (freq_at m fs before s) (base_at m fs before s) (in_order ps) (plan_at m sections fs before s)) (sym silent) tt
 
-heads-before : (m : Machine) (sections : List Section) (fs : List Further) (b : ℕ) (head : List ReportLine) (before : List LogLine) → AllMayStand m before (map logged head) → AreHeads b head → IsBefore m sections fs b before → (n : ℕ) × IsBefore m sections fs n (onto (map logged head) before)
-heads-before m sections fs b [] before stand are h = (b, h)
-heads-before m sections fs b (report.Board board freq turn tick ∷ head) before stand are h =
+heads-before : (through : Type 0) (m : Machine) (sections : List Section) (fs : List Further) (b : ℕ) (head body : List ReportLine) (before : List LogLine) → AllMayStand m before (map logged head) → AreHeads b head → IsBefore m sections fs b before
+    → Wholed through m sections fs (in_order (map logged (head ++ body))) before → ((n : ℕ) × IsBefore m sections fs n (onto (map logged head) before)) × Wholed through m sections fs (in_order (map logged body)) (onto (map logged head) before)
+heads-before through m sections fs b [] body before stand are h w = ((b, h), w)
+heads-before through m sections fs b (report.Board board freq turn tick ∷ head) body before stand are h w =
     let place : board ≡ length (clocks m fs before) = are.0 ∙ sym h.boards in
     let long = h.boards in
-    heads-before m sections fs (b + 1) head (line.Board board turn tick ∷ before) stand.1 are.1 (record {
+    heads-before through m sections fs (b + 1) head body (line.Board board turn tick ∷ before) stand.1 are.1 (record {
       fronted = (h.going, (h.none, place), λ s inside. silent-fits m sections fs (line.Board board turn tick ∷ before) s (h.silent s), h.fronted);
       going = h.going;
       none = h.none;
       boards = length-append (clocks m fs before) (with_further m board fs (one_line (told_line m board turn tick)) ∷ []) ∙ omega (arith, long);
       silent = h.silent;
-    })
-heads-before m sections fs b (report.Machine corexy many others ∷ head) before stand are h =
-    heads-before m sections fs b head (line.Note ∷ before) stand.1 are (record { fronted = (h.going, tt, λ s inside. silent-fits m sections fs before s (h.silent s), h.fronted); going = h.going; none = h.none; boards = h.boards; silent = h.silent })
-heads-before m sections fs b (report.Drift board sent clock from ∷ head) before stand are h =
-    heads-before m sections fs b head (line.Line board sent clock from ∷ before) stand.1 are (record { fronted = (h.going, stand.0, λ s inside. silent-fits m sections fs before s (h.silent s), h.fronted); going = h.going; none = h.none; boards = h.boards; silent = h.silent })
-heads-before m sections fs b (report.Lines accepted passed ∷ head) before stand are h =
-    heads-before m sections fs b head (line.Note ∷ before) stand.1 are (record { fronted = (h.going, tt, λ s inside. silent-fits m sections fs before s (h.silent s), h.fronted); going = h.going; none = h.none; boards = h.boards; silent = h.silent })
-heads-before m sections fs b (report.Section i turn kind ∷ head) before stand are h = absurd are
-heads-before m sections fs b (report.Pulse board stepper tick up ∷ head) before stand are h = absurd are
-heads-before m sections fs b (report.Cut i board pin tick from ∷ head) before stand are h = absurd are
-heads-before m sections fs b (report.Out board pin tick on ∷ head) before stand are h = absurd are
-heads-before m sections fs b (report.Made seed moves ∷ head) before stand are h = absurd are
-heads-before m sections fs b (report.Count stepper many ∷ head) before stand are h = absurd are
-heads-before m sections fs b (report.Fit section stepper many planned early late ∷ head) before stand are h = absurd are
-heads-before m sections fs b (report.End c ∷ head) before stand are h = absurd are
+    }) (tt, w)
+heads-before through m sections fs b (report.Machine corexy many others ∷ head) body before stand are h w =
+    heads-before through m sections fs b head body (line.Note ∷ before) stand.1 are (record { fronted = (h.going, tt, λ s inside. silent-fits m sections fs before s (h.silent s), h.fronted); going = h.going; none = h.none; boards = h.boards; silent = h.silent }) (tt, w)
+heads-before through m sections fs b (report.Drift board sent clock from ∷ head) body before stand are h w =
+    heads-before through m sections fs b head body (line.Line board sent clock from ∷ before) stand.1 are (record { fronted = (h.going, stand.0, λ s inside. silent-fits m sections fs before s (h.silent s), h.fronted); going = h.going; none = h.none; boards = h.boards; silent = h.silent }) (tt, w)
+heads-before through m sections fs b (report.Lines accepted passed ∷ head) body before stand are h w =
+    heads-before through m sections fs b head body (line.Note ∷ before) stand.1 are (record { fronted = (h.going, tt, λ s inside. silent-fits m sections fs before s (h.silent s), h.fronted); going = h.going; none = h.none; boards = h.boards; silent = h.silent }) (tt, w)
+heads-before through m sections fs b (report.Section i turn kind ∷ head) body before stand are h w = absurd are
+heads-before through m sections fs b (report.Pulse board stepper tick up ∷ head) body before stand are h w = absurd are
+heads-before through m sections fs b (report.Cut i board pin tick from ∷ head) body before stand are h w = absurd are
+heads-before through m sections fs b (report.Out board pin tick on ∷ head) body before stand are h w = absurd are
+heads-before through m sections fs b (report.Made seed moves ∷ head) body before stand are h w = absurd are
+heads-before through m sections fs b (report.Count stepper many ∷ head) body before stand are h w = absurd are
+heads-before through m sections fs b (report.Fit section stepper many planned early late ∷ head) body before stand are h w = absurd are
+heads-before through m sections fs b (report.End c ∷ head) body before stand are h w = absurd are
 
--- Lines of boards alone follow the plan.
-pub heads-follow : (m : Machine) (sections : List Section) (fs : List Further) (head : List ReportLine) → AllMayStand m [] (map logged head) → AreHeads 0 head → Fronted m sections fs (onto (map logged head) [])
-heads-follow m sections fs head stand heads =
+-- So do lines behind those of the boards that go through the first sections.
+pub lines-follow : (through : Type 0) (m : Machine) (sections : List Section) (fs : List Further) (lines : List Clocks) (head : List ReportLine) (at : ℕ) (kind : SectionKind) (rest : List ReportLine) → AllMayStand m [] (map logged head) → AreHeads 0 head
+    → clocks m fs (onto (map logged head) []) ≡ lines → length lines ≡ length m.boards → 0 < length sections → kind ≡ (section_at sections 0).kind → first_turn + (section_at sections 0).dwell ≤ at → FitWith through m sections lines 0 at (λ s. pulses_before s rest)
+    → Goes through m sections lines 0 at false (λ s. length (pulses_before s rest)) rest → AllMayStand m (line.Section 0 at kind ∷ onto (map logged head) []) (map logged rest) → AreOfRun m rest
+    → AreFronted through m sections fs (onto (map logged rest) (line.Section 0 at kind ∷ onto (map logged head) []))
+lines-follow through m sections fs lines head at kind rest stand heads told boards some same due fits goes stands of =
     let empty : IsBefore m sections fs 0 [] = record { fronted = tt; going = refl; none = refl; boards = refl; silent = λ s. refl } in
-    (heads-before m sections fs 0 head [] stand heads empty).1.fronted
-
--- So do lines behind them that go through the first sections.
-pub lines-follow : (m : Machine) (sections : List Section) (fs : List Further) (lines : List Clocks) (head : List ReportLine) (at : ℕ) (kind : SectionKind) (rest : List ReportLine) → AllMayStand m [] (map logged head) → AreHeads 0 head → clocks m fs (onto (map logged head) []) ≡ lines
-    → length lines ≡ length m.boards → 0 < length sections → kind ≡ (section_at sections 0).kind → first_turn + (section_at sections 0).dwell ≤ at → FitWith m sections lines 0 at (λ s. pulses_before s rest) → Goes m sections lines 0 at false rest
-    → AllMayStand m (line.Section 0 at kind ∷ onto (map logged head) []) (map logged rest) → AreOfRun m rest → Fronted m sections fs (onto (map logged rest) (line.Section 0 at kind ∷ onto (map logged head) []))
-lines-follow m sections fs lines head at kind rest stand heads told boards some same due fits goes stands of =
-    let empty : IsBefore m sections fs 0 [] = record { fronted = tt; going = refl; none = refl; boards = refl; silent = λ s. refl } in
-    let h = (heads-before m sections fs 0 head [] stand heads empty).1 in
+    let x = heads-before through m sections fs 0 head (report.Section 0 at kind ∷ rest) [] stand heads empty tt in
+    let h = x.0.1 in
     let before = onto (map logged head) [] in
     let from : ready (is_cut before) (begun before) (start before) (end_by m sections (clocks m fs before) (begun before) (start before)) ≡ first_turn =
     ap (λ (k : ℕ). ready (is_cut before) k (start before) (end_by m sections (clocks m fs before) k (start before))) h.none ∙ ready-first (is_cut before) (start before) 0 in
     let next : IsNext m sections fs before 0 at kind = record { number = sym h.none; there = some; same = same; due = omega (arith, from, due) } in
-    go m sections lines fs boards 0 at false rest (line.Section 0 at kind ∷ before) fits goes stands of
+    go through m sections lines fs boards 0 at false (λ s. length (pulses_before s rest)) rest (line.Section 0 at kind ∷ before) fits (λ s. omega arith) goes stands of
     (record { fronted = (h.going, (next, ap length told ∙ boards), λ s inside. tt, h.fronted); going = h.going; begun_is = ap suc h.none; start_is = refl; lines_are = told; cut_is = refl })
+    (λ uncut s inside why. ap length (h.silent s) ∙ sym (ap length (no-plan m sections fs before s h.none)), x.1)

@@ -1,6 +1,6 @@
 use Rattle.run_checks.proofs.Homing.{printed-front}
 use Rattle.run_checks.proofs.Scenes.{scene_under}
-use Rattle.run_checks.proofs.page.printed_pulses_follow_the_plan.Goals as goal
+use Rattle.run_checks.proofs.page.printed_lines_follow_the_plan.Goals as goal
 
 pub returns : goal.returns
 returns g c = λ printer m s gcode files files' out out' cause lines counts links configured r text told little scene own other i turn shown.

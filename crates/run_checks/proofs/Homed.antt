@@ -309,6 +309,22 @@ run_behind : (m : Machine) (xs ys : List ReportLine) → AreOfRun m (xs ++ ys) �
 run_behind m [] ys of = of
 run_behind m (x ∷ xs) ys of = run_behind m xs ys of.1
 
+-- lines of a run that follow the plan are read back as a log that does
+pub read-back : (through : Type 0) (m : Machine) (sections : List Section) (said : List ReportLine) → IsValidMachine m → HasNames m → AreOfRun m said → AreFronted through m sections (further_told (map logged said)) (onto (map logged said) [])
+    → (log : List LogLine) × SaysLog m (report_text m said) log × Follows through m sections log
+read-back through m sections said valid names of front =
+    let logs = map logged said in
+    let log = in_order logs in
+    let words = numbered m 1 said in
+    let own = words-said m said 1 valid names of in
+    let says : all_said m words ≡ map ok_line (in_order log) = own ∙ ap (map ok_line) (sym (in_order_twice logs)) in
+    let among : further_told logs ≡ further_among log = sym (said-listed m words logs own ∙ listed_told logs) ∙ said-among m words log says in
+    let on : onto logs [] ≡ log = onto-in-order logs [] ∙ append-nil log in (
+      log,
+      ap (all_said m) (lines-read m said 1 valid names of) ∙ says,
+      all-follows through m sections log (subst (λ (f : List Further). AreFronted through m sections f log) among (subst (λ (x : List LogLine). AreFronted through m sections (further_told logs) x) on front)),
+    )
+
 -- A run that shows all its lines, and the line of a section among them.
 module _ (m : Machine) (switches : List Switch) (text : List ℕ) (c : Cause) (said : List ReportLine) (valid : IsValidMachine m) (some : sections_shown said ≢ []) (shows : ShowsHomes m switches text c said) (full : ShowsAll c) (low : AreLow said) (told : AreTold true m said) (long : HaveLongCuts said) where
   abbrev Text : List Section
@@ -552,15 +568,7 @@ module _ (m : Machine) (switches : List Switch) (text : List ℕ) (c : Cause) (s
       subst (λ (l : List LogLine). AreFronted (GoesThrough c) m Text fs l) (sym whole) rest
 
   pub home-front : HasNames m → (log : List LogLine) × SaysLog m (report_text m said) log × Follows (GoesThrough c) m Text log
-  home-front names =
-      let logs = map logged said in
-      let log = in_order logs in
-      let words = numbered m 1 said in
-      let own = words-said m said 1 valid names of_said in
-      let says : all_said m words ≡ map ok_line (in_order log) = own ∙ ap (map ok_line) (sym (in_order_twice logs)) in
-      let among : further_told logs ≡ further_among log = sym (said-listed m words logs own ∙ listed_told logs) ∙ said-among m words log says in
-      let on : onto logs [] ≡ log = onto-in-order logs [] ∙ append-nil log in
-      (log, ap (all_said m) (lines-read m said 1 valid names of_said) ∙ says, all-follows (GoesThrough c) m Text log (subst (λ (f : List Further). AreFronted (GoesThrough c) m Text f log) among (subst (λ (x : List LogLine). AreFronted (GoesThrough c) m Text (further_told logs) x) on front)))
+  home-front names = read-back (GoesThrough c) m Text said valid names of_said front
 
   module _ (through : GoesThrough c) where
     begun_all : sections_shown said ≡ begun_lines 0 shows.begun

@@ -19,6 +19,8 @@ use Rattle.report_text.specs.declared.line.ReportLine.{ReportLine}
 use Rattle.report_text.specs.declared.line.ReportLine.TheVariants as report
 use Rattle.report_text.specs.Text.{report_text}
 use Rattle.log_text.specs.declared.line.LogLine.{LogLine}
+use Rattle.report_laws.specs.Further.{further_told}
+use Rattle.report_laws.specs.Logged.{logged}
 use Rattle.report_laws.proofs.Configured.{names-of-reading}
 use Rattle.host_reactor.specs.Reactor.{Run, reacts}
 use Rattle.host_reactor.specs.declared.ordered.Known.{Known}
@@ -51,6 +53,8 @@ use Rattle.session_laws.proofs.run_headline.Showing.{Facts, counts_or, long_own,
 use Rattle.session_laws.proofs.run_headline.Telling.{reacts_told}
 use Rattle.session_laws.specs.run_lines.Due.{begun_lines}
 use Rattle.session_laws.proofs.run_lines.Heads.{first_heads}
+use Rattle.session_laws.specs.run_causes.Unanswered.{GaveNoAnswer}
+use Rattle.session_laws.specs.home_headline.Cuts.{cuts_of}
 use Rattle.session_laws.specs.home_headline.Follow.{AllShowHomes, ShowHomes}
 use Rattle.session_laws.specs.home_headline.Little.{AllHomeLittle}
 use Rattle.cause_runs.specs.Short.{HaveShortDictionaries}
@@ -69,7 +73,10 @@ use Rattle.host_cli.specs.Scenes.{IsLinkReport}
 use Rattle.host_cli.specs.Shown.{section_turn, sections_shown}
 use Rattle.host_cli.proofs.Inside.{some_behind}
 use Rattle.run_checks.specs.page.Log.{Follows, SaysLog}
-use Rattle.run_checks.proofs.Homed.{home-checks, home-front}
+use Rattle.run_checks.proofs.Homed.{home-checks, home-front, read-back}
+use Rattle.run_checks.proofs.Unbegun.{ShowsNone}
+use Rattle.run_checks.proofs.Unshown.{alone_own, shown_heads, shown_none, whole_before}
+use Rattle.run_checks.proofs.page.Front.{heads-follow}
 use Rattle.run_checks.proofs.Linking.{text-cause, written-whole}
 use Rattle.run_checks.proofs.Low.{shown_turn}
 use Rattle.run_checks.proofs.Standing.{first_shown}
@@ -148,6 +155,12 @@ all_told m switches before [] end known k turns last = told_both m end.lines [] 
 all_told m switches before (r ∷ rs) end known k turns last =
     told_both m r.lines (gather (λ (t : ReactorTurn). t.lines) (rs ++ end ∷ [])) (turn_told m switches (known_by m switches before) (length before) r turns.0.lines_are) (all_told m switches (came_in r ∷ before) rs end known k turns.1 last)
 
+-- a run for a cause of its own shows all its lines
+pub own_shows : (c : Cause) → IsOwn c → (c ≡ cause.Memory → ⊥) → ShowsAll c
+own_shows cause.Memory own other = absurd (other refl)
+own_shows cause.WriteFault own other = absurd own
+own_shows c own other = tt
+
 module _ {F S : Type 0} (f : Files F) (o : Sink S) (m : Machine) (s : Scene) (name : List ℕ) (files files' : F) (out out' : S) (kept kept' : Kept) (t : near.Told Run) (r : RunsOver f o m s name files out kept t files' out' kept') where
   limits : (v : IsValidMachine m) (rs : List ReactorTurn) (p : Plans m (length m.boards) r.runs.0) → rs ≡ r.runs.1 → AllShowHomes m p.seen (clocks_heard p.seen.told) (ready_heard p.seen.told) t.cause (rs ++ r.runs.2 ∷ [])
       → heads_of (gather (λ t. t.lines) (rs ++ r.runs.2 ∷ [])) ≢ [] → IsOwn t.cause → (t.cause ≡ cause.Memory → ⊥) → AreLow (gather (λ t. t.lines) (rs ++ r.runs.2 ∷ []))
@@ -158,6 +171,23 @@ module _ {F S : Type 0} (f : Files F) (o : Sink S) (m : Machine) (s : Scene) (na
       let Of : List ReactorTurn → Type 0 = λ z. Facts m s r.runs.0 z r.runs.2 t.cause in
       home_low m v s r.runs.0 p r.runs.2 t.cause own (begun_some m p.seen (clocks_heard p.seen.told) (ready_heard p.seen.told) t.cause first (rest ++ r.runs.2 ∷ []) shows some) first rest
       (subst Of (sym e) (facts f o m s name files files' out out' kept kept' t r other)) shows
+
+  -- and where no section has its line they are those of boards and notes
+  nones : (v : IsValidMachine m) (rs : List ReactorTurn) (p : Plans m (length m.boards) r.runs.0) → rs ≡ r.runs.1 → AllShowHomes m p.seen (clocks_heard p.seen.told) (ready_heard p.seen.told) t.cause (rs ++ r.runs.2 ∷ [])
+      → AreTold true m (gather (λ t. t.lines) (rs ++ r.runs.2 ∷ [])) → cuts_of (gather (λ t. t.lines) (rs ++ r.runs.2 ∷ [])) ≡ [] → heads_of (gather (λ t. t.lines) (rs ++ r.runs.2 ∷ [])) ≡ [] → IsOwn t.cause → (t.cause ≡ cause.Memory → ⊥)
+      → ((board turn : ℕ) → t.cause ≡ cause.Connect board turn → r.runs.1 ≡ [] → ⊥) → ShowsNone m (gather (λ t. t.lines) (rs ++ r.runs.2 ∷ []))
+  nones v [] p e shows told uncut none own other answers =
+      let Of : List ReactorTurn → Type 0 = λ z. Facts m s r.runs.0 z r.runs.2 t.cause in
+      absurd (alone_own m s r.runs.0 r.runs.2 t.cause (subst Of (sym e) (facts f o m s name files files' out out' kept kept' t r other)) own other (λ board turn is. answers board turn is (sym e)))
+  nones v (first ∷ rest) p e shows told uncut none own other answers =
+      let Of : List ReactorTurn → Type 0 = λ z. Facts m s r.runs.0 z r.runs.2 t.cause in
+      shown_none m v s r.runs.0 p r.runs.2 t.cause own first rest (subst Of (sym e) (facts f o m s name files files' out out' kept kept' t r other)) shows told uncut none (own_shows t.cause own other)
+
+  home_nones : IsValidMachine m → HaveShortDictionaries m → (text : List ℕ) → f.told files name ≡ Some text → kept.at ≡ 0 → AllHomeLittle m s text r.runs.0 (r.runs.1 ++ r.runs.2 ∷ []) → AreTold true m (gather (λ t. t.lines) (r.runs.1 ++ r.runs.2 ∷ []))
+      → cuts_of (gather (λ t. t.lines) (r.runs.1 ++ r.runs.2 ∷ [])) ≡ [] → heads_of (gather (λ t. t.lines) (r.runs.1 ++ r.runs.2 ∷ [])) ≡ [] → IsOwn t.cause → (t.cause ≡ cause.Memory → ⊥)
+      → ((board turn : ℕ) → t.cause ≡ cause.Connect board turn → r.runs.1 ≡ [] → ⊥) → ∥ ShowsNone m (gather (λ t. t.lines) (r.runs.1 ++ r.runs.2 ∷ [])) ∥₁
+  home_nones v short text told at little lines uncut none own other answers =
+      ∥∥₁_map (run_shows f o m s name files files' out out' kept kept' t r v short text told at) (λ w. nones v r.runs.1 w.0.plans refl (w.2 other little) lines uncut none own other answers)
 
   home_limits : IsValidMachine m → HaveShortDictionaries m → (text : List ℕ) → f.told files name ≡ Some text → kept.at ≡ 0 → AllHomeLittle m s text r.runs.0 (r.runs.1 ++ r.runs.2 ∷ []) → heads_of (gather (λ t. t.lines) (r.runs.1 ++ r.runs.2 ∷ [])) ≢ []
       → IsOwn t.cause → (t.cause ≡ cause.Memory → ⊥) → ∥ AreLow (gather (λ t. t.lines) (r.runs.1 ++ r.runs.2 ∷ [])) ∥₁
@@ -175,12 +205,6 @@ module _ {F S : Type 0} (f : Files F) (o : Sink S) (m : Machine) (s : Scene) (na
       let known = (x.own own).0 in
       turns_long m s.switches scene [] r.runs.1 r.runs.2 tt x.turns (x.lines_are ∙ ap (λ (k : Known). (reacts m s.switches k (length (came_from [] r.runs.1)) r.runs.2.states r.runs.2.note).ordered.lines) known)
 
--- a run for a cause of its own shows all its lines
-pub own_shows : (c : Cause) → IsOwn c → (c ≡ cause.Memory → ⊥) → ShowsAll c
-own_shows cause.Memory own other = absurd (other refl)
-own_shows cause.WriteFault own other = absurd own
-own_shows c own other = tt
-
 module _ {F S : Type 0} (f : Files F) (o : Sink S) (printer : List ℕ) (m : Machine) (s : Scene) (gcode : List ℕ) (files files' : F) (out out' : S) (c : Cause) (lines : List ReportLine) (counts : List ℕ) (links : List LinkLog) (configured : reading printer ≡ Ok m)
     (r : IsLinkReport f o m s gcode files files' out out' c lines counts links) (text : List ℕ) (told : f.told files gcode ≡ Some text)
     (little : AllHomeLittle m s text r.reported.runs.runs.0 (r.reported.runs.runs.1 ++ r.reported.runs.runs.2 ∷ [])) (scene : All (λ w. w.line < 2 ^ 64) s.switches) where
@@ -193,6 +217,13 @@ module _ {F S : Type 0} (f : Files F) (o : Sink S) (printer : List ℕ) (m : Mac
     told_all : AreTold true m r.reported.said
     long : HaveLongCuts r.reported.said
     low : heads_of r.reported.said ≢ [] → ∥ AreLow r.reported.said ∥₁
+    none : heads_of r.reported.said ≡ [] → ∥ ShowsNone m r.reported.said ∥₁
+
+  -- a run of one turn doesn't end for a board that gave no answer
+  unanswered : (board turn : ℕ) → c ≡ cause.Connect board turn → r.reported.runs.runs.1 ≡ [] → ⊥
+  unanswered board turn is alone =
+      let Gave : List ReactorTurn → Type 0 = λ z. GaveNoAnswer m s board turn r.reported.runs.runs.0 z r.reported.runs.runs.2 in
+      ∥∥₁_elim (r.connect text told board turn is) (hlevel props) (λ gave. subst Gave alone gave)
 
   showing : IsOwn c → (c ≡ cause.Memory → ⊥) → ∥ Showing ∥₁
   showing own_one other =
@@ -210,6 +241,15 @@ module _ {F S : Type 0} (f : Files F) (o : Sink S) (printer : List ℕ) (m : Mac
         long = subst (λ (z : List ReportLine). HaveLongCuts z) said (home_long f o m s gcode files files' out own.behind own.kept own.kept' own.told own.runs scene went not);
         low = λ some. subst Low said
             (home_limits f o m s gcode files files' out own.behind own.kept own.kept' own.told own.runs home_valid (short_dictionaries printer m configured) text told own.fresh.at little (subst Some_in (sym said) some) went not);
+        none = λ none.
+            let Told : List ReportLine → Type 0 = λ z. AreTold true m z in
+            let Uncut : List ReportLine → Type 0 = λ z. cuts_of z ≡ [] in
+            let Unshown : List ReportLine → Type 0 = λ z. heads_of z ≡ [] in
+            let None_in : List ReportLine → Type 0 = λ z. ∥ ShowsNone m z ∥₁ in
+            let uncut : cuts_of own.said ≡ [] = ap cuts_of (sym (whole_before own.said none)) ∙ shows.cuts.before in
+            subst None_in said
+            (home_nones f o m s gcode files files' out own.behind own.kept own.kept' own.told own.runs home_valid (short_dictionaries printer m configured) text told own.fresh.at little
+            (home_told f o m s gcode files files' out own.behind own.kept own.kept' own.told own.runs not) (subst Uncut (sym said) uncut) (subst Unshown (sym said) none) went not (λ board turn is. unanswered board turn (w.2 ∙ is)));
       })
 
   -- a section is shown
@@ -230,7 +270,13 @@ module _ {F S : Type 0} (f : Files F) (o : Sink S) (printer : List ℕ) (m : Mac
       begun_first (x ∷ begun) e never = (x.start, first_shown 0 x.start x.section.kind (begun_lines 1 begun) r.reported.said e)
 
   -- what was printed before the end line follows the plan, as far as the run came
-  pub printed-front : IsOwn c → (c ≡ cause.Memory → ⊥) → (i turn : ℕ) → section_turn i r.reported.said ≡ Some turn → ∥ ((log : List LogLine) × SaysLog m (report_text m r.reported.said) log × Follows (GoesThrough c) m (sections_over m text) log) ∥₁
-  printed-front own_one other i turn e =
-      ∥∥₁_elim (showing own_one other) ∥∥₁_prop (λ (z : Showing). ∥∥₁_map (z.low (some_behind i turn r.reported.said e)) (λ low.
-      home-front m s.switches text c r.reported.said home_valid (shown_some i turn e) z.shows (own_shows c own_one other) low z.told_all z.long (names-of-reading printer m configured)))
+  pub printed-front : IsOwn c → (c ≡ cause.Memory → ⊥) → ∥ ((log : List LogLine) × SaysLog m (report_text m r.reported.said) log × Follows (GoesThrough c) m (sections_over m text) log) ∥₁
+  printed-front own_one other = ∥∥₁_elim (showing own_one other) ∥∥₁_prop (λ (z : Showing). by z (heads_of r.reported.said) refl)
+    where
+      by : (z : Showing) (heads : List ReportLine) → heads_of r.reported.said ≡ heads → ∥ ((log : List LogLine) × SaysLog m (report_text m r.reported.said) log × Follows (GoesThrough c) m (sections_over m text) log) ∥₁
+      by z [] e = ∥∥₁_map (z.none e) (λ shows.
+          read-back (GoesThrough c) m (sections_over m text) r.reported.said home_valid (names-of-reading printer m configured) shows.of_run (heads-follow (GoesThrough c) m (sections_over m text) (further_told (map logged r.reported.said)) r.reported.said shows.may shows.heads))
+      by z (h ∷ hs) e =
+          let some : heads_of r.reported.said ≢ [] = λ none. (let g : h ∷ hs ≡ [] = sym e ∙ none in cc) in
+          ∥∥₁_map (z.low some) (λ low.
+          home-front m s.switches text c r.reported.said home_valid (λ none. some (sym (shown_heads r.reported.said) ∙ none)) z.shows (own_shows c own_one other) low z.told_all z.long (names-of-reading printer m configured))

@@ -172,7 +172,7 @@ no_item j [] h = refl
 no_item zero (s ∷ states) h = absurd (omega (arith, h))
 no_item (suc j) (s ∷ states) h = no_item j states (omega (arith, h))
 
-machine_heads : (m : Machine) (k : ℕ) → heads_of (machine_line m k) ≡ []
+pub machine_heads : (m : Machine) (k : ℕ) → heads_of (machine_line m k) ≡ []
 machine_heads m k = by (k == 0) where
   by : (b : Bool) → heads_of (if b then report.Machine m.corexy (length m.boards) (length m.steppers) ∷ [] else []) ≡ []
   by true = refl

@@ -81,9 +81,11 @@ module _ {F S : Type 0} (f : Files F) (o : Sink S) (m : Machine) (s : Scene) (na
       let Of : List ReactorTurn → Type 0 = λ z. Facts m s r.runs.0 z r.runs.2 t.cause in
       let begun = none_begun p.seen.begun p.of_text.0 (sym none ∙ p.of_text.1) in
       let own = subst Of (sym e) (facts f o m s name files files' out out' kept kept' t r (written-whole t.cause through).0) in
-      let one = own_cause t.cause through in
-      (cause_on m v s r.runs.0 p r.runs.2 t.cause one first rest own through, shows_none m v s r.runs.0 p r.runs.2 t.cause one first rest own (told_none m v s r.runs.0 p r.runs.2 t.cause one first rest own begun) (bare_none m v s r.runs.0 p r.runs.2 t.cause one first rest own begun)
-      (through_shows t.cause through) (unbegun_lines m v s r.runs.0 p r.runs.2 t.cause one first rest own))
+      let one = own_cause t.cause through in (
+        cause_on m v s r.runs.0 p r.runs.2 t.cause one first rest own through,
+        shows_none m v s r.runs.0 p r.runs.2 t.cause one first rest own (told_none m v s r.runs.0 p r.runs.2 t.cause one first rest own begun) (bare_none m v s r.runs.0 p r.runs.2 t.cause one first rest own begun)
+            (through_shows t.cause through) (unbegun_lines m v s r.runs.0 p r.runs.2 t.cause one first rest own),
+      )
 
   pub none_shown : IsValidMachine m → (text : List ℕ) → f.told files name ≡ Some text → kept.at ≡ 0 → program_sections m text ≡ [] → GoesThrough t.cause → ∥ (IsCauseOn m t.cause × ShowsNone m (gather (λ t. t.lines) (r.runs.1 ++ r.runs.2 ∷ []))) ∥₁
   none_shown v text told at none through =

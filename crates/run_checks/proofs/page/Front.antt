@@ -273,6 +273,14 @@ heads-before through m sections fs b (report.Count stepper many ∷ head) body b
 heads-before through m sections fs b (report.Fit section stepper many planned early late ∷ head) body before stand are h w = absurd are
 heads-before through m sections fs b (report.End c ∷ head) body before stand are h w = absurd are
 
+-- Lines of boards alone follow the plan.
+pub heads-follow : (through : Type 0) (m : Machine) (sections : List Section) (fs : List Further) (head : List ReportLine) → AllMayStand m [] (map logged head) → AreHeads 0 head → AreFronted through m sections fs (onto (map logged head) [])
+heads-follow through m sections fs head stand heads =
+    let empty : IsBefore m sections fs 0 [] = record { fronted = tt; going = refl; none = refl; boards = refl; silent = λ s. refl } in
+    let x = heads-before through m sections fs 0 head [] [] stand heads empty tt in
+    let h = x.0.1 in
+    record { fronted = h.fronted; wholed = x.1; lasted = λ gone uncut s inside. ap length (h.silent s) ∙ sym (ap length (no-plan m sections fs (onto (map logged head) []) s h.none)) }
+
 -- So do lines behind those of the boards that go through the first sections.
 pub lines-follow : (through : Type 0) (m : Machine) (sections : List Section) (fs : List Further) (lines : List Clocks) (head : List ReportLine) (at : ℕ) (kind : SectionKind) (rest : List ReportLine) → AllMayStand m [] (map logged head) → AreHeads 0 head
     → clocks m fs (onto (map logged head) []) ≡ lines → length lines ≡ length m.boards → 0 < length sections → kind ≡ (section_at sections 0).kind → first_turn + (section_at sections 0).dwell ≤ at → FitWith through m sections lines 0 at (λ s. pulses_before s rest)

@@ -7,7 +7,6 @@ use Rattle.std.proofs.lemmas.List.{length-map, take-append-drop}
 use Rattle.plan_types.specs.declared.cause.Cause.{Cause}
 use Rattle.plan_types.specs.declared.cause.Cause.TheVariants as cause
 use Rattle.plan_types.specs.declared.machine.Machine.{Machine}
-use Rattle.plan_types.specs.declared.plan.Held.{Held}
 use Rattle.plan_types.specs.declared.plan.Pulse.{Pulse}
 use Rattle.plan_types.specs.declared.plan.Section.{Section}
 use Rattle.plan_types.specs.declared.plan.SectionKind.{SectionKind}
@@ -16,7 +15,6 @@ use Rattle.plan_types.specs.Lines.{Clocks}
 use Rattle.plan_types.specs.Machines.{IsValidMachine, axis_at, stepper_at}
 use Rattle.plan_types.specs.Plan.{Fits}
 use Rattle.plan_types.specs.Sections.{base_tick, clocks_at, section_end, stepper_plan}
-use Rattle.gcode_state.specs.declared.state.Action.TheVariants as actions
 use Rattle.gcode_program.specs.Cuts.{homes}
 use Rattle.gcode_program.specs.Programs.{outcome_of}
 use Rattle.gcode_program.proofs.Homing.{axis_valid}

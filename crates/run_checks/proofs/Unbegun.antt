@@ -58,7 +58,6 @@ use Rattle.run_plans.proofs.Telling.{pulses_append}
 use Rattle.session_laws.specs.run_ends.Boards.{boards_of, counts_of, lines_at}
 use Rattle.session_laws.specs.run_ends.Ends.{GoesThrough}
 use Rattle.session_laws.proofs.run_ends.Connecting.{after_boards, as_clocks, boards_append, end_none, tells_boards}
-use Rattle.session_laws.proofs.run_ends.Ending.{own_cause}
 use Rattle.session_laws.specs.run_headline.Told.{AreTold}
 use Rattle.session_laws.proofs.run_headline.Boarded.{came_cut, took_long, valid_at}
 use Rattle.session_laws.proofs.run_headline.Fronts.{controlled}

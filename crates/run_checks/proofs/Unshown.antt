@@ -1,5 +1,5 @@
 -- The report of a run over links that has no line of a section.
-use Rattle.std.proofs.Common.{◌≡◌, ◌≢◌, ◌∙◌, ℕ, ◌+◌, ◌<◌, ◌≤◌, Bool, true, false, List, [], ◌∷◌, ◌++◌, length, Some, None, ap, sym, refl, subst, arith, append-nil, inl, inr}
+use Rattle.std.proofs.Common.{◌≡◌, ◌∙◌, ℕ, ◌+◌, ◌≤◌, Bool, true, false, List, [], ◌∷◌, ◌++◌, length, Some, None, ap, sym, refl, subst, arith, append-nil, inl, inr}
 use Rattle.std.specs.Prelude.{if◌then◌else◌}
 use Rattle.std.proofs.lemmas.Grind.{flat_map-append}
 use Rattle.std.proofs.lemmas.Bool.{cases_lt}
@@ -23,7 +23,7 @@ use Rattle.session_work.specs.declared.table.MotionTurn.{MotionTurn}
 use Rattle.session_work.specs.declared.table.ReactorTurn.{ReactorTurn}
 use Rattle.session_work.specs.Rows.{gather}
 use Rattle.host_reactor.specs.Report.{machine_line}
-use Rattle.run_plans.specs.Lines.{TellTurns, head_in, heads_of, pulses_of, starts_at}
+use Rattle.run_plans.specs.Lines.{TellTurns, head_in, heads_of, starts_at}
 use Rattle.run_plans.specs.Planned.{Plans}
 use Rattle.session_laws.specs.run_ends.Ends.{EndsSo}
 use Rattle.session_laws.proofs.run_ends.Ending.{ends_so}
@@ -35,7 +35,7 @@ use Rattle.session_laws.specs.home_headline.Cuts.{cuts_of}
 use Rattle.session_laws.specs.home_headline.Follow.{ShowHomes}
 use Rattle.host_cli.specs.Cuts.{lines_before}
 use Rattle.host_cli.specs.Shown.{sections_shown}
-use Rattle.run_checks.proofs.Unbegun.{AreBare, ShowsNone, bare_none, machine_heads, shows_none, told_none}
+use Rattle.run_checks.proofs.Unbegun.{AreBare, ShowsNone, bare_none, shows_none, told_none}
 use Rattle.run_checks.proofs.UnbegunLines.{unbegun_lines}
 
 -- the section lines are those of the heads

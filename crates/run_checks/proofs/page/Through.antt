@@ -1,5 +1,5 @@
 -- A log that checks follows the plan, and its lines stand as they may.
-use Rattle.std.proofs.Common.{◌≡◌, ◌≢◌, ◌∙◌, ◌⊎◌, ℕ, zero, suc, ◌+◌, ◌<◌, ◌≤◌, Bool, true, false, List, [], ◌∷◌, ◌++◌, length, get_or, map, ap, sym, refl, subst, arith, inl, inr, Option, Some, None}
+use Rattle.std.proofs.Common.{◌≡◌, ◌∙◌, ◌⊎◌, ℕ, zero, suc, ◌+◌, ◌<◌, ◌≤◌, Bool, true, false, List, [], ◌∷◌, ◌++◌, length, ap, sym, refl, subst, arith, inl, inr, Option, Some, None}
 use Rattle.std.specs.Prelude.{◌==◌, ◌&&◌, nat_le, nat_lt, if◌then◌else◌, slice_index_or}
 use Rattle.std.proofs.lemmas.Bool.{cases_lt}
 use Rattle.std.proofs.lemmas.Bool.Decides.{nat_tests}
@@ -8,13 +8,13 @@ use Rattle.std.proofs.lemmas.List.FromFn.{length-map-range_with_len}
 use Rattle.log_text.specs.declared.line.LogLine.{LogLine}
 use Rattle.log_text.specs.declared.line.LogLine.TheVariants as line
 use Rattle.log_check.specs.declared.further.Further.{Further}
-use Rattle.log_check.specs.Behind.{begun, clocks, further_said, is_cut, is_ended, told}
+use Rattle.log_check.specs.Behind.{begun, clocks, further_said, is_ended, told}
 use Rattle.log_check.specs.Faults.{fault_at, have_room, is_short, may_cut, may_follow, may_start, no_tally, open_fault, ready, same_kind, section_fault}
 use Rattle.log_check.specs.Points.{plans, point, section_at}
 use Rattle.log_check.specs.Verdicts.{log_verdict, worded}
 use Rattle.log_check.proofs.Sounding.{fault-open}
 use Rattle.log_check.proofs.Tests.{both-first, both-second}
-use Rattle.log_laws.specs.Follows.{FollowsPlan, IsNext, IsWholeHere, further_among}
+use Rattle.log_laws.specs.Follows.{FollowsPlan, IsNext, further_among}
 use Rattle.log_laws.proofs.Fitting.{pulse-fits}
 use Rattle.log_laws.proofs.Following.{Fine, done, fine-behind, follows, said-among}
 use Rattle.gcode_program.specs.Programs.{program_end}
@@ -27,12 +27,11 @@ use Rattle.plan_types.specs.declared.cause.Cause.TheVariants as cause
 use Rattle.plan_types.specs.declared.cause.MisfitKind.{MisfitKind}
 use Rattle.plan_types.specs.declared.cause.MisfitKind.TheVariants as misfit
 use Rattle.plan_types.specs.declared.machine.Machine.{Machine}
-use Rattle.plan_types.specs.declared.plan.Planned.{Planned}
 use Rattle.plan_types.specs.declared.plan.Section.{Section}
 use Rattle.plan_types.specs.declared.plan.SectionKind.{SectionKind}
 use Rattle.plan_types.specs.Machines.{stepper_at}
 use Rattle.plan_types.specs.Sections.{clocks_at}
-use Rattle.run_checks.specs.page.Log.{Follows, SaysLog, StandsBehind, TellsPulseOf}
+use Rattle.run_checks.specs.page.Log.{Follows, SaysLog, StandsBehind}
 
 -- tests
 if-true : (kind : MisfitKind) (a : Bool) → (if a then None else Some kind) ≡ None → a ≡ true

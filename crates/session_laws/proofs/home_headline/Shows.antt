@@ -2,7 +2,6 @@
 use Rattle.std.proofs.Common.{◌≡◌, inl, inr, ℕ, zero, suc, ◌+◌, ◌-◌, ◌*◌, ◌<◌, ◌≤◌, ◌⊎◌, List, [], ◌∷◌, ◌++◌, length, take, All, Option, None, Some, refl, ap, sym, ◌∙◌, subst, arith, length-append, append_assoc}
 use Rattle.std.proofs.Math.Logic.{∥∥₁_map}
 use Rattle.std.proofs.Math.Seq.{take-append_seam}
-use Rattle.std.proofs.lemmas.List.{length-map}
 use Rattle.plan_types.specs.declared.cause.Cause.{Cause}
 use Rattle.plan_types.specs.declared.cause.Cause.TheVariants as cause
 use Rattle.plan_types.specs.declared.machine.Machine.{Machine}
@@ -21,7 +20,6 @@ use Rattle.wire_scene.specs.declared.scene.Scene.{Scene}
 use Rattle.host_reactor.specs.Reactor.{Run}
 use Rattle.motion_work.specs.Seen.{Started}
 use Rattle.motion_work.specs.Told.{Told}
-use Rattle.motion_stream.proofs.Wholing.{at_place}
 use Rattle.session_lanes.specs.declared.near.Told as near
 use Rattle.session_work.specs.declared.table.MotionTurn.{MotionTurn}
 use Rattle.session_work.specs.declared.table.ReactorTurn.{ReactorTurn}
@@ -31,9 +29,8 @@ use Rattle.session_run.specs.Runs.{RunsOver}
 use Rattle.run_laws.specs.Boards.{AreEnded, IsWindow, NextStart}
 use Rattle.run_plans.specs.Boards.{lines_between, times_of}
 use Rattle.run_plans.specs.Lines.{TellTurns, pulses_of}
-use Rattle.run_plans.specs.Planned.{Plans, put_of}
+use Rattle.run_plans.specs.Planned.{Plans}
 use Rattle.run_plans.proofs.Beginning.{Spread}
-use Rattle.run_plans.proofs.Running.{started_in}
 use Rattle.run_plans.proofs.Spreading.{plans_spread}
 use Rattle.run_plans.proofs.Telling.{all_tell, pulses_append}
 use Rattle.session_laws.specs.run_ends.Ends.{GoesThrough}
@@ -45,9 +42,6 @@ use Rattle.session_laws.proofs.run_headline.Joining.{of_sections, row_none}
 use Rattle.session_laws.proofs.run_headline.Making.{run_made}
 use Rattle.session_laws.proofs.run_headline.Runs.{facts}
 use Rattle.session_laws.proofs.run_headline.Showing.{Facts, Unread, alone_ends, boards_told, counts_so, first_pulses, further_by, heard, in_none, lines_all, long_answered, long_own, long_read, not_told, sound_by, started, starts_late, through_long, untold_alone}
-use Rattle.homing_laws.specs.home_plans.Notes.{AreInARow}
-use Rattle.homing_laws.proofs.home_plans.Noting.{begun_row}
-use Rattle.homing_laws.proofs.home_parts.Told.{row_from}
 use Rattle.session_laws.specs.home_headline.Follow.{AllShowHomes, FollowHomes, ShowHomes}
 use Rattle.cause_runs.specs.Short.{HaveShortDictionaries}
 use Rattle.session_laws.specs.home_headline.Little.{AllHomeLittle}

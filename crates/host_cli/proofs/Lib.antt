@@ -4,7 +4,7 @@ pub mod Whole
 pub mod Scened
 mod Followed
 mod Behind
-mod Inside
+pub mod Inside
 pub mod Linked
 pub mod Captured
 pub mod Fanned

@@ -181,19 +181,40 @@ module _ (m : Machine) (seen : Seen) (text : List ℕ) (first : ReactorTurn) (re
         kind = ap (λ n. kind_of (sections_over m text) n) (sym x.place_is) ∙ ap (λ (z : Section). z.kind) (sections_of x.past x.s x.later x.cut);
       }
 
+  -- the end of a section of moves
+  part_end : (clocks : List Clocks) (ready : ℕ) → AreStarted m clocks ready seen.begun → (i turn : ℕ) (e : section_turn i (gather (λ t. t.lines) (first ∷ rest)) ≡ Some turn) → kind_of (sections_over m text) i ≡ Moves
+      → (part_of i turn 0 e).x.end ≡ section_end m clocks (moves_of (sections_over m text) i) turn
+  part_end clocks ready started i turn e moves =
+      let x = part_of i turn 0 e in
+      let Apart : List Started → Type 0 = λ z. AreStarted m clocks ready z in
+      let planned = planned_at m clocks ready x.past x.x x.later (subst Apart x.cut started) in
+      let moved = subst (λ (k : SectionKind). IsPlanned k m clocks x.x) (sym x.kind ∙ moves) planned in
+      moved.end ∙ ap (λ n. section_end m clocks x.x.section.moves n) x.start ∙ ap (λ z. section_end m clocks z turn) (sym x.moves)
+
   -- a section of moves with its line ended by the last turn, where all did
   part_over : (clocks : List Clocks) (ready : ℕ) → AreStarted m clocks ready seen.begun → All (λ y. y.end + 5 ≤ length rest) seen.begun → (i turn : ℕ) → section_turn i (gather (λ t. t.lines) (first ∷ rest)) ≡ Some turn
       → kind_of (sections_over m text) i ≡ Moves → section_end m clocks (moves_of (sections_over m text) i) turn < length rest
   part_over clocks ready started over i turn e moves =
       let x = part_of i turn 0 e in
       let Over : List Started → Type 0 = λ z. All (λ y. y.end + 5 ≤ length rest) z in
-      let Apart : List Started → Type 0 = λ z. AreStarted m clocks ready z in
       let o = over_at (length rest) x.past x.x x.later (subst Over x.cut over) in
-      let planned = planned_at m clocks ready x.past x.x x.later (subst Apart x.cut started) in
-      let kind : x.x.section.kind ≡ Moves = sym x.kind ∙ moves in
-      let moved = subst (λ (k : SectionKind). IsPlanned k m clocks x.x) kind planned in
-      let end : x.x.end ≡ section_end m clocks (moves_of (sections_over m text) i) turn = moved.end ∙ ap (λ n. section_end m clocks x.x.section.moves n) x.start ∙ ap (λ z. section_end m clocks z turn) (sym x.moves) in
+      let end = part_end clocks ready started i turn e moves in
       omega (arith, o, end)
+
+  -- and by it where the next section has its line
+  part_next : (clocks : List Clocks) (ready : ℕ) → AreStarted m clocks ready seen.begun → (i turn next : ℕ) → section_turn i (gather (λ t. t.lines) (first ∷ rest)) ≡ Some turn → section_turn (i + 1) (gather (λ t. t.lines) (first ∷ rest)) ≡ Some next
+      → kind_of (sections_over m text) i ≡ Moves → section_end m clocks (moves_of (sections_over m text) i) turn < length rest
+  part_next clocks ready started i turn next e f moves =
+      let x = part_of i turn 0 e in
+      let y = part_of (i + 1) next 0 f in
+      let Apart : List Started → Type 0 = λ z. AreStarted m clocks ready z in
+      let behind = next_begun x.past x.x x.later y.past y.x y.later (sym x.cut ∙ y.cut) (omega (arith, x.place_is, y.place_is)) in
+      let apart = apart_by m clocks ready x.past x.x y.x y.later (subst Apart (x.cut ∙ ap (λ z. x.past ++ x.x ∷ z) behind) started) in
+      let begins = y.window.begins in
+      let order = y.window.order in
+      let within = y.window.within in
+      let end = part_end clocks ready started i turn e moves in
+      omega (arith, apart, begins, order, within, end)
 
   -- the pulses of each stepper in each section fit its plan
   abbrev AllFit : List Clocks → Type 0
@@ -604,15 +625,22 @@ module _ (m : Machine) (switches : List Switch) (seen : Seen) (clocks : List Clo
     further = λ i turn e. (told_further i turn e).further;
     first = λ i turn e. (told_further i turn e).first;
     named = λ i turn e. (told_further i turn e).named;
-    over = λ g i turn e kind. (
-        let over = part_over m seen text first later spread h.of_text h.lines same clocks ready h.started (h.through (went g)).over i turn (ap (section_turn i) (whole g) ∙ e) kind in omega (arith, over));
-    told = λ g short firsts.
+    over = λ i turn e kind why.
+        let soon : section_end m clocks (moves_of (sections_over m text) i) turn < length later = elim why [
+          | inl next ↦ part_next m seen text first later spread h.of_text h.lines same clocks ready h.started i turn next.0 (in_all i turn e) (in_all (i + 1) next.0 next.1) kind
+          | inr g ↦ part_over m seen text first later spread h.of_text h.lines same clocks ready h.started (h.through (went g)).over i turn (in_all i turn e) kind
+        ] in
+        omega (arith, soon);
+    told = λ short firsts.
         let Follows : List ReportLine → Type 0 = λ z. FollowsPlanBy short m (sections_over m text) z in
-        subst Follows (whole g) (fits_follow m seen text first later spread h.of_text h.lines same short (h.told (went g) short firsts));
+        follow_front short m text said rest (subst Follows shown_all (fits_follow m seen text first later spread h.of_text h.lines same short (h.told short firsts)));
   }
     where
       both : heads_of (gather (λ t. t.lines) (first ∷ later)) ≡ heads_of said ++ heads_of rest
       both = ap heads_of shown_all ∙ flat_map-append head_in said rest
+
+      in_all : (i turn : ℕ) → section_turn i said ≡ Some turn → section_turn i (gather (λ t. t.lines) (first ∷ later)) ≡ Some turn
+      in_all i turn e = ap (section_turn i) shown_all ∙ turn_front i turn said rest e
 
       starts : ShowStarts m seen clocks ready first later
       starts = record { late = h.late; started = h.started; boards = h.boards; lines = h.lines; early = h.early }

@@ -1,5 +1,5 @@
 -- What the lines of a run over links show of a text whose axes may home.
-use Rattle.std.specs.Prelude.{◌≡◌, ℕ, ◌+◌, ◌<◌, List, ◌++◌, length, map, take, Some}
+use Rattle.std.specs.Prelude.{◌≡◌, ◌⊎◌, ℕ, ◌+◌, ◌<◌, List, ◌++◌, length, map, take, Some}
 use Rattle.gcode_program.specs.Programs.{program_end}
 use Rattle.plan_types.specs.declared.cause.Cause.{Cause}
 use Rattle.plan_types.specs.declared.machine.Machine.{Machine}
@@ -54,14 +54,15 @@ pub record ShowsHomes (m : Machine) (switches : List Switch) (text : List ℕ) (
   pub apart : (i turn : ℕ) → section_turn i said ≡ Some turn → StandApart m clocks ready said
   pub sound : (i turn : ℕ) → section_turn i said ≡ Some turn → AreSound m clocks ready
   -- Further lines: where a section has its line, the further clock lines of each board that are told are the first ones of these, in
-  -- order, and no board has its line behind one; where the run shows all its lines the others hold from behind a turn. Where it went
-  -- through, by this turn the plans of all sections of moves ended, and the pulses of each section fit its plan by the lines that are told as well
+  -- order, and no board has its line behind one; where the run shows all its lines the others hold from behind a turn. By this turn the plan of a
+  -- section of moves ended where the next section has its line or the run went through; and the pulses of each section fit its plan without lines
+  -- that hold from behind it on
   pub last : ℕ
   pub further : (i turn : ℕ) → section_turn i said ≡ Some turn → (b : ℕ) → b < length m.boards → TellsFurther b (clocks_at clocks b).held last c said
   pub first : (i turn : ℕ) → section_turn i said ≡ Some turn → BoardsFirst said
   pub named : (i turn : ℕ) → section_turn i said ≡ Some turn → AreNamed m said
-  pub over : GoesThrough c → (i turn : ℕ) → section_turn i said ≡ Some turn → kind_of (sections_over m text) i ≡ Moves → section_end m clocks (moves_of (sections_over m text) i) turn < last
-  pub told : GoesThrough c → (short : List Clocks) → ((b : ℕ) → b < length m.boards → AreFirstLines (clocks_at short b) (clocks_at clocks b) last) → FollowsPlanBy short m (sections_over m text) said
+  pub over : (i turn : ℕ) → section_turn i said ≡ Some turn → kind_of (sections_over m text) i ≡ Moves → ((next : ℕ) × (section_turn (i + 1) said ≡ Some next)) ⊎ GoesThrough c → section_end m clocks (moves_of (sections_over m text) i) turn < last
+  pub told : (short : List Clocks) → ((b : ℕ) → b < length m.boards → AreFirstLines (clocks_at short b) (clocks_at clocks b) last) → FollowsPlanBy short m (sections_over m text) said
 
 -- What the lines of a run over links show of the sections of a text, of moves or homing, whatever its links hold: all of the above that is
 -- not of pulses and of cuts.

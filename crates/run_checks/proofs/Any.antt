@@ -41,7 +41,7 @@ module _ {F S : Type 0} (f : Files F) (o : Sink S) (printer : List ℕ) (m : Mac
     where
       by : (sections : List Section) → sections_over m text ≡ sections → check_cause m text (report_text m (r.reported.said ++ report.End c ∷ [])) ≡ cause.Done
       by [] e = none-links f o printer m s gcode files files' out out' c lines counts links configured r text told e through
-      by (x ∷ sections) e = home-links f o printer m s gcode files files' out out' c lines counts links configured r text told (λ none. (let g : x ∷ sections ≡ [] = sym e ∙ none in cc)) little through (scene_under m s scene)
+      by (x ∷ sections) e = home-links f o printer m s gcode files files' out out' c lines counts links configured r text told little (scene_under m s scene) (λ none. (let g : x ∷ sections ≡ [] = sym e ∙ none in cc)) through
 
   -- what is written is the report, where nothing was written before
   pub as-written : (log : List ℕ) → o.written out ≡ Some [] → o.written out' ≡ Some log → check_cause m text (report_text m (r.reported.said ++ report.End c ∷ [])) ≡ cause.Done → check_cause m text log ≡ cause.Done

@@ -45,7 +45,7 @@ AreLoose (report.Lines accepted passed ∷ lines) = AreLoose lines
 AreLoose (_ ∷ lines) = ⊥
 
 -- one cut line, of the section of a number
-abbrev IsOneCut : ℕ → List ReportLine → Type 0
+abbrev pub IsOneCut : ℕ → List ReportLine → Type 0
 IsOneCut i lines = (board pin tick from : ℕ) × (lines ≡ report.Cut i board pin tick from ∷ [])
 
 -- where there are none
@@ -345,7 +345,7 @@ tell-all m sections clocks short cuts homes ready valid one secs past i soon (re
 tell-all m sections clocks short cuts homes ready valid one secs past i soon (report.End c ∷ lines) are at order begins behind due follow = absurd begins
 
 -- the lines before the first section show nothing of sections
-head-shown : (b : ℕ) (head body : List ReportLine) → AreHeads b head → sections_shown (head ++ body) ≡ sections_shown body
+pub head-shown : (b : ℕ) (head body : List ReportLine) → AreHeads b head → sections_shown (head ++ body) ≡ sections_shown body
 head-shown b [] body heads = refl
 head-shown b (report.Board board freq turn tick ∷ head) body heads = head-shown (b + 1) head body heads.1
 head-shown b (report.Machine corexy boards steppers ∷ head) body heads = head-shown b head body heads
@@ -360,7 +360,7 @@ head-shown b (report.Count stepper pulses ∷ head) body heads = absurd heads
 head-shown b (report.Fit section stepper pulses planned early late ∷ head) body heads = absurd heads
 head-shown b (report.End c ∷ head) body heads = absurd heads
 
-head-turn : (b i : ℕ) (head body : List ReportLine) → AreHeads b head → section_turn i (head ++ body) ≡ section_turn i body
+pub head-turn : (b i : ℕ) (head body : List ReportLine) → AreHeads b head → section_turn i (head ++ body) ≡ section_turn i body
 head-turn b i [] body heads = refl
 head-turn b i (report.Board board freq turn tick ∷ head) body heads = head-turn (b + 1) i head body heads.1
 head-turn b i (report.Machine corexy boards steppers ∷ head) body heads = head-turn b i head body heads
@@ -375,7 +375,7 @@ head-turn b i (report.Count stepper pulses ∷ head) body heads = absurd heads
 head-turn b i (report.Fit section stepper pulses planned early late ∷ head) body heads = absurd heads
 head-turn b i (report.End c ∷ head) body heads = absurd heads
 
-head-pulses : (b i s : ℕ) (head body : List ReportLine) → AreHeads b head → pulses_in i s (head ++ body) ≡ pulses_in i s body
+pub head-pulses : (b i s : ℕ) (head body : List ReportLine) → AreHeads b head → pulses_in i s (head ++ body) ≡ pulses_in i s body
 head-pulses b i s [] body heads = refl
 head-pulses b i s (report.Board board freq turn tick ∷ head) body heads = head-pulses (b + 1) i s head body heads.1
 head-pulses b i s (report.Machine corexy boards steppers ∷ head) body heads = head-pulses b i s head body heads
@@ -390,7 +390,7 @@ head-pulses b i s (report.Count stepper pulses ∷ head) body heads = absurd hea
 head-pulses b i s (report.Fit section stepper pulses planned early late ∷ head) body heads = absurd heads
 head-pulses b i s (report.End c ∷ head) body heads = absurd heads
 
-head-behind : (b i : ℕ) (head body : List ReportLine) → AreHeads b head → lines_behind i (head ++ body) ≡ lines_behind i body
+pub head-behind : (b i : ℕ) (head body : List ReportLine) → AreHeads b head → lines_behind i (head ++ body) ≡ lines_behind i body
 head-behind b i [] body heads = refl
 head-behind b i (report.Board board freq turn tick ∷ head) body heads = head-behind (b + 1) i head body heads.1
 head-behind b i (report.Machine corexy boards steppers ∷ head) body heads = head-behind b i head body heads

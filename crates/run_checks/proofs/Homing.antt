@@ -1,6 +1,6 @@
 -- The report of a run over links in which axes home checks.
-use Rattle.std.proofs.Common.{◌≡◌, ◌≢◌, ◌∙◌, ℕ, true, ◌+◌, ◌*◌, ◌<◌, ◌≤◌, ◌^◌, All, List, [], ◌∷◌, ◌++◌, length, Option, Some, None, ap, sym, refl, subst, arith, append-nil, inl, length-append}
-use Rattle.std.proofs.Math.Logic.{∥∥₁_elim, ∥∥₁_map}
+use Rattle.std.proofs.Common.{◌≡◌, ◌≢◌, ◌∙◌, ℕ, true, ◌+◌, ◌*◌, ◌<◌, ◌≤◌, ◌^◌, All, List, [], ◌∷◌, ◌++◌, length, Option, Some, None, ap, sym, refl, subst, arith, append-nil, inl, inr, length-append, map}
+use Rattle.std.proofs.Math.Logic.{∥∥₁_elim, ∥∥₁_map, ∥∥₁_prop}
 use Rattle.std.proofs.Props.{props}
 use Rattle.std.proofs.lemmas.Grind.{flat_map-append}
 use Rattle.std.proofs.lemmas.List.{length-map}
@@ -8,19 +8,23 @@ use Rattle.std.specs.Prelude.{Ok}
 use Rattle.cfg_text.specs.Reading.{reading}
 use Rattle.io_core.specs.declared.traits.Files.{Ghosts as Files}
 use Rattle.io_core.specs.declared.traits.Sink.{Ghosts as Sink}
-use Rattle.gcode_program.specs.Programs.{program_sections}
 use Rattle.plan_types.specs.declared.cause.Cause.{Cause}
 use Rattle.plan_types.specs.declared.cause.Cause.TheVariants as cause
 use Rattle.plan_types.specs.declared.machine.Machine.{Machine}
 use Rattle.plan_types.specs.Clock.{tick, turn_ns}
+use Rattle.plan_types.specs.Lines.{Clocks}
 use Rattle.plan_types.specs.Machines.{IsValidMachine}
 use Rattle.plan_types.specs.Sections.{clocks_at}
 use Rattle.report_text.specs.declared.line.ReportLine.{ReportLine}
 use Rattle.report_text.specs.declared.line.ReportLine.TheVariants as report
 use Rattle.report_text.specs.Text.{report_text}
+use Rattle.log_text.specs.declared.line.LogLine.{LogLine}
+use Rattle.report_laws.specs.Further.{further_told}
+use Rattle.report_laws.specs.Logged.{logged}
 use Rattle.report_laws.proofs.Configured.{names-of-reading}
 use Rattle.host_reactor.specs.Reactor.{Run, reacts}
 use Rattle.host_reactor.specs.declared.ordered.Known.{Known}
+use Rattle.host_reactor.specs.Rows.{IsOwn}
 use Rattle.host_reactor.specs.Runs.{Came, known_by}
 use Rattle.motion_work.specs.Seen.{Started}
 use Rattle.motion_work.specs.Told.{Told}
@@ -34,18 +38,23 @@ use Rattle.session_run.specs.Boards.{AreReactorTurns, came_from, came_in}
 use Rattle.session_run.specs.Runs.{RunsOver}
 use Rattle.wire_scene.specs.declared.scene.Scene.{Scene}
 use Rattle.wire_scene.specs.declared.scene.Switch.{Switch}
-use Rattle.run_plans.specs.Planned.{AreToldBy, Plans, put_of}
+use Rattle.run_plans.specs.Lines.{heads_of}
+use Rattle.run_plans.specs.Planned.{AreToldBy, Plans, Seen, put_of}
 use Rattle.run_plans.proofs.Spreading.{plans_spread}
 use Rattle.session_laws.specs.run_ends.Boards.{board_in, boards_of, counts_of}
 use Rattle.session_laws.specs.run_ends.Ends.{GoesThrough}
 use Rattle.session_laws.proofs.run_ends.Ending.{own_cause}
-use Rattle.session_laws.specs.run_headline.Further.{TellFurther}
+use Rattle.session_laws.specs.run_headline.Further.{ShowsAll, TellFurther}
 use Rattle.session_laws.specs.run_headline.Timely.{clocks_heard, ready_heard}
 use Rattle.session_laws.specs.run_headline.Told.{AreTold}
 use Rattle.session_laws.proofs.run_headline.Boarded.{ready}
 use Rattle.session_laws.proofs.run_headline.Runs.{facts}
-use Rattle.session_laws.proofs.run_headline.Showing.{Facts, long_own}
+use Rattle.session_laws.proofs.run_headline.Showing.{Facts, counts_or, long_own, untold_alone}
 use Rattle.session_laws.proofs.run_headline.Telling.{reacts_told}
+use Rattle.session_laws.specs.run_lines.Due.{begun_lines}
+use Rattle.session_laws.proofs.run_lines.Heads.{first_heads}
+use Rattle.session_laws.specs.run_causes.Unanswered.{GaveNoAnswer}
+use Rattle.session_laws.specs.home_headline.Cuts.{cuts_of}
 use Rattle.session_laws.specs.home_headline.Follow.{AllShowHomes, ShowHomes}
 use Rattle.session_laws.specs.home_headline.Little.{AllHomeLittle}
 use Rattle.cause_runs.specs.Short.{HaveShortDictionaries}
@@ -55,33 +64,39 @@ use Rattle.session_laws.specs.run_limits.Limits.{AreLow, DriftsLow, greatest_tic
 use Rattle.session_laws.proofs.run_limits.Early.{heads_low, starts_early}
 use Rattle.session_laws.proofs.run_limits.Few.{read_few}
 use Rattle.session_laws.proofs.run_limits.Drifts.{drifts_low}
-use Rattle.session_laws.proofs.run_limits.Keeping.{gather_both, low_of, none_of, ready_by}
+use Rattle.session_laws.proofs.run_limits.Keeping.{gather_both, low_of, ready_by}
 use Rattle.session_laws.proofs.run_limits.Ticks.{board_low, lines_low}
 use Rattle.host_cli.specs.Checks.{check_cause}
 use Rattle.host_cli.specs.Homes.{ShowsHomes}
 use Rattle.host_cli.specs.Promises.{sections_over}
 use Rattle.host_cli.specs.Scenes.{IsLinkReport}
-use Rattle.run_checks.proofs.Homed.{home-checks}
+use Rattle.host_cli.specs.Shown.{section_turn, sections_shown}
+use Rattle.host_cli.proofs.Inside.{some_behind}
+use Rattle.run_checks.specs.page.Log.{Follows, SaysLog}
+use Rattle.run_checks.proofs.Homed.{home-checks, home-front, read-back}
+use Rattle.run_checks.proofs.Unbegun.{ShowsNone}
+use Rattle.run_checks.proofs.Unshown.{alone_own, shown_heads, shown_none, whole_before}
+use Rattle.run_checks.proofs.page.Front.{heads-follow}
 use Rattle.run_checks.proofs.Linking.{text-cause, written-whole}
+use Rattle.run_checks.proofs.Low.{shown_turn}
+use Rattle.run_checks.proofs.Standing.{first_shown}
 use Rattle.run_checks.proofs.Wide.{turns_long}
 use Rattle.run_checks.proofs.Limits.{HaveLongCuts}
-use Rattle.session_laws.proofs.run_limits.Runs.{in_memory}
 
--- the lines of the turns of a run that went through keep the limits of a run
-module _ (m : Machine) (v : IsValidMachine m) (s : Scene) (ts : List MotionTurn) (p : Plans m (length m.boards) ts) (end : ReactorTurn) (c : Cause) (through : GoesThrough c) (sections : program_sections m p.seen.text ≢ []) where
-  none_alone : ShowHomes m p.seen (clocks_heard p.seen.told) (ready_heard p.seen.told) c end [] → ⊥
-  none_alone shows =
-      let th = shows.through through in
-      by p.seen.begun (none_of p.seen.begun (λ e. sections (sym th.all ∙ e))) th.over
-    where
-      by : (begun : List Started) → begun ≢ [] → All (λ s. s.end + 5 ≤ 0) begun → ⊥
-      by [] some over = some refl
-      by (x ∷ begun) some over = (let late = over 0 x (omega arith) in absurd (omega (arith, late)))
+-- sections that have their line were begun
+begun_some : (m : Machine) (seen : Seen) (clocks : List Clocks) (at : ℕ) (c : Cause) (first : ReactorTurn) (rest : List ReactorTurn) → ShowHomes m seen clocks at c first rest → heads_of (gather (λ t. t.lines) (first ∷ rest)) ≢ [] → seen.begun ≢ []
+begun_some m seen clocks at c first rest shows some none =
+    let front = first_heads m seen clocks at first rest (record { late = shows.late; started = shows.started; boards = shows.boards; lines = shows.lines; early = shows.early }) in
+    let e : [] ≡ heads_of (gather (λ (t : ReactorTurn). t.lines) (first ∷ rest)) ++ front.0 = sym (ap (begun_lines 0) none) ∙ front.1 in
+    some (by (heads_of (gather (λ (t : ReactorTurn). t.lines) (first ∷ rest))) front.0 e)
+  where
+    by : (xs ys : List ReportLine) → [] ≡ xs ++ ys → xs ≡ []
+    by [] ys e = refl
+    by (x ∷ xs) ys e = absurd (let f : [] ≡ x ∷ (xs ++ ys) = e in cc)
 
+-- the lines of the turns of a run that ended for a cause of its own keep the limits of a run
+module _ (m : Machine) (v : IsValidMachine m) (s : Scene) (ts : List MotionTurn) (p : Plans m (length m.boards) ts) (end : ReactorTurn) (c : Cause) (own_one : IsOwn c) (some : p.seen.begun ≢ []) where
   module _ (first : ReactorTurn) (rest : List ReactorTurn) (f : Facts m s ts (first ∷ rest) end c) (shows : ShowHomes m p.seen (clocks_heard p.seen.told) (ready_heard p.seen.told) c first (rest ++ end ∷ [])) where
-    some : p.seen.begun ≢ []
-    some = none_of p.seen.begun (λ e. sections (sym (shows.through through).all ∙ e))
-
     early : All (λ x. x.start < start_limit) p.seen.begun
     early = starts_early m (length m.boards) ts p (length m.boards) f.from f.to f.goes
 
@@ -103,7 +118,10 @@ module _ (m : Machine) (v : IsValidMachine m) (s : Scene) (ts : List MotionTurn)
         let few = read_few m p.seen.text in
         let deeds = few.deeds in
         let passed = few.passed in
-        subst AreLow (sym (shows.counts through)) ((omega (arith, deeds), omega (arith, passed)), tt)
+        elim (counts_or m v s ts p end c first rest f own_one (long_own m v s ts p end c first rest f own_one)) [
+          | inl none ↦ subst AreLow (sym none) tt
+          | inr is ↦ subst AreLow (sym is) ((omega (arith, deeds), omega (arith, passed)), tt)
+        ]
 
     further_low : DriftsLow (gather (λ t. t.lines) (first ∷ (rest ++ end ∷ [])))
     further_low = by p.seen.told refl
@@ -114,7 +132,7 @@ module _ (m : Machine) (v : IsValidMachine m) (s : Scene) (ts : List MotionTurn)
             let made = length-map p.made put_of in
             let small = p.small in
             let many = length-append rest (end ∷ []) in
-            let own = long_own m v s ts p end c first rest f (own_cause c through) in
+            let own = long_own m v s ts p end c first rest f own_one in
             let Tell : Option Told → Type 0 = λ o. TellFurther m (clocks_heard o) (length (rest ++ end ∷ []) + 271) c (gather (λ t. t.lines) (first ∷ (rest ++ end ∷ []))) in
             drifts_low m v s ts p t first rest end e (ready m v s ts p t first rest end e f.ahead f.words_left f.turns f.words) (λ b h. f.boards b first rest h refl) (omega (arith, made, small, many, own)) (length (rest ++ end ∷ []) + 271) c (gather (λ t. t.lines) (first ∷ (rest ++ end ∷ []))) (subst Tell e (shows.further some))
 
@@ -137,49 +155,128 @@ all_told m switches before [] end known k turns last = told_both m end.lines [] 
 all_told m switches before (r ∷ rs) end known k turns last =
     told_both m r.lines (gather (λ (t : ReactorTurn). t.lines) (rs ++ end ∷ [])) (turn_told m switches (known_by m switches before) (length before) r turns.0.lines_are) (all_told m switches (came_in r ∷ before) rs end known k turns.1 last)
 
+-- a run for a cause of its own shows all its lines
+pub own_shows : (c : Cause) → IsOwn c → (c ≡ cause.Memory → ⊥) → ShowsAll c
+own_shows cause.Memory own other = absurd (other refl)
+own_shows cause.WriteFault own other = absurd own
+own_shows c own other = tt
+
 module _ {F S : Type 0} (f : Files F) (o : Sink S) (m : Machine) (s : Scene) (name : List ℕ) (files files' : F) (out out' : S) (kept kept' : Kept) (t : near.Told Run) (r : RunsOver f o m s name files out kept t files' out' kept') where
   limits : (v : IsValidMachine m) (rs : List ReactorTurn) (p : Plans m (length m.boards) r.runs.0) → rs ≡ r.runs.1 → AllShowHomes m p.seen (clocks_heard p.seen.told) (ready_heard p.seen.told) t.cause (rs ++ r.runs.2 ∷ [])
-      → program_sections m p.seen.text ≢ [] → GoesThrough t.cause → AreLow (gather (λ t. t.lines) (rs ++ r.runs.2 ∷ []))
-  limits v [] p e shows some through = absurd (none_alone m v s r.runs.0 p r.runs.2 t.cause through some shows)
-  limits v (first ∷ rest) p e shows some through =
+      → heads_of (gather (λ t. t.lines) (rs ++ r.runs.2 ∷ [])) ≢ [] → IsOwn t.cause → (t.cause ≡ cause.Memory → ⊥) → AreLow (gather (λ t. t.lines) (rs ++ r.runs.2 ∷ []))
+  limits v [] p e shows some own other =
       let Of : List ReactorTurn → Type 0 = λ z. Facts m s r.runs.0 z r.runs.2 t.cause in
-      home_low m v s r.runs.0 p r.runs.2 t.cause through some first rest (subst Of (sym e) (facts f o m s name files files' out out' kept kept' t r (in_memory t.cause through))) shows
+      absurd (untold_alone m v s r.runs.0 p r.runs.2 t.cause p.seen.told refl (subst Of (sym e) (facts f o m s name files files' out out' kept kept' t r other)) (begun_some m p.seen (clocks_heard p.seen.told) (ready_heard p.seen.told) t.cause r.runs.2 [] shows some))
+  limits v (first ∷ rest) p e shows some own other =
+      let Of : List ReactorTurn → Type 0 = λ z. Facts m s r.runs.0 z r.runs.2 t.cause in
+      home_low m v s r.runs.0 p r.runs.2 t.cause own (begun_some m p.seen (clocks_heard p.seen.told) (ready_heard p.seen.told) t.cause first (rest ++ r.runs.2 ∷ []) shows some) first rest
+      (subst Of (sym e) (facts f o m s name files files' out out' kept kept' t r other)) shows
 
-  home_limits : IsValidMachine m → HaveShortDictionaries m → (text : List ℕ) → f.told files name ≡ Some text → kept.at ≡ 0 → program_sections m text ≢ [] → AllHomeLittle m s text r.runs.0 (r.runs.1 ++ r.runs.2 ∷ []) → GoesThrough t.cause
-      → ∥ AreLow (gather (λ t. t.lines) (r.runs.1 ++ r.runs.2 ∷ [])) ∥₁
-  home_limits v short text told at some little through =
-      ∥∥₁_map (run_shows f o m s name files files' out out' kept kept' t r v short text told at) (λ w.
-      let Some_in : List ℕ → Type 0 = λ z. program_sections m z ≢ [] in
-      limits v r.runs.1 w.0.plans refl (w.2 (in_memory t.cause through) little) (subst Some_in (sym w.1) some) through)
+  -- and where no section has its line they are those of boards and notes
+  nones : (v : IsValidMachine m) (rs : List ReactorTurn) (p : Plans m (length m.boards) r.runs.0) → rs ≡ r.runs.1 → AllShowHomes m p.seen (clocks_heard p.seen.told) (ready_heard p.seen.told) t.cause (rs ++ r.runs.2 ∷ [])
+      → AreTold true m (gather (λ t. t.lines) (rs ++ r.runs.2 ∷ [])) → cuts_of (gather (λ t. t.lines) (rs ++ r.runs.2 ∷ [])) ≡ [] → heads_of (gather (λ t. t.lines) (rs ++ r.runs.2 ∷ [])) ≡ [] → IsOwn t.cause → (t.cause ≡ cause.Memory → ⊥)
+      → ((board turn : ℕ) → t.cause ≡ cause.Connect board turn → r.runs.1 ≡ [] → ⊥) → ShowsNone m (gather (λ t. t.lines) (rs ++ r.runs.2 ∷ []))
+  nones v [] p e shows told uncut none own other answers =
+      let Of : List ReactorTurn → Type 0 = λ z. Facts m s r.runs.0 z r.runs.2 t.cause in
+      absurd (alone_own m s r.runs.0 r.runs.2 t.cause (subst Of (sym e) (facts f o m s name files files' out out' kept kept' t r other)) own other (λ board turn is. answers board turn is (sym e)))
+  nones v (first ∷ rest) p e shows told uncut none own other answers =
+      let Of : List ReactorTurn → Type 0 = λ z. Facts m s r.runs.0 z r.runs.2 t.cause in
+      shown_none m v s r.runs.0 p r.runs.2 t.cause own first rest (subst Of (sym e) (facts f o m s name files files' out out' kept kept' t r other)) shows told uncut none (own_shows t.cause own other)
 
-  home_told : GoesThrough t.cause → AreTold true m (gather (λ t. t.lines) (r.runs.1 ++ r.runs.2 ∷ []))
-  home_told through =
-      let x = facts f o m s name files files' out out' kept kept' t r (in_memory t.cause through) in
+  home_nones : IsValidMachine m → HaveShortDictionaries m → (text : List ℕ) → f.told files name ≡ Some text → kept.at ≡ 0 → AllHomeLittle m s text r.runs.0 (r.runs.1 ++ r.runs.2 ∷ []) → AreTold true m (gather (λ t. t.lines) (r.runs.1 ++ r.runs.2 ∷ []))
+      → cuts_of (gather (λ t. t.lines) (r.runs.1 ++ r.runs.2 ∷ [])) ≡ [] → heads_of (gather (λ t. t.lines) (r.runs.1 ++ r.runs.2 ∷ [])) ≡ [] → IsOwn t.cause → (t.cause ≡ cause.Memory → ⊥)
+      → ((board turn : ℕ) → t.cause ≡ cause.Connect board turn → r.runs.1 ≡ [] → ⊥) → ∥ ShowsNone m (gather (λ t. t.lines) (r.runs.1 ++ r.runs.2 ∷ [])) ∥₁
+  home_nones v short text told at little lines uncut none own other answers =
+      ∥∥₁_map (run_shows f o m s name files files' out out' kept kept' t r v short text told at) (λ w. nones v r.runs.1 w.0.plans refl (w.2 other little) lines uncut none own other answers)
+
+  home_limits : IsValidMachine m → HaveShortDictionaries m → (text : List ℕ) → f.told files name ≡ Some text → kept.at ≡ 0 → AllHomeLittle m s text r.runs.0 (r.runs.1 ++ r.runs.2 ∷ []) → heads_of (gather (λ t. t.lines) (r.runs.1 ++ r.runs.2 ∷ [])) ≢ []
+      → IsOwn t.cause → (t.cause ≡ cause.Memory → ⊥) → ∥ AreLow (gather (λ t. t.lines) (r.runs.1 ++ r.runs.2 ∷ [])) ∥₁
+  home_limits v short text told at little some own other =
+      ∥∥₁_map (run_shows f o m s name files files' out out' kept kept' t r v short text told at) (λ w. limits v r.runs.1 w.0.plans refl (w.2 other little) some own other)
+
+  home_told : (t.cause ≡ cause.Memory → ⊥) → AreTold true m (gather (λ t. t.lines) (r.runs.1 ++ r.runs.2 ∷ []))
+  home_told other =
+      let x = facts f o m s name files files' out out' kept kept' t r other in
       all_told m s.switches [] r.runs.1 r.runs.2 x.known (length (came_from [] r.runs.1)) x.turns x.lines_are
 
-  home_long : All (λ w. w.line < 2 ^ 64) s.switches → GoesThrough t.cause → HaveLongCuts (gather (λ t. t.lines) (r.runs.1 ++ r.runs.2 ∷ []))
-  home_long scene through =
-      let x = facts f o m s name files files' out out' kept kept' t r (in_memory t.cause through) in
-      let known = (x.own (own_cause t.cause through)).0 in
+  home_long : All (λ w. w.line < 2 ^ 64) s.switches → IsOwn t.cause → (t.cause ≡ cause.Memory → ⊥) → HaveLongCuts (gather (λ t. t.lines) (r.runs.1 ++ r.runs.2 ∷ []))
+  home_long scene own other =
+      let x = facts f o m s name files files' out out' kept kept' t r other in
+      let known = (x.own own).0 in
       turns_long m s.switches scene [] r.runs.1 r.runs.2 tt x.turns (x.lines_are ∙ ap (λ (k : Known). (reacts m s.switches k (length (came_from [] r.runs.1)) r.runs.2.states r.runs.2.note).ordered.lines) known)
 
 module _ {F S : Type 0} (f : Files F) (o : Sink S) (printer : List ℕ) (m : Machine) (s : Scene) (gcode : List ℕ) (files files' : F) (out out' : S) (c : Cause) (lines : List ReportLine) (counts : List ℕ) (links : List LinkLog) (configured : reading printer ≡ Ok m)
-    (r : IsLinkReport f o m s gcode files files' out out' c lines counts links) (text : List ℕ) (told : f.told files gcode ≡ Some text) (some : sections_over m text ≢ [])
-    (little : AllHomeLittle m s text r.reported.runs.runs.0 (r.reported.runs.runs.1 ++ r.reported.runs.runs.2 ∷ [])) (through : GoesThrough c) (scene : All (λ w. w.line < 2 ^ 64) s.switches) where
+    (r : IsLinkReport f o m s gcode files files' out out' c lines counts links) (text : List ℕ) (told : f.told files gcode ≡ Some text)
+    (little : AllHomeLittle m s text r.reported.runs.runs.0 (r.reported.runs.runs.1 ++ r.reported.runs.runs.2 ∷ [])) (scene : All (λ w. w.line < 2 ^ 64) s.switches) where
   home_valid : IsValidMachine m
   home_valid = subst (λ (x : Machine). IsValidMachine x) r.reported.runs.printer r.reported.runs.fresh.machine
 
-  pub home-links : check_cause m text (report_text m (r.reported.said ++ report.End c ∷ [])) ≡ cause.Done
-  home-links =
+  -- what the lines of such a run show that ended for a cause of its own
+  record Showing : Type 0 where
+    shows : ShowsHomes m s.switches text c r.reported.said
+    told_all : AreTold true m r.reported.said
+    long : HaveLongCuts r.reported.said
+    low : heads_of r.reported.said ≢ [] → ∥ AreLow r.reported.said ∥₁
+    none : heads_of r.reported.said ≡ [] → ∥ ShowsNone m r.reported.said ∥₁
+
+  -- a run of one turn doesn't end for a board that gave no answer
+  unanswered : (board turn : ℕ) → c ≡ cause.Connect board turn → r.reported.runs.runs.1 ≡ [] → ⊥
+  unanswered board turn is alone =
+      let Gave : List ReactorTurn → Type 0 = λ z. GaveNoAnswer m s board turn r.reported.runs.runs.0 z r.reported.runs.runs.2 in
+      ∥∥₁_elim (r.connect text told board turn is) (hlevel props) (λ gave. subst Gave alone gave)
+
+  showing : IsOwn c → (c ≡ cause.Memory → ⊥) → ∥ Showing ∥₁
+  showing own_one other =
       let own = r.reported in
-      let not = written-whole c through in
-      let w = own.cause_is not.0 not.1 in
+      let Own : Cause → Type 0 = λ z. IsOwn z in
+      let w = own.cause_is other (λ e. subst Own e own_one) in
       let said : gather (λ (t : ReactorTurn). t.lines) (own.runs.runs.1 ++ own.runs.runs.2 ∷ []) ≡ own.said = own.shown ∙ ap (λ (z : List ReportLine). own.said ++ z) w.0 ∙ append-nil own.said in
-      let Through : Cause → Type 0 = λ z. GoesThrough z in
-      let went = subst Through w.2 through in
-      let kept = home_limits f o m s gcode files files' out own.behind own.kept own.kept' own.told own.runs home_valid (short_dictionaries printer m configured) text told own.fresh.at some little went in
-      let long = home_long f o m s gcode files files' out own.behind own.kept own.kept' own.told own.runs scene went in
-      let telling = home_told f o m s gcode files files' out own.behind own.kept own.kept' own.told own.runs went in
-      ∥∥₁_elim (r.homes text told (λ e. not.0 (w.2 ∙ e)) little) (hlevel props)
-      (λ (shows : ShowsHomes m s.switches text c own.said). ∥∥₁_elim kept (hlevel props) (λ low. home-checks m s.switches text c own.said home_valid some shows through (subst AreLow said low) (subst (λ (z : List ReportLine). AreTold true m z) said telling) (subst (λ (z : List ReportLine). HaveLongCuts z) said long)
-      (names-of-reading printer m configured) (shows.whole through) (text-cause m text c (shows.cause through))))
+      let went = subst Own w.2 own_one in
+      let not = λ (e : own.told.cause ≡ cause.Memory). other (w.2 ∙ e) in
+      let Some_in : List ReportLine → Type 0 = λ z. heads_of z ≢ [] in
+      let Low : List ReportLine → Type 0 = λ z. ∥ AreLow z ∥₁ in
+      ∥∥₁_map (r.homes text told not little) (λ shows. record {
+        shows = shows;
+        told_all = subst (λ (z : List ReportLine). AreTold true m z) said (home_told f o m s gcode files files' out own.behind own.kept own.kept' own.told own.runs not);
+        long = subst (λ (z : List ReportLine). HaveLongCuts z) said (home_long f o m s gcode files files' out own.behind own.kept own.kept' own.told own.runs scene went not);
+        low = λ some. subst Low said
+            (home_limits f o m s gcode files files' out own.behind own.kept own.kept' own.told own.runs home_valid (short_dictionaries printer m configured) text told own.fresh.at little (subst Some_in (sym said) some) went not);
+        none = λ none.
+            let Told : List ReportLine → Type 0 = λ z. AreTold true m z in
+            let Uncut : List ReportLine → Type 0 = λ z. cuts_of z ≡ [] in
+            let Unshown : List ReportLine → Type 0 = λ z. heads_of z ≡ [] in
+            let None_in : List ReportLine → Type 0 = λ z. ∥ ShowsNone m z ∥₁ in
+            let uncut : cuts_of own.said ≡ [] = ap cuts_of (sym (whole_before own.said none)) ∙ shows.cuts.before in
+            subst None_in said
+            (home_nones f o m s gcode files files' out own.behind own.kept own.kept' own.told own.runs home_valid (short_dictionaries printer m configured) text told own.fresh.at little
+            (home_told f o m s gcode files files' out own.behind own.kept own.kept' own.told own.runs not) (subst Uncut (sym said) uncut) (subst Unshown (sym said) none) went not (λ board turn is. unanswered board turn (w.2 ∙ is)));
+      })
+
+  -- a section is shown
+  shown_some : (i turn : ℕ) → section_turn i r.reported.said ≡ Some turn → sections_shown r.reported.said ≢ []
+  shown_some i turn e none = (let f : None ≡ Some turn = sym (ap (section_turn i) none) ∙ shown_turn i r.reported.said ∙ e in cc)
+
+  pub home-links : sections_over m text ≢ [] → GoesThrough c → check_cause m text (report_text m (r.reported.said ++ report.End c ∷ [])) ≡ cause.Done
+  home-links some through =
+      let own_one = own_cause c through in
+      let other = (written-whole c through).0 in
+      ∥∥₁_elim (showing own_one other) (hlevel props) (λ (z : Showing).
+      let first = begun_first z.shows.begun ((z.shows.all through).1) (λ none. some (sym (z.shows.all through).0 ∙ ap (map (λ (x : Started). x.section)) none)) in
+      ∥∥₁_elim (z.low (some_behind 0 first.0 r.reported.said first.1)) (hlevel props) (λ low.
+      home-checks m s.switches text c r.reported.said home_valid (shown_some 0 first.0 first.1) z.shows (own_shows c own_one other) low z.told_all z.long through (names-of-reading printer m configured) (z.shows.whole through) (text-cause m text c (z.shows.cause through))))
+    where
+      begun_first : (begun : List Started) → sections_shown r.reported.said ≡ begun_lines 0 begun → begun ≢ [] → (turn : ℕ) × (section_turn 0 r.reported.said ≡ Some turn)
+      begun_first [] e never = absurd (never refl)
+      begun_first (x ∷ begun) e never = (x.start, first_shown 0 x.start x.section.kind (begun_lines 1 begun) r.reported.said e)
+
+  -- what was printed before the end line follows the plan, as far as the run came
+  pub printed-front : IsOwn c → (c ≡ cause.Memory → ⊥) → ∥ ((log : List LogLine) × SaysLog m (report_text m r.reported.said) log × Follows (GoesThrough c) m (sections_over m text) log) ∥₁
+  printed-front own_one other = ∥∥₁_elim (showing own_one other) ∥∥₁_prop (λ (z : Showing). by z (heads_of r.reported.said) refl)
+    where
+      by : (z : Showing) (heads : List ReportLine) → heads_of r.reported.said ≡ heads → ∥ ((log : List LogLine) × SaysLog m (report_text m r.reported.said) log × Follows (GoesThrough c) m (sections_over m text) log) ∥₁
+      by z [] e = ∥∥₁_map (z.none e) (λ shows.
+          read-back (GoesThrough c) m (sections_over m text) r.reported.said home_valid (names-of-reading printer m configured) shows.of_run (heads-follow (GoesThrough c) m (sections_over m text) (further_told (map logged r.reported.said)) r.reported.said shows.may shows.heads))
+      by z (h ∷ hs) e =
+          let some : heads_of r.reported.said ≢ [] = λ none. (let g : h ∷ hs ≡ [] = sym e ∙ none in cc) in
+          ∥∥₁_map (z.low some) (λ low.
+          home-front m s.switches text c r.reported.said home_valid (λ none. some (sym (shown_heads r.reported.said) ∙ none)) z.shows (own_shows c own_one other) low z.told_all z.long (names-of-reading printer m configured))

@@ -16,6 +16,7 @@ pub mod Quiet
 pub mod Unbegun
 pub mod Untold
 pub mod UnbegunLines
+pub mod Unshown
 pub mod WithoutSections
 pub mod Scenes
 pub mod Any

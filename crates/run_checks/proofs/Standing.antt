@@ -1,6 +1,6 @@
 -- The lines of a run over links stand as a log wants them.
-use Rattle.std.proofs.Common.{◌≡◌, ◌≢◌, ◌∙◌, ℕ, suc, ◌+◌, ◌-◌, ◌*◌, ◌/◌, ◌^◌, ◌<◌, Bool, true, false, List, [], ◌∷◌, ◌++◌, length, map, ap, sym, refl, subst, arith, inl, inr, Option, Some, append_assoc, length-append}
-use Rattle.std.specs.Prelude.{◌&&◌, if◌then◌else◌, min, nat_le, nat_lt}
+use Rattle.std.proofs.Common.{◌≡◌, ◌≢◌, ◌∙◌, ℕ, ◌+◌, ◌-◌, ◌*◌, ◌^◌, ◌<◌, Bool, true, false, List, [], ◌∷◌, ◌++◌, length, ap, sym, refl, subst, arith, inl, inr, Option, Some, append_assoc, length-append}
+use Rattle.std.specs.Prelude.{if◌then◌else◌, min}
 use Rattle.std.proofs.lemmas.Bool.Decides.{eqb_tells}
 use Rattle.std.proofs.lemmas.List.Elements.{All-head, All-tail}
 use Rattle.plan_types.specs.declared.machine.Machine.{Machine}
@@ -33,7 +33,7 @@ use Rattle.run_checks.proofs.Limits.{AreSmall, KeepLimits}
 use Rattle.run_checks.proofs.Shorts.{here_at}
 
 -- parts of lines
-told_parts : (homes : Bool) (m : Machine) (xs ys : List ReportLine) → AreTold homes m (xs ++ ys) → AreTold homes m xs × AreTold homes m ys
+pub told_parts : (homes : Bool) (m : Machine) (xs ys : List ReportLine) → AreTold homes m (xs ++ ys) → AreTold homes m xs × AreTold homes m ys
 told_parts homes m [] ys h = (tt, h)
 told_parts homes m (x ∷ xs) ys h = let r = told_parts homes m xs ys h.1 in ((h.0, r.0), r.1)
 
@@ -89,7 +89,7 @@ are_heads homes m ready b cs (report.Fit section stepper pulses planned early la
 are_heads homes m ready b cs (report.End c ∷ lines) told uncut none still boards = absurd told.0
 
 -- and those from it on
-are_behind : (homes : Bool) (m : Machine) (lines : List ReportLine) → AreTold homes m lines → boards_of lines ≡ [] → AreBehind homes lines
+pub are_behind : (homes : Bool) (m : Machine) (lines : List ReportLine) → AreTold homes m lines → boards_of lines ≡ [] → AreBehind homes lines
 are_behind homes m [] told none = tt
 are_behind homes m (report.Machine corexy many others ∷ lines) told none = are_behind homes m lines told.1 none
 are_behind homes m (report.Board board freq turn tick ∷ lines) told none = absurd (let e : report.Board board freq turn tick ∷ boards_of lines ≡ [] = none in cc)
@@ -134,7 +134,7 @@ capped : (n : ℕ) → min n (2 ^ 64 - 1) < 2 ^ 64
 capped n = omega arith
 
 -- each line is one of a run
-of_run : (homes : Bool) (m : Machine) (all : List Clocks) (ready : ℕ) (past cs : List Clocks) (b : ℕ) (lines : List ReportLine) → AreSound m all ready → all ≡ past ++ cs → b ≡ length past → AreTold homes m lines → AreSmall m lines → AreAllKinds lines → boards_of lines ≡ lines_at ready b cs
+pub of_run : (homes : Bool) (m : Machine) (all : List Clocks) (ready : ℕ) (past cs : List Clocks) (b : ℕ) (lines : List ReportLine) → AreSound m all ready → all ≡ past ++ cs → b ≡ length past → AreTold homes m lines → AreSmall m lines → AreAllKinds lines → boards_of lines ≡ lines_at ready b cs
     → AreOfRun m lines
 of_run homes m all ready past cs b [] sound are at told small moves boards = tt
 of_run homes m all ready past cs b (report.Machine corexy many others ∷ lines) sound are at told small moves boards = (told.0, of_run homes m all ready past cs b lines sound are at told.1 small.1 moves boards)

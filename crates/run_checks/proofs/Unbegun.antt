@@ -9,6 +9,7 @@ use Rattle.std.proofs.lemmas.List.Elements.{All-nil}
 use Rattle.gcode_program.specs.Programs.{program_end}
 use Rattle.plan_types.specs.declared.cause.Cause.{Cause}
 use Rattle.plan_types.specs.declared.machine.Machine.{Machine}
+use Rattle.host_reactor.specs.Rows.{IsOwn}
 use Rattle.plan_types.specs.declared.plan.Line.{Line}
 use Rattle.plan_types.specs.declared.plan.ReadStop.{ReadStop}
 use Rattle.plan_types.specs.declared.plan.ReadStop.TheVariants as read
@@ -57,17 +58,15 @@ use Rattle.run_plans.proofs.Telling.{pulses_append}
 use Rattle.session_laws.specs.run_ends.Boards.{boards_of, counts_of, lines_at}
 use Rattle.session_laws.specs.run_ends.Ends.{GoesThrough}
 use Rattle.session_laws.proofs.run_ends.Connecting.{after_boards, as_clocks, boards_append, end_none, tells_boards}
-use Rattle.session_laws.proofs.run_ends.Ending.{own_cause}
 use Rattle.session_laws.specs.run_headline.Told.{AreTold}
 use Rattle.session_laws.proofs.run_headline.Boarded.{came_cut, took_long, valid_at}
 use Rattle.session_laws.proofs.run_headline.Fronts.{controlled}
 use Rattle.session_laws.proofs.run_headline.Plain.{AllMoves, all_moves}
-use Rattle.session_laws.proofs.run_headline.Showing.{Facts, came_long, counts_so, ends_own, front_notes, lines_long, long_own, through_long, took_notes}
+use Rattle.session_laws.proofs.run_headline.Showing.{Facts, came_long, counts_or, ends_own, front_notes, lines_long, long_own, through_long, took_notes}
 use Rattle.session_laws.proofs.run_headline.Telling.{turns_told}
 use Rattle.session_laws.specs.run_headline.Timely.{AreSound}
-use Rattle.session_laws.specs.run_headline.Further.{AreNamed, BoardsFirst, TellsFurther}
+use Rattle.session_laws.specs.run_headline.Further.{AreNamed, BoardsFirst, ShowsAll, TellsFurther}
 use Rattle.session_laws.specs.run_lines.Due.{BoardsHave}
-use Rattle.session_laws.proofs.run_lines.Further.{through_shows}
 use Rattle.session_laws.specs.run_limits.Limits.{AreLow, greatest_tick}
 use Rattle.session_laws.proofs.run_limits.Few.{read_few, stop_line}
 use Rattle.log_text.specs.declared.line.LogLine.{LogLine}
@@ -172,7 +171,7 @@ no_item j [] h = refl
 no_item zero (s ∷ states) h = absurd (omega (arith, h))
 no_item (suc j) (s ∷ states) h = no_item j states (omega (arith, h))
 
-machine_heads : (m : Machine) (k : ℕ) → heads_of (machine_line m k) ≡ []
+pub machine_heads : (m : Machine) (k : ℕ) → heads_of (machine_line m k) ≡ []
 machine_heads m k = by (k == 0) where
   by : (b : Bool) → heads_of (if b then report.Machine m.corexy (length m.boards) (length m.steppers) ∷ [] else []) ≡ []
   by true = refl
@@ -187,6 +186,10 @@ machine_pulses m k place = by (k == 0) where
 -- some turns tell no section and no pulse
 abbrev AreEmpty : List ReportLine → Type 0
 AreEmpty lines = (heads_of lines ≡ []) × ((place : ℕ) → pulses_of place lines ≡ [])
+
+-- nor one of a stepper that is there
+abbrev pub AreBare : Machine → List ReportLine → Type 0
+AreBare m lines = (heads_of lines ≡ []) × ((place : ℕ) → place < length m.steppers → pulses_of place lines ≡ [])
 
 both_empty : (xs ys : List ReportLine) → AreEmpty xs → AreEmpty ys → AreEmpty (xs ++ ys)
 both_empty xs ys a b =
@@ -231,7 +234,7 @@ still_given b k (o ∷ os) given controls = (controls.0, given.0, still_given b 
 capped : (n : ℕ) → min n (2 ^ 64 - 1) < 2 ^ 64
 capped n = omega arith
 
-bare_run : (m : Machine) (ready b : ℕ) (cs : List Clocks) (lines : List ReportLine) → ready < 2 ^ 62 → AreTold false m lines → AreEmpty lines → AreLow (counts_of lines) → EachFurther IsLongFurther (further_told (map logged lines)) → AreNamed m lines → boards_of lines ≡ lines_at ready b cs → HaveFreqs m b cs → AreOfRun m lines
+bare_run : (m : Machine) (ready b : ℕ) (cs : List Clocks) (lines : List ReportLine) → ready < 2 ^ 62 → AreTold false m lines → AreBare m lines → AreLow (counts_of lines) → EachFurther IsLongFurther (further_told (map logged lines)) → AreNamed m lines → boards_of lines ≡ lines_at ready b cs → HaveFreqs m b cs → AreOfRun m lines
 bare_run m ready b cs [] soon told empty low long names boards freqs = tt
 bare_run m ready b cs (report.Machine corexy many others ∷ lines) soon told empty low long names boards freqs = (told.0, bare_run m ready b cs lines soon told.1 empty low long names boards freqs)
 bare_run m ready b [] (report.Board board freq turn tick ∷ lines) soon told empty low long names boards freqs = absurd (let e : report.Board board freq turn tick ∷ boards_of lines ≡ [] = boards in cc)
@@ -246,7 +249,7 @@ bare_run m ready b (c ∷ cs) (report.Board board freq turn tick ∷ lines) soon
     let freq_is : freq ≡ (board_at m board).freq = own ∙ freqs.1 ∙ ap (λ (n : ℕ). (board_at m n).freq) (sym same) in
     ((omega (arith, same, inside), freq_is, omega (arith, when, soon), subst (λ (n : ℕ). n < 2 ^ 64) (sym ticks) (capped (Rattle.plan_types.specs.Clock.tick c.first (ready * turn_ns)))), bare_run m ready (b + 1) cs lines soon told.1 empty low long names rest freqs.2)
 bare_run m ready b cs (report.Section i turn kind ∷ lines) soon told empty low long names boards freqs = absurd (let e : report.Section i turn kind ∷ heads_of lines ≡ [] = empty.0 in cc)
-bare_run m ready b cs (report.Pulse board stepper tick up ∷ lines) soon told empty low long names boards freqs = absurd (some_pulse board stepper tick up lines (empty.1 stepper))
+bare_run m ready b cs (report.Pulse board stepper tick up ∷ lines) soon told empty low long names boards freqs = absurd (some_pulse board stepper tick up lines (empty.1 stepper told.0.0))
 bare_run m ready b cs (report.Cut i board pin tick from ∷ lines) soon told empty low long names boards freqs = absurd (let e : false ≡ true = told.0 in cc)
 bare_run m ready b cs (report.Drift board sent clock from ∷ lines) soon told empty low long names boards freqs =
     ((names.0, long.0.0, long.0.1, long.0.2), bare_run m ready b cs lines soon told.1 empty low long.1 names.1 boards freqs)
@@ -318,13 +321,12 @@ pub record ShowsLines (m : Machine) (c : Cause) (lines : List ReportLine) : Type
   pub timed : (b : ℕ) → b < length m.boards → tick (clocks_at clocks b).first (ready * turn_ns) ≤ greatest_tick ready
   pub soon : ready < 2 ^ 43
 
--- What a report of a run shows that begins no section: its lines are those of a run, those of the boards in order and notes alone, and
--- further clock lines that may stand; and its cause has numbers of 64 bits.
-pub record ShowsNone (m : Machine) (c : Cause) (lines : List ReportLine) : Type 0 where
+-- What a report of a run shows that has no line of a section: its lines are those of a run, those of the boards in order and notes alone, and
+-- further clock lines that may stand.
+pub record ShowsNone (m : Machine) (lines : List ReportLine) : Type 0 where
   pub of_run : AreOfRun m lines
   pub may : AllMayStand m [] (map logged lines)
   pub heads : AreHeads 0 lines
-  pub cause : IsCauseOn m c
 
 -- how the reading of a text stopped
 stop_small : (m : Machine) (stop : ReadStop) → stop_line stop ≤ 1 + 1_073_741_824 → IsCauseOn m (text_end stop)
@@ -332,45 +334,12 @@ stop_small m read.End few = tt
 stop_small m (read.Stop line) few = omega (arith, few)
 stop_small m (read.Refused line kind) few = omega (arith, few)
 
-module _ (m : Machine) (v : IsValidMachine m) (s : Scene) (ts : List MotionTurn) (p : Plans m (length m.boards) ts) (end : ReactorTurn) (c : Cause) (through : GoesThrough c) (none : p.seen.begun ≡ []) (first : ReactorTurn) (rest : List ReactorTurn)
-    (f : Facts m s ts (first ∷ rest) end c) where
+module _ (m : Machine) (v : IsValidMachine m) (s : Scene) (ts : List MotionTurn) (p : Plans m (length m.boards) ts) (end : ReactorTurn) (c : Cause) (own_one : IsOwn c) (first : ReactorTurn) (rest : List ReactorTurn) (f : Facts m s ts (first ∷ rest) end c) where
   all : length (rest ++ end ∷ []) ≤ length p.made
-  all = long_own m v s ts p end c first rest f (own_cause c through)
+  all = long_own m v s ts p end c first rest f own_one
 
   took : TookNotes (map (λ t. t.note) p.made) (first ∷ (rest ++ end ∷ []))
   took = took_notes m v s ts p end c first rest f all
-
-  kinds : All (λ x. x.section.kind ≡ Moves) p.seen.begun
-  kinds = subst (λ (z : List Started). All (λ x. x.section.kind ≡ Moves) z) (sym none) (All-nil (λ (x : Started). x.section.kind ≡ Moves))
-
-  nothing : ArePut m p.seen.text [] 0 (puts_of p.made)
-  nothing = subst (λ (z : List Started). ArePut m p.seen.text z 0 (puts_of p.made)) none p.put
-
-  moves : AllMoves (came_from [] (first ∷ rest))
-  moves = all_moves m p.seen.text p.seen.begun p.made first rest kinds p.put (front_notes m v s ts p end c first rest f took)
-
-  told_all : AreTold false m (gather (λ t. t.lines) (first ∷ (rest ++ end ∷ [])))
-  told_all =
-      let own = f.own (own_cause c through) in
-      let before = came_from [] (first ∷ rest) in
-      turns_told m s.switches [] (first ∷ rest) end f.turns tt (all_moves m p.seen.text p.seen.begun p.made first (rest ++ end ∷ []) kinds p.put took)
-      (f.lines_are ∙ ap (λ (k : Known). (reacts m s.switches k (length before) end.states end.note).ordered.lines) own.0)
-
-  -- no board makes a pulse
-  board_still : (b : ℕ) → b < length m.boards → AllStill b (rest ++ end ∷ [])
-  board_still b h =
-      let w = f.boards b first rest h refl in
-      let pins = pins_of (board_at m b) b s.switches in
-      let turns = behind [] w.made in
-      let valid = valid_at m.boards b h v.boards in
-      let run_first : IsInRun m s.switches pins s.entries b (came_before [] (first ∷ rest ++ end ∷ [])) turns = record { board = h; goes_on = w.goes_on; turns_are = w.turns_are; both = w.both; in_range = w.in_range } in
-      let Run : List Came → Type 0 = λ z. IsInRun m s.switches pins s.entries b z turns in
-      let run = subst Run (came_cut [] first rest end) run_first in
-      let controls = subst (λ (os : List Orders). TookControls os) w.in_order (controlled m v s.switches pins s.entries b (came_from [] (first ∷ rest)) turns run moves) in
-      let count = length-map w.made (λ (x : BoardTurn). orders x.control x.batch) ∙ sym (length-map w.made (λ (x : BoardTurn). x.state)) ∙ took_long b (rest ++ end ∷ []) (states_of w.made) w.states in
-      let At : List MotionTurn → Type 0 = λ x. map (λ (o : Orders). o.batch) (orders_of w.made) ++ w.batches.0 ≡ gather (λ (y : MotionTurn). item b y.batches) x in
-      let given = units_given m p.seen.text [] b 0 p.made p.bare (orders_of w.made) w.batches.0 h nothing (omega (arith, count, all)) (subst At p.are w.batches.1) in
-      took_still b (rest ++ end ∷ []) (states_of w.made) w.states (still_states (board_at m b) pins b s.entries (orders_of w.made) (states_of w.made) _ valid (still_given b 0 (orders_of w.made) given controls) w.told)
 
   last_full : length end.states ≡ length m.boards
   last_full = by f.row
@@ -386,14 +355,6 @@ module _ (m : Machine) (v : IsValidMachine m) (s : Scene) (ts : List MotionTurn)
       by (inl a) = a.1
       by (inr a) = absurd (omega (arith, a.0))
 
-  empty : AreEmpty (gather (λ t. t.lines) (first ∷ (rest ++ end ∷ [])))
-  empty =
-      let tells : TellTurns m [] 0 (first ∷ (rest ++ end ∷ [])) = subst (λ (z : List Started). TellTurns m z 0 (first ∷ (rest ++ end ∷ []))) none (lines_long m v s ts p end c first rest f all) in
-      let full = turns_full m s.switches (came_in first ∷ []) rest end (omega arith) f.turns.1 last_full in
-      both_empty first.lines (gather (λ (t : ReactorTurn). t.lines) (rest ++ end ∷ []))
-      (turn_empty m 0 first tells.0 (λ j x e. absurd (let g : [] ≡ x ∷ [] = sym (ap (item j) first_none) ∙ e in cc)))
-      (turns_empty m (length m.boards) 1 (rest ++ end ∷ []) tells.1 full board_still)
-
   -- the boards' lines
   lines_then : (xs : List ReactorTurn) → boards_of (gather (λ t. t.lines) (xs ++ end ∷ [])) ≡ boards_of (gather (λ t. t.lines) xs) ++ boards_of end.lines
   lines_then [] = ap boards_of (append-nil end.lines)
@@ -407,11 +368,11 @@ module _ (m : Machine) (v : IsValidMachine m) (s : Scene) (ts : List MotionTurn)
 
   boards_are : boards_of (gather (λ t. t.lines) (first ∷ (rest ++ end ∷ []))) ≡ lines_at each.ready 0 each.clocks
   boards_are =
-      let last = ap boards_of f.lines_are ∙ end_none m s.switches f.known (length (came_from [] (first ∷ rest))) end.states end.note c (sym (ends_own m s ts (first ∷ rest) end c f (own_cause c through))) in
+      let last = ap boards_of f.lines_are ∙ end_none m s.switches f.known (length (came_from [] (first ∷ rest))) end.states end.note c (sym (ends_own m s ts (first ∷ rest) end c f own_one)) in
       let lines = gather (λ (t : ReactorTurn). t.lines) (first ∷ rest) in
       lines_then (first ∷ rest) ∙ ap (λ z. boards_of lines ++ z) last ∙ append-nil (boards_of lines) ∙ each.are
 
-  abbrev All_lines : List ReportLine
+  abbrev pub All_lines : List ReportLine
   All_lines = gather (λ t. t.lines) (first ∷ (rest ++ end ∷ []))
 
   counts : AreLow (counts_of All_lines)
@@ -419,29 +380,80 @@ module _ (m : Machine) (v : IsValidMachine m) (s : Scene) (ts : List MotionTurn)
       let few = read_few m p.seen.text in
       let deeds = few.deeds in
       let passed = few.passed in
-      subst AreLow (sym (counts_so m v s ts p end c first rest f through all)) ((omega (arith, deeds), omega (arith, passed)), tt)
+      elim (counts_or m v s ts p end c first rest f own_one all) [
+        | inl none ↦ subst AreLow (sym none) tt
+        | inr is ↦ subst AreLow (sym is) ((omega (arith, deeds), omega (arith, passed)), tt)
+      ]
 
-  heads : AreHeads 0 All_lines
-  heads = are_heads false m each.ready 0 each.clocks All_lines told_all (uncut_told m All_lines told_all) empty.0 (λ place h. empty.1 place) boards_are
-
-  cause_on : IsCauseOn m c
-  cause_on =
+  -- the cause of one that went through has small numbers
+  pub cause_on : GoesThrough c → IsCauseOn m c
+  cause_on through =
       let few = read_few m p.seen.text in
       let is = (through_long m v s ts p end c first rest f through all).cause_is in
       subst (λ (x : Cause). IsCauseOn m x) (sym is) (stop_small m (program_end m p.seen.text).stop few.stop)
 
-  of_lines : EachFurther IsLongFurther (further_told (map logged All_lines)) → AreNamed m All_lines → AreOfRun m All_lines
-  of_lines long names =
-      let soon = each.soon in
-      let made = length-map p.made put_of in
-      let small = p.small in
-      let many = length-append rest (end ∷ []) in
-      bare_run m each.ready 0 each.clocks All_lines (omega (arith, soon, made, small, many, all)) told_all empty counts long names boards_are each.freqs
+  -- where they tell no section, no pulse and no cut
+  module _ (told_all : AreTold false m All_lines) (bare : AreBare m All_lines) where
+    heads : AreHeads 0 All_lines
+    heads = are_heads false m each.ready 0 each.clocks All_lines told_all (uncut_told m All_lines told_all) bare.0 bare.1 boards_are
 
-  pub shows_none : ShowsLines m c All_lines ⊎ NoneDrifts All_lines → ShowsNone m c All_lines
-  shows_none (inr plain) = record { of_run = of_lines (none_long All_lines plain) (none_named m All_lines plain); may = none_stand m All_lines [] plain; heads = heads; cause = cause_on }
-  shows_none (inl shows) =
-      let whole = sym (append-nil All_lines) in
-      let long = longs m shows.clocks shows.ready shows.last c All_lines [] All_lines whole heads shows.boards refl shows.sound shows.names shows.timed shows.soon shows.first (through_shows c through) shows.further in
-      let short = shorts m shows.clocks shows.ready shows.last c All_lines [] All_lines whole heads shows.boards refl shows.sound shows.names shows.timed shows.soon shows.first (through_shows c through) shows.further in
-      record { of_run = of_lines long shows.names; may = short.may; heads = heads; cause = cause_on }
+    of_lines : EachFurther IsLongFurther (further_told (map logged All_lines)) → AreNamed m All_lines → AreOfRun m All_lines
+    of_lines long names =
+        let soon = each.soon in
+        let made = length-map p.made put_of in
+        let small = p.small in
+        let many = length-append rest (end ∷ []) in
+        bare_run m each.ready 0 each.clocks All_lines (omega (arith, soon, made, small, many, all)) told_all bare counts long names boards_are each.freqs
+
+    pub shows_none : ShowsAll c → ShowsLines m c All_lines ⊎ NoneDrifts All_lines → ShowsNone m All_lines
+    shows_none full (inr plain) = record { of_run = of_lines (none_long All_lines plain) (none_named m All_lines plain); may = none_stand m All_lines [] plain; heads = heads }
+    shows_none full (inl shows) =
+        let whole = sym (append-nil All_lines) in
+        let long = longs m shows.clocks shows.ready shows.last c All_lines [] All_lines whole heads shows.boards refl shows.sound shows.names shows.timed shows.soon shows.first full shows.further in
+        let short = shorts m shows.clocks shows.ready shows.last c All_lines [] All_lines whole heads shows.boards refl shows.sound shows.names shows.timed shows.soon shows.first full shows.further in
+        record { of_run = of_lines long shows.names; may = short.may; heads = heads }
+
+  -- where no section was begun
+  module _ (none : p.seen.begun ≡ []) where
+    kinds : All (λ x. x.section.kind ≡ Moves) p.seen.begun
+    kinds = subst (λ (z : List Started). All (λ x. x.section.kind ≡ Moves) z) (sym none) (All-nil (λ (x : Started). x.section.kind ≡ Moves))
+
+    nothing : ArePut m p.seen.text [] 0 (puts_of p.made)
+    nothing = subst (λ (z : List Started). ArePut m p.seen.text z 0 (puts_of p.made)) none p.put
+
+    moves : AllMoves (came_from [] (first ∷ rest))
+    moves = all_moves m p.seen.text p.seen.begun p.made first rest kinds p.put (front_notes m v s ts p end c first rest f took)
+
+    pub told_none : AreTold false m (gather (λ t. t.lines) (first ∷ (rest ++ end ∷ [])))
+    told_none =
+        let own = f.own own_one in
+        let before = came_from [] (first ∷ rest) in
+        turns_told m s.switches [] (first ∷ rest) end f.turns tt (all_moves m p.seen.text p.seen.begun p.made first (rest ++ end ∷ []) kinds p.put took)
+        (f.lines_are ∙ ap (λ (k : Known). (reacts m s.switches k (length before) end.states end.note).ordered.lines) own.0)
+
+    -- no board makes a pulse
+    board_still : (b : ℕ) → b < length m.boards → AllStill b (rest ++ end ∷ [])
+    board_still b h =
+        let w = f.boards b first rest h refl in
+        let pins = pins_of (board_at m b) b s.switches in
+        let turns = behind [] w.made in
+        let valid = valid_at m.boards b h v.boards in
+        let run_first : IsInRun m s.switches pins s.entries b (came_before [] (first ∷ rest ++ end ∷ [])) turns = record { board = h; goes_on = w.goes_on; turns_are = w.turns_are; both = w.both; in_range = w.in_range } in
+        let Run : List Came → Type 0 = λ z. IsInRun m s.switches pins s.entries b z turns in
+        let run = subst Run (came_cut [] first rest end) run_first in
+        let controls = subst (λ (os : List Orders). TookControls os) w.in_order (controlled m v s.switches pins s.entries b (came_from [] (first ∷ rest)) turns run moves) in
+        let count = length-map w.made (λ (x : BoardTurn). orders x.control x.batch) ∙ sym (length-map w.made (λ (x : BoardTurn). x.state)) ∙ took_long b (rest ++ end ∷ []) (states_of w.made) w.states in
+        let At : List MotionTurn → Type 0 = λ x. map (λ (o : Orders). o.batch) (orders_of w.made) ++ w.batches.0 ≡ gather (λ (y : MotionTurn). item b y.batches) x in
+        let given = units_given m p.seen.text [] b 0 p.made p.bare (orders_of w.made) w.batches.0 h nothing (omega (arith, count, all)) (subst At p.are w.batches.1) in
+        took_still b (rest ++ end ∷ []) (states_of w.made) w.states (still_states (board_at m b) pins b s.entries (orders_of w.made) (states_of w.made) _ valid (still_given b 0 (orders_of w.made) given controls) w.told)
+
+    empty : AreEmpty (gather (λ t. t.lines) (first ∷ (rest ++ end ∷ [])))
+    empty =
+        let tells : TellTurns m [] 0 (first ∷ (rest ++ end ∷ [])) = subst (λ (z : List Started). TellTurns m z 0 (first ∷ (rest ++ end ∷ []))) none (lines_long m v s ts p end c first rest f all) in
+        let full = turns_full m s.switches (came_in first ∷ []) rest end (omega arith) f.turns.1 last_full in
+        both_empty first.lines (gather (λ (t : ReactorTurn). t.lines) (rest ++ end ∷ []))
+        (turn_empty m 0 first tells.0 (λ j x e. absurd (let g : [] ≡ x ∷ [] = sym (ap (item j) first_none) ∙ e in cc)))
+        (turns_empty m (length m.boards) 1 (rest ++ end ∷ []) tells.1 full board_still)
+
+    pub bare_none : AreBare m All_lines
+    bare_none = (empty.0, λ place h. empty.1 place)

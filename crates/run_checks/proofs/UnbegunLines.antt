@@ -1,5 +1,5 @@
 -- The clock lines that a run tells which begins no section.
-use Rattle.std.proofs.Common.{◌≡◌, ◌⊎◌, ◌∙◌, ◌+◌, List, [], ◌∷◌, ◌++◌, length, Option, None, Some, ap, refl, arith, inl, inr, append-nil, length-append}
+use Rattle.std.proofs.Common.{◌≡◌, ◌⊎◌, ◌∙◌, List, [], ◌∷◌, ◌++◌, length, Option, None, Some, ap, refl, arith, inl, inr, append-nil, length-append}
 use Rattle.std.proofs.lemmas.Grind.{flat_map-append}
 use Rattle.std.proofs.lemmas.List.{length-map}
 use Rattle.plan_types.specs.declared.cause.Cause.{Cause}
@@ -13,8 +13,7 @@ use Rattle.session_work.specs.Rows.{gather}
 use Rattle.session_run.specs.Boards.{came_from}
 use Rattle.run_plans.specs.Planned.{Plans, put_of}
 use Rattle.session_laws.specs.run_ends.Boards.{board_in, boards_of}
-use Rattle.session_laws.specs.run_ends.Ends.{GoesThrough}
-use Rattle.session_laws.proofs.run_ends.Ending.{own_cause}
+use Rattle.host_reactor.specs.Rows.{IsOwn}
 use Rattle.session_laws.proofs.run_headline.Boarded.{ready, sound_of}
 use Rattle.session_laws.proofs.run_headline.Facts.{came_long}
 use Rattle.session_laws.proofs.run_headline.Reporting.{told_further}
@@ -25,7 +24,7 @@ use Rattle.run_checks.proofs.Unbegun.{ShowsLines}
 use Rattle.run_checks.proofs.Untold.{untold_none}
 use Rattle.session_laws.proofs.run_headline.Drifts.{NoneDrifts}
 
-module _ (m : Machine) (v : IsValidMachine m) (s : Scene) (ts : List MotionTurn) (p : Plans m (length m.boards) ts) (end : ReactorTurn) (c : Cause) (through : GoesThrough c) (first : ReactorTurn) (rest : List ReactorTurn) (f : Facts m s ts (first ∷ rest) end c) where
+module _ (m : Machine) (v : IsValidMachine m) (s : Scene) (ts : List MotionTurn) (p : Plans m (length m.boards) ts) (end : ReactorTurn) (c : Cause) (own_one : IsOwn c) (first : ReactorTurn) (rest : List ReactorTurn) (f : Facts m s ts (first ∷ rest) end c) where
   -- those of the boards that the planner heard
   told_lines : (t : Told) → p.seen.told ≡ Some t → ShowsLines m c (gather (λ x. x.lines) (first ∷ (rest ++ end ∷ [])))
   told_lines t e =
@@ -40,7 +39,7 @@ module _ (m : Machine) (v : IsValidMachine m) (s : Scene) (ts : List MotionTurn)
       let made = length-map p.made put_of in
       let small = p.small in
       let many = length-append rest (end ∷ []) in
-      let own = long_own m v s ts p end c first rest f (own_cause c through) in
+      let own = long_own m v s ts p end c first rest f own_one in
       record {
         clocks = t.clocks;
         ready = t.first;
@@ -58,5 +57,5 @@ module _ (m : Machine) (v : IsValidMachine m) (s : Scene) (ts : List MotionTurn)
   unbegun_lines = by p.seen.told refl
     where
       by : (o : Option Told) → p.seen.told ≡ o → ShowsLines m c (gather (λ x. x.lines) (first ∷ (rest ++ end ∷ []))) ⊎ NoneDrifts (gather (λ x. x.lines) (first ∷ (rest ++ end ∷ [])))
-      by None e = inr (untold_none m v s ts p end c through first rest f e)
+      by None e = inr (untold_none m v s ts p end c own_one first rest f e)
       by (Some t) e = inl (told_lines t e)

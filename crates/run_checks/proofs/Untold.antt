@@ -45,9 +45,8 @@ use Rattle.run_boards.specs.Boards.{behind}
 use Rattle.run_boards.specs.Turns.{came_before}
 use Rattle.run_plans.specs.Planned as planned
 use Rattle.run_plans.specs.Planned.{Plans, heard_in, put_of, words_in}
-use Rattle.session_laws.specs.run_ends.Ends.{GoesThrough}
+use Rattle.host_reactor.specs.Rows.{IsOwn}
 use Rattle.session_laws.proofs.run_ends.Connecting as connecting
-use Rattle.session_laws.proofs.run_ends.Ending.{own_cause}
 use Rattle.session_laws.proofs.run_headline.Boarded.{came_cut, came_split}
 use Rattle.session_laws.proofs.run_headline.Facts.{came_long, turns_cut}
 use Rattle.session_laws.proofs.run_headline.Fronts.{front_of, one_less}
@@ -179,7 +178,7 @@ word_tells m w k lines at low news fit =
     ∙ (ap (λ (b : Bool). if b then told_in m k (word.Lines lines ∷ []) else None) (lt_true k (2 ^ 61) low)
     ∙ ap (λ (b : Bool). first_told (if b then Some (map one_line lines) else None) None) fit))
 
-module _ (m : Machine) (v : IsValidMachine m) (s : Scene) (ts : List MotionTurn) (p : Plans m (length m.boards) ts) (end : ReactorTurn) (c : Cause) (through : GoesThrough c) (first : ReactorTurn) (rest : List ReactorTurn) (f : Facts m s ts (first ∷ rest) end c) (untold : p.seen.told ≡ None) where
+module _ (m : Machine) (v : IsValidMachine m) (s : Scene) (ts : List MotionTurn) (p : Plans m (length m.boards) ts) (end : ReactorTurn) (c : Cause) (own_one : IsOwn c) (first : ReactorTurn) (rest : List ReactorTurn) (f : Facts m s ts (first ∷ rest) end c) (untold : p.seen.told ≡ None) where
   -- a board's line, where connecting ended in a turn, is that of a sample
   board_sampled : (past : List ReactorTurn) (turn : ReactorTurn) (later : List ReactorTurn) (lines : List Line) → first ∷ rest ≡ past ++ turn ∷ later → (last_turn m s.switches (came_in turn) (came_from [] past)).ordered.word.news ≡ word.Lines lines ∷ []
       → (b : ℕ) → b < length m.boards → (l : Line) → line_at b lines ≡ l ∷ [] → is_fit (get_or m.boards b no_board) (length (came_from [] past)) l ≡ true
@@ -227,7 +226,7 @@ module _ (m : Machine) (v : IsValidMachine m) (s : Scene) (ts : List MotionTurn)
       let made = length-map p.made put_of in
       let small = p.small in
       let tail = length-append rest (end ∷ []) in
-      let own = long_own m v s ts p end c first rest f (own_cause c through) in
+      let own = long_own m v s ts p end c first rest f own_one in
       let long_by = ap length by.are ∙ length-append by.past (by.turn ∷ by.later) in
       let long_e = ap length e.are ∙ length-append e.past (e.turn ∷ e.later) in
       let came_e = came_long [] e.past in

@@ -20,7 +20,7 @@ use Rattle.log_check.specs.Points.{first_turn}
 use Rattle.log_check.specs.Verdicts.{log_verdict}
 use Rattle.log_laws.specs.Follows.{in_order}
 use Rattle.report_laws.specs.Further.{further_told}
-use Rattle.report_laws.specs.Logged.{logged}
+use Rattle.report_laws.specs.Logged.{IsCauseOn, logged}
 use Rattle.report_laws.specs.Names.{HasNames}
 use Rattle.report_laws.specs.Within.{GoWithin}
 use Rattle.report_laws.proofs.Configured.{names-of-reading}
@@ -36,6 +36,8 @@ use Rattle.wire_scene.specs.declared.scene.Scene.{Scene}
 use Rattle.motion_work.specs.Seen.{Started}
 use Rattle.run_plans.specs.Planned.{Plans}
 use Rattle.session_laws.specs.run_ends.Ends.{GoesThrough}
+use Rattle.session_laws.proofs.run_ends.Ending.{own_cause}
+use Rattle.session_laws.proofs.run_lines.Further.{through_shows}
 use Rattle.session_laws.proofs.run_headline.Making.{run_made}
 use Rattle.session_laws.proofs.run_headline.Runs.{facts}
 use Rattle.session_laws.proofs.run_headline.Showing.{Facts, alone_ends}
@@ -43,7 +45,7 @@ use Rattle.host_cli.specs.Checks.{check_cause}
 use Rattle.host_cli.specs.Promises.{sections_over}
 use Rattle.host_cli.specs.Scenes.{IsLinkReport}
 use Rattle.run_checks.proofs.Linking.{written-whole}
-use Rattle.run_checks.proofs.Unbegun.{ShowsNone, shows_none}
+use Rattle.run_checks.proofs.Unbegun.{ShowsNone, bare_none, cause_on, shows_none, told_none}
 use Rattle.run_checks.proofs.UnbegunLines.{unbegun_lines}
 
 -- a planner begins no more sections than the text has
@@ -52,9 +54,9 @@ none_begun [] others e = refl
 none_begun (s ∷ begun) others e = cc
 
 -- a report that shows none goes through the sections of a text that has none
-pub none-checks : (m : Machine) (text : List ℕ) (c : Cause) (said : List ReportLine) → HasNames m → IsValidMachine m → sections_over m text ≡ [] → ShowsNone m c said → check_cause m text (report_text m (said ++ report.End c ∷ [])) ≡ cause.Done
+pub none-checks : (m : Machine) (text : List ℕ) (c : Cause) (said : List ReportLine) → HasNames m → IsValidMachine m → sections_over m text ≡ [] → IsCauseOn m c → ShowsNone m said → check_cause m text (report_text m (said ++ report.End c ∷ [])) ≡ cause.Done
 unfolding log_verdict
-none-checks m text c said names valid none shows =
+none-checks m text c said names valid none on shows =
     let lines = clocks m (further_told (map logged said)) (in_order (map logged said)) in
     let go : GoWithin m [] lines first_turn said = record {
       head = said;
@@ -68,10 +70,10 @@ none-checks m text c said names valid none shows =
       soonest = omega arith;
       told_all = tt;
     } in
-    within-checks m (sections_over m text) lines first_turn said c valid names (subst (λ (z : List Section). GoWithin m z lines first_turn said) (sym none) go) shows.cause
+    within-checks m (sections_over m text) lines first_turn said c valid names (subst (λ (z : List Section). GoWithin m z lines first_turn said) (sym none) go) on
 
 module _ {F S : Type 0} (f : Files F) (o : Sink S) (m : Machine) (s : Scene) (name : List ℕ) (files files' : F) (out out' : S) (kept kept' : Kept) (t : Told Run) (r : RunsOver f o m s name files out kept t files' out' kept') where
-  none_by : (v : IsValidMachine m) (rs : List ReactorTurn) (p : Plans m (length m.boards) r.runs.0) → rs ≡ r.runs.1 → program_sections m p.seen.text ≡ [] → GoesThrough t.cause → ShowsNone m t.cause (gather (λ t. t.lines) (rs ++ r.runs.2 ∷ []))
+  none_by : (v : IsValidMachine m) (rs : List ReactorTurn) (p : Plans m (length m.boards) r.runs.0) → rs ≡ r.runs.1 → program_sections m p.seen.text ≡ [] → GoesThrough t.cause → IsCauseOn m t.cause × ShowsNone m (gather (λ t. t.lines) (rs ++ r.runs.2 ∷ []))
   none_by v [] p e none through =
       let Of : List ReactorTurn → Type 0 = λ z. Facts m s r.runs.0 z r.runs.2 t.cause in
       absurd (alone_ends m v s r.runs.0 p r.runs.2 t.cause (subst Of (sym e) (facts f o m s name files files' out out' kept kept' t r (written-whole t.cause through).0)) through)
@@ -79,9 +81,13 @@ module _ {F S : Type 0} (f : Files F) (o : Sink S) (m : Machine) (s : Scene) (na
       let Of : List ReactorTurn → Type 0 = λ z. Facts m s r.runs.0 z r.runs.2 t.cause in
       let begun = none_begun p.seen.begun p.of_text.0 (sym none ∙ p.of_text.1) in
       let own = subst Of (sym e) (facts f o m s name files files' out out' kept kept' t r (written-whole t.cause through).0) in
-      shows_none m v s r.runs.0 p r.runs.2 t.cause through begun first rest own (unbegun_lines m v s r.runs.0 p r.runs.2 t.cause through first rest own)
+      let one = own_cause t.cause through in (
+        cause_on m v s r.runs.0 p r.runs.2 t.cause one first rest own through,
+        shows_none m v s r.runs.0 p r.runs.2 t.cause one first rest own (told_none m v s r.runs.0 p r.runs.2 t.cause one first rest own begun) (bare_none m v s r.runs.0 p r.runs.2 t.cause one first rest own begun)
+            (through_shows t.cause through) (unbegun_lines m v s r.runs.0 p r.runs.2 t.cause one first rest own),
+      )
 
-  pub none_shown : IsValidMachine m → (text : List ℕ) → f.told files name ≡ Some text → kept.at ≡ 0 → program_sections m text ≡ [] → GoesThrough t.cause → ∥ ShowsNone m t.cause (gather (λ t. t.lines) (r.runs.1 ++ r.runs.2 ∷ [])) ∥₁
+  pub none_shown : IsValidMachine m → (text : List ℕ) → f.told files name ≡ Some text → kept.at ≡ 0 → program_sections m text ≡ [] → GoesThrough t.cause → ∥ (IsCauseOn m t.cause × ShowsNone m (gather (λ t. t.lines) (r.runs.1 ++ r.runs.2 ∷ []))) ∥₁
   none_shown v text told at none through =
       ∥∥₁_map (run_made f o m s name files files' out out' kept kept' t r text told at) (λ w.
       let None_in : List ℕ → Type 0 = λ z. program_sections m z ≡ [] in
@@ -100,6 +106,6 @@ module _ {F S : Type 0} (f : Files F) (o : Sink S) (printer : List ℕ) (m : Mac
       let said : gather (λ (t : ReactorTurn). t.lines) (own.runs.runs.1 ++ own.runs.runs.2 ∷ []) ≡ own.said = own.shown ∙ ap (λ (z : List ReportLine). own.said ++ z) w.0 ∙ append-nil own.said in
       let Through : Cause → Type 0 = λ z. GoesThrough z in
       let shown = none_shown f o m s gcode files files' out own.behind own.kept own.kept' own.told own.runs none_valid text told own.fresh.at none (subst Through w.2 through) in
-      let Of : Cause → Type 0 = λ z. ShowsNone m z own.said in
+      let Of : Cause → Type 0 = λ z. IsCauseOn m z in
       ∥∥₁_elim shown (hlevel props)
-      (λ shows. none-checks m text c own.said (names-of-reading printer m configured) none_valid none (subst Of (sym w.2) (subst (λ (z : List ReportLine). ShowsNone m own.told.cause z) said shows)))
+      (λ shows. none-checks m text c own.said (names-of-reading printer m configured) none_valid none (subst Of (sym w.2) shows.0) (subst (λ (z : List ReportLine). ShowsNone m z) said shows.1))

@@ -9,4 +9,4 @@ pub use law::{
     runs_over_links_in_order_check, runs_without_sections_check, what_homing_runs_write_checks,
     what_runs_over_links_write_checks, what_runs_without_sections_write_checks,
 };
-pub use page::runs_that_went_through_follow_the_plan;
+pub use page::{printed_lines_follow_the_plan, runs_that_went_through_follow_the_plan};

@@ -1,5 +1,5 @@
 -- A log that checks follows the plan, and its lines stand as they may.
-use Rattle.std.proofs.Common.{◌≡◌, ◌≢◌, ◌∙◌, ◌⊎◌, ℕ, zero, suc, ◌+◌, ◌<◌, ◌≤◌, Bool, true, false, List, [], ◌∷◌, ◌++◌, length, get_or, map, ap, sym, refl, subst, arith, inl, inr, Option, Some, None}
+use Rattle.std.proofs.Common.{◌≡◌, ◌∙◌, ◌⊎◌, ℕ, zero, suc, ◌+◌, ◌<◌, ◌≤◌, Bool, true, false, List, [], ◌∷◌, ◌++◌, length, ap, sym, refl, subst, arith, inl, inr, Option, Some, None}
 use Rattle.std.specs.Prelude.{◌==◌, ◌&&◌, nat_le, nat_lt, if◌then◌else◌, slice_index_or}
 use Rattle.std.proofs.lemmas.Bool.{cases_lt}
 use Rattle.std.proofs.lemmas.Bool.Decides.{nat_tests}
@@ -8,13 +8,13 @@ use Rattle.std.proofs.lemmas.List.FromFn.{length-map-range_with_len}
 use Rattle.log_text.specs.declared.line.LogLine.{LogLine}
 use Rattle.log_text.specs.declared.line.LogLine.TheVariants as line
 use Rattle.log_check.specs.declared.further.Further.{Further}
-use Rattle.log_check.specs.Behind.{begun, clocks, further_said, is_cut, is_ended, told}
+use Rattle.log_check.specs.Behind.{begun, clocks, further_said, is_ended, told}
 use Rattle.log_check.specs.Faults.{fault_at, have_room, is_short, may_cut, may_follow, may_start, no_tally, open_fault, ready, same_kind, section_fault}
 use Rattle.log_check.specs.Points.{plans, point, section_at}
 use Rattle.log_check.specs.Verdicts.{log_verdict, worded}
 use Rattle.log_check.proofs.Sounding.{fault-open}
 use Rattle.log_check.proofs.Tests.{both-first, both-second}
-use Rattle.log_laws.specs.Follows.{FollowsPlan, IsNext, IsWholeHere, further_among}
+use Rattle.log_laws.specs.Follows.{FollowsPlan, IsNext, further_among}
 use Rattle.log_laws.proofs.Fitting.{pulse-fits}
 use Rattle.log_laws.proofs.Following.{Fine, done, fine-behind, follows, said-among}
 use Rattle.gcode_program.specs.Programs.{program_end}
@@ -27,12 +27,11 @@ use Rattle.plan_types.specs.declared.cause.Cause.TheVariants as cause
 use Rattle.plan_types.specs.declared.cause.MisfitKind.{MisfitKind}
 use Rattle.plan_types.specs.declared.cause.MisfitKind.TheVariants as misfit
 use Rattle.plan_types.specs.declared.machine.Machine.{Machine}
-use Rattle.plan_types.specs.declared.plan.Planned.{Planned}
 use Rattle.plan_types.specs.declared.plan.Section.{Section}
 use Rattle.plan_types.specs.declared.plan.SectionKind.{SectionKind}
 use Rattle.plan_types.specs.Machines.{stepper_at}
 use Rattle.plan_types.specs.Sections.{clocks_at}
-use Rattle.run_checks.specs.page.Log.{Follows, SaysLog, StandsBehind, TellsPulseOf}
+use Rattle.run_checks.specs.page.Log.{Follows, SaysLog, StandsBehind}
 
 -- tests
 if-true : (kind : MisfitKind) (a : Bool) → (if a then None else Some kind) ≡ None → a ≡ true
@@ -81,7 +80,7 @@ module _ (m : Machine) (sections : List Section) (log : List LogLine) where
       let three = both-second b (c && (d && e)) two in
       same-number (length p.clocks) (length m.boards) (both-first c (d && e) three)
 
-  stands : (lines : List LogLine) (l : LogLine) → fault_at m sections (point m sections (further_among log) lines) l ≡ None → ((i turn : ℕ) (kind : SectionKind) → l ≡ line.Section i turn kind → IsNext m sections (further_among log) lines i turn kind) → StandsBehind m sections log lines l
+  stands : (lines : List LogLine) (l : LogLine) → fault_at m sections (point m sections (further_among log) lines) l ≡ None → ((i turn : ℕ) (kind : SectionKind) → l ≡ line.Section i turn kind → IsNext m sections (further_among log) lines i turn kind) → StandsBehind m sections (further_among log) lines l
   stands lines (line.Board b turn tick) fits next =
       let both = if-true misfit.BadLine ((begun lines == 0) && (b == length (clocks m (further_among log) lines))) (fault-open m sections (point m sections (further_among log) lines) (line.Board b turn tick) fits) in
       (same-number (begun lines) 0 (both-first (begun lines == 0) (b == length (clocks m (further_among log) lines)) both), same-number b (length (clocks m (further_among log) lines)) (both-second (begun lines == 0) (b == length (clocks m (further_among log) lines)) both))
@@ -100,10 +99,12 @@ module _ (m : Machine) (sections : List Section) (log : List LogLine) where
 
   from-plan : (through : Type 0) → FollowsPlan m sections log → Fine m sections (further_among log) log → Follows through m sections log
   from-plan through plan fine = record {
-    prefix = plan.prefix;
-    order = λ later lines l is.
-        let here = fine-behind m sections (further_among log) later (l ∷ lines) (subst (λ (x : List LogLine). Fine m sections (further_among log) x) is fine) in
-        (not-ended (is_ended lines) (open_fault m sections (point m sections (further_among log) lines) l) here.0, stands lines l here.0 (λ i turn kind e. plan.next later lines i turn kind (is ∙ ap (λ (x : LogLine). later ++ x ∷ lines) e)));
+    front = record {
+      prefix = plan.prefix;
+      order = λ later lines l is.
+          let here = fine-behind m sections (further_among log) later (l ∷ lines) (subst (λ (x : List LogLine). Fine m sections (further_among log) x) is fine) in
+          (not-ended (is_ended lines) (open_fault m sections (point m sections (further_among log) lines) l) here.0, stands lines l here.0 (λ i turn kind e. plan.next later lines i turn kind (is ∙ ap (λ (x : LogLine). later ++ x ∷ lines) e)));
+    };
     whole = λ later lines i turn kind is cut s inside why. plan.whole later lines i turn kind is cut s inside;
     last = λ why cut s inside. plan.last_whole cut s inside;
   }

@@ -1,12 +1,11 @@
 -- What the links of a run carried, and what its boards made of it.
-use Rattle.std.specs.Prelude.{◌≡◌, ℕ, ◌+◌, ◌<◌, List, [], ◌∷◌, ◌++◌, Option, Some, None, length, map, take}
+use Rattle.std.specs.Prelude.{◌≡◌, ℕ, ◌<◌, List, [], ◌∷◌, ◌++◌, length, map, take}
 use Rattle.host_reactor.specs.Runs.{Came}
 use Rattle.link_work.specs.Stands.{first_state}
 use Rattle.link_work.specs.Switches.{pins_of}
 use Rattle.log_laws.specs.Follows.{in_order}
 use Rattle.motion_work.specs.Feeds.{batches_at}
 use Rattle.motion_work.specs.Seen.{AreStarted, Started}
-use Rattle.msg_code.specs.declared.talk.State.{State}
 use Rattle.board_runs.specs.Turns.{AreBoardTurns, BoardTurn, IsBoardOf}
 use Rattle.plan_types.specs.declared.machine.Machine.{Machine}
 use Rattle.plan_types.specs.declared.plan.Section.{Section}
@@ -14,7 +13,7 @@ use Rattle.plan_types.specs.Clock.{clock_of}
 use Rattle.plan_types.specs.Lines.{Clocks}
 use Rattle.plan_types.specs.Machines.{board_at}
 use Rattle.session_lanes.specs.declared.near.LinkLog.{LinkLog}
-use Rattle.session_work.specs.Rows.{gather, item}
+use Rattle.session_work.specs.Rows.{item}
 use Rattle.wire_scene.specs.declared.scene.Scene.{Scene}
 
 -- the log of a board, where there is one

@@ -1,11 +1,10 @@
 -- For which cause a run ends: what each says.
-use Rattle.std.specs.Prelude.{◌≡◌, ◌⊎◌, ℕ, ◌+◌, ◌*◌, ◌<◌, ◌≤◌, Bool, false, List, [], ◌∷◌, ◌++◌, Option, Some, None, length}
+use Rattle.std.specs.Prelude.{◌≡◌, ℕ, ◌+◌, ◌<◌, false, List, [], ◌∷◌, ◌++◌, Some, length}
 use Rattle.board_sim.specs.Board.{timer_too_close}
 use Rattle.gcode_program.specs.Programs.{program_end}
 use Rattle.host_cli.specs.Body.{cause_of}
 use Rattle.link_work.specs.Held.{lead_of}
 use Rattle.log_text.specs.declared.line.LogLine.{LogLine}
-use Rattle.msg_code.specs.declared.talk.ShutNews.{ShutNews}
 use Rattle.msg_code.specs.declared.talk.State.{State}
 use Rattle.plan_types.specs.declared.cause.Cause.{Cause}
 use Rattle.plan_types.specs.declared.cause.Cause.TheVariants as cause

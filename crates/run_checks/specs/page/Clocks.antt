@@ -1,5 +1,5 @@
 -- The clock lines that a report prints, against the boards' own clocks.
-use Rattle.std.specs.Prelude.{◌≡◌, ℕ, ◌+◌, ◌-◌, ◌*◌, ◌<◌, ◌≤◌, pos, List, [], ◌∷◌, ◌++◌, length}
+use Rattle.std.specs.Prelude.{◌≡◌, ℕ, ◌+◌, ◌-◌, ◌*◌, ◌≤◌, pos, List, ◌∷◌, ◌++◌}
 use Rattle.clock_line.specs.Samples.{AreWithin, line_reach}
 use Rattle.log_check.specs.Behind.{told_line}
 use Rattle.log_text.specs.declared.line.LogLine.{LogLine}

@@ -1,5 +1,6 @@
 -- A report's printed lines as a log: they follow the plan of a text, as far as the run came.
 use Rattle.std.specs.Prelude.{◌≡◌, ◌⊎◌, ℕ, ◌+◌, ◌<◌, zero, suc, Bool, true, false, List, [], ◌∷◌, ◌++◌, length, map}
+use Rattle.log_check.specs.declared.further.Further.{Further}
 use Rattle.log_text.specs.declared.line.LogLine.{LogLine}
 use Rattle.log_text.specs.declared.line.LogLine.TheVariants as line
 use Rattle.log_check.specs.Behind.{begun, clocks, is_cut, is_ended, start, told}
@@ -29,16 +30,16 @@ abbrev pub next_turn : Machine → List Section → List LogLine → List LogLin
 next_turn m sections log lines zero = board_turn lines
 next_turn m sections log lines (suc i) = end_by m sections (clocks m (further_among log) lines) (suc i) (start lines) + 260
 
--- A line stands behind others in a log as it may: a board's line before the first section, in the order of the boards; a further clock line
--- behind those of its board; a section, the next one of the text, not before its turn (`IsNext`), behind the lines of all boards; a pulse of a stepper that is there; a cut in
--- the section that it names, which homes.
-abbrev pub StandsBehind : Machine → List Section → List LogLine → List LogLine → LogLine → Type 0
-StandsBehind m sections log lines (line.Board b turn tick) = (begun lines ≡ 0) × (b ≡ length (clocks m (further_among log) lines))
-StandsBehind m sections log lines (line.Line b turn tick from) = may_follow m (told m lines) b turn tick from ≡ true
-StandsBehind m sections log lines (line.Section i turn kind) = IsNext m sections (further_among log) lines i turn kind × (length (clocks m (further_among log) lines) ≡ length m.boards)
-StandsBehind m sections log lines (line.Pulse s tick up) = s < length m.steppers
-StandsBehind m sections log lines (line.Cut i) = may_cut sections (begun lines) i ≡ true
-StandsBehind m sections log lines _ = Unit {0}
+-- A line stands behind others in a log as it may, by the further clock lines of the log: a board's line before the first section, in the order of
+-- the boards; a further clock line behind those of its board; a section, the next one of the text, not before its turn (`IsNext`), behind the lines
+-- of all boards; a pulse of a stepper that is there; a cut in the section that it names, which homes.
+abbrev pub StandsBehind : Machine → List Section → List Further → List LogLine → LogLine → Type 0
+StandsBehind m sections further lines (line.Board b turn tick) = (begun lines ≡ 0) × (b ≡ length (clocks m further lines))
+StandsBehind m sections further lines (line.Line b turn tick from) = may_follow m (told m lines) b turn tick from ≡ true
+StandsBehind m sections further lines (line.Section i turn kind) = IsNext m sections further lines i turn kind × (length (clocks m further lines) ≡ length m.boards)
+StandsBehind m sections further lines (line.Pulse s tick up) = s < length m.steppers
+StandsBehind m sections further lines (line.Cut i) = may_cut sections (begun lines) i ≡ true
+StandsBehind m sections further lines _ = Unit {0}
 
 -- a pulse of a stepper of a board stands among some lines
 pub record TellsPulseOf (m : Machine) (b : ℕ) (lines : List LogLine) : Type 0 where
@@ -50,13 +51,17 @@ pub record TellsPulseOf (m : Machine) (b : ℕ) (lines : List LogLine) : Type 0 
   pub are : lines ≡ later ++ line.Pulse s tick up ∷ before
   pub on : (stepper_at m s).board ≡ b
 
--- A log follows the plan of a text's sections, as far as its run came, which went through or not.
-pub record Follows (through : Type 0) (m : Machine) (sections : List Section) (log : List LogLine) : Type 0 where
+-- A log follows the plan of a text's sections as far as it goes, whatever ended its run.
+pub record FollowsFront (m : Machine) (sections : List Section) (log : List LogLine) : Type 0 where
   -- Prefix: behind each line the pulses of every stepper in the open section fit the first of its planned steps, by the clock lines that
   -- the log tells
   pub prefix : (later lines : List LogLine) → log ≡ later ++ lines → (s : ℕ) → s < length m.steppers → FitsHere m sections (further_among log) lines s
   -- Sections: each line stands as it may, and none behind the end; the sections are the first ones of the text, in order, each in its turn
-  pub order : (later lines : List LogLine) (l : LogLine) → log ≡ later ++ l ∷ lines → (is_ended lines ≡ false) × StandsBehind m sections log lines l
+  pub order : (later lines : List LogLine) (l : LogLine) → log ≡ later ++ l ∷ lines → (is_ended lines ≡ false) × StandsBehind m sections (further_among log) lines l
+
+-- It does, as far as its run came, which went through or not; and its sections are whole.
+pub record Follows (through : Type 0) (m : Machine) (sections : List Section) (log : List LogLine) : Type 0 where
+  pub front : FollowsFront m sections log
   -- Whole: the pulses of a section that another follows, and that wasn't cut, are as many as planned, where the run went through; and
   -- whatever ended it, of a stepper of whose board a pulse stands behind the line of the other
   pub whole : (later lines : List LogLine) (i turn : ℕ) (kind : SectionKind) → log ≡ later ++ line.Section i turn kind ∷ lines → is_cut lines ≡ false → (s : ℕ) → s < length m.steppers →

@@ -1,11 +1,10 @@
 -- What a run over links shows: its report on one page.
-use Rattle.std.specs.Prelude.{◌≡◌, ◌⊎◌, ℕ, ◌+◌, ◌<◌, ◌≤◌, List, [], ◌∷◌, ◌++◌, Option, Some, length, map, slice_index_or}
+use Rattle.std.specs.Prelude.{◌≡◌, ◌⊎◌, ℕ, List, [], ◌∷◌, ◌++◌, Option, Some, length, map, slice_index_or}
 use Rattle.gcode_program.specs.Programs.{program_end}
 use Rattle.homing_laws.specs.switch_runs.Reading.{IsComplete}
 use Rattle.homing_laws.specs.switch_runs.Runs.{readings}
 use Rattle.axis_homing.specs.Homing.{low}
 use Rattle.clock_line.specs.Early.{turn_tick}
-use Rattle.host_cli.specs.Body.{cause_of}
 use Rattle.host_cli.specs.Cuts.{scene_line}
 use Rattle.host_cli.specs.Headline.{kind_of}
 use Rattle.host_cli.specs.Promises.{WritesText, lines_line, sections_over}
@@ -13,7 +12,6 @@ use Rattle.link_work.specs.Switches.{pins_of}
 use Rattle.log_check.specs.Behind.{start, told}
 use Rattle.log_laws.specs.Follows.{in_order}
 use Rattle.log_text.specs.declared.line.LogLine.{LogLine}
-use Rattle.msg_code.specs.declared.talk.State.{State}
 use Rattle.plan_types.specs.declared.cause.Cause.{Cause}
 use Rattle.plan_types.specs.declared.cause.Cause.TheVariants as cause
 use Rattle.plan_types.specs.declared.machine.Machine.{Machine}

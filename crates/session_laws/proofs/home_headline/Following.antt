@@ -11,7 +11,7 @@ use Rattle.io_core.specs.declared.traits.Files.{Ghosts as Files}
 use Rattle.io_core.specs.declared.traits.Sink.{Ghosts as Sink}
 use Rattle.wire_scene.specs.declared.scene.Scene.{Scene}
 use Rattle.host_reactor.specs.Reactor.{Run}
-use Rattle.motion_work.specs.Seen.{AreStarted, Started}
+use Rattle.motion_work.specs.Seen.{Started}
 use Rattle.motion_work.specs.Told.{Told}
 use Rattle.session_lanes.specs.declared.near.Told as near
 use Rattle.session_work.specs.declared.table.MotionTurn.{MotionTurn}
@@ -25,7 +25,7 @@ use Rattle.run_plans.specs.Planned.{Plans}
 use Rattle.run_plans.proofs.Running.{started_in}
 use Rattle.session_laws.specs.run_headline.Made.{IsMade}
 use Rattle.session_laws.specs.run_headline.Timely.{AreSound, link_of}
-use Rattle.session_laws.proofs.run_headline.Boarded.{Ready, first_in_range, ready, sound_of, took, valid_at}
+use Rattle.session_laws.proofs.run_headline.Boarded.{Ready, first_in_range, lines_renewed, ready, sound_of, took, valid_at}
 use Rattle.session_laws.proofs.run_headline.Joining.{of_sections}
 use Rattle.session_laws.proofs.run_headline.Making.{run_made}
 use Rattle.session_laws.proofs.run_headline.Runs.{facts}
@@ -39,13 +39,13 @@ use Rattle.homing_laws.proofs.home_parts.Lines.{home_fits, home_none}
 use Rattle.homing_laws.proofs.home_parts.Told.{row_from}
 use Rattle.session_laws.specs.home_headline.Follow.{FollowHomes}
 use Rattle.cause_runs.specs.Short.{HaveShortDictionaries}
-use Rattle.session_laws.proofs.clock_ages.Own.{Own}
+use Rattle.session_laws.specs.clock_ages.Renewed.{StayYoung}
+use Rattle.session_laws.proofs.clock_ages.Own.{Own, follow_to}
 use Rattle.session_laws.proofs.clock_ages.Renews.{renews}
 use Rattle.session_laws.specs.home_headline.Little.{HomesLittle}
 use Rattle.session_laws.proofs.home_headline.Board.{Followed, boarded_by, here_by, lines_of}
 use Rattle.session_laws.proofs.home_headline.Ranges.{may_all, on_small, range_all, starts_soon}
-use Rattle.session_laws.proofs.home_headline.Soon.{home_early}
-use Rattle.session_laws.proofs.home_headline.Uncut.{planned_at}
+use Rattle.session_laws.proofs.home_headline.Soon.{home_soon}
 
 module _ (m : Machine) (v : IsValidMachine m) (s : Scene) (ts : List MotionTurn) (p : Plans m (length m.boards) ts) (t : Told) (first : ReactorTurn) (rest : List ReactorTurn) (end : ReactorTurn) (c : Cause) (told : p.seen.told ≡ Some t) (f : Facts m s ts (first ∷ rest) end c)
     (short : HaveShortDictionaries m) (little : (b : ℕ) → b < length m.boards → (w : IsInWhole m s.switches b (clock_of (board_at m b)) (link_of m s b) ts first (rest ++ end ∷ [])) → HomesLittle m s b ts first (rest ++ end ∷ []) (length p.made) t p.seen.begun w) where
@@ -56,8 +56,11 @@ module _ (m : Machine) (v : IsValidMachine m) (s : Scene) (ts : List MotionTurn)
   whole : (b : ℕ) → b < length m.boards → IsInWhole m s.switches b (clock_of (board_at m b)) (link_of m s b) ts first (rest ++ end ∷ [])
   whole b h = f.boards b first rest h refl
 
+  young : (b : ℕ) → b < length m.boards → StayYoung m b (clocks_at t.clocks b) (length rest)
+  young b h = let size = length-append rest (end ∷ []) in let most = few m v s ts p end c first rest f in renews m v short s ts p t first rest end c told f (notes_before m v s ts p end c first rest f) (omega (arith, size, most)) b h
+
   lines : (b : ℕ) → b < length m.boards → Followed m b (length rest) t.clocks (length (came_from [] turn.past)) p.seen.begun
-  lines b h = lines_of m v s ts p t first rest end told b (whole b h) turn h (let size = length-append rest (end ∷ []) in let most = few m v s ts p end c first rest f in renews m v short s ts p t first rest end c told f (notes_before m v s ts p end c first rest f) (omega (arith, size, most)) b h)
+  lines b h = lines_of m v s ts p t first rest end told b (whole b h) turn h (young b h)
 
   row : AreInARow t.first p.seen.begun
   row = begun_row m t.clocks t.first p.seen.begun (started_in m ts p t told)
@@ -101,17 +104,21 @@ module _ (m : Machine) (v : IsValidMachine m) (s : Scene) (ts : List MotionTurn)
         lines = tells;
         fit = λ past x later from to place cut h w.
             home_fits m v t.clocks p.seen.begun (rest ++ end ∷ []) s.entries from_ready (length p.made) n from to place (here_by m v s ts p t first rest end told (length p.made) (stepper_at m place).board (whole (stepper_at m place).board (v.steppers place h).board)) past x later tells.1 cut (on_stepper place h) w;
-        early = λ past x later from to place cut h w known.
+        soon = λ past x later from to place cut h w.
             let b = (stepper_at m place).board in
             let small = (v.steppers place h).board in
-            let Started_in : List Started → Type 0 = λ ss. AreStarted m t.clocks t.first ss in
             let Row : List Started → Type 0 = λ ss. AreInARow t.first ss in
-            let order = row_from t.first past x later (subst Row cut row) in
-            let late = order.0 in
-            let ends = order.1 in
+            let late = (row_from t.first past x later (subst Row cut row)).0 in
+            let begins = w.begins in
+            let order = w.order in
+            let within = w.within in
+            let early = turn.early in
             let before = sound.clocks_are.before b small in
-            home_early m v t.clocks p.seen.begun (rest ++ end ∷ []) s.entries from_ready (length p.made) n from to place (here_by m v s ts p t first rest end told (length p.made) b (whole b small)) past x later tells.1 cut (on_stepper place h) w
-            (planned_at m t.clocks t.first past x later (subst Started_in cut (started_in m ts p t told))) known (sound.clocks_are.lasting b small (first_in_range m v s ts p t first rest end told b turn small)) (sound.clocks_are.freq b small) (omega (arith, before, late, ends));
+            let size = length-append rest (end ∷ []) in
+            let k = follow_to m b (length rest) from_ready (clocks_at t.clocks b) (lines_renewed m v s ts p t first rest end told b turn (whole b small) small (young b small)) in
+            home_soon m v p.seen.begun (rest ++ end ∷ []) s.entries from_ready (length p.made) n from to place (here_by m v s ts p t first rest end told (length p.made) b (whole b small)) t.clocks tells.1 (on_stepper place h) order within k.0
+            (omega (arith, early, late, begins, order)) (let until = k.1 in omega (arith, until, within, size)) (sound.clocks_are.lasting b small (first_in_range m v s ts p t first rest end told b turn small)) (sound.clocks_are.freq b small)
+            (omega (arith, before, late, begins, order));
         between = λ past later from to place cut h order within ended next.
             home_none m v t.clocks p.seen.begun (rest ++ end ∷ []) s.entries from_ready (length p.made) n from to place (here_by m v s ts p t first rest end told (length p.made) (stepper_at m place).board (whole (stepper_at m place).board (v.steppers place h).board)) past later tells.1 cut (on_stepper place h) order within ended next;
       }

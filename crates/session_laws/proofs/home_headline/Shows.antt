@@ -2,7 +2,6 @@
 use Rattle.std.proofs.Common.{◌≡◌, ℕ, zero, suc, ◌+◌, ◌-◌, ◌*◌, ◌<◌, ◌≤◌, List, [], ◌∷◌, ◌++◌, length, take, All, Option, None, Some, refl, ap, sym, ◌∙◌, subst, arith, length-append, append_assoc}
 use Rattle.std.proofs.Math.Logic.{∥∥₁_map}
 use Rattle.std.proofs.Math.Seq.{take-append_seam}
-use Rattle.std.proofs.lemmas.List.{length-map}
 use Rattle.plan_types.specs.declared.cause.Cause.{Cause}
 use Rattle.plan_types.specs.declared.cause.Cause.TheVariants as cause
 use Rattle.plan_types.specs.declared.machine.Machine.{Machine}
@@ -21,7 +20,6 @@ use Rattle.wire_scene.specs.declared.scene.Scene.{Scene}
 use Rattle.host_reactor.specs.Reactor.{Run}
 use Rattle.motion_work.specs.Seen.{Started}
 use Rattle.motion_work.specs.Told.{Told}
-use Rattle.motion_stream.proofs.Wholing.{at_place}
 use Rattle.session_lanes.specs.declared.near.Told as near
 use Rattle.session_work.specs.declared.table.MotionTurn.{MotionTurn}
 use Rattle.session_work.specs.declared.table.ReactorTurn.{ReactorTurn}
@@ -31,9 +29,8 @@ use Rattle.session_run.specs.Runs.{RunsOver}
 use Rattle.run_laws.specs.Boards.{AreEnded, IsWindow, NextStart}
 use Rattle.run_plans.specs.Boards.{lines_between, times_of}
 use Rattle.run_plans.specs.Lines.{pulses_of}
-use Rattle.run_plans.specs.Planned.{Plans, put_of}
+use Rattle.run_plans.specs.Planned.{Plans}
 use Rattle.run_plans.proofs.Beginning.{Spread}
-use Rattle.run_plans.proofs.Running.{started_in}
 use Rattle.run_plans.proofs.Spreading.{plans_spread}
 use Rattle.run_plans.proofs.Telling.{all_tell, pulses_append}
 use Rattle.session_laws.specs.run_ends.Ends.{GoesThrough}
@@ -45,9 +42,6 @@ use Rattle.session_laws.proofs.run_headline.Joining.{of_sections, row_none}
 use Rattle.session_laws.proofs.run_headline.Making.{run_made}
 use Rattle.session_laws.proofs.run_headline.Runs.{facts}
 use Rattle.session_laws.proofs.run_headline.Showing.{Facts, all_lines, alone_ends, boards_told, counts_so, first_pulses, further_by, heard, in_none, lines_all, long_own, not_told, sound_by, started, starts_late, through_long, untold_alone}
-use Rattle.homing_laws.specs.home_plans.Notes.{AreInARow}
-use Rattle.homing_laws.proofs.home_plans.Noting.{begun_row}
-use Rattle.homing_laws.proofs.home_parts.Told.{row_from}
 use Rattle.session_laws.specs.home_headline.Follow.{AllShowHomes, FollowHomes, ShowHomes}
 use Rattle.cause_runs.specs.Short.{HaveShortDictionaries}
 use Rattle.session_laws.specs.home_headline.Little.{AllHomeLittle}
@@ -98,12 +92,12 @@ module _ (m : Machine) (v : IsValidMachine m) (s : Scene) (ts : List MotionTurn)
         let front : lines_between 0 n (rest ++ end ∷ []) ≡ all past = ap (λ z. lines_between 0 n z) then ∙ ap (λ (k : ℕ). all (take k (past ++ behind))) whole ∙ ap all (take-append_seam past behind) in
         pulses_append place y.lines (all past) ∙ ap (λ z. z ++ pulses_of place (all past)) now ∙ ap (pulses_of place) (sym front) ∙ none
 
-    -- in a run that went through, by the lines of the boards without those that hold behind its end
-    told_all : (o : Option Told) → p.seen.told ≡ o → GoesThrough c → (short : List Clocks) → ((b : ℕ) → b < length m.boards → AreFirstLines (clocks_at short b) (clocks_at (clocks_heard p.seen.told) b) (length (rest ++ end ∷ []) + 271))
+    -- by the lines of the boards without those that hold behind its end
+    told_all : (o : Option Told) → p.seen.told ≡ o → (short : List Clocks) → ((b : ℕ) → b < length m.boards → AreFirstLines (clocks_at short b) (clocks_at (clocks_heard p.seen.told) b) (length (rest ++ end ∷ []) + 271))
         → (past : List Started) (x : Started) (later : List Started) (from to place : ℕ) → p.seen.begun ≡ past ++ x ∷ later → place < length m.steppers → IsWindow (length (rest ++ end ∷ [])) from to (record { start = x.start; end = x.end }) (times_of later)
         → Fits (clocks_at short (stepper_at m place).board).first.freq (base_tick m short x.start place) (pulses_of place (lines_between from to (rest ++ end ∷ []))) (stepper_plan m short x.section.moves x.start place)
-    told_all None e g short firsts past x later from to place cut h w = absurd (in_none past x later p.seen.begun (not_told m v s ts p end c e) cut)
-    told_all (Some t) e g short firsts past x later from to place cut h w =
+    told_all None e short firsts past x later from to place cut h w = absurd (in_none past x later p.seen.begun (not_told m v s ts p end c e) cut)
+    told_all (Some t) e short firsts past x later from to place cut h w =
         let n = length (rest ++ end ∷ []) in
         let b = (stepper_at m place).board in
         let small = (v.steppers place h).board in
@@ -111,19 +105,15 @@ module _ (m : Machine) (v : IsValidMachine m) (s : Scene) (ts : List MotionTurn)
         let ps = pulses_of place (lines_between from to (rest ++ end ∷ [])) in
         let line = clocks_at clocks b in
         let heard_is : t.clocks ≡ clocks = sym (ap clocks_heard e) in
-        let Row : List Started → Type 0 = λ ss. AreInARow t.first ss in
-        let order = (row_from t.first past x later (subst Row cut (begun_row m t.clocks t.first p.seen.begun (started_in m ts p t e)))).1 in
-        let Ended : List Started → Type 0 = λ ss. All (λ (y : Started). y.end + 5 ≤ n) ss in
-        let over = at_place (λ (y : Started). y.end + 5 ≤ n) past x later (subst Ended cut (through_long m v s ts p end c first rest f g (long g)).over) in
-        let few = p.small in
-        let made = length-map p.made put_of in
-        let most = long g in
+        let begins = w.begins in
+        let order = w.order in
+        let within = w.within in
         let sound = sound_by m v s ts p end c first rest f p.seen.told refl (λ none. in_none past x later p.seen.begun none cut) in
-        let agree = plans-agree m short clocks x.section.moves x.start (n + 271) place (sound.kept b small) (firsts b small) (omega (arith, order, over)) in
-        let Lines : List Clocks → Type 0 = λ cs. All (λ (q : Pulse). q.tick + max_error (board_at m b).freq < lines_tick (clocks_at cs b) ((x.end + 276) * turn_ns)) ps in
-        let early = subst Lines heard_is ((by_told t e).early past x later from to place cut h w (omega (arith, over, made, few, most))) in
+        let agree = plans-agree m short clocks x.section.moves x.start (n + 271) place (sound.kept b small) (firsts b small) (omega (arith, begins, order, within)) in
+        let Lines : List Clocks → Type 0 = λ cs. All (λ (q : Pulse). q.tick + max_error (board_at m b).freq < lines_tick (clocks_at cs b) ((to + 7) * turn_ns)) ps in
+        let early = subst Lines heard_is ((by_told t e).soon past x later from to place cut h w) in
         let Freq : ℕ → Type 0 = λ f. All (λ (q : Pulse). q.tick + max_error f < lines_tick line ((n + 271) * turn_ns)) ps in
-        let up = tick_over-mono line.first 0 line.held ((x.end + 276) * turn_ns) ((n + 271) * turn_ns) (omega (arith, over)) in
+        let up = tick_over-mono line.first 0 line.held ((to + 7) * turn_ns) ((n + 271) * turn_ns) (omega (arith, within)) in
         let soon : All (λ (q : Pulse). q.tick + max_error (board_at m b).freq < lines_tick line ((n + 271) * turn_ns)) ps = λ k d low. (let own = early k d low in omega (arith, own, up)) in
         fits-agree m short clocks x.section.moves x.start place (lines_tick line ((n + 271) * turn_ns)) ps agree (subst Freq (sym (sound.clocks_are.freq b small)) soon) (fits p.seen.told refl past x later from to place cut h w)
 
@@ -159,23 +149,26 @@ module _ (m : Machine) (v : IsValidMachine m) (s : Scene) (ts : List MotionTurn)
     started = (started m v s ts p end c p.seen.told refl).1;
     boards = λ some. absurd (untold_alone m v s ts p end c p.seen.told refl f some);
     lines = all_tell m s.switches p.seen.text p.seen.begun 260 p.made (end ∷ []) spread (omega arith) p.put (row_none (length m.boards) end f.row, tt) (lines_all m s.switches [] [] end tt (f.known, f.begun, f.lines_are));
-    fit = λ past x later from to place cut h w.
-        let late = starts_late 260 past x later (subst (Spread 260) cut spread) in
-        let begins = w.begins in
-        let order = w.order in
-        let within = w.within in
-        absurd (omega (arith, late, begins, order, within));
+    fit = λ past x later from to place cut h w. absurd (no_window past x later from to cut w);
     behind = λ past x later from to place cut h order within ended next. none_of place from to order within;
     early = λ x later past behind place cut are soon h. absurd (untold_alone m v s ts p end c p.seen.told refl f (λ e. in_none [] x later p.seen.begun e cut));
     through = λ g. absurd (alone_ends m v s ts p end c f g);
     counts = λ g. absurd (alone_ends m v s ts p end c f g);
     sound = λ some. absurd (untold_alone m v s ts p end c p.seen.told refl f some);
     further = λ some. absurd (untold_alone m v s ts p end c p.seen.told refl f some);
-    told = λ g. absurd (alone_ends m v s ts p end c f g);
+    told = λ short firsts past x later from to place cut h w. absurd (no_window past x later from to cut w);
   }
     where
       spread : Spread 260 p.seen.begun
       spread = plans_spread m (length m.boards) ts p
+
+      no_window : (past : List Started) (x : Started) (later : List Started) (from to : ℕ) → p.seen.begun ≡ past ++ x ∷ later → IsWindow 0 from to (record { start = x.start; end = x.end }) (times_of later) → ⊥
+      no_window past x later from to cut w =
+          let late = starts_late 260 past x later (subst (Spread 260) cut spread) in
+          let begins = w.begins in
+          let order = w.order in
+          let within = w.within in
+          omega (arith, late, begins, order, within)
 
   pub all_shows : (rs : List ReactorTurn) → Facts m s ts rs end c → HaveShortDictionaries m → AllHomeLittle m s p.seen.text ts (rs ++ end ∷ []) → AllShowHomes m p.seen (clocks_heard p.seen.told) (ready_heard p.seen.told) c (rs ++ end ∷ [])
   all_shows [] f short little = shows_alone f

@@ -1,5 +1,5 @@
 -- The numbers of what was read stand in the turn that ends a run.
-use Rattle.std.proofs.Common.{◌≡◌, ℕ, ◌+◌, Bool, true, false, List, [], ◌∷◌, ◌++◌, length, Option, Some, None, refl, ap, sym, ◌∙◌, subst}
+use Rattle.std.proofs.Common.{◌≡◌, ◌⊎◌, inl, inr, ℕ, ◌+◌, Bool, true, false, List, [], ◌∷◌, ◌++◌, length, Option, Some, None, refl, ap, sym, ◌∙◌, subst}
 use Rattle.std.specs.List.{flat_map}
 use Rattle.std.specs.Prelude.{◌==◌, ◌||◌, if◌then◌else◌}
 use Rattle.std.proofs.lemmas.Grind.{flat_map-append}
@@ -95,10 +95,11 @@ own_counts : (o : Option Reading) → counts_of (count_lines o) ≡ count_lines 
 own_counts None = refl
 own_counts (Some r) = refl
 
--- a turn that goes on tells none, and one that ends a run that went through those of the reading
+-- a turn that goes on tells none, and one that ends a run that went through those of the reading; and any turn tells none or these
 pub record Counted (r : Known) (x : Reacted) : Type 0 where
   pub on : x.ordered.end ≡ None → counts_of x.ordered.lines ≡ []
   pub through : (c : Cause) → x.ordered.end ≡ Some c → GoesThrough c → counts_of x.ordered.lines ≡ count_lines r.reading
+  pub any : (counts_of x.ordered.lines ≡ []) ⊎ (counts_of x.ordered.lines ≡ count_lines r.reading)
 
 no_late : (c : Cause) → IsLate c → GoesThrough c → ⊥
 no_late cause.Done i g = i
@@ -124,21 +125,22 @@ no_homing (cause.Line line kind) i g = i
 no_homing (cause.Asked line) i g = i
 no_homing c i g = g
 
-fails : (r : Known) (x : Reacted) (d : Cause) → x.ordered.end ≡ Some d → (GoesThrough d → ⊥) → Counted r x
-fails r x d e not = record {
-  on = λ n. absurd (let f : Some d ≡ None = sym e ∙ n in cc);
+fails : (r : Known) (x : Reacted) (d : Cause) → x.ordered.end ≡ Some d → (GoesThrough d → ⊥) → counts_of x.ordered.lines ≡ [] → Counted r x
+fails r x d e not n = record {
+  on = λ f. n;
   through = λ c f g. absurd (not (let same : d ≡ c = (let h : Some d ≡ Some c = sym e ∙ f in cc) in subst (λ (z : Cause). GoesThrough z) (sym same) g));
+  any = inl n;
 }
 
 goes_on : (r : Known) (x : Reacted) → x.ordered.end ≡ None → counts_of x.ordered.lines ≡ [] → Counted r x
-goes_on r x e n = record { on = λ f. n; through = λ c f g. absurd (let h : None ≡ Some c = sym e ∙ f in cc) }
+goes_on r x e n = record { on = λ f. n; through = λ c f g. absurd (let h : None ≡ Some c = sym e ∙ f in cc); any = inl n }
 
 either : (b : Bool) (r : Known) (x y : Reacted) → Counted r x → Counted r y → Counted r (if b then x else y)
 either true r x y a b = a
 either false r x y a b = b
 
 connecting : (o : Option Cause) (m : Machine) (r : Known) (k : ℕ) (lines : List ReportLine) (askings : List Asking) → If IsConnect o → counts_of lines ≡ [] → Counted r (unless_given_up o m r k lines askings)
-connecting (Some c) m r k lines askings i n = fails r (ends m r k lines c) c refl (no_connect c i)
+connecting (Some c) m r k lines askings i n = fails r (ends m r k lines c) c refl (no_connect c i) n
 connecting None m r k lines askings i n =
     let ls = board_lines m 0 askings in
     either (all_connected askings) r (is_connected_now m r k lines askings) (asks_boards m r k lines askings) (goes_on r (is_connected_now m r k lines askings) refl (both_none lines (connected_lines k 0 ls) n (lines_none k 0 ls)))
@@ -148,6 +150,7 @@ told : (m : Machine) (r q : Known) (k : ℕ) (lines : List ReportLine) (c : Caus
 told m r q k lines c same n = record {
   on = λ f. absurd (let g : Some c ≡ None = f in cc);
   through = λ d f g. counts_append lines (count_lines q.reading) ∙ ap (λ z. z ++ counts_of (count_lines q.reading)) n ∙ own_counts q.reading ∙ ap count_lines same;
+  any = inr (counts_append lines (count_lines q.reading) ∙ ap (λ z. z ++ counts_of (count_lines q.reading)) n ∙ own_counts q.reading ∙ ap count_lines same);
 }
 
 finishing : (s : ReadStop) (m : Machine) (r q : Known) (k : ℕ) (lines : List ReportLine) (askings : List Asking) (turn : HomingTurn) → q.reading ≡ r.reading → counts_of lines ≡ [] → Counted r (finishes s m q k lines askings turn)
@@ -157,20 +160,20 @@ finishing (read.Refused line kind) m r q k lines askings turn same n = told m r 
 
 homing : (o : Option Cause) (m : Machine) (r q : Known) (k : ℕ) (states : List State) (lines cut : List ReportLine) (askings : List Asking) (turn : HomingTurn) → If IsHoming o → q.reading ≡ r.reading → counts_of lines ≡ [] → counts_of cut ≡ []
     → Counted r (unless_homing_ends o m q k states lines cut askings turn)
-homing (Some c) m r q k states lines cut askings turn i same n d = fails r (ends m q k lines c) c refl (no_homing c i)
+homing (Some c) m r q k states lines cut askings turn i same n d = fails r (ends m q k lines c) c refl (no_homing c i) n
 homing None m r q k states lines cut askings turn i same n d =
     let all = both_none lines cut n d in
     either (is_finished q k states) r (finishes (stop_of q.reading) m q k (lines ++ cut) askings turn) (carries_on m q k (lines ++ cut) askings turn None) (finishing (stop_of q.reading) m r q k (lines ++ cut) askings turn same all)
     (goes_on r (carries_on m q k (lines ++ cut) askings turn None) refl all)
 
 running : (o : Option Cause) (m : Machine) (switches : List Switch) (r : Known) (k : ℕ) (states : List State) (lines : List ReportLine) (askings : List Asking) → If IsStale o → counts_of lines ≡ [] → Counted r (unless_stale o m switches r k states lines askings)
-running (Some c) m switches r k states lines askings i n = fails r (ends m r k lines c) c refl (no_stale c i)
+running (Some c) m switches r k states lines askings i n = fails r (ends m r k lines c) c refl (no_stale c i) n
 running None m switches r k states lines askings i n =
     let turn = homing_turn r.clocks k states r.homing in
     homing turn.end m r (after_homing r k states) k states lines (cut_line m switches turn.section (axis_at m turn.axis) turn.cut) askings turn (homing_is r.clocks k states r.homing) refl n (cut_none m switches turn.section (axis_at m turn.axis) turn.cut)
 
 stopping : (o : Option Cause) (m : Machine) (r : Known) (k : ℕ) (lines : List ReportLine) (line : ℕ) → If IsStale o → counts_of lines ≡ [] → Counted r (unless_late_stale o m r k lines line)
-stopping (Some c) m r k lines line i n = fails r (ends m r k lines c) c refl (no_stale c i)
+stopping (Some c) m r k lines line i n = fails r (ends m r k lines c) c refl (no_stale c i) n
 stopping None m r k lines line i n = told m r r k lines (cause.Asked line) refl n
 
 phases : (p : Phase) (m : Machine) (switches : List Switch) (r : Known) (k : ℕ) (states : List State) (lines : List ReportLine) → counts_of lines ≡ [] → Counted r (by_phase p m switches r k states lines)
@@ -180,9 +183,9 @@ phases (Stopping line) m switches r k states lines n = let askings = listen_all 
 
 first : (b : Bool) (stopped l : Option Cause) (m : Machine) (switches : List Switch) (r : Known) (k : ℕ) (states : List State) (lines : List ReportLine) → stopped ≡ None → If IsLate l → counts_of lines ≡ []
     → Counted r (unless_ended (if b then Some cause.Memory else or_cause stopped l) m switches r k states lines)
-first true stopped l m switches r k states lines e i n = fails r (ends m r k lines cause.Memory) cause.Memory refl (λ g. g)
+first true stopped l m switches r k states lines e i n = fails r (ends m r k lines cause.Memory) cause.Memory refl (λ g. g) n
 first false (Some d) l m switches r k states lines e i n = absurd (let f : Some d ≡ None = e in cc)
-first false None (Some d) m switches r k states lines e i n = fails r (ends m r k lines d) d refl (no_late d i)
+first false None (Some d) m switches r k states lines e i n = fails r (ends m r k lines d) d refl (no_late d i) n
 first false None None m switches r k states lines e i n = phases r.phase m switches r k states lines n
 
 pub counted : (m : Machine) (switches : List Switch) (r : Known) (k : ℕ) (states : List State) (note : Option Note) → r.stopped ≡ None → Counted (noted m note r) (reacts m switches r k states note)

@@ -370,6 +370,22 @@ module _ (m : Machine) (v : IsValidMachine m) (s : Scene) (ts : List MotionTurn)
         let known = ap (λ (k : Known). count_lines (noted m end.note k).reading) own.0 in
         ap counts_of (lines_then (first ∷ rest)) ∙ counts_append lines end.lines ∙ ap (λ z. z ++ counts_of end.lines) (none_counted [] (first ∷ rest) f.turns) ∙ ap counts_of f.lines_are ∙ told ∙ known ∙ ap count_lines (reading_is g l)
 
+    -- one that ended for a cause of its own tells them, or none
+    pub counts_or : IsOwn c → length (rest ++ end ∷ []) ≤ length p.made
+        → (counts_of (gather (λ t. t.lines) (first ∷ (rest ++ end ∷ []))) ≡ []) ⊎ (counts_of (gather (λ t. t.lines) (first ∷ (rest ++ end ∷ []))) ≡ report.Lines (program_end m p.seen.text).lines (program_end m p.seen.text).passed ∷ [])
+    counts_or g l =
+        let own = f.own g in
+        let lines = gather (λ (t : ReactorTurn). t.lines) (first ∷ rest) in
+        let cut = ap counts_of (lines_then (first ∷ rest)) ∙ counts_append lines end.lines ∙ ap (λ z. z ++ counts_of end.lines) (none_counted [] (first ∷ rest) f.turns) ∙ ap counts_of f.lines_are in
+        let known = ap (λ (k : Known). count_lines (noted m end.note k).reading) own.0 in
+        elim (numbers.counted m s.switches f.known (length (came_from [] (first ∷ rest))) end.states end.note own.1).any [
+          | inl none ↦ inl (cut ∙ none)
+          | inr told ↦ elim (run_counts m p.seen.text s.switches p.seen.begun p.made first rest end p.put (took_notes l)).reading [
+            | inl n ↦ inl (cut ∙ told ∙ known ∙ ap count_lines n)
+            | inr e ↦ inr (cut ∙ told ∙ known ∙ ap count_lines e)
+          ]
+        ]
+
     through_by : At_last → length (rest ++ end ∷ []) ≤ length p.made → AreThrough m p.seen c (length (rest ++ end ∷ []))
     through_by w l =
         let all = gone_by w l in

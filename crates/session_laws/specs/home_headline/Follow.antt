@@ -11,7 +11,6 @@ use Rattle.plan_types.specs.Sections.{base_tick, clocks_at, stepper_plan}
 use Rattle.report_text.specs.declared.line.ReportLine.{ReportLine}
 use Rattle.report_text.specs.declared.line.ReportLine.TheVariants as report
 use Rattle.section_feed.specs.Fewer.{AreFirstLines}
-use Rattle.motion_work.specs.Homes.{no_end}
 use Rattle.motion_work.specs.Seen.{AreStarted, Started}
 use Rattle.motion_work.specs.Told.{Told}
 use Rattle.session_work.specs.declared.table.ReactorTurn.{ReactorTurn}
@@ -37,10 +36,10 @@ pub record FollowHomes (m : Machine) (t : Told) (seen : Seen) (first : ReactorTu
   pub fit : (past : List Started) (s : Started) (later : List Started) (from to place : ℕ) → seen.begun ≡ past ++ s ∷ later → place < length m.steppers →
       IsWindow (length rest) from to (record { start = s.start; end = s.end }) (times_of later) →
       Fits (board_at m (stepper_at m place).board).freq (base_tick m t.clocks s.start place) (pulses_of place (lines_between from to rest)) (stepper_plan m t.clocks s.section.moves s.start place)
-  -- where its end is known, they are before the tick that its board has in the 276th turn behind that, by as much as a step may be early
-  pub early : (past : List Started) (s : Started) (later : List Started) (from to place : ℕ) → seen.begun ≡ past ++ s ∷ later → place < length m.steppers →
-      IsWindow (length rest) from to (record { start = s.start; end = s.end }) (times_of later) → s.end < no_end →
-      All (λ p. p.tick + max_error (board_at m (stepper_at m place).board).freq < lines_tick (clocks_at t.clocks (stepper_at m place).board) ((s.end + 276) * turn_ns)) (pulses_of place (lines_between from to rest))
+  -- and by as much as a step may be early they are before the tick that its board has, by its clock lines, seven turns behind
+  pub soon : (past : List Started) (s : Started) (later : List Started) (from to place : ℕ) → seen.begun ≡ past ++ s ∷ later → place < length m.steppers →
+      IsWindow (length rest) from to (record { start = s.start; end = s.end }) (times_of later) →
+      All (λ p. p.tick + max_error (board_at m (stepper_at m place).board).freq < lines_tick (clocks_at t.clocks (stepper_at m place).board) ((to + 7) * turn_ns)) (pulses_of place (lines_between from to rest))
   -- and there are none behind its end
   pub between : (past later : List Started) (from to place : ℕ) → seen.begun ≡ past ++ later → place < length m.steppers → from ≤ to → to ≤ length rest → AreEnded from (times_of past) →
       NextStart to (times_of later) → pulses_of place (lines_between from to rest) ≡ []
@@ -76,8 +75,8 @@ pub record ShowHomes (m : Machine) (seen : Seen) (clocks : List Clocks) (ready :
   -- behind the last one on
   pub sound : seen.begun ≢ [] → AreSound m clocks ready
   pub further : seen.begun ≢ [] → TellFurther m clocks (length rest + 271) c (gather (λ t. t.lines) (first ∷ rest))
-  -- and in a run that went through the pulses of a section fit its plan without these as well
-  pub told : GoesThrough c → (short : List Clocks) → ((b : ℕ) → b < length m.boards → AreFirstLines (clocks_at short b) (clocks_at clocks b) (length rest + 271)) →
+  -- and the pulses of a section fit its plan without these as well
+  pub told : (short : List Clocks) → ((b : ℕ) → b < length m.boards → AreFirstLines (clocks_at short b) (clocks_at clocks b) (length rest + 271)) →
       (past : List Started) (s : Started) (later : List Started) (from to place : ℕ) → seen.begun ≡ past ++ s ∷ later → place < length m.steppers →
       IsWindow (length rest) from to (record { start = s.start; end = s.end }) (times_of later) →
       Fits (clocks_at short (stepper_at m place).board).first.freq (base_tick m short s.start place) (pulses_of place (lines_between from to rest)) (stepper_plan m short s.section.moves s.start place)

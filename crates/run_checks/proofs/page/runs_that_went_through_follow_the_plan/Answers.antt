@@ -1,12 +1,11 @@
-use Rattle.std.proofs.Common.{◌≡◌, ◌∙◌, Some}
+use Rattle.std.proofs.Common.{◌≡◌, ◌∙◌}
 use Rattle.std.proofs.Math.Logic.{∥∥₁_elim}
 use Rattle.std.proofs.Props.{props}
 use Rattle.gcode_program.specs.Programs.{program_end}
 use Rattle.host_cli.specs.Body.{cause_of}
 use Rattle.host_cli.specs.Homes.{ShowsBegun}
-use Rattle.host_cli.specs.Promises.{lines_line, sections_over}
+use Rattle.host_cli.specs.Promises.{sections_over}
 use Rattle.run_checks.proofs.Linking.{written-whole}
-use Rattle.report_text.specs.Text.{report_text}
 use Rattle.run_checks.proofs.Any.{any-homes}
 use Rattle.run_checks.proofs.page.Through.{checked-follows, ends-so}
 use Rattle.run_checks.proofs.page.runs_that_went_through_follow_the_plan.Goals as goal

@@ -143,14 +143,14 @@ head_first own clocks slots ready ticks tracked e (s ∷ ss) r = let row = r.0.r
 
 -- what is queued is cut, and what the cut is of
 pub run_walked : (own : ℕ → ℕ) (clocks : Clocks) (freq slots ready n turns : ℕ) (ss : List BoardSection) (os : List Orders) → AreTicks own → IsRun own clocks freq slots ready ss os → All (AreSentTo clocks freq turns) ss → length os ≤ turns → IsFar own n
-    → (w : IsWalked own n 0 os) × (x : IsTimed own slots n (sent_in 0 os)) × (x.front ≡ w.cut.front)
+    → (w : IsWalked own n 0 os) × (x : IsTimed own slots n (sent_in 0 os)) × (length x.front ≤ length w.cut.front)
 run_walked own clocks freq slots ready n turns ss os ticks r sent within far =
     let x = run_splits own clocks freq slots ready ss os ticks r in
     let ts = sents clocks freq turns ss sent in
     let ranked = are_ranked own clocks freq slots ready turns ticks r.tracked ready ss (omega arith) r.sections r.row sent in
     let w = sections_cut own clocks slots ready ticks r.tracked n ready ts far ranked os 0 (head_first own clocks slots ready ticks r.tracked ready ts ranked)
     (orders_to ss ts turns 0 os (λ k h. same_units clocks freq turns k ss sent h) (omega (arith, within)) r.orders) in
-    let t = timed own (ticks_up own ticks) slots n os x.front x.tail x.is x.good x.lost x.over w.cut in
+    let t = timed own (ticks_up own ticks) slots n os x.front x.tail x.is x.good x.lost w.cut in
     (w, t.0, t.1)
 
 pub taken_soon : (b : BoardDef) (pins : List (List Level)) (own : ℕ → ℕ) (clocks : Clocks) (ready n turns : ℕ) (ss : List BoardSection) (os : List Orders) (steps : List Step) (t : AreTurnsOf own 0 os steps) → AreTicks own → own 0 ≡ b.start

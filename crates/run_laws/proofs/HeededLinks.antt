@@ -134,7 +134,7 @@ few_heeded b pins board entries own clocks ready n turns ss os l t o r sent with
     let ticks = o.ticks in
     let (w, x, same) = run_walked own clocks b.freq b.slots ready n turns ss os ticks r sent within (ten_seconds b (length os) own n o small) in
     let full : w.count < length os → length x.front < length (flat_map queued_in (take w.count os)) = λ less.
-    (let more = reach_more w.count os w.cut.front w.cut.tail w.cut.is less w.reach in omega (arith, more, ap length same)) in
+    (let more = reach_more w.count os w.cut.front w.cut.tail w.cut.is less w.reach in omega (arith, more, same)) in
     let steps = steps_of clock 0 os first l t in
     let taken = (turns_are clock 0 os first l t).1 in
     let low : 0 + length os ≤ length os = omega arith in

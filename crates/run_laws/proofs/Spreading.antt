@@ -175,7 +175,6 @@ late_splits f turn from n total ks before r rs ss sent s h =
           rw (ap (λ (x : Known). x.ends) (ahead_known turn (ks oid) u)) below,
         ),
       );
-      over = first_below f oid (turn - 5) (total oid) (ks oid) (lasts oid before) u (of_stepper oid (units_of rs)) (subst At own (s.waits oid)) i (omega (arith, h));
       steps = λ k.
           let said = steps_said k (ks k).up (of_stepper k (units_of (r ∷ rs))) in
           rw (same_steps k) (said ++ all_steps k ss, sym (append_assoc (ks k).steps said (all_steps k ss)) ∙ ap (λ x. x ++ all_steps k ss) ((s.waits k).said));
@@ -208,7 +207,6 @@ total_same own slots n sent ks one two rs ss e x = record {
   is = x.is;
   good = x.good;
   lost = x.lost;
-  over = x.over;
   steps = λ oid. rw (← (e oid)) (x.steps oid);
   whole = λ none first others cut before released oid. rw (← (e oid)) (x.whole none first others cut before released oid);
   cut = λ done more same first others parts. elim (x.cut done more same first others parts) [

@@ -58,5 +58,6 @@ pub mod HomeSections
 pub mod HomeRuns
 pub mod HomeAll
 pub mod HomeSpans
+pub mod HomeLimits
 pub mod HomeTimes
 pub mod HomeBoards

@@ -1,6 +1,6 @@
 //! What a board makes of commands of which triggers halt some steppers.
 
-ghost use Rattle.std.specs.Prelude.{◌≡◌, ◌+◌, ◌++◌, ◌∷◌, ◌≤◌, ℕ, List, [], Option, length, map, take};
+ghost use Rattle.std.specs.Prelude.{◌≡◌, ◌+◌, ◌^◌, ◌++◌, ◌∷◌, ◌<◌, ◌≤◌, ℕ, List, [], Option, length, map, take};
 ghost use Rattle.plan_types.specs.declared.levels.Level.{Level};
 ghost use Rattle.plan_types.specs.declared.machine.BoardDef.{BoardDef};
 ghost use Rattle.board_sim.specs.Fair.{only};
@@ -15,9 +15,8 @@ ghost use Rattle.run_laws.specs.Boards.{OnBoard, told_in};
 ghost use Rattle.wire_scene.specs.declared.scene.Entry.{Entry};
 ghost use Rattle.run_laws.specs.Runs.{AreSpilled, Made};
 ghost use Rattle.run_laws.specs.Links.{ends_of, steps_of};
-ghost use Rattle.run_laws.specs.Timely.{AllTimely};
+ghost use Rattle.run_laws.specs.Timely.{AllTimely, ControlsKeep};
 ghost use Rattle.link_work.specs.Ends.{spoiled};
-ghost use Rattle.link_work.specs.Limits.{AllKeepLimits};
 ghost use Rattle.link_work.specs.Runs.{AreTurns};
 ghost use Rattle.link_work.specs.Stands.{first_state};
 ghost use Rattle.plan_types.specs.Clock.{clock_of};
@@ -74,13 +73,15 @@ pub fn homing_boards_keep_their_sections()
         AreOverBy from past → from ≤ to → to ≤ turns → NextBehind to later → told_in from to x ≡ [] }
 {}
 
-/// The law of few spoiled turns, in a run in which axes home: where what is queued before the last turn keeps the limits, at the end of each
+/// The law of few spoiled turns, in a run in which axes home: where the control commands before the last turn keep the limits, at the end of each
 /// turn at most n turns of a link's busy stretch were spoiled, and no unit that is due in the run's turns is released more than m turns behind its due one, no
-/// unit is taken half a round of the 32-bit clock after its first tick, for n + m up to 10,700 turns.
+/// unit is taken half a round of the 32-bit clock after its first tick, for every n and m for which n + m + 2 turns have fewer than 2^31 of the
+/// board's ticks: for all with n + m up to 10,700 turns, whatever its frequency.
 pub fn homing_links_are_timely()
-    ensures { (b : BoardDef) (pins : List (List Level)) (board : ℕ) (entries : List Entry) (own : ℕ → ℕ) (clocks : Clocks) (ready n m turns : ℕ) (stops : ℕ → Option ℕ) (ss : List RunSection) (os : List Orders) (l : LinkState)
+    ensures timely { (b : BoardDef) (pins : List (List Level)) (board : ℕ) (entries : List Entry) (own : ℕ → ℕ) (clocks : Clocks) (ready n m turns : ℕ) (stops : ℕ → Option ℕ) (ss : List RunSection) (os : List Orders) (l : LinkState)
         (t : AreTurns (clock_of b) 0 os (first_state b pins board entries) l) → AreOwn b (length os) own → IsHomeRun own clocks b.freq b.slots ready stops ss os → AreSpilled turns m (map (λ s. s.section) ss) → length os ≤ turns →
-        ((done : List Orders) (o : Orders) (rest : List Orders) → os ≡ done ++ (o ∷ rest) → AllKeepLimits done) →
-        ((k : ℕ) → spoiled (take k (ends_of (clock_of b) 0 os (first_state b pins board entries) l t)) ≤ n) → n + m ≤ 10_700 →
+        ((done : List Orders) (o : Orders) (rest : List Orders) → os ≡ done ++ (o ∷ rest) → ControlsKeep done) →
+        ((k : ℕ) → spoiled (take k (ends_of (clock_of b) 0 os (first_state b pins board entries) l t)) ≤ n) → ((k : ℕ) → own (k + (n + m + 2)) < own k + 2 ^ 31) →
         AllTimely (start b pins) (steps_of (clock_of b) 0 os (first_state b pins board entries) l t) }
+    ensures seconds { (b : BoardDef) (turns : ℕ) (own : ℕ → ℕ) (n m : ℕ) → AreOwn b turns own → n + m ≤ 10_700 → (k : ℕ) → own (k + (n + m + 2)) < own k + 2 ^ 31 }
 {}

@@ -25,17 +25,17 @@ ghost use Rattle.section_units.specs.Sections.{base_of};
 ghost use Rattle.run_laws.specs.Ends.{MayBe};
 ghost use Rattle.run_laws.specs.Known.{sent_in};
 
-/// The law of halts: where the commands that are queued for a board are good, whatever its triggers do, every unit is fair when a
-/// running board takes it; the board runs, or it shut down since a unit came too late or since it was told to stop; and the
-/// pulses of each stepper are, part by part, made for the first steps that it was told between two settings of its clock, none of them
-/// at or after the board's tick of the turn in which the part stops.
+/// The law of halts: where the commands that are queued for a board are good, up to one that is queued too late, whatever its triggers do, every
+/// unit is fair when a running board takes it; the board runs, or it shut down since a unit came too late or since it was told to stop; and the
+/// pulses of each stepper are, part by part, made for the first steps that the good ones told it between two settings of its clock, none of
+/// them at or after the board's tick of the turn in which the part stops. It is asked that the stepper of the late one isn't halted then.
 pub fn halted_steppers_keep_fronts()
     ensures fair { (b : BoardDef) (pins : List (List Level)) (own : ℕ → ℕ) (stops : ℕ → Option ℕ) (os : List Orders) (steps : List Step) →
         IsGoodRun b pins own stops os steps → AllFair (start b pins) steps }
     ensures reason { (b : BoardDef) (pins : List (List Level)) (own : ℕ → ℕ) (stops : ℕ → Option ℕ) (os : List Orders) (steps : List Step) →
         IsGoodRun b pins own stops os steps → MayBe (run steps (start b pins)).board.controller.state }
     ensures fronts { (b : BoardDef) (pins : List (List Level)) (own : ℕ → ℕ) (stops : ℕ → Option ℕ) (os : List Orders) (steps : List Step) →
-        IsGoodRun b pins own stops os steps → (oid : ℕ) → AreMadeFor own stops (parts_of (courses (sent_in 0 os) oid)) (only oid (run steps (start b pins)).made) }
+        (r : IsGoodRun b pins own stops os steps) → (oid : ℕ) → AreMadeFor own stops (parts_of (courses r.front oid)) (only oid (run steps (start b pins)).made) }
 {}
 
 /// The law of homing commands: what is queued for a board in a run in which axes home is good, as far as no unit is released more than

@@ -34,7 +34,7 @@ use Rattle.run_laws.proofs.Lists.{orders_append, orders_at, own_up}
 use Rattle.run_laws.proofs.Spans.{all_split, section_early, sent_in_append}
 use Rattle.run_laws.proofs.Releasing.{AreFrom}
 use Rattle.run_laws.proofs.Standing.{BoardStands, made_for}
-use Rattle.run_laws.proofs.Stepping.{Going, Keeps, Script, course_append}
+use Rattle.run_laws.proofs.Stepping.{Going, Keeps, Script, course_append, none_heed}
 use Rattle.run_laws.proofs.Turning.{timely_behind, timely_front}
 use Rattle.session_laws.proofs.home_wholes.Front.{over_front, row_later, run_front}
 use Rattle.session_laws.proofs.home_wholes.Meaning.{all_mean, orders_behind, section_from, turns_mean, window_brings}
@@ -186,6 +186,7 @@ module _ (b : BoardDef) (pins : List (List Level)) (own : ℕ → ℕ) (clocks :
 
   aim : Aim P
   aim = record {
+    none = refl;
     low = length before;
     upto = Upto;
     rest = Rest;
@@ -216,7 +217,7 @@ module _ (b : BoardDef) (pins : List (List Level)) (own : ℕ → ℕ) (clocks :
   mid_keeps : Keeps P (length before) (length before) (sent_in 0 before) Mid
   mid_keeps =
       let zero_more : 0 + length before ≡ length before = omega arith in
-      let k = turns_keep P 0 [] (sent_in (length before) (mine ++ others) ++ sent_in End behind) before first (start b pins) r.first_turns (begins P b pins r.begin refl) whole_is (timely_front first second (start b pins) r.timely) r.first_settled in
+      let k = turns_keep P 0 [] (sent_in (length before) (mine ++ others) ++ sent_in End behind) before first (start b pins) r.first_turns (begins P b pins r.begin refl) whole_is (timely_front first second (start b pins) r.timely) r.first_settled (none_heed P.front [] first (start b pins) refl) in
       subst (λ n. Keeps P n n (sent_in 0 before) Mid) zero_more k.1
 
   abbrev Sent_by : List Sent
@@ -227,7 +228,7 @@ module _ (b : BoardDef) (pins : List (List Level)) (own : ℕ → ℕ) (clocks :
 
   last_keeps : Keeps P End End Sent_by Last
   last_keeps =
-      let k = turns_keep P (length before) (sent_in 0 before) (sent_in End behind) (mine ++ others) second Mid r.second_turns mid_keeps last_all (timely_behind first second (start b pins) r.timely) r.second_settled in
+      let k = turns_keep P (length before) (sent_in 0 before) (sent_in End behind) (mine ++ others) second Mid r.second_turns mid_keeps last_all (timely_behind first second (start b pins) r.timely) r.second_settled (none_heed P.front [] second Mid refl) in
       subst (λ (h : Core). Keeps P End End Sent_by h) (sym (run_append first second (start b pins))) k.1
 
   -- as the section's units may be released

@@ -2,7 +2,6 @@
 use Rattle.std.proofs.Common.{◌≡◌, ℕ, false, ◌+◌, ◌-◌, ◌*◌, ◌^◌, ◌<◌, ◌≤◌, List, [], ◌∷◌, ◌++◌, length, All, refl, ap, sym, ◌∙◌, subst, arith, inl, inr, append-nil}
 use Rattle.std.proofs.lemmas.Bool.Decides.{eqb_tells}
 use Rattle.std.proofs.lemmas.List.Elements.{All-head, All-tail}
-use Rattle.std.specs.Prelude.{slice_index}
 use Rattle.plan_types.specs.declared.levels.Level.{Level}
 use Rattle.plan_types.specs.declared.machine.BoardDef.{BoardDef}
 use Rattle.plan_types.specs.Clock.{turn_ns}
@@ -13,7 +12,7 @@ use Rattle.step_feed.specs.Pacing.{ArePaced, Release, batch_at, units_of}
 use Rattle.link_work.specs.Turn.{Orders}
 use Rattle.section_units.specs.Late.{LateOneByOne}
 use Rattle.section_units.specs.Merged.{AreBehind, AreInOrder}
-use Rattle.section_units.specs.Sections.{BoardSection, IsSection, base_of, of_stepper, section_steps, ticks_meant}
+use Rattle.section_units.specs.Sections.{BoardSection, IsSection, base_of, of_stepper, section_steps}
 use Rattle.section_units.specs.Sent.{AreSentTo}
 use Rattle.section_units.proofs.Fronting.{of_front, paced_front}
 use Rattle.section_units.proofs.Lateness.{late_one_by_one}

@@ -1,5 +1,5 @@
 -- Where few turns of each busy stretch are spoiled, a board takes all units in time, as long as it runs.
-use Rattle.std.proofs.Common.{◌≡◌, ℕ, suc, zero, ◌+◌, ◌-◌, ◌*◌, ◌^◌, ◌<◌, ◌≤◌, ◌⊎◌, List, [], ◌∷◌, ◌++◌, All, length, map, take, drop, refl, ap, sym, ◌∙◌, subst, arith, append_assoc, append-nil, length-append, inl, inr}
+use Rattle.std.proofs.Common.{◌≡◌, ℕ, suc, zero, ◌+◌, ◌-◌, ◌^◌, ◌<◌, ◌≤◌, List, [], ◌∷◌, ◌++◌, All, length, take, drop, refl, ap, sym, ◌∙◌, subst, arith, append_assoc, length-append, inl, inr}
 use Rattle.std.proofs.lemmas.Bool.Decides.{leb_tells}
 use Rattle.std.proofs.lemmas.List.{length-take-le, take-append-drop, take-append-le}
 use Rattle.std.specs.List.{flat_map}
@@ -20,13 +20,13 @@ use Rattle.link_work.proofs.Limits.{units_bytes}
 use Rattle.section_units.specs.Sections.{BoardSection}
 use Rattle.section_units.specs.Sent.{AreSentTo}
 use Rattle.run_laws.specs.Events.{AreOwn, AreTurnsOf}
-use Rattle.run_laws.specs.Known.{Sent, sent_in, orders_in}
+use Rattle.run_laws.specs.Known.{Sent, sent_in}
 use Rattle.run_laws.specs.Links.{ends_of, steps_of, steps_of_turn}
 use Rattle.run_laws.specs.Parts.{IsRun}
 use Rattle.run_laws.specs.Timely.{AllTimely, ControlsKeep}
 use Rattle.run_laws.proofs.Heeded.{run_walked}
 use Rattle.run_laws.proofs.Heeding.{TakesEnough, orders_length, timed_timely}
-use Rattle.run_laws.proofs.Latest.{AreFew, IsWalked, Reaches}
+use Rattle.run_laws.proofs.Latest.{AreFew, Reaches}
 use Rattle.run_laws.proofs.Limiting.{text_sum}
 use Rattle.run_laws.proofs.Linking.{next_within, own_few, own_first, turn_runs, turns_are, turns_owned}
 use Rattle.run_laws.proofs.Lists.{cuts}

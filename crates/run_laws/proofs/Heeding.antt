@@ -8,20 +8,20 @@ use Rattle.plan_types.specs.declared.plan.BoardState.{BoardState}
 use Rattle.plan_types.specs.declared.plan.BoardState.TheVariants.{Running, Shut}
 use Rattle.board_sim.specs.Fair.{Meant}
 use Rattle.board_world.specs.declared.event.Event.{Event}
-use Rattle.board_world.specs.declared.event.Event.TheVariants.{Put, Control, Arrive, Repeat, Pass}
+use Rattle.board_world.specs.declared.event.Event.TheVariants.{Put, Control, Pass}
 use Rattle.board_world.specs.Orders.{plain, units_orders}
-use Rattle.board_world.specs.World.{Core, Step, Do, Turn, takes_in, orders_of, happens, in_turn, after, run, start}
+use Rattle.board_world.specs.World.{Core, Step, Do, Turn, takes_in, orders_of, happens, after, run, start}
 use Rattle.board_world.proofs.Runs.{ordered_by}
 use Rattle.link_work.specs.Turn.{Orders}
 use Rattle.link_work.specs.Runs.{queued_in}
 use Rattle.link_work.proofs.Sending.{run_append}
-use Rattle.run_laws.specs.Events.{AreQuiet, AreTicks, AreTurnsOf, IsQuiet, IsTurnOf}
+use Rattle.run_laws.specs.Events.{AreQuiet, AreTicks, AreTurnsOf, IsQuiet}
 use Rattle.run_laws.specs.Known.{Sent, sent_at, sent_in, orders_in}
 use Rattle.run_laws.specs.Timely.{AllTimely, AreTimely, IsTimelyAt, TakesSoon}
 use Rattle.run_laws.proofs.Clocks.{ticks_up}
 use Rattle.run_laws.proofs.Latest.{AllLast, BeginPast}
 use Rattle.run_laws.proofs.Lists.{cuts, orders_append, own_up, sent_append}
-use Rattle.run_laws.proofs.Running.{Holds, Plan, RunsOn, left_first, queues_on, quiet_holds}
+use Rattle.run_laws.proofs.Running.{Holds, Plan, left_first, queues_on, quiet_holds}
 use Rattle.run_laws.proofs.Shutting.{AreSince, IsTimed, last_behind, last_front, last_timely, since_behind, since_in}
 use Rattle.run_laws.proofs.Soon.{all_before, one_before, part_front, timely_append}
 use Rattle.run_laws.proofs.Spans.{sent_in_append}

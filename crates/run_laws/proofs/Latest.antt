@@ -1,10 +1,9 @@
 -- Where what is queued is cut before the first unit that is five turns late: all before it is less late, and it is just so late.
-use Rattle.std.proofs.Common.{◌≡◌, ℕ, Bool, suc, ◌+◌, ◌-◌, ◌*◌, ◌^◌, ◌<◌, ◌≤◌, List, [], ◌∷◌, ◌⊎◌, ◌++◌, length, take, map, All, Option, Some, None, refl, ap, sym, ◌∙◌, subst, arith, inl, inr, append_assoc, append-nil}
+use Rattle.std.proofs.Common.{◌≡◌, ℕ, suc, ◌+◌, ◌-◌, ◌*◌, ◌^◌, ◌<◌, ◌≤◌, List, [], ◌∷◌, ◌⊎◌, ◌++◌, length, take, map, refl, ap, sym, ◌∙◌, subst, arith, inl, inr, append_assoc, append-nil}
 use Rattle.std.proofs.lemmas.Bool.Decides.{eqb_tells, leb_tells}
-use Rattle.std.proofs.lemmas.List.Elements.{All-head, All-tail}
 use Rattle.std.specs.Prelude.{slice_index}
 use Rattle.plan_types.specs.Clock.{turn_ns}
-use Rattle.plan_types.specs.Lines.{Clocks, lines_tick, lines_turn}
+use Rattle.plan_types.specs.Lines.{Clocks, lines_tick}
 use Rattle.clock_line.proofs.Turns.{tick_over-mono, turn-below}
 use Rattle.msg_code.specs.declared.cmd.Cmd.{Cmd}
 use Rattle.msg_code.specs.declared.cmd.Cmd.TheVariants as cmd
@@ -12,14 +11,14 @@ use Rattle.msg_code.specs.Units.{dir_commands, reset_commands}
 use Rattle.board_sim.specs.Fair.{Meant}
 use Rattle.board_world.specs.Orders.{plain, unit_orders, units_orders}
 use Rattle.step_feed.specs.Units.{StepUnit}
-use Rattle.step_feed.specs.Pacing.{ArePaced, Release, batch_at, units_of}
+use Rattle.step_feed.specs.Pacing.{Release, batch_at}
 use Rattle.link_work.specs.Turn.{Orders}
 use Rattle.link_work.specs.Runs.{queued_in}
 use Rattle.section_units.specs.Late.{LateOneByOne}
 use Rattle.section_units.specs.Sections.{BoardSection, ticks_meant}
 use Rattle.run_laws.specs.Events.{AreTicks}
 use Rattle.run_laws.specs.Known.{Sent, sent_at, sent_in, orders_in}
-use Rattle.run_laws.specs.Parts.{AreOrdersOf, AreTracked, IsControl}
+use Rattle.run_laws.specs.Parts.{AreOrdersOf, AreTracked}
 use Rattle.run_laws.specs.Timely.{AreTimely, IsTimely}
 use Rattle.run_laws.proofs.Clocks.{over_made}
 use Rattle.run_laws.proofs.Lasting.{Lasting, controls_timely, dirs_timely, resets_timely, unit_lasts, units_timely}

@@ -1,27 +1,19 @@
 -- A board that takes the first unit that is five turns late shuts down, so all that it takes before is timely.
-use Rattle.std.proofs.Common.{◌≡◌, ℕ, suc, ◌+◌, ◌-◌, ◌<◌, ◌≤◌, ◌⊎◌, List, [], ◌∷◌, ◌++◌, length, map, take, drop, refl, ap, sym, ◌∙◌, subst, arith, inl, inr, append_assoc, append-nil, length-append}
-use Rattle.std.proofs.lemmas.Bool.Decides.{eqb_tells, leb_tells}
-use Rattle.std.proofs.lemmas.List.{append_cancel_left, length-take-le, take-append-drop}
-use Rattle.std.specs.List.{flat_map}
-use Rattle.std.specs.Prelude.{slice_index}
+use Rattle.std.proofs.Common.{◌≡◌, ℕ, ◌+◌, ◌<◌, ◌≤◌, ◌⊎◌, List, [], ◌∷◌, ◌++◌, length, refl, ap, sym, ◌∙◌, subst, arith, inl, inr, append-nil, length-append}
+use Rattle.std.proofs.lemmas.Bool.Decides.{eqb_tells}
 use Rattle.plan_types.specs.Board.{last_of}
-use Rattle.plan_types.specs.declared.plan.BoardState.TheVariants.{Running, Shut}
 use Rattle.msg_code.specs.declared.cmd.Cmd.{Cmd}
 use Rattle.msg_code.specs.declared.cmd.Cmd.TheVariants as cmd
 use Rattle.board_sim.specs.Fair.{Meant}
-use Rattle.board_world.specs.declared.event.Event.{Event}
-use Rattle.board_world.specs.World.{Core, Step, Do, Turn, takes_in, orders_of, happens}
-use Rattle.board_world.proofs.Runs.{ordered_by}
 use Rattle.link_work.specs.Turn.{Orders}
 use Rattle.link_work.specs.Runs.{queued_in}
-use Rattle.run_laws.specs.Known.{Sent, sent_at, sent_in, orders_in, Known, unknown, knows, knows_of, known_from, known, AreBelow, IsGoodFor, AreGoodFrom, IsGood, IsLostFor, BeginLost}
+use Rattle.run_laws.specs.Known.{Sent, sent_at, sent_in, orders_in, Known, unknown, knows, knows_of, known_from, known, AreBelow, IsGoodFor, AreGoodFrom, IsLostFor, BeginLost}
 use Rattle.run_laws.specs.Timely.{AreTimely}
 use Rattle.run_laws.proofs.Counts.{last_any}
 use Rattle.run_laws.proofs.Entering.{first_last}
 use Rattle.run_laws.proofs.Latest.{AllLast, BeginPast, IsCut, IsPast}
-use Rattle.run_laws.proofs.Lists.{AreUpTo, cuts, good_behind, good_front, orders_append, own_up, sent_append}
-use Rattle.run_laws.proofs.Running.{Holds, Plan, left_first}
-use Rattle.run_laws.proofs.Soon.{all_before, one_before, part_front, timely_append}
+use Rattle.run_laws.proofs.Lists.{AreUpTo, cuts, good_behind, good_front, orders_append, own_up}
+use Rattle.run_laws.proofs.Soon.{all_before, one_before, timely_append}
 
 -- the last ticks of a stepper's triples are not behind its clock, or before a tick
 abbrev Ends : ℕ → ℕ → List ℕ → Type 0

@@ -43,7 +43,7 @@ script_of b pins own clocks ready stops ss before during behind first second r =
   are = append-nil (sent_in 0 (before ++ (during ++ behind)));
   up = ticks_up own r.ticks;
   ahead = r.run_is.ahead;
-  good = run_good own clocks b.freq b.slots ready stops ss (before ++ (during ++ behind)) r.ticks r.run_is;
+  good = run_good own clocks b.freq b.slots ready stops ss (before ++ (during ++ behind)) r.ticks r.run_is r.released;
   lost = tt;
 }
 
@@ -81,7 +81,7 @@ halves b pins own clocks ready stops ss before during behind first second r =
     record {
       sofar = subst To zero_more k1.2;
       new = subst Last late k2.2;
-      fronts = subst Front late (λ oid. run_fronts own clocks b.freq b.slots ready stops ss (before ++ (during ++ behind)) r.ticks r.run_is oid (only oid (run second h1).made)
+      fronts = subst Front late (λ oid. run_fronts own clocks b.freq b.slots ready stops ss (before ++ (during ++ behind)) r.ticks r.run_is r.released oid (only oid (run second h1).made)
           (keeps_fronts p d (s1 ++ s2) (run second h1) k2.1 oid));
     }
 

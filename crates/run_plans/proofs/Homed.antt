@@ -119,7 +119,6 @@ one_is Moves m clocks b until stops s h small lines limit long out stop =
     record {
       is = moved_is m clocks s b h small;
       limit = omega (arith, limit, end);
-      released = before_least (section_end m clocks s.section.moves s.start + 6) (s.end + 6) (part_on m clocks s b).releases (omega (arith, end)) out;
       goes_on = stop;
     }
 one_is (Home axis) m clocks b until stops s h small lines limit long out stop = homed_is m clocks b until stops s h small lines limit long out stop

@@ -35,7 +35,6 @@ use Rattle.session_work.specs.Turns.{Goes}
 use Rattle.run_plans.specs.Planned.{AnyEnds, AnyStops, AnyWaits, AreBare, AreRead, BeginInRange, IsBare, IsPlanning, LoseNone, Plans, StopsAt, Text, TookInTime, fresh_in, heard_in, nothing_read, planning, put_of, puts_of, read_all, read_on, told_behind, words_in}
 use Rattle.run_plans.specs.Answers.{TookNoneAhead}
 use Rattle.run_plans.proofs.Answering.{HaveHeard, Homes, heard_piece, heard_turn, heard_word, none_heard, words_end, words_snoc}
-use Rattle.run_plans.proofs.Lining.{words_last}
 use Rattle.run_plans.proofs.Wholes.{Ran, whole_plans}
 
 clash : true ≡ false → ⊥

@@ -49,7 +49,9 @@ use Rattle.session_laws.specs.run_ends.Ends.{GoesThrough}
 use Rattle.host_reactor.specs.Rows.{IsOwn}
 use Rattle.session_laws.specs.run_headline.Made.{IsNamed}
 use Rattle.session_laws.proofs.run_headline.Cutting.{run_silent}
-use Rattle.session_laws.proofs.run_headline.Making.{run_made, run_sends}
+use Rattle.session_laws.proofs.run_headline.Making.{run_made}
+use Rattle.session_laws.specs.run_links.Links.{AreLinksIn}
+use Rattle.session_laws.proofs.run_links.Links.{run_links}
 use Rattle.session_laws.proofs.run_headline.Runs.{facts, run_ended, run_names, run_none, run_shows}
 use Rattle.session_laws.proofs.run_headline.Showing.{cut_last}
 use Rattle.session_laws.proofs.home_headline.Cuts.{run_answers}
@@ -952,7 +954,8 @@ module _ {F S : Type 0} (f : Files F) (o : Sink S) (m : Machine) (s : Scene) (gc
     earlier = run_none f o m s gcode files files' out r.behind r.kept r.kept' r.told r.runs;
     answers = run_answers f o m s gcode files files' out r.behind r.kept r.kept' r.told r.runs;
     readings = run_reads f o m s gcode files files' out r.behind r.kept r.kept' r.told r.runs;
-    boards = λ text told. run_sends f o m s gcode files files' out r.behind r.kept r.kept' r.told r.runs text told r.fresh.at;
+    boards = λ text told. subst (λ z. ∥ AreLinksIn m s text r.told.cause r.runs.runs.0 r.runs.runs.1 r.runs.runs.2 z ∥₁) (sym r.links_are)
+        (run_links f o m s gcode files files' out r.behind r.kept r.kept' r.told r.runs text told r.fresh.at);
     shows = texts r;
     begun = begun_texts r;
     fronts = front_texts r;

@@ -19,10 +19,11 @@ use Rattle.wire_scene.specs.Reading as scenes
 use Rattle.gcode_program.specs.Programs.{program_end}
 use Rattle.session_laws.specs.run_ends.Ends.{GoesThrough}
 use Rattle.host_reactor.specs.Rows.{IsOwn}
-use Rattle.session_laws.specs.run_headline.Made.{IsMade, IsNamed, NoneSo, SendsSections}
+use Rattle.session_laws.specs.run_headline.Made.{IsMade, IsNamed, NoneSo}
 use Rattle.session_laws.specs.home_headline.Cuts.{TellAnswers, cuts_of}
 use Rattle.session_laws.specs.home_headline.Reports.{TellOfReadings}
 use Rattle.session_laws.specs.run_headline.Told.{AreTold}
+use Rattle.session_laws.specs.run_links.Links.{AreLinksIn}
 use Rattle.session_laws.specs.run_headline.Further.{AreNamed, BoardsFirst, TellsFurther}
 use Rattle.session_laws.specs.run_headline.Timely.{AreOfMoves, AreSound, HoldsNothingLong}
 use Rattle.session_laws.specs.run_lines.Due.{BoardsHave, StandApart}
@@ -81,8 +82,8 @@ pub record ShowsText (m : Machine) (text : List ℕ) (c : Cause) (said : List Re
 -- The report of a run over links. Its cause, where it is one of the run's own, is so in the reactor's last turn, and the first one that is; and in
 -- no earlier turn was any. Whatever ended it, each turn before the last tells of a switch exactly where the group of the homing section that is
 -- known then answers that it closed, at the tick of the answer; and whatever tells that readings triggered a board's trigger tells of a tick at
--- which its readings of the endstop of an axis that homes were complete. What the planner sends to the boards, whatever ended the run, is the units of the text's sections, each
--- in its turn, in order and with longest triples (`SendsSections`). Its lines, as they were written, with those of pulses, show the sections that were begun, whatever its links hold, where it does not end for want of memory (`ShowsBegun`). Prefix and Sections hold of every run, whatever
+-- which its readings of the endstop of an axis that homes were complete. Whatever ended it, each board's lists in `links` hold the units
+-- of the text's sections, each in its turn, in order and with longest triples, the controls that the reactor orders, and the states of the board's turns, whose pulses its lines show (`AreLinksIn`). Its lines, as they were written, with those of pulses, show the sections that were begun, whatever its links hold, where it does not end for want of memory (`ShowsBegun`). Prefix and Sections hold of every run, whatever
 -- ended it, want of memory too, where no line holds a command for half a round of the 32-bit clock and each board takes the set-up of a homing
 -- section in time (`ShowsFront`). And they show the file's text; of a run of moves that does not end for want of memory, where no line holds a
 -- command for half a round of the 32-bit clock; and of one of any text, where besides it was read on while axes homed (`ReadsOn`, as where the run
@@ -102,7 +103,7 @@ pub record IsLinkReport {F S : Type 0} (f : Files F) (o : Sink S) (m : Machine) 
   pub earlier : NoneSo m s reported.runs.runs.1
   pub answers : TellAnswers m s.switches [] reported.runs.runs.1
   pub readings : TellOfReadings m s.switches (came_from [] reported.runs.runs.1)
-  pub boards : (text : List ℕ) → f.told files gcode ≡ Some text → ∥ SendsSections m s text reported.runs.runs.0 reported.runs.runs.1 ∥₁
+  pub boards : (text : List ℕ) → f.told files gcode ≡ Some text → ∥ AreLinksIn m s text reported.told.cause reported.runs.runs.0 reported.runs.runs.1 reported.runs.runs.2 links ∥₁
   pub shows : (text : List ℕ) → f.told files gcode ≡ Some text → AreOfMoves (sections_over m text) → (reported.told.cause ≡ cause.Memory → ⊥) →
       HoldsNothingLong m s text reported.runs.runs.0 (reported.runs.runs.1 ++ reported.runs.runs.2 ∷ []) → ∥ ShowsText m text c reported.said ∥₁
   pub begun : (text : List ℕ) → f.told files gcode ≡ Some text → (reported.told.cause ≡ cause.Memory → ⊥) → ∥ ShowsBegun m text c reported.said ∥₁

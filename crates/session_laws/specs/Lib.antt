@@ -8,3 +8,4 @@ pub mod home_headline
 pub mod home_wholes
 pub mod clear_homes
 pub mod run_causes
+pub mod run_links

@@ -11,3 +11,4 @@ pub mod run_ends;
 pub mod run_headline;
 pub mod run_limits;
 pub mod run_lines;
+pub mod run_links;

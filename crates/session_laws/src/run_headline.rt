@@ -19,22 +19,13 @@ ghost use Rattle.session_desk.specs.declared.tell.Kept.{Kept};
 ghost use Rattle.session_run.specs.Runs.{RunsOver};
 ghost use Rattle.host_reactor.specs.Rows.{IsOwn};
 ghost use Rattle.cause_runs.specs.Short.{HaveShortDictionaries};
-ghost use Rattle.session_laws.specs.run_headline.Made.{IsMade, IsNamed, NoneSo, SendsSections};
+ghost use Rattle.session_laws.specs.run_headline.Made.{IsMade, IsNamed, NoneSo};
 ghost use Rattle.session_laws.specs.run_headline.Timely.{AllTakeNear, AllShowPlans, AreOfMoves, HoldsNothingLong, clocks_heard, ready_heard};
 ghost use Rattle.session_laws.specs.run_headline.Told.{AreTold};
 ghost use Rattle.session_laws.specs.run_headline.Whole.{Column, FollowPlans, IsBoardIn};
 
 use io_core::{Files, Sink};
 use plan_types::Cause;
-
-/// The law of a run's turns: in whatever threads a run went, its planner's turns are those of a planner, told by the first sections
-/// of the file's text; the reactor's turns before the last one are those of its function, and each took the note of the planner's turn
-/// before it. What the planner puts for a board is in order, its triples are longest, and sections of moves are paced exactly.
-pub fn runs_are_made<F: Files, S: Sink>()
-    ensures { (m : Machine) (s : Scene) (name : List ℕ) (files files' : F) (out out' : S) (kept kept' : Kept) (t : Told Run) →
-        (r : RunsOver F.Files S.Sink m s name files out kept t files' out' kept') → (text : List ℕ) → F.told files name ≡ Some text → kept.at ≡ 0 →
-        ∥ SendsSections m s text r.runs.0 r.runs.1 ∥₁ }
-{}
 
 /// The law of whole runs: in whatever threads a run of moves went, the lines of the reactor's turns, up to one, follow the plans
 /// of the sections of its text: each section has its line, in the turn of its start, and the pulses of a stepper between it and

@@ -24,8 +24,7 @@ use Rattle.session_run.proofs.First.{count}
 use Rattle.session_run.proofs.Reacting as reacting
 use Rattle.run_plans.specs.Planned.{AreRead, IsPlanning, Plans, Text, nothing_read}
 use Rattle.run_plans.proofs.Planning.{plans}
-use Rattle.run_plans.proofs.Running.{all_sent, sections_are}
-use Rattle.session_laws.specs.run_headline.Made.{IsMade, SendsSections}
+use Rattle.session_laws.specs.run_headline.Made.{IsMade}
 use Rattle.session_laws.proofs.run_headline.Reading as reading
 use Rattle.session_laws.proofs.run_headline.Reading.{read_in}
 
@@ -97,12 +96,3 @@ module _ {F S : Type 0} (f : Files F) (o : Sink S) (m : Machine) (s : Scene) (na
         },
         p.1,
       ))
-
-  -- and what it sends is in order, with longest triples, and paced
-  pub run_sends : (text : List ℕ) → f.told files name ≡ Some text → kept.at ≡ 0 → ∥ SendsSections m s text r.runs.0 r.runs.1 ∥₁
-  run_sends text told at = ∥∥₁_map (run_made text told at) (λ w. record {
-    made = w.0;
-    of_text = w.1;
-    sent = λ t known. all_sent m (length m.boards) r.runs.0 w.0.plans t known;
-    paced = λ t b known low moves. sections_are m r.runs.0 w.0.plans t b low known moves;
-  })

@@ -1,13 +1,7 @@
 -- The turns of a whole run.
-use Rattle.std.specs.Prelude.{◌≡◌, ◌⊎◌, ◌<◌, ℕ, All, List, [], ◌∷◌, ◌++◌, Some, length}
+use Rattle.std.specs.Prelude.{◌≡◌, ◌⊎◌, ◌<◌, ℕ, List, [], ◌∷◌, ◌++◌, length}
 use Rattle.plan_types.specs.declared.machine.Machine.{Machine}
 use Rattle.plan_types.specs.declared.cause.Cause.{Cause}
-use Rattle.plan_types.specs.Machines.{board_at}
-use Rattle.plan_types.specs.Sections.{clocks_at}
-use Rattle.section_units.specs.Sections.{IsSection}
-use Rattle.motion_work.specs.Boards.{parts_on}
-use Rattle.motion_work.specs.Seen.{AreMoves, AreSentBy}
-use Rattle.motion_work.specs.Told.{Told}
 use Rattle.msg_code.specs.declared.talk.Note.{Note}
 use Rattle.host_reactor.specs.Notes.{noted}
 use Rattle.host_reactor.specs.Runs.{known_by}
@@ -26,18 +20,6 @@ pub record IsMade (m : Machine) (s : Scene) (ts : List MotionTurn) (rs : List Re
   pub turns : AreReactorTurns m s.switches [] rs
   pub left : List Note
   pub notes : gather (λ t. t.note ∷ []) ts ≡ gather (λ t. option_items t.note) rs ++ left
-
--- What the planner of a run sends to the boards of a text's sections: the batches of its turns hold the units of the sections that were begun, each in
--- its turn (`made.plans.put`).
-pub record SendsSections (m : Machine) (s : Scene) (text : List ℕ) (ts : List MotionTurn) (rs : List ReactorTurn) : Type 0 where
-  pub made : IsMade m s ts rs
-  pub of_text : made.plans.seen.text ≡ text
-  -- what boards are sent of each section, moves or homing, stands in order, and each triple covers as many steps as one can: of the plan by all
-  -- clock lines, or, of a section that homes, by those that were taken up by its end
-  pub sent : (t : Told) → made.plans.seen.told ≡ Some t → AreSentBy m t.clocks (length made.plans.made) made.plans.seen.begun
-  -- where none homes, the units of a section mean one step for each planned step, in its window, and are paced from exactly 250 turns before its start on
-  pub paced : (t : Told) (b : ℕ) → made.plans.seen.told ≡ Some t → b < length m.boards → AreMoves made.plans.seen.begun →
-      All (IsSection (clocks_at t.clocks b) (board_at m b).freq (board_at m b).slots) (parts_on m t.clocks made.plans.seen.begun b)
 
 -- A cause is so in a turn of the reactor, behind these turns: behind the note that came in it, by all that came before, and by the
 -- states of the boards that came in it.

@@ -1,0 +1,5 @@
+pub mod Units
+pub mod Orders
+pub mod Boards
+pub mod Pulses
+pub mod Links

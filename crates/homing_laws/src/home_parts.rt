@@ -12,7 +12,7 @@ ghost use Rattle.clock_line.specs.Kept.{AreKept};
 ghost use Rattle.link_work.specs.Turn.{Orders};
 ghost use Rattle.run_laws.specs.Boards.{AreEnded, IsWindow, NextStart, OnBoard};
 ghost use Rattle.run_laws.specs.Events.{AreTicks};
-ghost use Rattle.run_laws.specs.Homes.{AreOut, AreSet, HasUnits, IsHomeRun, RunSection, SetsAny};
+ghost use Rattle.run_laws.specs.Homes.{AreOut, AreReleasedIn, AreSet, HasUnits, IsHomeRun, RunSection, SetsAny};
 ghost use Rattle.run_laws.specs.Parts.{AreTracked, MakesIn};
 ghost use Rattle.plan_types.specs.declared.levels.Level.{Level};
 ghost use Rattle.wire_scene.specs.declared.scene.Entry.{Entry};
@@ -22,7 +22,7 @@ ghost use Rattle.clock_runs.specs.Runs.{IsInRun, UnitsFit, orders_in};
 ghost use Rattle.host_reactor.specs.declared.ordered.Phase.TheVariants.{Connecting};
 ghost use Rattle.host_reactor.specs.Runs.{Came, GoesOn, known_by};
 ghost use Rattle.motion_work.specs.Homes.{no_end};
-ghost use Rattle.motion_work.specs.Seen.{Started};
+ghost use Rattle.motion_work.specs.Seen.{AreStarted, Started};
 ghost use Rattle.motion_work.specs.Told.{Told};
 ghost use Rattle.session_work.specs.declared.table.MotionTurn.{MotionTurn};
 ghost use Rattle.session_work.specs.declared.table.ReactorTurn.{ReactorTurn};
@@ -96,10 +96,11 @@ pub fn begun_controls_are_control_commands()
         TookControlsIn (clocks_at t.clocks b) (cuts_on m t.clocks until p.seen.begun b) 0 (orders_in turns) }
 {}
 
-/// The law of a turn's units in a run in which axes home: they have 210 bytes at most.
+/// The law of a turn's units in a run in which axes home, where those of moves are released by four turns behind their sections' ends: they
+/// have 210 bytes at most.
 pub fn homing_units_keep_their_limit()
     ensures { (own : ℕ → ℕ) (clocks : Clocks) (freq slots ready : ℕ) (stops : ℕ → Option ℕ) (ss : List RunSection) (turns : List BoardTurn) →
-        IsHomeRun own clocks freq slots ready stops ss (orders_in turns) → UnitsFit turns }
+        IsHomeRun own clocks freq slots ready stops ss (orders_in turns) → AreReleasedIn ss → UnitsFit turns }
 {}
 
 /// The law of the report of a run in which axes home: the pulses that its lines tell of a stepper, from the turn of a section's start up to
@@ -116,14 +117,17 @@ pub fn home_lines_fit()
 {}
 
 /// The law of a board's orders in a run in which axes home, of the units that are released in its turns: where the boards' controls are
-/// those of such a run, and no unit of moves that is due in the turns and released behind its due one is so more than four turns behind
-/// its section's end; where its clock lines are tracked from 260 turns before the first start on until all sections are over (`AreOverBefore`),
-/// steppers are made by then, and the clocks are set of those that home, this is its part of a run. The board may have turns behind those that the planner made: nothing is released in them.
+/// those of such a run, its clock lines are tracked from 260 turns before the first start on until all sections are over (`AreOverBefore`),
+/// steppers are made by then, and the clocks are set of those that home, this is its part of a run. The board may have turns behind those that
+/// the planner made: nothing is released in them. Where no unit of moves that is due in the turns and released behind its due one is so more
+/// than four turns behind its section's end, all units of its sections of moves are released by four turns behind their ends.
 pub fn begun_boards_home()
-    ensures { (m : Machine) (ts : List MotionTurn) (p : Plans m (length m.boards) ts) (t : Told) (b ready until : ℕ) (own : ℕ → ℕ) (os : List Orders) → b < length m.boards → p.seen.told ≡ Some t →
+    ensures run { (m : Machine) (ts : List MotionTurn) (p : Plans m (length m.boards) ts) (t : Told) (b ready until : ℕ) (own : ℕ → ℕ) (os : List Orders) → b < length m.boards → p.seen.told ≡ Some t →
         until ≤ length p.made → (length os ≤ until) ⊎ (length p.made ≤ until) → TookBatches b ts os → TookControlsIn (clocks_at t.clocks b) (cuts_on m t.clocks until p.seen.begun b) 0 os → AreTicks own →
-        (k : AreTracked own (clocks_at t.clocks b) ready) → ready + 260 ≤ t.first → AreOverBefore m t.clocks k.until p.seen.begun → AreOut until (runs_on m t.clocks p.seen.begun b) →
+        (k : AreTracked own (clocks_at t.clocks b) ready) → ready + 260 ≤ t.first → AreOverBefore m t.clocks k.until p.seen.begun →
         ((oid : ℕ) → AreSet oid (cuts_on m t.clocks until p.seen.begun b) 0 os) →
         (ready ≤ length os → (oid : ℕ) → HasUnits oid (cuts_on m t.clocks until p.seen.begun b) ⊎ SetsAny oid os → MakesIn oid (take ready os)) →
         IsHomeRun own (clocks_at t.clocks b) (board_at m b).freq (board_at m b).slots ready (stops_of p.seen.begun) (cuts_on m t.clocks until p.seen.begun b) os }
+    ensures released { (m : Machine) (own : ℕ → ℕ) (clocks : List Clocks) (b ready at turn turns : ℕ) (begun : List Started) → AreTicks own → (k : AreTracked own (clocks_at clocks b) ready) → ready + 260 ≤ at →
+        AreStarted m clocks at begun → b < length m.boards → AreOverBefore m clocks k.until begun → AreOut turns (runs_on m clocks begun b) → turn ≤ turns → AreReleasedIn (cuts_on m clocks turn begun b) }
 {}

@@ -30,7 +30,7 @@ ghost use Rattle.link_work.specs.Limits.{AllKeepLimits};
 ghost use Rattle.link_work.specs.Runs.{AreTurns};
 ghost use Rattle.link_work.specs.Turn.{LinkState};
 ghost use Rattle.run_laws.specs.Events.{AreOwn};
-ghost use Rattle.run_laws.specs.Homes.{AreInTurn, AreOrdersIn, AreSettledOn, IsHomeBoard, IsHomeRun, IsSectionBy, RunSection, SetsIn};
+ghost use Rattle.run_laws.specs.Homes.{AreInTurn, AreOrdersIn, AreReleasedIn, AreSettledOn, IsHomeBoard, IsHomeRun, IsSectionBy, RunSection, SetsIn};
 ghost use Rattle.plan_types.specs.Lines.{Clocks};
 ghost use Rattle.clock_runs.specs.Runs.{orders_in};
 ghost use Rattle.homing_laws.specs.home_runs.Settled.{AreHomed, IsHomed, SetNoClockFrom};
@@ -132,11 +132,12 @@ pub fn words_tell_of_answers()
         (answer_in (length before) h.start (hears_all (noted m c.note (known_by m switches before)).clocks c.states h).group ≡ Some (Endstop tick)) }
 {}
 
-/// The law of homing turns: where a board's orders are those of its sections, no unit that is released from 254 turns before the start of
-/// one that homes up to its end sets a clock.
+/// The law of homing turns: where a board's orders are those of its sections, those of moves released by four turns behind their ends, no unit
+/// that is released from 254 turns before the start of one that homes up to its end sets a clock.
 pub fn homing_turns_set_no_clocks()
     ensures { (clocks : Clocks) (freq slots until ready from : ℕ) (stops : ℕ → Option ℕ) (past : List RunSection) (s : RunSection) (later : List RunSection) (turns : List BoardTurn) →
-        AreInTurn ready (past ++ s ∷ later) → All (λ x. IsSectionBy x.homes clocks freq slots until stops x.section) (past ++ s ∷ later) → AreOrdersIn clocks (past ++ s ∷ later) 0 (orders_in turns) →
+        AreInTurn ready (past ++ s ∷ later) → All (λ x. IsSectionBy x.homes clocks freq slots until stops x.section) (past ++ s ∷ later) → AreReleasedIn (past ++ s ∷ later) →
+        AreOrdersIn clocks (past ++ s ∷ later) 0 (orders_in turns) →
         s.homes ≡ true → from + 254 ≡ s.section.start → length turns ≤ s.section.end → SetNoClockFrom from turns }
 {}
 
@@ -147,14 +148,14 @@ pub fn told_sections_are_homed()
         from + 254 ≡ start → SetNoClockFrom from t.past → IsHomed m switches pins entries b start end turns }
 {}
 
-/// The law of boards that home: a board of a run whose part of it is one in which axes home, whose homing sections that have ended were told
-/// of, and which takes no unit half a round of the 32-bit clock after its first tick, is one of which `run_laws` says that it keeps its
+/// The law of boards that home: a board of a run whose part of it is one in which axes home, whose units of moves are released by four turns
+/// behind their sections' ends, whose homing sections that have ended were told of, and which takes no unit half a round of the 32-bit clock after its first tick, is one of which `run_laws` says that it keeps its
 /// sections, by any ticks that are its own up to the run's end.
 pub fn told_boards_are_home_boards()
     ensures { (m : Machine) (switches : List Switch) (pins : List (List Level)) (entries : List Entry) (b ready : ℕ) (own : ℕ → ℕ) (clocks : Clocks) (stops : ℕ → Option ℕ) (ss : List RunSection) (turns : List BoardTurn) (states : List State) (end : LinkState)
         (told : AreTold (clock_of (board_at m b)) 0 (orders_in turns) states (first_state (board_at m b) pins b entries) end) → IsValidMachine m → b < length m.boards →
         AreBoardTurns (clock_of (board_at m b)) (first_state (board_at m b) pins b entries) turns →
-        AreOwn (board_at m b) (length turns) own → IsHomeRun own clocks (board_at m b).freq (board_at m b).slots ready stops ss (orders_in turns) →
+        AreOwn (board_at m b) (length turns) own → IsHomeRun own clocks (board_at m b).freq (board_at m b).slots ready stops ss (orders_in turns) → AreReleasedIn ss →
         AllTimely (start (board_at m b) pins) (steps_of (clock_of (board_at m b)) 0 (orders_in turns) (first_state (board_at m b) pins b entries) end
         (turns_told (clock_of (board_at m b)) 0 (orders_in turns) states (first_state (board_at m b) pins b entries) end told)) →
         AreToldIn m switches pins entries b stops ss turns →

@@ -40,7 +40,6 @@ nothing_more own clocks freq slots turn ks ss i later = record {
   is = refl;
   good = λ oid. tt;
   lost = tt;
-  over = tt;
   steps = λ oid. (all_steps oid ss, refl);
   whole = λ _ first others cut _ released oid.
       let same : turn + 0 ≡ turn = omega arith in

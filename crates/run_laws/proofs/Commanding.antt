@@ -11,16 +11,16 @@ use Rattle.board_sim.specs.Rig as rig
 use Rattle.board_sim.specs.Fair.{commands_of, IsFairCommand, IsFairRunning, AreFair}
 use Rattle.board_sim.proofs.RigShut.{all_left_by}
 use Rattle.board_sim.proofs.RigStates.{all_tick}
-use Rattle.run_laws.specs.Known.{Sent, orders_in}
+use Rattle.run_laws.specs.Known.{Sent, orders_in, IsLostFor}
 use Rattle.run_laws.specs.Timely.{IsTimely, AreTimely}
-use Rattle.run_laws.specs.Courses.{Course, parts_of, course_of, course_behind, course_from, AreMadeFor, IsMadeBy, IsGoodOn, AreGoodOn, IsInTime, AreInTime}
+use Rattle.run_laws.specs.Courses.{Course, parts_of, course_of, course_behind, course_from, AreMadeFor, IsMadeBy, IsGoodOn, AreGoodOn, IsInTime, AreInTime, BeginLostOn, FindsFree}
 use Rattle.run_laws.proofs.Fits.{IsShutBy}
 use Rattle.run_laws.proofs.Free.{board_acts}
 use Rattle.run_laws.proofs.Taking.{shut_fair}
 use Rattle.run_laws.proofs.Moving.{BoardMoves}
 use Rattle.run_laws.proofs.MovingRigs.{IsOfTriggers, triggers_move}
 use Rattle.run_laws.proofs.Standing.{BoardStands, board_moved, made_moved, stop_none, made_for}
-use Rattle.run_laws.proofs.Coursing.{MadeOn, StandsOn, same_stands, dir_stands, make_stands, reset_stands, push_stands}
+use Rattle.run_laws.proofs.Coursing.{MadeOn, StandsOn, same_stands, dir_stands, make_stands, reset_stands, push_stands, lost_stands}
 
 -- a command that is none of triggers
 abbrev IsOther : Cmd → Type 0
@@ -185,4 +185,44 @@ all_stand own up stops slots by turn (s ∷ ss) cs r f le old good timely time =
             (one.0, shut_fair after (orders_in ss) reason t first state),
             inr ((reason, t, first, same, may), ([], s ∷ ss, refl, λ oid m k. made_for own stops oid (stepper_at r.controller oid) (cs oid) m k)),
           )
+    ]
+
+-- a triple that comes too late, where its stepper isn't halted
+one_lost : (own : ℕ → ℕ) (stops : ℕ → Option ℕ) (slots by queued turn : ℕ) (cs : ℕ → Course) (r : Rig) (c : Cmd) (ticks : List ℕ) → BoardStands own stops slots by turn cs r.controller → own queued ≤ own turn
+    → ((oid : ℕ) → IsGoodOn own stops slots oid queued (cs oid) c ticks) → IsTimely (own turn) c ticks → IsLostFor own queued (λ oid. (cs oid).known) c ticks → FindsFree r.controller c → IsShutBy (takes r c).rig.controller
+one_lost own stops slots by queued turn cs r (cmd.QueueStep other interval count add) ticks f h good timely lost free =
+    subst IsShutBy (sym (takes_acts r (cmd.QueueStep other interval count add) f.running tt))
+    (lost_stands own stops slots by queued turn cs r.controller other (stepper_at r.controller other) (record { interval = interval; count = count; add = add }) ticks refl f free h (good other refl) timely lost.0 lost.1)
+one_lost own stops slots by queued turn cs r _ ticks f h good timely lost free = absurd lost
+
+-- The board takes good commands, and behind them one that comes too late: all are fair, and it shut down, behind some of them that it took.
+abbrev pub AllLost : (ℕ → ℕ) → (ℕ → Option ℕ) → (ℕ → Course) → Rig → List Sent → List Sent → Type 0
+AllLost own stops cs r ss tail =
+    AreFair r (orders_in (ss ++ tail)) × IsShutBy (takes_all r (commands_of (orders_in (ss ++ tail)))).rig.controller × ((done more : List Sent) × (ss ≡ done ++ more)
+    × ((oid : ℕ) (m : List Pulse) → IsMadeBy own stops oid (stepper_at r.controller oid) (cs oid) m → AreMadeFor own stops (parts_of (course_from oid (cs oid) done)) m))
+
+pub all_lost : (own : ℕ → ℕ) → ((j k : ℕ) → j ≤ k → own j ≤ own k) → (stops : ℕ → Option ℕ) (slots by turn : ℕ) (ss : List Sent) (s : Sent) (tail : List Sent) (cs : ℕ → Course) (r : Rig) → BoardStands own stops slots by turn cs r.controller
+    → by ≤ turn → AreQueued by (ss ++ s ∷ tail) → ((oid : ℕ) → AreGoodOn own stops slots oid (cs oid) ss) → BeginLostOn own stops slots (λ oid. course_from oid (cs oid) ss) (s ∷ tail)
+    → AreTimely (own turn) (orders_in (ss ++ s ∷ tail)) → AreInTime stops by (ss ++ s ∷ tail)
+    → ((takes_all r (commands_of (orders_in ss))).rig.controller.state ≡ Running → FindsFree (takes_all r (commands_of (orders_in ss))).rig.controller s.order.command) → AllLost own stops cs r ss (s ∷ tail)
+all_lost own up stops slots by turn [] s tail cs r f le old good lost timely time free =
+    let h = up s.turn turn (omega (arith, old.0, le)) in
+    let one = one_stands own stops slots by s.turn turn cs r s.order.command s.order.ticks f h old.0 lost.0 timely.0 time.0 in
+    let (reason, t, first, state, may) = one_lost own stops slots by s.turn turn cs r s.order.command s.order.ticks f h lost.0 timely.0 lost.1 (free f.running) in
+    let after = (takes r s.order.command).rig in
+    let same = ap (λ (x : Controller). x.state) (all_left_by after (commands_of (orders_in tail)) (ap is_shut state)) ∙ state in
+    ((one.0, shut_fair after (orders_in tail) reason t first state), (reason, t, first, same, may), ([], [], refl, λ oid m k. made_for own stops oid (stepper_at r.controller oid) (cs oid) m k))
+all_lost own up stops slots by turn (x ∷ ss) s tail cs r f le old good lost timely time free =
+    let one = one_stands own stops slots by x.turn turn cs r x.order.command x.order.ticks f (up x.turn turn (omega (arith, old.0, le))) old.0 (λ oid. (good oid).0) timely.0 time.0 in
+    let next : ℕ → Course = λ oid. course_behind oid (cs oid) x in
+    let after = (takes r x.order.command).rig in
+    elim one.1 [
+      | inl g ↦
+          let (fair, shut, stop) = all_lost own up stops slots by turn ss s tail next after g.0 le old.1 (λ oid. (good oid).1) lost timely.1 time.1 free in
+          let (done, more, is, made) = stop in
+          ((one.0, fair), shut, (x ∷ done, more, ap (λ y. x ∷ y) is, λ oid m k. made oid m (g.1 oid m k)))
+      | inr g ↦
+          let (reason, t, first, state, may) = g in
+          let same = ap (λ (y : Controller). y.state) (all_left_by after (commands_of (orders_in (ss ++ s ∷ tail))) (ap is_shut state)) ∙ state in
+          ((one.0, shut_fair after (orders_in (ss ++ s ∷ tail)) reason t first state), (reason, t, first, same, may), ([], x ∷ ss, refl, λ oid m k. made_for own stops oid (stepper_at r.controller oid) (cs oid) m k))
     ]

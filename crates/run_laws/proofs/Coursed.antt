@@ -22,7 +22,7 @@ use Rattle.link_work.proofs.Steps.{tick_passed}
 use Rattle.run_laws.specs.Events.{AreQuiet, IsTurnOf, AreTurnsOf}
 use Rattle.run_laws.specs.Known.{Sent, sent_at, sent_in}
 use Rattle.run_laws.specs.Timely.{AllTimely}
-use Rattle.run_laws.specs.Courses.{courses, IsFrom, IsStopped, IsInTime, AreInTime, IsSettled, AreSettled}
+use Rattle.run_laws.specs.Courses.{courses, IsFrom, IsStopped, IsInTime, AreInTime, IsSettled, AreSettled, AllHeed}
 use Rattle.run_laws.proofs.Lists.{sent_append, own_up}
 use Rattle.run_laws.proofs.Passes.{AreBetween, between_append, between_wide}
 use Rattle.run_laws.proofs.Turning.{fair_append, timely_front, timely_behind, none_at, places_length}
@@ -31,7 +31,7 @@ use Rattle.run_laws.proofs.Moving.{SlotMoves, BoardMoves}
 use Rattle.run_laws.proofs.MovingRigs.{passes_move}
 use Rattle.run_laws.proofs.Standing.{slot_moved, halted_moved, halted_none, slot_between, stop_before, made_moved}
 use Rattle.run_laws.proofs.Commanding.{AreQueued}
-use Rattle.run_laws.proofs.Stepping.{Script, Going, Gone, Keeps, quiet_keeps, queues_on}
+use Rattle.run_laws.proofs.Stepping.{Script, Going, Gone, Keeps, quiet_keeps, queues_on, heed_front, heed_behind}
 
 -- what a stepper's place makes of the time of a turn
 abbrev PlaceMoves : Script → ℕ → Core → ℕ → Type 0
@@ -68,7 +68,9 @@ going_passes p turn sent h k r tick =
       record {
         done = r.done;
         left = r.left;
+        more = r.more;
         sent_is = r.sent_is;
+        front_is = r.front_is;
         taken = r.taken ∙ sym (append-nil h.taken);
         stands = record {
           running = m.state ∙ r.stands.running;
@@ -104,7 +106,7 @@ pass_keeps p turn sent h k =
               shut = (reason, first_tick, first, left.1 ∙ state, may);
               done = d.done;
               more = d.more;
-              all_is = d.all_is;
+              front_is = d.front_is;
               made = λ oid. rw (left.0, append-nil h.made) (d.made oid);
             }),
             subst Between (sym left.0) (λ oid. tt),
@@ -145,7 +147,9 @@ settles p turn sent h k settled = record {
         inl (record {
           done = r.done;
           left = r.left;
+          more = r.more;
           sent_is = r.sent_is;
+          front_is = r.front_is;
           taken = r.taken;
           stands = record {
             running = r.stands.running;
@@ -165,11 +169,12 @@ settles p turn sent h k settled = record {
 abbrev QuietKeeps : Script → ℕ → ℕ → List Sent → List Step → Core → Type 0
 QuietKeeps p by turn sent steps h = AllFair h steps × Keeps p by turn sent (run steps h)
 
-pub quiet_keep : (p : Script) (by turn : ℕ) (sent : List Sent) (steps : List Step) (h : Core) → AreQuiet steps → Keeps p by turn sent h → AllTimely h steps → QuietKeeps p by turn sent steps h
-quiet_keep p by turn sent [] h q k timely = (tt, k)
-quiet_keep p by turn sent (s ∷ steps) h q k timely =
-    let one = quiet_keeps p by turn sent h s q.0 k timely.0 in
-    let rest = quiet_keep p by turn sent steps (after h s) q.1 one.1 timely.1 in
+pub quiet_keep : (p : Script) (by turn : ℕ) (sent : List Sent) (steps : List Step) (h : Core) → AreQuiet steps → Keeps p by turn sent h → AllTimely h steps → AllHeed p.front p.tail h steps
+    → QuietKeeps p by turn sent steps h
+quiet_keep p by turn sent [] h q k timely heed = (tt, k)
+quiet_keep p by turn sent (s ∷ steps) h q k timely heed =
+    let one = quiet_keeps p by turn sent h s q.0 k timely.0 heed.0 in
+    let rest = quiet_keep p by turn sent steps (after h s) q.1 one.1 timely.1 heed.1 in
     ((one.0, rest.0), rest.1)
 
 -- what is queued in a turn is taken in time then
@@ -193,14 +198,15 @@ TurnKeeps p turn sent o h steps =
 turn_steps_keep : (p : Script) (turn : ℕ) (sent rest : List Sent) (o : Orders) (before rear : List Step) (h : Core) → AreQuiet before → AreQuiet rear → Keeps p turn turn sent h
     → (sent ++ sent_at turn (queued_in o)) ++ rest ≡ p.all
     → AllTimely h (Turn turn ∷ Do (Control o.control) ∷ Do (Put o.batch) ∷ before ++ Do (Pass (p.own (turn + 1))) ∷ rear)
+    → AllHeed p.front p.tail h (Turn turn ∷ Do (Control o.control) ∷ Do (Put o.batch) ∷ before ++ Do (Pass (p.own (turn + 1))) ∷ rear)
     → TurnKeeps p turn sent o h (Turn turn ∷ Do (Control o.control) ∷ Do (Put o.batch) ∷ before ++ Do (Pass (p.own (turn + 1))) ∷ rear)
-turn_steps_keep p turn sent rest o before rear h bq rq k all timely =
+turn_steps_keep p turn sent rest o before rear h bq rq k all timely heed =
     let cs = map plain o.control.commands in
     let us = units_orders o.batch.units in
     let pass = Do (Pass (p.own (turn + 1))) in
     let split : sent_at turn (queued_in o) ≡ sent_at turn cs ++ sent_at turn us = sent_append turn cs us in
     let h1 = after h (Turn turn) in
-    let k1 = (quiet_keeps p turn turn sent h (Turn turn) tt k tt).1 in
+    let k1 = (quiet_keeps p turn turn sent h (Turn turn) tt k tt tt).1 in
     let h2 = happens h1 (Control o.control) in
     let whole : ((sent ++ sent_at turn cs) ++ sent_at turn us) ++ rest ≡ p.all =
     ap (λ x. x ++ rest) (append_assoc sent (sent_at turn cs) (sent_at turn us) ∙ ap (λ x. sent ++ x) (sym split)) ∙ all in
@@ -209,12 +215,13 @@ turn_steps_keep p turn sent rest o before rear h bq rq k all timely =
     let h3 = happens h2 (Put o.batch) in
     let k3 : Keeps p turn turn ((sent ++ sent_at turn cs) ++ sent_at turn us) h3 =
     queues_on p turn turn (sent ++ sent_at turn cs) rest h2 (Put o.batch) k2 whole (time_at p.stops turn us (p.ahead turn)) (old_at turn us) refl refl refl in
-    let q = quiet_keep p turn turn ((sent ++ sent_at turn cs) ++ sent_at turn us) before h3 bq k3 (timely_front before (pass ∷ rear) h3 timely.1.1.1) in
+    let q = quiet_keep p turn turn ((sent ++ sent_at turn cs) ++ sent_at turn us) before h3 bq k3 (timely_front before (pass ∷ rear) h3 timely.1.1.1) (heed_front p.front p.tail before (pass ∷ rear) h3 heed.1.1.1) in
     let h4 = run before h3 in
     let k5 = pass_keeps p turn ((sent ++ sent_at turn cs) ++ sent_at turn us) h4 q.1 in
     let h5 = after h4 pass in
     let late = timely_behind before (pass ∷ rear) h3 timely.1.1.1 in
-    let r = quiet_keep p turn (turn + 1) ((sent ++ sent_at turn cs) ++ sent_at turn us) rear h5 rq k5.0 late.1 in
+    let behind = heed_behind p.front p.tail before (pass ∷ rear) h3 heed.1.1.1 in
+    let r = quiet_keep p turn (turn + 1) ((sent ++ sent_at turn cs) ++ sent_at turn us) rear h5 rq k5.0 late.1 behind.1 in
     let new = (does h4 (Pass (p.own (turn + 1)))).pulses in
     let At : List Sent → Type 0 = λ x. Keeps p turn (turn + 1) x (run rear h5) in
     let To : Core → Type 0 = λ x. Keeps p turn (turn + 1) (sent ++ sent_at turn (queued_in o)) x in (
@@ -228,11 +235,12 @@ turn_steps_keep p turn sent rest o before rear h bq rq k all timely =
     )
 
 turn_keeps : (p : Script) (turn : ℕ) (sent rest : List Sent) (o : Orders) (steps : List Step) (h : Core) → IsTurnOf p.own turn o steps → Keeps p turn turn sent h
-    → (sent ++ sent_at turn (queued_in o)) ++ rest ≡ p.all → AllTimely h steps → TurnKeeps p turn sent o h steps
-turn_keeps p turn sent rest o steps h t k all timely =
+    → (sent ++ sent_at turn (queued_in o)) ++ rest ≡ p.all → AllTimely h steps → AllHeed p.front p.tail h steps → TurnKeeps p turn sent o h steps
+turn_keeps p turn sent rest o steps h t k all timely heed =
     let At : List Step → Type 0 = λ x. TurnKeeps p turn sent o h x in
     let Timely : List Step → Type 0 = λ x. AllTimely h x in
-    subst At (sym t.are) (turn_steps_keep p turn sent rest o t.before t.after h t.before_quiet t.after_quiet k all (subst Timely t.are timely))
+    let Heed : List Step → Type 0 = λ x. AllHeed p.front p.tail h x in
+    subst At (sym t.are) (turn_steps_keep p turn sent rest o t.before t.after h t.before_quiet t.after_quiet k all (subst Timely t.are timely) (subst Heed t.are heed))
 
 abbrev pub TurnsKeep : Script → ℕ → List Sent → List Orders → Core → List Step → Type 0
 TurnsKeep p turn sent os h steps =
@@ -249,24 +257,26 @@ makes_both p turn mid end a b c h k x y = (
 )
 
 pub turns_keep : (p : Script) (turn : ℕ) (sent rest : List Sent) (os : List Orders) (steps : List Step) (h : Core) (t : AreTurnsOf p.own turn os steps) → Keeps p turn turn sent h
-    → (sent ++ sent_in turn os) ++ rest ≡ p.all → AllTimely h steps → AreSettled p.stops p.own turn sent os steps h t → TurnsKeep p turn sent os h steps
-turns_keep p turn sent rest [] steps h t k all timely settled =
+    → (sent ++ sent_in turn os) ++ rest ≡ p.all → AllTimely h steps → AreSettled p.stops p.own turn sent os steps h t → AllHeed p.front p.tail h steps → TurnsKeep p turn sent os h steps
+turns_keep p turn sent rest [] steps h t k all timely settled heed =
     let At : List Step → Type 0 = λ x. TurnsKeep p turn sent [] h x in
     let zero_more : turn + 0 ≡ turn = omega arith in
     let Here : ℕ → List Sent → Type 0 = λ n x. Keeps p n n x h in
     let On : ℕ → Type 0 = λ n. Here n (sent ++ []) in
     subst At (sym t) (tt, subst On (sym zero_more) (subst (Here turn) (sym (append-nil sent)) k), ([], sym (append-nil h.made), λ oid. tt))
-turns_keep p turn sent rest (o ∷ os) steps h t k all timely settled =
+turns_keep p turn sent rest (o ∷ os) steps h t k all timely settled heed =
     let (first, later, are, one, more) = t in
     let At : List Step → Type 0 = λ x. TurnsKeep p turn sent (o ∷ os) h x in
     let Timely : List Step → Type 0 = λ x. AllTimely h x in
+    let Heed : List Step → Type 0 = λ x. AllHeed p.front p.tail h x in
     let all_timely : AllTimely h (first ++ later) = subst Timely are timely in
+    let all_heed : AllHeed p.front p.tail h (first ++ later) = subst Heed are heed in
     let mid = sent ++ sent_at turn (queued_in o) in
     let cut : mid ++ sent_in (turn + 1) os ≡ sent ++ sent_in turn (o ∷ os) = append_assoc sent (sent_at turn (queued_in o)) (sent_in (turn + 1) os) in
     let whole : (mid ++ sent_in (turn + 1) os) ++ rest ≡ p.all = ap (λ x. x ++ rest) cut ∙ all in
-    let a = turn_keeps p turn sent (sent_in (turn + 1) os ++ rest) o first h one k (sym (append_assoc mid (sent_in (turn + 1) os) rest) ∙ whole) (timely_front first later h all_timely) in
+    let a = turn_keeps p turn sent (sent_in (turn + 1) os ++ rest) o first h one k (sym (append_assoc mid (sent_in (turn + 1) os) rest) ∙ whole) (timely_front first later h all_timely) (heed_front p.front p.tail first later h all_heed) in
     let next = settles p turn mid (run first h) a.1 (settled_first (turn + 1) mid os later (run first h) more settled.1) in
-    let b = turns_keep p (turn + 1) mid rest os later (run first h) more next whole (timely_behind first later h all_timely) settled.1 in
+    let b = turns_keep p (turn + 1) mid rest os later (run first h) more next whole (timely_behind first later h all_timely) settled.1 (heed_behind p.front p.tail first later h all_heed) in
     let n : turn + 1 + length os ≡ turn + length (o ∷ os) = omega arith in
     let To : Core → Type 0 = λ x. Keeps p (turn + length (o ∷ os)) (turn + length (o ∷ os)) (sent ++ sent_in turn (o ∷ os)) x in
     let On : ℕ → Type 0 = λ x. Keeps p x x (mid ++ sent_in (turn + 1) os) (run later (run first h)) in
@@ -298,7 +308,9 @@ begins p b pins first slots = record {
   state = inl (record {
     done = [];
     left = [];
+    more = p.front;
     sent_is = refl;
+    front_is = refl;
     taken = refl;
     stands = record {
       running = refl;

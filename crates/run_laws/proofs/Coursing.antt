@@ -13,7 +13,7 @@ use Rattle.board_sim.specs.Halted.{is_halted}
 use Rattle.board_sim.proofs.Steps.{pending_push}
 use Rattle.run_laws.specs.Known.{Known, unknown, more_steps, AreBelow, IsGoodTriple}
 use Rattle.run_laws.specs.Courses.{Course, no_course, next_part, IsFrom, IsStopped, IsMadeBy, MaySetClock}
-use Rattle.run_laws.proofs.Fits.{StepperFits, IsShutBy, split_at, within, at_own, at_others, room_left, fair_for, refusal_is, not_late, first_is, none_pends, one_more}
+use Rattle.run_laws.proofs.Fits.{StepperFits, IsShutBy, split_at, within, at_own, at_others, room_left, fair_for, refusal_is, not_late, first_is, none_pends, one_more, queue_lost}
 use Rattle.run_laws.proofs.Standing.{QueueStands, SlotStands, BoardStands, fits_of, made_for, stop_none}
 
 -- what each stepper has made stands as before
@@ -358,3 +358,15 @@ pub push_stands : (own : ℕ → ℕ) (stops : ℕ → Option ℕ) (slots by que
     → own turn < slice_index ticks 0 + 2 ^ 31 → StepStands own stops slots by turn cs b other o t ticks
 push_stands own stops slots by queued turn cs b other None t ticks at f h good timely = absurd (not_there (cs other) (here b other slots (own turn) (cs other) None at (f.each other)) good.made)
 push_stands own stops slots by queued turn cs b other (Some q) t ticks at f h good timely = step_stands own stops slots by queued turn cs b other q t ticks q.halted refl f.tick at f h good timely
+
+-- one that comes too late shuts the board down, where its stepper isn't halted
+pub lost_stands : (own : ℕ → ℕ) (stops : ℕ → Option ℕ) (slots by queued turn : ℕ) (cs : ℕ → Course) (b : Controller) (other : ℕ) (o : Option Pending) (t : Triple) (ticks : List ℕ) → stepper_at b other ≡ o
+    → BoardStands own stops slots by turn cs b → is_halted o ≡ false → own queued ≤ own turn → IsGoodTriple own slots queued (cs other).known t ticks → own turn < slice_index ticks 0 + 2 ^ 31
+    → slice_index ticks 0 < own queued → AreBelow (own queued) (cs other).known.ends → IsShutBy (queue_step b other o t).board
+lost_stands own stops slots by queued turn cs b other None t ticks at f free h good timely before below =
+    absurd (not_there (cs other) (here b other slots (own turn) (cs other) None at (f.each other)) good.made)
+lost_stands own stops slots by queued turn cs b other (Some q) t ticks at f free h good timely before below =
+    let tick = f.tick in
+    let s = fits_of slots (own turn) q (cs other) (here b other slots (own turn) (cs other) (Some q) at (f.each other)) free in
+    let At : ℕ → Type 0 = λ n. StepperFits n slots q (cs other).known in
+    queue_lost own slots queued (cs other).known b other q t ticks (subst At (sym tick) s) (omega (arith, tick, h)) good (omega (arith, tick, timely)) before below

@@ -173,7 +173,6 @@ section_ahead own slots n sent ks s ss x = record {
   is = x.is;
   good = x.good;
   lost = x.lost;
-  over = x.over;
   steps = λ oid. rw append_assoc at (x.steps oid);
   whole = λ none first others cut before released oid. with_section own slots n oid sent ks s ss x first others none cut released;
   cut = λ done more same first others parts. cut_section own slots n sent ks s ss x done more first others same parts;

@@ -345,20 +345,24 @@ lost_as b other first q r ticks e =
     let At : Option (ℕ × ℕ) → Type 0 = λ x. IsShutBy (takes_triple x b other q ticks).board in
     subst At (sym e) (timer_too_close, b.tick, first, refl, inl refl)
 
+pub queue_lost : (own : ℕ → ℕ) (slots turn : ℕ) (k : Known) (b : Controller) (other : ℕ) (q : Pending) (t : Triple) (ticks : List ℕ) → StepperFits b.tick slots q k → own turn ≤ b.tick → IsGoodTriple own slots turn k t ticks
+    → b.tick < slice_index ticks 0 + 2 ^ 31 → slice_index ticks 0 < own turn → AreBelow (own turn) k.ends → IsShutBy (queue_step b other (Some q) t).board
+queue_lost own slots turn k b other q t ticks s h good timely before below =
+    let now = b.tick in
+    let fair = fair_for own slots turn now q k t ticks s h good timely in
+    let first = first_is now q t ticks good.small fair in
+    let none = none_pends now slots (own turn) q k s h below in
+    let late : (is_none_pending q.groups && nat_lt (first_of now q t) now) ≡ true = late_is now (first_of now q t) q.groups none (omega (arith, first, before, h)) in
+    let r = refusal_is now q t true good.ticks_of.some (room_left own slots turn now q k t ticks s h good) late in
+    lost_if q.halted b (takes_triple (refusal now q t) b other q (ticks_at (first_of now q t) t)) s.halted
+    (lost_as b other (first_of now q t) q (refusal now q t) (ticks_at (first_of now q t) t) r)
+
 step_lost : (own : ℕ → ℕ) (slots turn : ℕ) (ks : ℕ → Known) (b : Controller) (other : ℕ) (o : Option Pending) (t : Triple) (ticks : List ℕ)
     → stepper_at b other ≡ o → BoardFits b.tick slots ks b → own turn ≤ b.tick → IsGoodTriple own slots turn (ks other) t ticks → b.tick < slice_index ticks 0 + 2 ^ 31
     → slice_index ticks 0 < own turn → AreBelow (own turn) (ks other).ends → IsShutBy (queue_step b other o t).board
 step_lost own slots turn ks b other None t ticks at f h good timely before below = absurd (not_made (ks other) (here b other b.tick slots (ks other) None at (f.each other)) good.made)
 step_lost own slots turn ks b other (Some q) t ticks at f h good timely before below =
-    let now = b.tick in
-    let s = here b other now slots (ks other) (Some q) at (f.each other) in
-    let fair = fair_for own slots turn now q (ks other) t ticks s h good timely in
-    let first = first_is now q t ticks good.small fair in
-    let none = none_pends now slots (own turn) q (ks other) s h below in
-    let late : (is_none_pending q.groups && nat_lt (first_of now q t) now) ≡ true = late_is now (first_of now q t) q.groups none (omega (arith, first, before, h)) in
-    let r = refusal_is now q t true good.ticks_of.some (room_left own slots turn now q (ks other) t ticks s h good) late in
-    lost_if q.halted b (takes_triple (refusal now q t) b other q (ticks_at (first_of now q t) t)) s.halted
-    (lost_as b other (first_of now q t) q (refusal now q t) (ticks_at (first_of now q t) t) r)
+    queue_lost own slots turn (ks other) b other q t ticks (here b other b.tick slots (ks other) (Some q) at (f.each other)) h good timely before below
 
 -- a command, of a board that runs
 abbrev pub CommandGoes : ℕ → (ℕ → Known) → Controller → Cmd → List ℕ → Type 0

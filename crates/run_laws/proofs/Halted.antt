@@ -1,5 +1,5 @@
 -- What the laws say of a run in which triggers halt steppers.
-use Rattle.std.proofs.Common.{◌≡◌, ℕ, ◌+◌, List, [], ◌∷◌, ◌++◌, length, Option, Some, refl, ap, sym, ◌∙◌, subst, inl, inr, append_assoc, append-nil}
+use Rattle.std.proofs.Common.{◌≡◌, ℕ, ◌+◌, List, [], ◌∷◌, ◌++◌, length, Option, Some, refl, ap, sym, ◌∙◌, subst, inl, inr, append-nil}
 use Rattle.std.proofs.lemmas.Bool.Decides.{eqb_tells}
 use Rattle.plan_types.specs.declared.levels.Level.{Level}
 use Rattle.plan_types.specs.declared.machine.BoardDef.{BoardDef}
@@ -23,14 +23,14 @@ use Rattle.run_laws.proofs.Coursed.{TurnsKeep, begins, turns_keep}
 
 -- a run's script
 abbrev pub script_of : (b : BoardDef) (pins : List (List Level)) (own : ℕ → ℕ) (stops : ℕ → Option ℕ) (os : List Orders) (steps : List Step) → IsGoodRun b pins own stops os steps → Script
-script_of b pins own stops os steps r = record { own = own; stops = stops; slots = b.slots; all = sent_in 0 os; up = ticks_up own r.ticks; ahead = r.ahead; good = r.good }
+script_of b pins own stops os steps r = record { own = own; stops = stops; slots = b.slots; all = sent_in 0 os; front = r.front; tail = r.tail; are = r.are; up = ticks_up own r.ticks; ahead = r.ahead; good = r.good; lost = r.lost }
 
 -- the end of a run
 pub at_end : (b : BoardDef) (pins : List (List Level)) (own : ℕ → ℕ) (stops : ℕ → Option ℕ) (os : List Orders) (steps : List Step) (r : IsGoodRun b pins own stops os steps)
     → TurnsKeep (script_of b pins own stops os steps r) 0 [] os (start b pins) steps
 at_end b pins own stops os steps r =
     let p = script_of b pins own stops os steps r in
-    turns_keep p 0 [] [] os steps (start b pins) r.turns (begins p b pins r.first refl) (append-nil (sent_in 0 os)) r.timely r.settled
+    turns_keep p 0 [] [] os steps (start b pins) r.turns (begins p b pins r.first refl) (append-nil (sent_in 0 os)) r.timely r.settled r.heed
 
 pub all_fair : (b : BoardDef) (pins : List (List Level)) (own : ℕ → ℕ) (stops : ℕ → Option ℕ) (os : List Orders) (steps : List Step) → IsGoodRun b pins own stops os steps → AllFair (start b pins) steps
 all_fair b pins own stops os steps r = (at_end b pins own stops os steps r).0
@@ -76,14 +76,14 @@ made_of_all own stops oid done more all ps e k =
     let same : course_from oid (courses done oid) more ≡ courses all oid = sym (course_append oid no_course done more) ∙ ap (λ x. courses x oid) e in
     subst At same (all_grow_on own stops oid (courses done oid) more ps k)
 
-pub keeps_fronts : (p : Script) (turn : ℕ) (sent : List Sent) (h : Core) → Keeps p turn turn sent h → (oid : ℕ) → AreMadeFor p.own p.stops (parts_of (courses p.all oid)) (only oid h.made)
+pub keeps_fronts : (p : Script) (turn : ℕ) (sent : List Sent) (h : Core) → Keeps p turn turn sent h → (oid : ℕ) → AreMadeFor p.own p.stops (parts_of (courses p.front oid)) (only oid h.made)
 keeps_fronts p turn sent h k oid = elim k.state [
   | inl g ↦
-      made_of_all p.own p.stops oid g.done (g.left ++ k.rest) p.all (only oid h.made) (sym (append_assoc g.done g.left k.rest) ∙ ap (λ x. x ++ k.rest) (sym g.sent_is) ∙ k.all_is)
+      made_of_all p.own p.stops oid g.done g.more p.front (only oid h.made) g.front_is
       (made_for p.own p.stops oid (stepper_at h.board.controller oid) (courses g.done oid) (only oid h.made) (g.made oid))
-  | inr e ↦ made_of_all p.own p.stops oid e.done e.more p.all (only oid h.made) e.all_is (e.made oid)
+  | inr e ↦ made_of_all p.own p.stops oid e.done e.more p.front (only oid h.made) e.front_is (e.made oid)
 ]
 
-pub fronts : (b : BoardDef) (pins : List (List Level)) (own : ℕ → ℕ) (stops : ℕ → Option ℕ) (os : List Orders) (steps : List Step) → IsGoodRun b pins own stops os steps
-    → (oid : ℕ) → AreMadeFor own stops (parts_of (courses (sent_in 0 os) oid)) (only oid (run steps (start b pins)).made)
+pub fronts : (b : BoardDef) (pins : List (List Level)) (own : ℕ → ℕ) (stops : ℕ → Option ℕ) (os : List Orders) (steps : List Step) (r : IsGoodRun b pins own stops os steps)
+    → (oid : ℕ) → AreMadeFor own stops (parts_of (courses r.front oid)) (only oid (run steps (start b pins)).made)
 fronts b pins own stops os steps r = keeps_fronts (script_of b pins own stops os steps r) (0 + length os) (sent_in 0 os) (run steps (start b pins)) (at_end b pins own stops os steps r).1

@@ -2,7 +2,6 @@
 use Rattle.std.proofs.Common.{◌≡◌, ℕ, false, ◌+◌, ◌-◌, ◌*◌, ◌^◌, ◌<◌, ◌≤◌, List, [], ◌∷◌, ◌++◌, length, All, refl, ap, sym, ◌∙◌, subst, arith, inl, inr, append-nil}
 use Rattle.std.proofs.lemmas.Bool.Decides.{eqb_tells}
 use Rattle.std.proofs.lemmas.List.Elements.{All-head, All-tail}
-use Rattle.std.specs.Prelude.{slice_index}
 use Rattle.plan_types.specs.declared.levels.Level.{Level}
 use Rattle.plan_types.specs.declared.machine.BoardDef.{BoardDef}
 use Rattle.plan_types.specs.Clock.{turn_ns}
@@ -13,7 +12,7 @@ use Rattle.step_feed.specs.Pacing.{ArePaced, Release, batch_at, units_of}
 use Rattle.link_work.specs.Turn.{Orders}
 use Rattle.section_units.specs.Late.{LateOneByOne}
 use Rattle.section_units.specs.Merged.{AreBehind, AreInOrder}
-use Rattle.section_units.specs.Sections.{BoardSection, IsSection, base_of, of_stepper, section_steps, ticks_meant}
+use Rattle.section_units.specs.Sections.{BoardSection, IsSection, base_of, of_stepper, section_steps}
 use Rattle.section_units.specs.Sent.{AreSentTo}
 use Rattle.section_units.proofs.Fronting.{of_front, paced_front}
 use Rattle.section_units.proofs.Lateness.{late_one_by_one}
@@ -26,7 +25,7 @@ use Rattle.run_laws.proofs.Clocks.{ticks_up}
 use Rattle.run_laws.proofs.Entering.{all_inside, begun_inside, early_fits}
 use Rattle.run_laws.proofs.Heeding.{soon_enough, timed_timely}
 use Rattle.run_laws.proofs.Lasting.{tell_each}
-use Rattle.run_laws.proofs.Latest.{AreInRank, AreRanked, FirstsFrom, IsFar, IsRanked, IsWalked, sections_cut}
+use Rattle.run_laws.proofs.Latest.{AreInRank, AreRanked, FirstsFrom, IsRanked, IsWalked, sections_cut}
 use Rattle.run_laws.proofs.Limiting.{paced_few}
 use Rattle.run_laws.proofs.Releasing.{AreFrom, paced_from}
 use Rattle.run_laws.proofs.Sectioning.{HeadLater, section_from, units_at}
@@ -142,21 +141,21 @@ head_first own clocks slots ready ticks tracked e [] r = tt
 head_first own clocks slots ready ticks tracked e (s ∷ ss) r = let row = r.0.row in omega (arith, row)
 
 -- what is queued is cut, and what the cut is of
-pub run_walked : (own : ℕ → ℕ) (clocks : Clocks) (freq slots ready n turns : ℕ) (ss : List BoardSection) (os : List Orders) → AreTicks own → IsRun own clocks freq slots ready ss os → All (AreSentTo clocks freq turns) ss → length os ≤ turns → IsFar own n
-    → (w : IsWalked own n 0 os) × (x : IsTimed own slots n (sent_in 0 os)) × (x.front ≡ w.cut.front)
+pub run_walked : (own : ℕ → ℕ) (clocks : Clocks) (freq slots ready n turns : ℕ) (ss : List BoardSection) (os : List Orders) → AreTicks own → IsRun own clocks freq slots ready ss os → All (AreSentTo clocks freq turns) ss → length os ≤ turns → ((k : ℕ) → own (k + (n + 7)) < own k + 2 ^ 31)
+    → (w : IsWalked own n 0 os) × (x : IsTimed own slots n (sent_in 0 os)) × (length x.front ≤ length w.cut.front)
 run_walked own clocks freq slots ready n turns ss os ticks r sent within far =
+    let e : n + 5 + 2 ≡ n + 7 = omega arith in
+    let Far : ℕ → Type 0 = λ m. (k : ℕ) → own (k + m) < own k + 2 ^ 31 in
     let x = run_splits own clocks freq slots ready ss os ticks r in
     let ts = sents clocks freq turns ss sent in
     let ranked = are_ranked own clocks freq slots ready turns ticks r.tracked ready ss (omega arith) r.sections r.row sent in
-    let w = sections_cut own clocks slots ready ticks r.tracked n ready ts far ranked os 0 (head_first own clocks slots ready ticks r.tracked ready ts ranked)
+    let w = sections_cut own clocks slots ready ticks r.tracked n ready ts (subst Far (sym e) far) ranked os 0 (head_first own clocks slots ready ticks r.tracked ready ts ranked)
     (orders_to ss ts turns 0 os (λ k h. same_units clocks freq turns k ss sent h) (omega (arith, within)) r.orders) in
-    let t = timed own (ticks_up own ticks) slots n os x.front x.tail x.is x.good x.lost x.over w.cut in
+    let t = timed own (ticks_up own ticks) slots n os x.front x.tail x.is x.good x.lost w.cut in
     (w, t.0, t.1)
 
 pub taken_soon : (b : BoardDef) (pins : List (List Level)) (own : ℕ → ℕ) (clocks : Clocks) (ready n turns : ℕ) (ss : List BoardSection) (os : List Orders) (steps : List Step) (t : AreTurnsOf own 0 os steps) → AreTicks own → own 0 ≡ b.start
     → IsRun own clocks b.freq b.slots ready ss os → All (AreSentTo clocks b.freq turns) ss → length os ≤ turns → ((k : ℕ) → own (k + (n + 7)) < own k + 2 ^ 31) → TakesSoon n os own 0 os steps (start b pins) t → AllTimely (start b pins) steps
 taken_soon b pins own clocks ready n turns ss os steps t ticks first r sent within far soon =
-    let e : n + 5 + 2 ≡ n + 7 = omega arith in
-    let Far : ℕ → Type 0 = λ m. (k : ℕ) → own (k + m) < own k + 2 ^ 31 in
-    let x = (run_walked own clocks b.freq b.slots ready n turns ss os ticks r sent within (subst Far (sym e) far)).1 in
+    let x = (run_walked own clocks b.freq b.slots ready n turns ss os ticks r sent within far).1 in
     timed_timely b pins own n os steps t ticks first x (soon_enough n (length x.front) os own 0 os steps (start b pins) t (omega arith) soon)

@@ -1,5 +1,5 @@
 -- Where few turns of each busy stretch are spoiled, a board takes all units in time, as long as it runs.
-use Rattle.std.proofs.Common.{◌≡◌, ℕ, suc, zero, ◌+◌, ◌-◌, ◌*◌, ◌^◌, ◌<◌, ◌≤◌, ◌⊎◌, List, [], ◌∷◌, ◌++◌, All, length, map, take, drop, refl, ap, sym, ◌∙◌, subst, arith, append_assoc, append-nil, length-append, inl, inr}
+use Rattle.std.proofs.Common.{◌≡◌, ℕ, suc, zero, ◌+◌, ◌-◌, ◌^◌, ◌<◌, ◌≤◌, List, [], ◌∷◌, ◌++◌, All, length, take, drop, refl, ap, sym, ◌∙◌, subst, arith, append_assoc, length-append, inl, inr}
 use Rattle.std.proofs.lemmas.Bool.Decides.{leb_tells}
 use Rattle.std.proofs.lemmas.List.{length-take-le, take-append-drop, take-append-le}
 use Rattle.std.specs.List.{flat_map}
@@ -20,13 +20,13 @@ use Rattle.link_work.proofs.Limits.{units_bytes}
 use Rattle.section_units.specs.Sections.{BoardSection}
 use Rattle.section_units.specs.Sent.{AreSentTo}
 use Rattle.run_laws.specs.Events.{AreOwn, AreTurnsOf}
-use Rattle.run_laws.specs.Known.{Sent, sent_in, orders_in}
+use Rattle.run_laws.specs.Known.{Sent, sent_in}
 use Rattle.run_laws.specs.Links.{ends_of, steps_of, steps_of_turn}
 use Rattle.run_laws.specs.Parts.{IsRun}
 use Rattle.run_laws.specs.Timely.{AllTimely, ControlsKeep}
 use Rattle.run_laws.proofs.Heeded.{run_walked}
 use Rattle.run_laws.proofs.Heeding.{TakesEnough, orders_length, timed_timely}
-use Rattle.run_laws.proofs.Latest.{AreFew, IsFar, IsWalked, Reaches}
+use Rattle.run_laws.proofs.Latest.{AreFew, Reaches}
 use Rattle.run_laws.proofs.Limiting.{text_sum}
 use Rattle.run_laws.proofs.Linking.{next_within, own_few, own_first, turn_runs, turns_are, turns_owned}
 use Rattle.run_laws.proofs.Lists.{cuts}
@@ -36,7 +36,7 @@ use Rattle.run_laws.proofs.Spoiled.{end_snoc, most_at, take_all}
 use Rattle.run_laws.proofs.Wholes.{sent_orders}
 
 -- turns whose units are few, and whose control commands keep the limits
-keep_limits : (os : List Orders) → ControlsKeep os → AreFew os → AllKeepLimits os
+pub keep_limits : (os : List Orders) → ControlsKeep os → AreFew os → AllKeepLimits os
 keep_limits [] c f = tt
 keep_limits (o ∷ os) c f =
     let units = o.batch.units in
@@ -119,22 +119,23 @@ unfolding turns_owned
 enough_owned b n size all own last turn [] steps h o within t s = tt
 enough_owned b n size all own last turn (x ∷ os) steps h o within t s = (s.0, enough_owned b n size all own last (turn + 1) os t.1 (run t.0 h) o (next_within turn last x os within) t.4 s.1)
 
-ten_seconds : (b : BoardDef) (turns : ℕ) (own : ℕ → ℕ) (n : ℕ) → AreOwn b turns own → n ≤ 10_000 → IsFar own n
-ten_seconds b turns own n o small = λ k. omega (arith, own_few b turns own o (n + 5 + 2) k, small)
+-- so many turns are less than half a round of the 32-bit clock
+pub ten_seconds : (b : BoardDef) (turns n : ℕ) (own : ℕ → ℕ) → AreOwn b turns own → n ≤ 10_000 → (k : ℕ) → own (k + (n + 7)) < own k + 2 ^ 31
+ten_seconds b turns n own o small k = omega (arith, own_few b turns own o (n + 7) k, small)
 
 -- the last turn may pass the limits
 pub few_heeded : (b : BoardDef) (pins : List (List Level)) (board : ℕ) (entries : List Entry) (own : ℕ → ℕ) (clocks : Clocks) (ready n turns : ℕ) (ss : List BoardSection) (os : List Orders) (l : LinkState)
     (t : AreTurns (clock_of b) 0 os (first_state b pins board entries) l) → AreOwn b (length os) own → IsRun own clocks b.freq b.slots ready ss os → All (AreSentTo clocks b.freq turns) ss → length os ≤ turns
     → ((done : List Orders) (o : Orders) (rest : List Orders) → os ≡ done ++ (o ∷ rest) → ControlsKeep done)
-    → ((k : ℕ) → spoiled (take k (ends_of (clock_of b) 0 os (first_state b pins board entries) l t)) ≤ n) → n ≤ 10_000
+    → ((k : ℕ) → spoiled (take k (ends_of (clock_of b) 0 os (first_state b pins board entries) l t)) ≤ n) → ((k : ℕ) → own (k + (n + 7)) < own k + 2 ^ 31)
     → AllTimely (start b pins) (steps_of (clock_of b) 0 os (first_state b pins board entries) l t)
-few_heeded b pins board entries own clocks ready n turns ss os l t o r sent within controls few small =
+few_heeded b pins board entries own clocks ready n turns ss os l t o r sent within controls few far =
     let clock = clock_of b in
     let first : LinkState = first_state b pins board entries in
     let ticks = o.ticks in
-    let (w, x, same) = run_walked own clocks b.freq b.slots ready n turns ss os ticks r sent within (ten_seconds b (length os) own n o small) in
+    let (w, x, same) = run_walked own clocks b.freq b.slots ready n turns ss os ticks r sent within far in
     let full : w.count < length os → length x.front < length (flat_map queued_in (take w.count os)) = λ less.
-    (let more = reach_more w.count os w.cut.front w.cut.tail w.cut.is less w.reach in omega (arith, more, ap length same)) in
+    (let more = reach_more w.count os w.cut.front w.cut.tail w.cut.is less w.reach in omega (arith, more, same)) in
     let steps = steps_of clock 0 os first l t in
     let taken = (turns_are clock 0 os first l t).1 in
     let low : 0 + length os ≤ length os = omega arith in
@@ -147,7 +148,7 @@ controls_split (x ∷ xs) ys c = (c.0, c.1, controls_split xs ys c.2)
 
 pub all_heeded : (b : BoardDef) (pins : List (List Level)) (board : ℕ) (entries : List Entry) (own : ℕ → ℕ) (clocks : Clocks) (ready n turns : ℕ) (ss : List BoardSection) (os : List Orders) (l : LinkState)
     (t : AreTurns (clock_of b) 0 os (first_state b pins board entries) l) → AreOwn b (length os) own → IsRun own clocks b.freq b.slots ready ss os → All (AreSentTo clocks b.freq turns) ss → length os ≤ turns
-    → ControlsKeep os → ((k : ℕ) → spoiled (take k (ends_of (clock_of b) 0 os (first_state b pins board entries) l t)) ≤ n) → n ≤ 10_000
+    → ControlsKeep os → ((k : ℕ) → spoiled (take k (ends_of (clock_of b) 0 os (first_state b pins board entries) l t)) ≤ n) → ((k : ℕ) → own (k + (n + 7)) < own k + 2 ^ 31)
     → AllTimely (start b pins) (steps_of (clock_of b) 0 os (first_state b pins board entries) l t)
-all_heeded b pins board entries own clocks ready n turns ss os l t o r sent within controls few small =
-    few_heeded b pins board entries own clocks ready n turns ss os l t o r sent within (λ done x rest cut. controls_split done (x ∷ rest) (subst (λ x. ControlsKeep x) cut controls)) few small
+all_heeded b pins board entries own clocks ready n turns ss os l t o r sent within controls few far =
+    few_heeded b pins board entries own clocks ready n turns ss os l t o r sent within (λ done x rest cut. controls_split done (x ∷ rest) (subst (λ x. ControlsKeep x) cut controls)) few far

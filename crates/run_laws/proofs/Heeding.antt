@@ -8,21 +8,21 @@ use Rattle.plan_types.specs.declared.plan.BoardState.{BoardState}
 use Rattle.plan_types.specs.declared.plan.BoardState.TheVariants.{Running, Shut}
 use Rattle.board_sim.specs.Fair.{Meant}
 use Rattle.board_world.specs.declared.event.Event.{Event}
-use Rattle.board_world.specs.declared.event.Event.TheVariants.{Put, Control, Arrive, Repeat, Pass}
+use Rattle.board_world.specs.declared.event.Event.TheVariants.{Put, Control, Pass}
 use Rattle.board_world.specs.Orders.{plain, units_orders}
-use Rattle.board_world.specs.World.{Core, Step, Do, Turn, takes_in, orders_of, happens, in_turn, after, run, start}
+use Rattle.board_world.specs.World.{Core, Step, Do, Turn, takes_in, orders_of, happens, after, run, start}
 use Rattle.board_world.proofs.Runs.{ordered_by}
 use Rattle.link_work.specs.Turn.{Orders}
 use Rattle.link_work.specs.Runs.{queued_in}
 use Rattle.link_work.proofs.Sending.{run_append}
-use Rattle.run_laws.specs.Events.{AreQuiet, AreTicks, AreTurnsOf, IsQuiet, IsTurnOf}
+use Rattle.run_laws.specs.Events.{AreQuiet, AreTicks, AreTurnsOf, IsQuiet}
 use Rattle.run_laws.specs.Known.{Sent, sent_at, sent_in, orders_in}
 use Rattle.run_laws.specs.Timely.{AllTimely, AreTimely, IsTimelyAt, TakesSoon}
 use Rattle.run_laws.proofs.Clocks.{ticks_up}
-use Rattle.run_laws.proofs.Latest.{AreFresh, BeginPast}
+use Rattle.run_laws.proofs.Latest.{AllLast, BeginPast}
 use Rattle.run_laws.proofs.Lists.{cuts, orders_append, own_up, sent_append}
-use Rattle.run_laws.proofs.Running.{Holds, Plan, RunsOn, left_first, queues_on, quiet_holds}
-use Rattle.run_laws.proofs.Shutting.{AreSince, IsTimed, fresh_behind, fresh_front, since_behind, since_in}
+use Rattle.run_laws.proofs.Running.{Holds, Plan, left_first, queues_on, quiet_holds}
+use Rattle.run_laws.proofs.Shutting.{AreSince, IsTimed, last_behind, last_front, last_timely, since_behind, since_in}
 use Rattle.run_laws.proofs.Soon.{all_before, one_before, part_front, timely_append}
 use Rattle.run_laws.proofs.Spans.{sent_in_append}
 use Rattle.run_laws.proofs.Turning.{pass_holds, starts}
@@ -31,7 +31,7 @@ use Rattle.run_laws.proofs.Wholes.{sent_orders}
 
 -- what is to be known of a run's commands
 pub record IsHeeded (p : Plan) (n : ℕ) : Type 0 where
-  pub fresh : AreFresh p.own n p.front
+  pub last : AllLast p.own n p.front
   pub past : BeginPast p.own n p.tail
 
 -- By a turn so many commands were taken: with them all that were sent before a turn, at most n turns ago, or all good ones and the first lost one.
@@ -43,12 +43,6 @@ pub record HasEnough (p : Plan) (n turn most : ℕ) : Type 0 where
   pub since : AreSince low others
   pub taken : length first ≤ most
   pub enough : (turn ≤ low + n) ⊎ (length p.front < length first)
-
--- commands that are soon enough are timely
-fresh_timely : (own : ℕ → ℕ) → ((k : ℕ) → own k ≤ own (k + 1)) → (n low turn : ℕ) (ss : List Sent) → AreFresh own n ss → AreSince low ss → turn ≤ low + n + 1 → AreTimely (own turn) (orders_in ss)
-fresh_timely own up n low turn [] a b h = tt
-fresh_timely own up n low turn (s ∷ ss) a b h =
-    (one_before (own turn) (own (s.turn + n + 1)) s.order.command s.order.ticks (own_up own up turn (s.turn + n + 1) (omega (arith, b.0, h))) a.1, fresh_timely own up n low turn ss a.2 b.1 h)
 
 pub orders_length : (ss : List Sent) → length (orders_in ss) ≡ length ss
 orders_length [] = refl
@@ -93,8 +87,8 @@ next_timely p n turn most by sent h e heed has now taken k none running = elim k
             let low = has.taken in
             absurd (omega (arith, long, both, low, taken, many))
       ] in
-      let fresh : AreFresh p.own n r.more =
-      (let Fresh : List Sent → Type 0 = λ x. AreFresh p.own n x in fresh_behind p.own n r.done r.more (subst Fresh (sym r.front_is) heed.fresh)) in
+      let last : AllLast p.own n r.more =
+      (let Last : List Sent → Type 0 = λ x. AllLast p.own n x in last_behind p.own n r.done r.more (subst Last (sym r.front_is) heed.last)) in
       let soon : turn ≤ has.low + n + 1 = elim has.enough [
         | inl q ↦ omega (arith, q, now)
         | inr q ↦
@@ -106,8 +100,8 @@ next_timely p n turn most by sent h e heed has now taken k none running = elim k
       let t = p.own turn in
       let timely : AreTimely t (orders_in l) = elim (cuts l (others ++ k.rest) r.more p.tail here) [
         | inl q ↦
-            let Fresh : List Sent → Type 0 = λ x. AreFresh p.own n x in
-            fresh_timely p.own p.up n has.low turn l (fresh_front p.own n l q.0 (subst Fresh q.1 fresh)) (front_since has.low l (others ++ k.rest) since) soon
+            let Last : List Sent → Type 0 = λ x. AllLast p.own n x in
+            last_timely p.own p.up n has.low turn l (last_front p.own n l q.0 (subst Last q.1 last)) (front_since has.low l (others ++ k.rest) since) soon
         | inr q ↦
             let (s, m, cut, lost) = q in
             let Past : List Sent → Type 0 = λ x. BeginPast p.own n x in
@@ -120,7 +114,7 @@ next_timely p n turn most by sent h e heed has now taken k none running = elim k
             let rear = part_front (p.own (s.turn + n + 1)) (orders_in m) (orders_in (others ++ k.rest)) (subst Timely (orders_append m (others ++ k.rest)) past.2) in
             let Here : List Meant → Type 0 = λ x. AreTimely t x in
             subst Here (sym (ap orders_in cut ∙ orders_append r.more (s ∷ m)))
-            (timely_append t (orders_in r.more) (orders_in (s ∷ m)) (fresh_timely p.own p.up n has.low turn r.more fresh (front_since has.low r.more (s ∷ m) mine) soon)
+            (timely_append t (orders_in r.more) (orders_in (s ∷ m)) (last_timely p.own p.up n has.low turn r.more last (front_since has.low r.more (s ∷ m) mine) soon)
             (one_before t (p.own (s.turn + n + 1)) s.order.command s.order.ticks up past.1, all_before t (p.own (s.turn + n + 1)) (orders_in m) up rear))
       ] in
       let Tick : ℕ → Type 0 = λ x. AreTimely x ms in
@@ -230,7 +224,7 @@ pub timed_timely : (b : BoardDef) (pins : List (List Level)) (own : ℕ → ℕ)
     → TakesEnough n (length x.front) os own 0 os steps (start b pins) t → AllTimely (start b pins) steps
 timed_timely b pins own n os steps t ticks first x soon =
     let p : Plan = record { own = own; slots = b.slots; front = x.front; tail = x.tail; up = ticks_up own ticks; good = x.good; lost = x.lost } in
-    turns_timely p n os (sym x.is) (record { fresh = x.fresh; past = x.past }) 0 [] [] os steps (start b pins) t (starts p b pins first refl) (append-nil (sent_in 0 os) ∙ sym x.is) soon
+    turns_timely p n os (sym x.is) (record { last = x.last; past = x.past }) 0 [] [] os steps (start b pins) t (starts p b pins first refl) (append-nil (sent_in 0 os) ∙ sym x.is) soon
 
 -- a board that takes soon takes enough
 pub soon_enough : (n size : ℕ) (all : List Orders) (own : ℕ → ℕ) (turn : ℕ) (os : List Orders) (steps : List Step) (h : Core) (t : AreTurnsOf own turn os steps) → turn + length os ≤ length all → TakesSoon n all own turn os steps h t

@@ -7,16 +7,16 @@ use Rattle.plan_types.specs.Clock.{turn_ns}
 use Rattle.plan_types.specs.Lines.{Clocks, lines_tick}
 use Rattle.msg_code.specs.declared.cmd.Cmd.{Cmd}
 use Rattle.msg_code.specs.declared.cmd.Cmd.TheVariants as cmd
-use Rattle.board_world.specs.Orders.{plain}
+use Rattle.board_world.specs.Orders.{plain, units_orders}
 use Rattle.step_feed.specs.Pacing.{units_of}
 use Rattle.section_units.specs.Sections.{BoardSection, base_of, of_stepper, section_steps}
 use Rattle.link_work.specs.Turn.{Orders}
 use Rattle.run_laws.specs.Events.{AreTicks}
-use Rattle.run_laws.specs.Known.{Sent, sent_at, sent_in, AreBelow}
+use Rattle.run_laws.specs.Known.{Sent, sent_at, sent_in, AreBelow, IsLostFor}
 use Rattle.run_laws.specs.Parts.{AreTracked, IsMaking, Makes, MakesIn}
-use Rattle.run_laws.specs.Courses.{Course, parts_of, no_course, course_of, course_from, courses, AreBeforeTurn, AreMadeFor, IsGoodOn, AreGoodOn, AreAllGood}
+use Rattle.run_laws.specs.Courses.{Course, parts_of, no_course, course_of, course_from, courses, AreBeforeTurn, AreMadeFor, IsGoodOn, AreGoodOn, AreAllGood, BeginLostOn}
 use Rattle.run_laws.specs.Courses as course
-use Rattle.run_laws.specs.Homes.{RunSection, IsMovesIn, IsSectionBy, AreInTurn, SetsClock, IsControlIn, AreSet, SetsAny, HasUnits, IsHomeRun, AreFrontsIn}
+use Rattle.run_laws.specs.Homes.{RunSection, IsMovesIn, IsSectionBy, AreInTurn, SetsClock, IsControlIn, AreSet, SetsAny, HasUnits, IsHomeRun, AreFrontsIn, AreReleasedIn, IsSplitIn}
 use Rattle.run_laws.proofs.Clocks.{ticks_rise}
 use Rattle.run_laws.proofs.Entering.{AreEarly, all_inside, begun_inside, early_fits}
 use Rattle.run_laws.proofs.Spans.{section_early}
@@ -24,9 +24,10 @@ use Rattle.run_laws.proofs.Waiting.{Frame}
 use Rattle.run_laws.proofs.Releasing.{AreFrom, from_down, paced_from}
 use Rattle.run_laws.proofs.HomeTurns.{StageWith, empty_part}
 use Rattle.run_laws.proofs.HomeControls.{now_of, none_sets}
-use Rattle.run_laws.proofs.HomeSections.{Sound, OrdersOn, bare, ahead_sound, orders_on, Promise, GoesBehind, EndsBy, no_fronts, none_later, set_next}
-use Rattle.run_laws.proofs.HomeRuns.{Ground, section_on, before_least}
-use Rattle.run_laws.proofs.Spreading.{parts_sent}
+use Rattle.run_laws.proofs.HomeSections.{Sound, OrdersOn, bare, ahead_sound, orders_on, Promise, GoesBehind, EndsBy, no_fronts, none_later, set_next, Split, all_of, ahead, split_from, IsLostOf, LostOn}
+use Rattle.run_laws.proofs.HomeRuns.{Ground, section_on}
+use Rattle.link_work.specs.Runs.{queued_in}
+use Rattle.run_laws.proofs.Lists.{sent_append}
 
 -- control commands alone, of which none sets a clock
 abbrev SetsNone : Clocks → List RunSection → ℕ → Type 0
@@ -66,37 +67,40 @@ all_free own stops slots oid turn clocks ss (m ∷ cs) c i none =
     )
 
 -- what is queued in a turn of controls alone
-free_turn : (own : ℕ → ℕ) (stops : ℕ → Option ℕ) (slots oid turn : ℕ) (c0 c : Course) (o : Orders) (os : List Orders) (ss : List RunSection) → o.batch.units ≡ [] → Free own stops slots oid turn c o.control.commands
-    → Sound own stops slots oid c0 (course_from oid c (sent_at turn (map plain o.control.commands))) (sent_in (turn + 1) os) ss → Sound own stops slots oid c0 c (sent_in turn (o ∷ os)) ss
-free_turn own stops slots oid turn c0 c o os ss none free x =
+free_turn : (own : ℕ → ℕ) (stops : ℕ → Option ℕ) (slots oid turn : ℕ) (c0 c : Course) (o : Orders) (os : List Orders) (z : Split) (ss : List RunSection) → o.batch.units ≡ [] → Free own stops slots oid turn c o.control.commands
+    → Sound own stops slots oid c0 (course_from oid c (sent_at turn (map plain o.control.commands))) (sent_in (turn + 1) os) z ss → Sound own stops slots oid c0 c (sent_in turn (o ∷ os)) (ahead (sent_at turn (queued_in o)) z) ss
+free_turn own stops slots oid turn c0 c o os z ss none free x =
     let cs = sent_at turn (map plain o.control.commands) in
-    let At : List Sent → Type 0 = λ y. Sound own stops slots oid c0 c y ss in
-    subst At (sym (parts_sent turn o [] (sent_in (turn + 1) os) none ∙ ap (λ y. y ++ sent_in (turn + 1) os) (append-nil cs)))
-    (ahead_sound own stops slots oid c0 c (course_from oid c cs) cs (sent_in (turn + 1) os) ss free.0 refl x)
+    let At : List Sent → Type 0 = λ y. Sound own stops slots oid c0 c (y ++ sent_in (turn + 1) os) (ahead y z) ss in
+    let now : sent_at turn (queued_in o) ≡ cs = sent_append turn (map plain o.control.commands) (units_orders o.batch.units) ∙ ap (λ y. cs ++ sent_at turn (units_orders y)) none ∙ append-nil cs in
+    subst At (sym now) (ahead_sound own stops slots oid c0 c (course_from oid c cs) cs (sent_in (turn + 1) os) ss free.0 refl z x)
 
 -- the same course, but for whether the stepper is made
-same_sound : (own : ℕ → ℕ) (stops : ℕ → Option ℕ) (slots oid : ℕ) (c d : Course) (sent : List Sent) (ss : List RunSection) (made : Bool) → d ≡ record c { known = record c.known { made = made } } → Sound own stops slots oid d d sent ss
-    → Sound own stops slots oid c d sent ss
-same_sound own stops slots oid c d sent ss made is x = record {
+same_sound : (own : ℕ → ℕ) (stops : ℕ → Option ℕ) (slots oid : ℕ) (c d : Course) (sent : List Sent) (z : Split) (ss : List RunSection) (made : Bool) → d ≡ record c { known = record c.known { made = made } } → Sound own stops slots oid d d sent z ss
+    → Sound own stops slots oid c d sent z ss
+same_sound own stops slots oid c d sent z ss made is x = record {
+  are = x.are;
   good = x.good;
+  lost = x.lost;
   fronts = λ ps k.
       let (early, late, are, old, rest) = x.fronts ps k in
       let At : Course → Type 0 = λ y. AreMadeFor own stops (parts_of y) early in
       (early, late, are, subst At is old, rest);
+  whole = x.whole;
 }
 
 no_set : (clocks : Clocks) (turn clock : ℕ) → SetsClock clocks [] turn clock → ⊥
 no_set clocks turn clock x = x
 
 -- without sections
-controls_alone : (own : ℕ → ℕ) (clocks : Clocks) (stops : ℕ → Option ℕ) (slots oid : ℕ) (os : List Orders) (turn : ℕ) (c : Course) → OrdersOn clocks [] [] turn os → Sound own stops slots oid c c (sent_in turn os) []
-controls_alone own clocks stops slots oid [] turn c h = record { good = tt; fronts = λ ps k. (ps, [], sym (append-nil ps), k, refl) }
+controls_alone : (own : ℕ → ℕ) (clocks : Clocks) (stops : ℕ → Option ℕ) (slots oid : ℕ) (os : List Orders) (turn : ℕ) (c : Course) → OrdersOn clocks [] [] turn os → Sound own stops slots oid c c (sent_in turn os) (split_from [] turn os) []
+controls_alone own clocks stops slots oid [] turn c h = record { are = refl; good = tt; lost = tt; fronts = λ ps k. (ps, [], sym (append-nil ps), k, refl); whole = λ w. refl }
 controls_alone own clocks stops slots oid (o ∷ os) turn c h =
     let free = all_free own stops slots oid turn clocks [] o.control.commands c h.0 (no_set clocks turn) in
     let (good, made, is, keeps, makes) = flat free in
     let d = course_from oid c (sent_at turn (map plain o.control.commands)) in
-    free_turn own stops slots oid turn c c o os [] h.1 free
-    (same_sound own stops slots oid c d (sent_in (turn + 1) os) [] made is (controls_alone own clocks stops slots oid os (turn + 1) d h.2))
+    free_turn own stops slots oid turn c c o os (split_from [] (turn + 1) os) [] h.1 free
+    (same_sound own stops slots oid c d (sent_in (turn + 1) os) (split_from [] (turn + 1) os) [] made is (controls_alone own clocks stops slots oid os (turn + 1) d h.2))
   where
     flat : Free own stops slots oid turn c o.control.commands → AreGoodOn own stops slots oid c (sent_at turn (map plain o.control.commands)) × (made : Bool)
         × (course_from oid c (sent_at turn (map plain o.control.commands)) ≡ record c { known = record c.known { made = made } }) × (c.known.made ≡ true → made ≡ true) × (Makes oid o.control.commands → made ≡ true)
@@ -156,7 +160,7 @@ homing_end x oid s since late stop begins before =
 
 -- the sections from one on
 abbrev RestOf : Base → ℕ → ℕ → List RunSection → Type 0
-RestOf x oid end ss = GoesBehind x.own x.clocks x.stops x.slots oid end ss
+RestOf x oid end ss = GoesBehind x.own x.clocks x.stops x.slots oid end (split_from ss) ss
 
 with_section : (x : Base) (oid e : ℕ) (homes : Bool) (s : BoardSection) (ss : List RunSection) → x.ready ≤ e → IsSectionBy homes x.clocks x.freq x.slots x.tracked.until x.stops s → All (SectionIn x) ss → e + 260 ≤ s.start → s.start ≤ s.end
     → AreInTurn s.end ss → RestOf x oid s.end ss → RestOf x oid e (now_of homes s ∷ ss)
@@ -165,7 +169,7 @@ with_section x oid e true s ss low i rest after order row next = λ os turn c wi
     let us = of_stepper oid (units_of s.releases) in
     let early = λ (k : ℕ). early_fits x.freq (lines_tick x.clocks ((i.last + 1) * turn_ns)) (base_of x.clocks s) (section_steps k s) (s.plan k) (i.fits k) (i.within k) in
     let inside = all_inside f s.releases (λ k. begun_inside f true k false (of_stepper k (units_of s.releases)) (i.begun k) (early k)) in
-    let g : Ground f x.stops oid true s ss = record {
+    let g : Ground f x.stops oid true s (split_from ss) ss = record {
       start_is = refl;
       end_is = λ e. absurd (clash e);
       order = order;
@@ -178,9 +182,9 @@ with_section x oid e true s ss low i rest after order row next = λ os turn c wi
     } in
     let stage : StageWith f x.stops oid true s c (Promise oid true s turn os) c [] us =
     inl (record { none = refl; units = i.begun oid; all = refl; idle = λ n h. idle n (omega (arith, h, after)); same = refl; made = λ some. made (inl (inl some)) }, λ h some long. set.0 h some long) in
-    section_on f x.stops oid true s ss g os turn i.from c c [] s.releases (omega (arith, i.exact)) stage i.paced tt inside
-    (from_down turn i.from s.releases (omega (arith, i.exact, within, after)) (paced_from x.clocks x.slots i.from [] s.releases i.paced)) (λ h. refl) (before_least s.end (s.end + 6) s.releases (omega arith) i.released)
-    (omega (arith, within, after, order)) (λ w. made (elim w [ inl a ↦ inl (inr a) | inr a ↦ inr a ])) orders set.1
+    section_on f x.stops oid true s (split_from ss) ss g os turn i.from c c [] s.releases (omega (arith, i.exact)) stage i.paced tt inside
+    (from_down turn i.from s.releases (omega (arith, i.exact, within, after)) (paced_from x.clocks x.slots i.from [] s.releases i.paced)) (λ h. refl) (λ _. i.released) tt (inl (omega (arith, i.exact, i.order)))
+    (omega (arith, within, after, order)) (λ w. made (elim w [ inl a ↦ inl (inr a) | inr a ↦ inr a ])) orders set.1 (λ w. w)
   where
     clash : true ≡ false → ⊥
     clash e = cc
@@ -189,7 +193,7 @@ with_section x oid e false s ss low i rest after order row next = λ os turn c w
     let us = of_stepper oid (units_of s.releases) in
     let early = λ (k : ℕ). early_fits x.freq (lines_tick x.clocks ((s.end + 1) * turn_ns)) (base_of x.clocks s) (section_steps k s) (s.plan k) (i.is.fits k) (i.is.within k) in
     let inside = all_inside f s.releases (λ k. begun_inside f false k false (of_stepper k (units_of s.releases)) (i.is.begun k) (early k)) in
-    let g : Ground f x.stops oid false s ss = record {
+    let g : Ground f x.stops oid false s (split_from ss) ss = record {
       start_is = refl;
       end_is = λ _. refl;
       order = order;
@@ -202,9 +206,9 @@ with_section x oid e false s ss low i rest after order row next = λ os turn c w
     } in
     let stage : StageWith f x.stops oid false s c (Promise oid false s turn os) c [] us =
     inl (record { none = refl; units = i.is.begun oid; all = refl; idle = λ n h. idle n (omega (arith, h, after)); same = refl; made = λ some. made (inl (inl some)) }, λ h. absurd (clash h)) in
-    section_on f x.stops oid false s ss g os turn i.is.from c c [] s.releases (omega (arith, i.is.exact)) stage i.is.paced tt inside
-    (from_down turn i.is.from s.releases (omega (arith, i.is.exact, within, after)) (paced_from x.clocks x.slots i.is.from [] s.releases i.is.paced)) (λ h. refl) i.released
-    (omega (arith, within, after, order)) (λ w. made (elim w [ inl a ↦ inl (inr a) | inr a ↦ inr a ])) orders set.1
+    section_on f x.stops oid false s (split_from ss) ss g os turn i.is.from c c [] s.releases (omega (arith, i.is.exact)) stage i.is.paced tt inside
+    (from_down turn i.is.from s.releases (omega (arith, i.is.exact, within, after)) (paced_from x.clocks x.slots i.is.from [] s.releases i.is.paced)) (λ h. refl) (λ e. absurd (clash e)) tt (inl (omega (arith, i.is.exact, order)))
+    (omega (arith, within, after, order)) (λ w. made (elim w [ inl a ↦ inl (inr a) | inr a ↦ inr a ])) orders set.1 (λ w. w)
   where
     clash : false ≡ true → ⊥
     clash e = cc
@@ -224,9 +228,14 @@ made_now oid c os (inl e) = e
 made_now oid c os (inr e) = absurd e
 
 -- until the boards are ready only control commands are queued, and no clock is set
+abbrev split_until : List RunSection → ℕ → ℕ → List Orders → Split
+split_until ss m turn [] = all_of []
+split_until ss zero turn (o ∷ os) = split_from ss turn (o ∷ os)
+split_until ss (suc m) turn (o ∷ os) = ahead (sent_at turn (queued_in o)) (split_until ss m (turn + 1) os)
+
 until_sound : (x : Base) (oid : ℕ) (ss : List RunSection) → All (SectionIn x) ss → AreInTurn x.ready ss → (m : ℕ) (os : List Orders) (turn : ℕ) (c : Course) → turn + m ≡ x.ready → c.known.ends ≡ []
-    → (m ≤ length os → HasUnits oid ss ⊎ SetsAny oid os → MadeBy oid c m os) → OrdersOn x.clocks ss (bare ss) turn os → AreSet oid ss turn os → Sound x.own x.stops x.slots oid c c (sent_in turn os) ss
-until_sound x oid ss i row m [] turn c at ends made orders set = record { good = tt; fronts = λ ps k. (ps, [], sym (append-nil ps), k, no_fronts x.own oid ss) }
+    → (m ≤ length os → HasUnits oid ss ⊎ SetsAny oid os → MadeBy oid c m os) → OrdersOn x.clocks ss (bare ss) turn os → AreSet oid ss turn os → Sound x.own x.stops x.slots oid c c (sent_in turn os) (split_until ss m turn os) ss
+until_sound x oid ss i row m [] turn c at ends made orders set = record { are = refl; good = tt; lost = tt; fronts = λ ps k. (ps, [], sym (append-nil ps), k, no_fronts x.own oid ss); whole = λ w. refl }
 until_sound x oid ss i row zero (o ∷ os) turn c at ends made orders set =
     let Ends : ℕ → List ℕ → Type 0 = λ n y. AreBelow (x.own n) y in
     sections_sound x oid ss x.ready (omega arith) i row (o ∷ os) turn c (omega (arith, at)) (λ n h. inr (subst (Ends n) (sym ends) tt)) (λ w. made_now oid c (o ∷ os) (made (omega arith) w)) orders set
@@ -236,8 +245,8 @@ until_sound x oid ss i row (suc m) (o ∷ os) turn c at ends made orders set =
     let free = all_free x.own x.stops x.slots oid turn x.clocks ss o.control.commands c orders.0 none in
     let d = course_from oid c (sent_at turn (map plain o.control.commands)) in
     let units : o.batch.units ≡ [] = orders.1 ∙ none_later turn x.ready ss row soon (laters_from x ss i) in
-    free_turn x.own x.stops x.slots oid turn c c o os ss units free
-    (same_sound x.own x.stops x.slots oid c d (sent_in (turn + 1) os) ss free.1.0 free.1.1
+    free_turn x.own x.stops x.slots oid turn c c o os (split_until ss m (turn + 1) os) ss units free
+    (same_sound x.own x.stops x.slots oid c d (sent_in (turn + 1) os) (split_until ss m (turn + 1) os) ss free.1.0 free.1.1
     (until_sound x oid ss i row m os (turn + 1) d (omega (arith, at)) (ap (λ (y : Course). y.known.ends) free.1.1 ∙ ends)
     (λ long w. next (made (omega (arith, long)) (elim w [ inl a ↦ inl a | inr a ↦ inr (inr a) ])) free.1.1 free.1.2 free.1.3)
     orders.2 (set_next oid x.ready turn ss o os row soon set)))
@@ -250,18 +259,52 @@ until_sound x oid ss i row (suc m) (o ∷ os) turn c at ends made orders set =
 
 -- a whole run
 run_sound : (own : ℕ → ℕ) (clocks : Clocks) (freq slots ready : ℕ) (stops : ℕ → Option ℕ) (ss : List RunSection) (os : List Orders) → AreTicks own → IsHomeRun own clocks freq slots ready stops ss os → (oid : ℕ)
-    → Sound own stops slots oid no_course no_course (sent_in 0 os) ss
+    → Sound own stops slots oid no_course no_course (sent_in 0 os) (split_until ss ready 0 os) ss
 run_sound own clocks freq slots ready stops ss os ticks r oid =
     let x : Base = record { own = own; clocks = clocks; freq = freq; slots = slots; ready = ready; stops = stops; ticks = ticks; tracked = r.tracked } in
     until_sound x oid ss r.sections r.row ready os 0 no_course (omega arith) refl (λ long w. inr (r.made long oid w)) (orders_on clocks ss 0 os r.orders) (r.set oid)
 
-pub run_good : (own : ℕ → ℕ) (clocks : Clocks) (freq slots ready : ℕ) (stops : ℕ → Option ℕ) (ss : List RunSection) (os : List Orders) → AreTicks own → IsHomeRun own clocks freq slots ready stops ss os → AreAllGood own stops slots (sent_in 0 os)
-run_good own clocks freq slots ready stops ss os ticks r oid = (run_sound own clocks freq slots ready stops ss os ticks r oid).good
+-- what is late for its stepper
+lost_of : (own : ℕ → ℕ) (turn : ℕ) (cs : ℕ → Course) (c : Cmd) (ticks : List ℕ) → ((oid : ℕ) → IsLostOf own oid turn (cs oid) c ticks) → IsLostFor own turn (λ oid. (cs oid).known) c ticks
+lost_of own turn cs (cmd.QueueStep other interval count add) ticks h = h other refl
+lost_of own turn cs _ ticks h = absurd (h 0)
 
-pub run_fronts : (own : ℕ → ℕ) (clocks : Clocks) (freq slots ready : ℕ) (stops : ℕ → Option ℕ) (ss : List RunSection) (os : List Orders) → AreTicks own → IsHomeRun own clocks freq slots ready stops ss os
+begin_lost : (own : ℕ → ℕ) (stops : ℕ → Option ℕ) (slots : ℕ) (cs : ℕ → Course) (tail : List Sent) → ((oid : ℕ) → LostOn own stops slots oid (cs oid) tail) → BeginLostOn own stops slots cs tail
+begin_lost own stops slots cs [] h = tt
+begin_lost own stops slots cs (s ∷ tail) h = (λ oid. (h oid).0, lost_of own s.turn cs s.order.command s.order.ticks (λ oid. (h oid).1))
+
+pub run_split : (own : ℕ → ℕ) (clocks : Clocks) (freq slots ready : ℕ) (stops : ℕ → Option ℕ) (ss : List RunSection) (os : List Orders) → AreTicks own → IsHomeRun own clocks freq slots ready stops ss os → IsSplitIn own stops slots ss os
+run_split own clocks freq slots ready stops ss os ticks r =
+    let z = split_until ss ready 0 os in
+    let x = λ (oid : ℕ). run_sound own clocks freq slots ready stops ss os ticks r oid in
+    record {
+      front = z.front;
+      tail = z.tail;
+      are = (x 0).are;
+      good = λ oid. (x oid).good;
+      lost = begin_lost own stops slots (courses z.front) z.tail (λ oid. (x oid).lost);
+      fronts = λ oid ps k.
+          let (early, late, is, old, rest) = (x oid).fronts ps k in
+          let none : early ≡ [] = empty_part own stops None [] [] early refl old in
+          let At : List Pulse → Type 0 = λ y. AreFrontsIn own oid ss y in
+          subst At (sym (is ∙ ap (λ y. y ++ late) none)) rest;
+      whole = (x 0).whole;
+    }
+
+-- where all units are released soon, all that is queued is good
+all_front : (own : ℕ → ℕ) (stops : ℕ → Option ℕ) (slots : ℕ) (ss : List RunSection) (os : List Orders) (x : IsSplitIn own stops slots ss os) → AreReleasedIn ss → x.front ≡ sent_in 0 os
+all_front own stops slots ss os x w = sym (append-nil x.front) ∙ ap (λ y. x.front ++ y) (sym (x.whole w)) ∙ x.are
+
+pub run_good : (own : ℕ → ℕ) (clocks : Clocks) (freq slots ready : ℕ) (stops : ℕ → Option ℕ) (ss : List RunSection) (os : List Orders) → AreTicks own → IsHomeRun own clocks freq slots ready stops ss os → AreReleasedIn ss
+    → AreAllGood own stops slots (sent_in 0 os)
+run_good own clocks freq slots ready stops ss os ticks r w =
+    let x = run_split own clocks freq slots ready stops ss os ticks r in
+    let At : List Sent → Type 0 = λ y. AreAllGood own stops slots y in
+    subst At (all_front own stops slots ss os x w) x.good
+
+pub run_fronts : (own : ℕ → ℕ) (clocks : Clocks) (freq slots ready : ℕ) (stops : ℕ → Option ℕ) (ss : List RunSection) (os : List Orders) → AreTicks own → IsHomeRun own clocks freq slots ready stops ss os → AreReleasedIn ss
     → (oid : ℕ) (ps : List Pulse) → AreMadeFor own stops (parts_of (courses (sent_in 0 os) oid)) ps → AreFrontsIn own oid ss ps
-run_fronts own clocks freq slots ready stops ss os ticks r oid ps k =
-    let (early, late, is, old, rest) = (run_sound own clocks freq slots ready stops ss os ticks r oid).fronts ps k in
-    let none : early ≡ [] = empty_part own stops None [] [] early refl old in
-    let At : List Pulse → Type 0 = λ y. AreFrontsIn own oid ss y in
-    subst At (sym (is ∙ ap (λ y. y ++ late) none)) rest
+run_fronts own clocks freq slots ready stops ss os ticks r w oid ps k =
+    let x = run_split own clocks freq slots ready stops ss os ticks r in
+    let At : List Sent → Type 0 = λ y. AreMadeFor own stops (parts_of (courses y oid)) ps in
+    x.fronts oid ps (subst At (sym (all_front own stops slots ss os x w)) k)

@@ -1,5 +1,5 @@
 -- The sections of a run, of moves or homing, one behind the other: what is queued for a stepper is good, and its parts are those of the sections.
-use Rattle.std.proofs.Common.{◌≡◌, ◌≢◌, ℕ, Bool, true, ◌+◌, ◌-◌, ◌≤◌, ◌⊎◌, List, [], ◌∷◌, ◌++◌, All, length, map, Option, Some, refl, ap, sym, ◌∙◌, subst, arith, inl, inr, append_assoc, append-nil}
+use Rattle.std.proofs.Common.{◌≡◌, ◌≢◌, ℕ, Bool, true, ◌+◌, ◌-◌, ◌≤◌, ◌⊎◌, List, [], ◌∷◌, ◌++◌, All, length, map, Option, Some, refl, ap, sym, ◌∙◌, subst, arith, inl, inr, append_assoc, append-nil, ◌<◌, drop}
 use Rattle.std.proofs.lemmas.Bool.Decides.{eqb_tells}
 use Rattle.std.proofs.lemmas.List.Elements.{All-nil, All-cons, All-head, All-tail}
 use Rattle.std.specs.List.{flat_map}
@@ -11,35 +11,81 @@ use Rattle.step_feed.specs.Units.{StepUnit}
 use Rattle.step_feed.specs.Pacing.{Release, batch_at}
 use Rattle.section_units.specs.Sections.{BoardSection, section_steps, steps_said}
 use Rattle.link_work.specs.Turn.{Orders}
-use Rattle.run_laws.specs.Known.{Sent, sent_in, AreBelow}
+use Rattle.run_laws.specs.Known.{Sent, sent_in, AreBelow, sent_at}
 use Rattle.run_laws.specs.Runs.{Begins}
 use Rattle.run_laws.specs.Courses.{Part, Course, parts_of, no_course, course_of, course_from, courses, IsStopped, AreBeforeStop, AreMadeFor, IsGoodOn, AreGoodOn}
 use Rattle.run_laws.specs.Courses as course
-use Rattle.run_laws.specs.Homes.{RunSection, AreInTurn, IsControlIn, AreOrdersIn, SetsIn, AreSet, SetsAny, HasUnits, AreFrontsIn}
+use Rattle.run_laws.specs.Homes.{RunSection, AreInTurn, IsControlIn, AreOrdersIn, SetsIn, AreSet, SetsAny, HasUnits, AreFrontsIn, AreReleasedIn}
 use Rattle.run_laws.proofs.Stepping.{course_append}
 use Rattle.run_laws.proofs.Waiting.{Frame}
-use Rattle.run_laws.proofs.Releasing.{AreFrom, pushed, from_down, none_at}
+use Rattle.run_laws.proofs.Releasing.{AreFrom, pushed, from_down, none_at, after_turn}
 use Rattle.run_laws.proofs.HomeUnits.{good_on_append}
 use Rattle.run_laws.proofs.HomeTurns.{StageWith, stop_of}
+use Rattle.std.specs.Prelude.{nat_lt, slice_index, if◌then◌else◌}
+use Rattle.board_world.specs.Orders.{plain, units_orders}
+use Rattle.link_work.specs.Runs.{queued_in}
+use Rattle.run_laws.proofs.Units.{ahead_of_step, step_sent}
 
--- what is queued for a stepper of this course is good, and what is made for its parts then is made for those of a course before, and
--- section by section
-pub record Sound (own : ℕ → ℕ) (stops : ℕ → Option ℕ) (slots oid : ℕ) (c0 c : Course) (sent : List Sent) (ss : List RunSection) : Type 0 where
-  pub good : AreGoodOn own stops slots oid c sent
-  pub fronts : (ps : List Pulse) → AreMadeFor own stops (parts_of (course_from oid c sent)) ps
+-- what is queued, in two parts: the first unit that comes too late, and those ahead of it
+pub record Split : Type 0 where
+  pub front : List Sent
+  pub tail : List Sent
+
+abbrev pub all_of : List Sent → Split
+all_of sent = record { front = sent; tail = [] }
+
+abbrev pub ahead : List Sent → Split → Split
+ahead first x = record { front = first ++ x.front; tail = x.tail }
+
+-- a triple comes too late for a stepper
+abbrev pub IsLostOf : (ℕ → ℕ) → ℕ → ℕ → Course → Cmd → List ℕ → Type 0
+IsLostOf own oid turn c (cmd.QueueStep other interval count add) ticks = other ≡ oid → (slice_index ticks 0 < own turn) × AreBelow (own turn) c.known.ends
+IsLostOf own oid turn c _ ticks = ⊥
+
+abbrev pub LostOn : (ℕ → ℕ) → (ℕ → Option ℕ) → ℕ → ℕ → Course → List Sent → Type 0
+LostOn own stops slots oid c [] = Unit {0}
+LostOn own stops slots oid c (s ∷ ss) = IsGoodOn own stops slots oid s.turn c s.order.command s.order.ticks × IsLostOf own oid s.turn c s.order.command s.order.ticks
+
+-- what is queued for a stepper of this course is good, up to one that comes too late, and what is made for its parts then is made for those of
+-- a course before, and section by section
+pub record Sound (own : ℕ → ℕ) (stops : ℕ → Option ℕ) (slots oid : ℕ) (c0 c : Course) (sent : List Sent) (x : Split) (ss : List RunSection) : Type 0 where
+  pub are : x.front ++ x.tail ≡ sent
+  pub good : AreGoodOn own stops slots oid c x.front
+  pub lost : LostOn own stops slots oid (course_from oid c x.front) x.tail
+  pub fronts : (ps : List Pulse) → AreMadeFor own stops (parts_of (course_from oid c x.front)) ps
       → (early : List Pulse) × (late : List Pulse) × (ps ≡ early ++ late) × AreMadeFor own stops (parts_of c0) early × AreFrontsIn own oid ss late
+  pub whole : AreReleasedIn ss → x.tail ≡ []
 
--- what is queued in a turn, in parts
+-- what is queued of sections, turn by turn, up to the first unit that is left five turns behind the end of its section
+abbrev pub split_over : (ℕ → List Orders → Split) → List Release → ℕ → Orders → List Orders → Split
+split_over nx [] turn o os = nx turn (o ∷ os)
+split_over nx (r ∷ rs) turn o os = record {
+  front = sent_at turn (map plain o.control.commands) ++ ahead_of_step turn r.unit;
+  tail = step_sent turn r.unit ∷ (sent_at turn (units_orders (drop 1 o.batch.units)) ++ sent_in (turn + 1) os);
+}
+
+abbrev pub split_on : (ℕ → List Orders → Split) → ℕ → List Release → ℕ → List Orders → Split
+split_on nx end rs turn [] = all_of []
+split_on nx end rs turn (o ∷ os) = if nat_lt (end + 4) turn then split_over nx rs turn o os else ahead (sent_at turn (queued_in o)) (split_on nx end (after_turn turn rs) (turn + 1) os)
+
+abbrev pub split_from : List RunSection → ℕ → List Orders → Split
+split_from [] turn os = all_of (sent_in turn os)
+split_from (s ∷ ss) turn os = split_on (split_from ss) s.section.end s.section.releases turn os
+
 -- good commands ahead of others
 pub ahead_sound : (own : ℕ → ℕ) (stops : ℕ → Option ℕ) (slots oid : ℕ) (c0 c d : Course) (first sent : List Sent) (ss : List RunSection) → AreGoodOn own stops slots oid c first → course_from oid c first ≡ d
-    → Sound own stops slots oid c0 d sent ss → Sound own stops slots oid c0 c (first ++ sent) ss
-ahead_sound own stops slots oid c0 c d first sent ss good is x =
-    let At : Course → Type 0 = λ y. AreGoodOn own stops slots oid y sent in
-    let same : course_from oid c (first ++ sent) ≡ course_from oid d sent = course_append oid c first sent ∙ ap (λ y. course_from oid y sent) is in
+    → (z : Split) → Sound own stops slots oid c0 d sent z ss → Sound own stops slots oid c0 c (first ++ sent) (ahead first z) ss
+ahead_sound own stops slots oid c0 c d first sent ss good is z x =
+    let At : Course → Type 0 = λ y. AreGoodOn own stops slots oid y z.front in
+    let same : course_from oid c (first ++ z.front) ≡ course_from oid d z.front = course_append oid c first z.front ∙ ap (λ y. course_from oid y z.front) is in
+    let Lost : Course → Type 0 = λ y. LostOn own stops slots oid y z.tail in
     let Made : List Pulse → Course → Type 0 = λ ps y. AreMadeFor own stops (parts_of y) ps in
     record {
-      good = good_on_append own stops slots oid c first sent good (subst At (sym is) x.good);
+      are = append_assoc first z.front z.tail ∙ ap (λ y. first ++ y) x.are;
+      good = good_on_append own stops slots oid c first z.front good (subst At (sym is) x.good);
+      lost = subst Lost (sym same) x.lost;
       fronts = λ ps k. x.fronts ps (subst (Made ps) same k);
+      whole = x.whole;
     }
 
 -- control commands and units, as they are queued turn by turn, of sections whose releases go on
@@ -116,10 +162,10 @@ abbrev pub Promise : ℕ → Bool → BoardSection → ℕ → List Orders → L
 Promise oid homes s turn os us = homes ≡ true → us ≢ [] → s.start ≤ turn + length os + 250 → SetsIn oid s turn os
 
 -- what later sections make of what is queued behind a section
-abbrev pub GoesBehind : (ℕ → ℕ) → Clocks → (ℕ → Option ℕ) → ℕ → ℕ → ℕ → List RunSection → Type 0
-GoesBehind own clocks stops slots oid end ss =
+abbrev pub GoesBehind : (ℕ → ℕ) → Clocks → (ℕ → Option ℕ) → ℕ → ℕ → ℕ → (ℕ → List Orders → Split) → List RunSection → Type 0
+GoesBehind own clocks stops slots oid end nx ss =
     (os : List Orders) (turn : ℕ) (c : Course) → turn ≤ end + 6 → ((n : ℕ) → end + 6 ≤ n → IsStopped stops n c.since ⊎ AreBelow (own n) c.known.ends) → (HasUnits oid ss ⊎ SetsAny oid os → c.known.made ≡ true)
-    → OrdersOn clocks ss (bare ss) turn os → AreSet oid ss turn os → Sound own stops slots oid c c (sent_in turn os) ss
+    → OrdersOn clocks ss (bare ss) turn os → AreSet oid ss turn os → Sound own stops slots oid c c (sent_in turn os) (nx turn os) ss
 
 -- none is made in later sections
 pub no_fronts : (own : ℕ → ℕ) (oid : ℕ) (ss : List RunSection) → AreFrontsIn own oid ss []

@@ -154,7 +154,7 @@ first_unit f stops oid s c0 turn c ls u us own n i soon due slots goes_on =
     )
 
 -- the next unit of a stepper
-next_unit : (f : Frame) (stops : ℕ → Option ℕ) (oid : ℕ) (homes : Bool) (s : BoardSection) (c0 : Course) (Q : List StepUnit → Type 0) (turn : ℕ) (c : Course) (ls : List ℕ) (u : StepUnit) (us : List StepUnit) → IsEarly f homes turn Q → u.stepper ≡ oid
+pub next_unit : (f : Frame) (stops : ℕ → Option ℕ) (oid : ℕ) (homes : Bool) (s : BoardSection) (c0 : Course) (Q : List StepUnit → Type 0) (turn : ℕ) (c : Course) (ls : List ℕ) (u : StepUnit) (us : List StepUnit) → IsEarly f homes turn Q → u.stepper ≡ oid
     → StageWith f stops oid homes s c0 Q c ls (u ∷ us) → IsInside f u → f.start ≤ turn + 250 → u.due ≤ turn + 250 → count_from (f.own turn) ls < f.slots → (homes ≡ false → f.start ≤ turn + 250 → stops turn ≡ None)
     → AreGoodOn f.own stops f.slots oid c (sent_at turn (unit_orders u)) × Begun f stops oid homes s c0 (course_from oid c (sent_at turn (unit_orders u))) (u.last ∷ ls) us
 next_unit f stops oid true s c0 Q turn c ls u us early own (inl n) i soon due room goes_on = absurd (omega (arith, early (u ∷ us) n.1 refl (some_units u us), soon))

@@ -60,11 +60,11 @@ pub lasting_append : (t : ℕ) (us vs : List StepUnit) → Lasting t us → Last
 lasting_append t [] vs a b = b
 lasting_append t (u ∷ us) vs a b = (a.0, lasting_append t us vs a.1 b)
 
-resets_timely : (t oid : ℕ) (o : Option ℕ) → AreTimely t (map plain (reset_commands oid o))
+pub resets_timely : (t oid : ℕ) (o : Option ℕ) → AreTimely t (map plain (reset_commands oid o))
 resets_timely t oid None = tt
 resets_timely t oid (Some tick) = (tt, tt)
 
-dirs_timely : (t oid : ℕ) (o : Option Bool) → AreTimely t (map plain (dir_commands oid o))
+pub dirs_timely : (t oid : ℕ) (o : Option Bool) → AreTimely t (map plain (dir_commands oid o))
 dirs_timely t oid None = tt
 dirs_timely t oid (Some up) = (tt, tt)
 

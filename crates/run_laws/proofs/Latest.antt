@@ -1,10 +1,9 @@
 -- Where what is queued is cut before the first unit that is five turns late: all before it is less late, and it is just so late.
-use Rattle.std.proofs.Common.{◌≡◌, ℕ, Bool, suc, ◌+◌, ◌-◌, ◌*◌, ◌^◌, ◌<◌, ◌≤◌, List, [], ◌∷◌, ◌⊎◌, ◌++◌, length, take, map, All, Option, Some, None, refl, ap, sym, ◌∙◌, subst, arith, inl, inr, append_assoc, append-nil}
+use Rattle.std.proofs.Common.{◌≡◌, ℕ, suc, ◌+◌, ◌-◌, ◌*◌, ◌^◌, ◌<◌, ◌≤◌, List, [], ◌∷◌, ◌⊎◌, ◌++◌, length, take, map, refl, ap, sym, ◌∙◌, subst, arith, inl, inr, append_assoc, append-nil}
 use Rattle.std.proofs.lemmas.Bool.Decides.{eqb_tells, leb_tells}
-use Rattle.std.proofs.lemmas.List.Elements.{All-head, All-tail}
 use Rattle.std.specs.Prelude.{slice_index}
 use Rattle.plan_types.specs.Clock.{turn_ns}
-use Rattle.plan_types.specs.Lines.{Clocks, lines_tick, lines_turn}
+use Rattle.plan_types.specs.Lines.{Clocks, lines_tick}
 use Rattle.clock_line.proofs.Turns.{tick_over-mono, turn-below}
 use Rattle.msg_code.specs.declared.cmd.Cmd.{Cmd}
 use Rattle.msg_code.specs.declared.cmd.Cmd.TheVariants as cmd
@@ -12,17 +11,17 @@ use Rattle.msg_code.specs.Units.{dir_commands, reset_commands}
 use Rattle.board_sim.specs.Fair.{Meant}
 use Rattle.board_world.specs.Orders.{plain, unit_orders, units_orders}
 use Rattle.step_feed.specs.Units.{StepUnit}
-use Rattle.step_feed.specs.Pacing.{ArePaced, Release, batch_at, units_of}
+use Rattle.step_feed.specs.Pacing.{Release, batch_at}
 use Rattle.link_work.specs.Turn.{Orders}
 use Rattle.link_work.specs.Runs.{queued_in}
 use Rattle.section_units.specs.Late.{LateOneByOne}
 use Rattle.section_units.specs.Sections.{BoardSection, ticks_meant}
 use Rattle.run_laws.specs.Events.{AreTicks}
 use Rattle.run_laws.specs.Known.{Sent, sent_at, sent_in, orders_in}
-use Rattle.run_laws.specs.Parts.{AreOrdersOf, AreTracked, IsControl}
+use Rattle.run_laws.specs.Parts.{AreOrdersOf, AreTracked}
 use Rattle.run_laws.specs.Timely.{AreTimely, IsTimely}
-use Rattle.run_laws.proofs.Clocks.{over_made, ticks_rise, turn_least}
-use Rattle.run_laws.proofs.Lasting.{Lasting, controls_timely, turn_floor, unit_lasts, units_timely}
+use Rattle.run_laws.proofs.Clocks.{over_made}
+use Rattle.run_laws.proofs.Lasting.{Lasting, controls_timely, dirs_timely, resets_timely, unit_lasts, units_timely}
 use Rattle.run_laws.proofs.Limiting.{sum_of}
 use Rattle.run_laws.proofs.Lists.{orders_append, orders_at, sent_append}
 use Rattle.run_laws.proofs.Releasing.{AreFrom, after_turn, from_down, none_at, same_batch}
@@ -32,12 +31,7 @@ use Rattle.run_laws.proofs.Spreading.{parts_sent}
 use Rattle.run_laws.proofs.Units.{ahead_of_step, step_sent, unit_is}
 use Rattle.run_laws.proofs.Waiting.{Frame, IsInside}
 
--- a triple is queued in a turn soon enough: its first step is not before the board's tick five turns earlier
-abbrev pub IsFresh : (ℕ → ℕ) → ℕ → Cmd → List ℕ → Type 0
-IsFresh own turn (cmd.QueueStep oid interval count add) ticks = own (turn - 5) ≤ slice_index ticks 0
-IsFresh own turn _ ticks = Unit {0}
-
--- or its first step is before the board's tick of that turn
+-- a triple is queued in a turn too late: its first step is before the board's tick of that turn
 abbrev pub IsPast : (ℕ → ℕ) → ℕ → Cmd → List ℕ → Type 0
 IsPast own turn (cmd.QueueStep oid interval count add) ticks = slice_index ticks 0 < own turn
 IsPast own turn _ ticks = ⊥
@@ -46,10 +40,10 @@ IsPast own turn _ ticks = ⊥
 abbrev pub Lasts : (ℕ → ℕ) → ℕ → Sent → Type 0
 Lasts own n s = IsTimely (own (s.turn + n + 1)) s.order.command s.order.ticks
 
--- commands that are soon enough
-abbrev pub AreFresh : (ℕ → ℕ) → ℕ → List Sent → Type 0
-AreFresh own n [] = Unit {0}
-AreFresh own n (s ∷ ss) = IsFresh own s.turn s.order.command s.order.ticks × Lasts own n s × AreFresh own n ss
+-- so are some
+abbrev pub AllLast : (ℕ → ℕ) → ℕ → List Sent → Type 0
+AllLast own n [] = Unit {0}
+AllLast own n (s ∷ ss) = Lasts own n s × AllLast own n ss
 
 -- commands of which the first one is too late, and the others are timely for as long as it is
 abbrev pub BeginPast : (ℕ → ℕ) → ℕ → List Sent → Type 0
@@ -60,45 +54,33 @@ pub record IsCut (own : ℕ → ℕ) (n : ℕ) (sent : List Sent) : Type 0 where
   pub front : List Sent
   pub tail : List Sent
   pub is : sent ≡ front ++ tail
-  pub fresh : AreFresh own n front
+  pub last : AllLast own n front
   pub past : BeginPast own n tail
 
-pub fresh_append : (own : ℕ → ℕ) (n : ℕ) (ss ts : List Sent) → AreFresh own n ss → AreFresh own n ts → AreFresh own n (ss ++ ts)
-fresh_append own n [] ts a b = b
-fresh_append own n (s ∷ ss) ts a b = (a.0, a.1, fresh_append own n ss ts a.2 b)
+all_last_append : (own : ℕ → ℕ) (n : ℕ) (ss ts : List Sent) → AllLast own n ss → AllLast own n ts → AllLast own n (ss ++ ts)
+all_last_append own n [] ts a b = b
+all_last_append own n (s ∷ ss) ts a b = (a.0, all_last_append own n ss ts a.1 b)
 
-cut_ahead : (own : ℕ → ℕ) (n : ℕ) (ahead sent : List Sent) → AreFresh own n ahead → IsCut own n sent → IsCut own n (ahead ++ sent)
+cut_ahead : (own : ℕ → ℕ) (n : ℕ) (ahead sent : List Sent) → AllLast own n ahead → IsCut own n sent → IsCut own n (ahead ++ sent)
 cut_ahead own n ahead sent a c = record {
   front = ahead ++ c.front;
   tail = c.tail;
   is = ap (λ x. ahead ++ x) c.is ∙ sym (append_assoc ahead c.front c.tail);
-  fresh = fresh_append own n ahead c.front a c.fresh;
+  last = all_last_append own n ahead c.front a c.last;
   past = c.past;
 }
 
--- what is no triple is soon enough
-one_control : (own : ℕ → ℕ) (n turn : ℕ) (c : Cmd) → IsControl c → IsFresh own turn c [] × IsTimely (own (turn + n + 1)) c []
-one_control own n turn (cmd.QueueStep oid interval count add) k = absurd k
-one_control own n turn _ k = (tt, tt)
+-- what is queued in a turn
+last_at : (own : ℕ → ℕ) (n turn : ℕ) (ms : List Meant) → AreTimely (own (turn + n + 1)) ms → AllLast own n (sent_at turn ms)
+last_at own n turn [] a = tt
+last_at own n turn (m ∷ ms) a = (a.0, last_at own n turn ms a.1)
 
-controls_fresh : (own : ℕ → ℕ) (n turn : ℕ) (cs : List Cmd) → All IsControl cs → AreFresh own n (sent_at turn (map plain cs))
-controls_fresh own n turn [] a = tt
-controls_fresh own n turn (c ∷ cs) a =
-    let one = one_control own n turn c (All-head IsControl c cs a) in
-    (one.0, one.1, controls_fresh own n turn cs (All-tail IsControl c cs a))
-
-resets_fresh : (own : ℕ → ℕ) (n turn oid : ℕ) (o : Option ℕ) → AreFresh own n (sent_at turn (map plain (reset_commands oid o)))
-resets_fresh own n turn oid None = tt
-resets_fresh own n turn oid (Some tick) = (tt, tt, tt)
-
-dirs_fresh : (own : ℕ → ℕ) (n turn oid : ℕ) (o : Option Bool) → AreFresh own n (sent_at turn (map plain (dir_commands oid o)))
-dirs_fresh own n turn oid None = tt
-dirs_fresh own n turn oid (Some up) = (tt, tt, tt)
-
-ahead_fresh : (own : ℕ → ℕ) (n turn : ℕ) (u : StepUnit) → AreFresh own n (ahead_of_step turn u)
-ahead_fresh own n turn u =
-    fresh_append own n (sent_at turn (map plain (reset_commands u.stepper u.reset))) (sent_at turn (map plain (dir_commands u.stepper u.up)))
-    (resets_fresh own n turn u.stepper u.reset) (dirs_fresh own n turn u.stepper u.up)
+ahead_last : (own : ℕ → ℕ) (n turn : ℕ) (u : StepUnit) → AllLast own n (ahead_of_step turn u)
+ahead_last own n turn u =
+    let resets = map plain (reset_commands u.stepper u.reset) in
+    let dirs = map plain (dir_commands u.stepper u.up) in
+    let t = own (turn + n + 1) in
+    all_last_append own n (sent_at turn resets) (sent_at turn dirs) (last_at own n turn resets (resets_timely t u.stepper u.reset)) (last_at own n turn dirs (dirs_timely t u.stepper u.up))
 
 -- all of some releases have their first step at or behind a tick
 abbrev pub FirstsFrom : ℕ → List Release → Type 0
@@ -148,20 +130,6 @@ IsFar own n = (k : ℕ) → own (k + (n + 5 + 2)) < own k + 2 ^ 31
 one_lasts : (f : Frame) (n : ℕ) (r : Release) → IsFar f.own n → IsInside f r.unit → r.turn ≤ r.unit.due + 5 → f.own (r.turn + n + 1) < r.unit.first + 2 ^ 31
 one_lasts f n r far i late = unit_lasts f n 5 r.turn (r.turn + n) r.unit i late (omega arith) far
 
-one_fresh : (f : Frame) (r : Release) → IsInside f r.unit → r.turn < r.unit.due + 5 → f.own (r.turn - 5) ≤ r.unit.first
-one_fresh f r i early =
-    let u = r.unit in
-    let due = lines_turn f.clocks u.first in
-    let from = turn_least f.own f.clocks f.ready f.start u.first f.tracked (omega (arith, i.low)) in
-    let floor = turn_floor f.clocks u.first (omega (arith, from, f.after)) in
-    let to = turn-below f.clocks u.first f.end (omega (arith, i.up, i.high)) in
-    let k = due - 1 in
-    let e : k + 1 ≡ due = omega (arith, from, f.after) in
-    let At : ℕ → Type 0 = λ x. f.own k ≤ lines_tick f.clocks (x * turn_ns) in
-    let behind : f.own k ≤ lines_tick f.clocks (due * turn_ns) = subst At e (f.tracked.behind k (omega (arith, from, f.after, e)) (omega (arith, to, f.limit, e))) in
-    let up = ticks_rise f.own f.ticks (r.turn - 5) k (omega (arith, early, i.due, e)) in
-    omega (arith, up, behind, floor)
-
 one_past : (f : Frame) (r : Release) → IsInside f r.unit → r.unit.due + 5 ≤ r.turn → r.unit.first < f.own r.turn
 one_past f r i late =
     over_made f.own f.clocks f.ready f.start r.turn r.unit.first f.ticks f.tracked (omega (arith, f.after)) (omega (arith, i.low))
@@ -206,12 +174,10 @@ turn_cut f n turn P (r ∷ rs) later far rank from late behind next =
           let now = subst Timely same last in
           rw p.0 (subst Cut (sym split) (elim (leb_tells (suc r.turn) (u.due + 5)) as (λ _. CutsIn f.own n turn P (sent_at turn (unit_orders u) ++ (others ++ later))) [
             | inl q ↦
-                let Fresh : ℕ → Type 0 = λ k. f.own (k - 5) ≤ u.first in
-                let fresh = subst Fresh same (one_fresh f r rank.0 (omega (arith, q.1))) in
-                let On : List Sent → Type 0 = λ x. AreFresh f.own n x in
+                let On : List Sent → Type 0 = λ x. AllLast f.own n x in
                 let x = turn_cut f n turn P rs later far rank.4 (from_down turn r.turn rs (omega (arith, same)) rank.2) (late.1 (omega (arith, q.1))) one_behind one_next in (
                   cut_ahead f.own n (sent_at turn (unit_orders u)) (others ++ later)
-                      (subst On (sym (unit_is turn u)) (fresh_append f.own n (ahead_of_step turn u) (step_sent turn u ∷ []) (ahead_fresh f.own n turn u) (omega (arith, fresh, first), omega (arith, now, first), tt)))
+                      (subst On (sym (unit_is turn u)) (all_last_append f.own n (ahead_of_step turn u) (step_sent turn u ∷ []) (ahead_last f.own n turn u) (omega (arith, now, first), tt)))
                       x.0,
                   x.1,
                 )
@@ -229,7 +195,7 @@ turn_cut f n turn P (r ∷ rs) later far rank from late behind next =
                   front = ahead_of_step turn u;
                   tail = step_sent turn u ∷ (others ++ later);
                   is = ap (λ x. x ++ (others ++ later)) (unit_is turn u) ∙ append_assoc (ahead_of_step turn u) (step_sent turn u ∷ []) (others ++ later);
-                  fresh = ahead_fresh f.own n turn u;
+                  last = ahead_last f.own n turn u;
                   past = (omega (arith, past, first), omega (arith, now, first), rest);
                 } in
                 (c, inl refl)
@@ -330,7 +296,7 @@ abbrev GoesOn : (ℕ → ℕ) → ℕ → List BoardSection → Type 0
 GoesOn own n ss = (os : List Orders) (turn : ℕ) → HeadLater turn ss → AreOrdersOf ss turn os → IsWalked own n turn os
 
 none_cut : (own : ℕ → ℕ) (n turn : ℕ) → IsWalked own n turn []
-none_cut own n turn = record { cut = record { front = []; tail = []; is = refl; fresh = tt; past = tt }; count = 0; short = omega arith; few = tt; reach = refl }
+none_cut own n turn = record { cut = record { front = []; tail = []; is = refl; last = tt; past = tt }; count = 0; short = omega arith; few = tt; reach = refl }
 
 -- one more turn
 reach_on : (turn count end more : ℕ) (ss : List Sent) → more ≡ suc end → Reaches (turn + 1 + count) (turn + 1 + end) ss → Reaches (turn + suc count) (turn + more) ss
@@ -345,8 +311,8 @@ stops_here turn end (s ∷ ss) i = omega (arith, i)
 abbrev On : (ℕ → ℕ) → ℕ → List Orders → List Sent → Type 0
 On own turn os tail = (count : ℕ) × (count ≤ length os) × AreFew (take count os) × Reaches (turn + 1 + count) (turn + 1 + length os) tail
 
-walked : (own : ℕ → ℕ) (n turn : ℕ) (o : Orders) (os : List Orders) (cs us : List Sent) → sum_of o.batch.units ≤ 210 → sent_in turn (o ∷ os) ≡ cs ++ us → AreFresh own n cs → CutsIn own n turn (On own turn os) us → IsWalked own n turn (o ∷ os)
-walked own n turn o os cs us few is fresh c = elim c.1 [
+walked : (own : ℕ → ℕ) (n turn : ℕ) (o : Orders) (os : List Orders) (cs us : List Sent) → sum_of o.batch.units ≤ 210 → sent_in turn (o ∷ os) ≡ cs ++ us → AllLast own n cs → CutsIn own n turn (On own turn os) us → IsWalked own n turn (o ∷ os)
+walked own n turn o os cs us few is last c = elim c.1 [
   | inl here ↦ record {
     cut = cut_is (sent_in turn (o ∷ os)) is;
     count = 1;
@@ -364,7 +330,7 @@ walked own n turn o os cs us few is fresh c = elim c.1 [
 ]
   where
     cut_is : (sent : List Sent) → sent ≡ cs ++ us → IsCut own n sent
-    cut_is sent e = record { front = cs ++ c.0.front; tail = c.0.tail; is = e ∙ ap (λ x. cs ++ x) c.0.is ∙ sym (append_assoc cs c.0.front c.0.tail); fresh = fresh_append own n cs c.0.front fresh c.0.fresh; past = c.0.past }
+    cut_is sent e = record { front = cs ++ c.0.front; tail = c.0.tail; is = e ∙ ap (λ x. cs ++ x) c.0.is ∙ sym (append_assoc cs c.0.front c.0.tail); last = all_last_append own n cs c.0.front last c.0.last; past = c.0.past }
 
 section_cut : (f : Frame) (n : ℕ) (ss : List BoardSection) → IsFar f.own n → AreRanked f.own f.clocks f.slots f.ready f.ticks f.tracked f.end ss → GoesOn f.own n ss → (os : List Orders) (turn : ℕ) (rs : List Release)
     → AreInRank f rs → AreFrom turn rs → LateOneByOne rs → ((k : ℕ) → turn ≤ k → sum_of (batch_at k rs) ≤ 210) → HeadLater turn ss → AreOrdersOf (cur rs ∷ ss) turn os → IsWalked f.own n turn os
@@ -386,7 +352,7 @@ section_cut f n ss far ranked next (o ∷ os) turn (r ∷ rs) rank from late few
     let Few : List StepUnit → Type 0 = λ x. sum_of x ≤ 210 in
     let FewLeft : (k : ℕ) → turn + 1 ≤ k → sum_of (batch_at k left) ≤ 210 = λ k le. subst Few (same k le) (few k (omega (arith, le))) in
     walked f.own n turn o os cs (sent_at turn (units_orders us) ++ later) (subst Few (sym units) (few turn (omega arith)))
-    (parts_sent turn o us later units ∙ append_assoc cs (sent_at turn (units_orders us)) later) (controls_fresh f.own n turn o.control.commands orders.0)
+    (parts_sent turn o us later units ∙ append_assoc cs (sent_at turn (units_orders us)) later) (last_at f.own n turn (map plain o.control.commands) (controls_timely (f.own (turn + n + 1)) o.control.commands orders.0))
     (turn_cut f n turn (On f.own turn os) (r ∷ rs) later far rank from late
     (λ t x h firsts high. orders_last t x (turn + 1) (cur left ∷ ss) os h (firsts, ranked_firsts f.own f.clocks f.slots f.ready f.ticks f.tracked f.end x ss ranked (omega (arith, high))) others)
     (λ l. let w = section_cut f n ss far ranked next os (turn + 1) left (after_rank f turn (r ∷ rs) rank) (after_later f turn (r ∷ rs) rank from) l FewLeft (head_on ss later_ss) others in
@@ -403,7 +369,7 @@ controls_cut own n (o ∷ os) turn orders =
     let cs = sent_at turn (map plain o.control.commands) in
     let w = controls_cut own n os (turn + 1) orders.2 in
     let none = ap sum_of orders.1 in
-    walked own n turn o os cs later (omega (arith, none)) (parts_sent turn o [] later orders.1 ∙ append_assoc cs [] later) (controls_fresh own n turn o.control.commands orders.0) (w.cut, inr (w.count, w.short, w.few, w.reach))
+    walked own n turn o os cs later (omega (arith, none)) (parts_sent turn o [] later orders.1 ∙ append_assoc cs [] later) (last_at own n turn (map plain o.control.commands) (controls_timely (own (turn + n + 1)) o.control.commands orders.0)) (w.cut, inr (w.count, w.short, w.few, w.reach))
 
 pub sections_cut : (own : ℕ → ℕ) (clocks : Clocks) (slots ready : ℕ) (ticks : AreTicks own) (tracked : AreTracked own clocks ready) (n e : ℕ) (ss : List BoardSection) → IsFar own n → AreRanked own clocks slots ready ticks tracked e ss → GoesOn own n ss
 sections_cut own clocks slots ready ticks tracked n e [] far ranked = λ os turn head orders. controls_cut own n os turn orders

@@ -55,8 +55,10 @@ pub mod HomeUnits
 pub mod HomeTurns
 pub mod HomeControls
 pub mod HomeSections
+pub mod HomeLate
 pub mod HomeRuns
 pub mod HomeAll
 pub mod HomeSpans
+pub mod HomeLimits
 pub mod HomeTimes
 pub mod HomeBoards

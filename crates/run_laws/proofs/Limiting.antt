@@ -49,7 +49,7 @@ paced_few clocks slots from k before (r ∷ rs) p few = elim (eqb_tells r.turn k
 ]
 
 -- a section gives units in a turn, or none
-gives : (k : ℕ) (n : ℕ) (rs : List Release) → AreBefore n rs → (batch_at k rs ≡ []) ⊎ (k < n)
+pub gives : (k : ℕ) (n : ℕ) (rs : List Release) → AreBefore n rs → (batch_at k rs ≡ []) ⊎ (k < n)
 gives k n [] b = inl refl
 gives k n (r ∷ rs) b = elim (eqb_tells r.turn k) [
   | inl e ↦ inr (omega (arith, e.1, b.0))

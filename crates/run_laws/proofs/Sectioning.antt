@@ -1,11 +1,8 @@
 -- Sections one behind the other, and what is queued of them turn by turn.
-use Rattle.std.proofs.Common.{◌≡◌, ◌≢◌, ℕ, Bool, true, false, ◌+◌, ◌-◌, ◌<◌, ◌≤◌, ◌⊎◌, List, [], ◌∷◌, ◌++◌, All, refl, ap, sym, ◌∙◌, subst, arith, inl, inr, append_assoc, append-nil}
+use Rattle.std.proofs.Common.{◌≡◌, ◌≢◌, ℕ, Bool, true, false, ◌+◌, ◌<◌, ◌≤◌, ◌⊎◌, List, [], ◌∷◌, ◌++◌, All, refl, ap, sym, ◌∙◌, subst, arith, inl, inr, append_assoc, append-nil}
 use Rattle.std.proofs.lemmas.Bool.Decides.{eqb_tells}
 use Rattle.std.proofs.lemmas.List.Elements.{All-head, All-tail}
 use Rattle.std.specs.List.{flat_map}
-use Rattle.std.specs.Prelude.{slice_index}
-use Rattle.msg_code.specs.declared.cmd.Cmd.{Cmd}
-use Rattle.msg_code.specs.declared.cmd.Cmd.TheVariants as cmd
 use Rattle.plan_types.specs.declared.plan.Pulse.{Pulse}
 use Rattle.plan_types.specs.Lines.{Clocks}
 use Rattle.step_feed.specs.Units.{StepUnit}
@@ -65,15 +62,6 @@ AtCut ks total done first =
     ((oid : ℕ) → IsFront (total oid ++ all_steps oid first) (known_from oid (ks oid) done).steps)
     ⊎ ((oid : ℕ) → IsFront (known_from oid (ks oid) done).steps (total oid ++ all_steps oid first))
 
--- a triple whose first step is before the board's tick five turns before it is queued
-abbrev pub IsOver : (ℕ → ℕ) → ℕ → Cmd → List ℕ → Type 0
-IsOver own turn (cmd.QueueStep oid interval count add) ticks = slice_index ticks 0 < own (turn - 5)
-IsOver own turn _ ticks = ⊥
-
-abbrev pub BeginOver : (ℕ → ℕ) → List Sent → Type 0
-BeginOver own [] = Unit {0}
-BeginOver own (s ∷ ss) = IsOver own s.turn s.order.command s.order.ticks
-
 -- what is queued is good commands, and perhaps others behind them of which the first is lost; and the steps of the good ones
 pub record Splits (own : ℕ → ℕ) (slots n : ℕ) (sent : List Sent) (ks : ℕ → Known) (total : ℕ → List Pulse) (rs : List Release) (ss : List BoardSection) : Type 0 where
   pub front : List Sent
@@ -81,7 +69,6 @@ pub record Splits (own : ℕ → ℕ) (slots n : ℕ) (sent : List Sent) (ks : �
   pub is : sent ≡ front ++ tail
   pub good : (oid : ℕ) → AreGoodFrom own slots oid (ks oid) front
   pub lost : BeginLost own slots (λ oid. known_from oid (ks oid) front) tail
-  pub over : BeginOver own tail
   pub steps : (oid : ℕ) → IsFront (known_from oid (ks oid) front).steps (total oid ++ all_steps oid ss)
   pub whole : tail ≡ [] → (first others : List BoardSection) → ss ≡ first ++ others → AreBefore n rs → AreReleased n first → (oid : ℕ)
       → IsFront (total oid ++ all_steps oid first) (known_from oid (ks oid) front).steps
@@ -100,7 +87,6 @@ prepend own slots n ahead sent ks ls total rs left ss good is low down x =
       is = ap (λ t. ahead ++ t) x.is ∙ sym (append_assoc ahead x.front x.tail);
       good = λ oid. good_append own slots oid (ks oid) ahead x.front (good oid) (rw (is oid) (x.good oid));
       lost = lost_known own slots x.tail (λ oid. known_from oid (ls oid) x.front) (λ oid. known_from oid (ks oid) (ahead ++ x.front)) e x.lost;
-      over = x.over;
       steps = λ oid. rw (← (e oid)) (x.steps oid);
       whole = λ none first others cut before released oid. rw (← (e oid)) (x.whole none first others cut (down before) released oid);
       cut = λ done more same first others parts. elim (cuts done more ahead x.front (sym same)) [
@@ -184,7 +170,6 @@ ends_here f freq turn from total ks before rs ss s i later = record {
   is = refl;
   good = λ oid. tt;
   lost = tt;
-  over = tt;
   steps = λ oid.
       let said = steps_said oid (ks oid).up (of_stepper oid (units_of rs)) in
       (said ++ all_steps oid ss, sym (append_assoc (ks oid).steps said (all_steps oid ss)) ∙ ap (λ x. x ++ all_steps oid ss) ((s.waits oid).said));

@@ -1,28 +1,19 @@
 -- A board that takes the first unit that is five turns late shuts down, so all that it takes before is timely.
-use Rattle.std.proofs.Common.{◌≡◌, ℕ, suc, ◌+◌, ◌-◌, ◌<◌, ◌≤◌, ◌⊎◌, List, [], ◌∷◌, ◌++◌, length, map, take, drop, refl, ap, sym, ◌∙◌, subst, arith, inl, inr, append_assoc, append-nil, length-append}
-use Rattle.std.proofs.lemmas.Bool.Decides.{eqb_tells, leb_tells}
-use Rattle.std.proofs.lemmas.List.{append_cancel_left, length-take-le, take-append-drop}
-use Rattle.std.specs.List.{flat_map}
-use Rattle.std.specs.Prelude.{slice_index}
+use Rattle.std.proofs.Common.{◌≡◌, ℕ, ◌+◌, ◌<◌, ◌≤◌, ◌⊎◌, List, [], ◌∷◌, ◌++◌, length, refl, ap, sym, ◌∙◌, subst, arith, inl, inr, append-nil, length-append}
+use Rattle.std.proofs.lemmas.Bool.Decides.{eqb_tells}
 use Rattle.plan_types.specs.Board.{last_of}
-use Rattle.plan_types.specs.declared.plan.BoardState.TheVariants.{Running, Shut}
 use Rattle.msg_code.specs.declared.cmd.Cmd.{Cmd}
 use Rattle.msg_code.specs.declared.cmd.Cmd.TheVariants as cmd
 use Rattle.board_sim.specs.Fair.{Meant}
-use Rattle.board_world.specs.declared.event.Event.{Event}
-use Rattle.board_world.specs.World.{Core, Step, Do, Turn, takes_in, orders_of, happens}
-use Rattle.board_world.proofs.Runs.{ordered_by}
 use Rattle.link_work.specs.Turn.{Orders}
 use Rattle.link_work.specs.Runs.{queued_in}
-use Rattle.run_laws.specs.Known.{Sent, sent_at, sent_in, orders_in, Known, unknown, knows, knows_of, known_from, known, AreBelow, IsGoodFor, AreGoodFrom, IsGood, IsLostFor, BeginLost}
+use Rattle.run_laws.specs.Known.{Sent, sent_at, sent_in, orders_in, Known, unknown, knows, knows_of, known_from, known, AreBelow, IsGoodFor, AreGoodFrom, IsLostFor, BeginLost}
 use Rattle.run_laws.specs.Timely.{AreTimely}
 use Rattle.run_laws.proofs.Counts.{last_any}
 use Rattle.run_laws.proofs.Entering.{first_last}
-use Rattle.run_laws.proofs.Latest.{AreFresh, BeginPast, IsCut, IsFresh, IsPast}
-use Rattle.run_laws.proofs.Lists.{AreUpTo, cuts, good_behind, good_front, orders_append, own_up, sent_append}
-use Rattle.run_laws.proofs.Running.{Holds, Plan, left_first}
-use Rattle.run_laws.proofs.Sectioning.{BeginOver, IsOver, Splits}
-use Rattle.run_laws.proofs.Soon.{all_before, one_before, part_front, timely_append}
+use Rattle.run_laws.proofs.Latest.{AllLast, BeginPast, IsCut, IsPast}
+use Rattle.run_laws.proofs.Lists.{AreUpTo, cuts, good_behind, good_front, orders_append, own_up}
+use Rattle.run_laws.proofs.Soon.{all_before, one_before, timely_append}
 
 -- the last ticks of a stepper's triples are not behind its clock, or before a tick
 abbrev Ends : ℕ → ℕ → List ℕ → Type 0
@@ -123,38 +114,54 @@ up_to : (front : List Sent) (s : Sent) (tail : List Sent) → AreSorted (front +
 up_to [] s tail a = tt
 up_to (f ∷ front) s tail a = ((since_behind f.turn front (s ∷ tail) a.0).0, up_to front s tail a.1)
 
--- commands that are soon enough
-pub fresh_front : (own : ℕ → ℕ) (n : ℕ) (ss ts : List Sent) → AreFresh own n (ss ++ ts) → AreFresh own n ss
-fresh_front own n [] ts a = tt
-fresh_front own n (s ∷ ss) ts a = (a.0, a.1, fresh_front own n ss ts a.2)
+since_here : (front : List Sent) (s : Sent) (tail : List Sent) → AreSorted (front ++ s ∷ tail) → AreSince s.turn tail
+since_here [] s tail a = a.0
+since_here (f ∷ front) s tail a = since_here front s tail a.1
 
-pub fresh_behind : (own : ℕ → ℕ) (n : ℕ) (ss ts : List Sent) → AreFresh own n (ss ++ ts) → AreFresh own n ts
-fresh_behind own n [] ts a = a
-fresh_behind own n (s ∷ ss) ts a = fresh_behind own n ss ts a.2
+-- commands that last
+pub last_front : (own : ℕ → ℕ) (n : ℕ) (ss ts : List Sent) → AllLast own n (ss ++ ts) → AllLast own n ss
+last_front own n [] ts a = tt
+last_front own n (s ∷ ss) ts a = (a.0, last_front own n ss ts a.1)
 
-never_both : (own : ℕ → ℕ) (turn : ℕ) (c : Cmd) (ticks : List ℕ) → IsOver own turn c ticks → IsFresh own turn c ticks → ⊥
-never_both own turn (cmd.QueueStep oid interval count add) ticks a b = omega (arith, a, b)
-never_both own turn _ ticks a b = a
+pub last_behind : (own : ℕ → ℕ) (n : ℕ) (ss ts : List Sent) → AllLast own n (ss ++ ts) → AllLast own n ts
+last_behind own n [] ts a = a
+last_behind own n (s ∷ ss) ts a = last_behind own n ss ts a.1
 
--- what is queued: good commands that are soon enough, and those behind a lost one
+-- they are timely, and so are those that begin with a late one
+pub last_timely : (own : ℕ → ℕ) → ((k : ℕ) → own k ≤ own (k + 1)) → (n low turn : ℕ) (ss : List Sent) → AllLast own n ss → AreSince low ss → turn ≤ low + n + 1 → AreTimely (own turn) (orders_in ss)
+last_timely own up n low turn [] a b h = tt
+last_timely own up n low turn (s ∷ ss) a b h =
+    (one_before (own turn) (own (s.turn + n + 1)) s.order.command s.order.ticks (own_up own up turn (s.turn + n + 1) (omega (arith, b.0, h))) a.0, last_timely own up n low turn ss a.1 b.1 h)
+
+past_timely : (own : ℕ → ℕ) → ((k : ℕ) → own k ≤ own (k + 1)) → (n low turn : ℕ) (ss : List Sent) → BeginPast own n ss → AreSince low ss → turn ≤ low + n + 1 → AreTimely (own turn) (orders_in ss)
+past_timely own up n low turn [] a b h = tt
+past_timely own up n low turn (s ∷ ss) a b h =
+    let up_to = own_up own up turn (s.turn + n + 1) (omega (arith, b.0, h)) in
+    (one_before (own turn) (own (s.turn + n + 1)) s.order.command s.order.ticks up_to a.1, all_before (own turn) (own (s.turn + n + 1)) (orders_in ss) up_to a.2)
+
+lost_past : (own : ℕ → ℕ) (turn : ℕ) (ks : ℕ → Known) (c : Cmd) (ticks : List ℕ) → IsLostFor own turn ks c ticks → IsPast own turn c ticks
+lost_past own turn ks (cmd.QueueStep other interval count add) ticks l = l.0
+lost_past own turn ks _ ticks l = l
+
+-- what is queued: good commands that last, and those behind a lost one
 pub record IsTimed (own : ℕ → ℕ) (slots n : ℕ) (sent : List Sent) : Type 0 where
   pub front : List Sent
   pub tail : List Sent
   pub is : front ++ tail ≡ sent
   pub good : (oid : ℕ) → AreGoodFrom own slots oid unknown front
   pub lost : BeginLost own slots (known front) tail
-  pub fresh : AreFresh own n front
+  pub last : AllLast own n front
   pub past : BeginPast own n tail
 
 within_front : (own : ℕ → ℕ) → ((k : ℕ) → own k ≤ own (k + 1)) → (slots n : ℕ) (sent front tail m rest : List Sent) → sent ≡ front ++ tail → AreSorted sent → ((oid : ℕ) → AreGoodFrom own slots oid unknown (front ++ m))
-    → BeginLost own slots (known (front ++ m)) rest → tail ≡ m ++ rest → AreFresh own n front → BeginPast own n tail → (x : IsTimed own slots n sent) × (x.front ≡ front)
-within_front own up slots n sent front tail [] rest is sorted good lost same fresh past =
+    → BeginLost own slots (known (front ++ m)) rest → tail ≡ m ++ rest → AllLast own n front → BeginPast own n tail → (x : IsTimed own slots n sent) × (x.front ≡ front)
+within_front own up slots n sent front tail [] rest is sorted good lost same last past =
     let none : front ++ [] ≡ front = append-nil front in
     let Good : List Sent → Type 0 = λ x. (oid : ℕ) → AreGoodFrom own slots oid unknown x in
     let Lost : List Sent → Type 0 = λ x. BeginLost own slots (known x) tail in
     let Tail : List Sent → Type 0 = λ x. BeginLost own slots (known (front ++ [])) x in
-    (record { front = front; tail = tail; is = sym is; good = subst Good none good; lost = subst Lost none (subst Tail (sym same) lost); fresh = fresh; past = past }, refl)
-within_front own up slots n sent front tail (s ∷ m) rest is sorted good lost same fresh past =
+    (record { front = front; tail = tail; is = sym is; good = subst Good none good; lost = subst Lost none (subst Tail (sym same) lost); last = last; past = past }, refl)
+within_front own up slots n sent front tail (s ∷ m) rest is sorted good lost same last past =
     let At : List Sent → Type 0 = λ x. BeginPast own n x in
     let On : List Sent → Type 0 = λ x. AreSorted x in
     let late = subst At same past in
@@ -168,22 +175,45 @@ within_front own up slots n sent front tail (s ∷ m) rest is sorted good lost s
         is = sym whole;
         good = first;
         lost = (one, past_lost own slots s.turn (known front) s.order.command s.order.ticks one (λ oid. keeps_ends own up slots oid s.turn unknown front (first oid) to tt) late.0);
-        fresh = fresh;
+        last = last;
         past = late;
       },
       refl,
     )
 
 pub timed : (own : ℕ → ℕ) → ((k : ℕ) → own k ≤ own (k + 1)) → (slots n : ℕ) (os : List Orders) (front tail : List Sent) → sent_in 0 os ≡ front ++ tail → ((oid : ℕ) → AreGoodFrom own slots oid unknown front) → BeginLost own slots (known front) tail
-    → BeginOver own tail → (c : IsCut own n (sent_in 0 os)) → (x : IsTimed own slots n (sent_in 0 os)) × (x.front ≡ c.front)
-timed own up slots n os front tail is good lost over c = elim (cuts c.front c.tail front tail (sym c.is ∙ is)) [
+    → (c : IsCut own n (sent_in 0 os)) → (x : IsTimed own slots n (sent_in 0 os)) × (length x.front ≤ length c.front)
+timed own up slots n os front tail is good lost c = elim (cuts c.front c.tail front tail (sym c.is ∙ is)) [
   | inl p ↦
       let Good : List Sent → Type 0 = λ x. (oid : ℕ) → AreGoodFrom own slots oid unknown x in
       let Lost : List Sent → Type 0 = λ x. BeginLost own slots (known x) tail in
-      within_front own up slots n (sent_in 0 os) c.front c.tail p.0 tail c.is (sorted_in 0 os) (subst Good p.1 good) (subst Lost p.1 lost) p.2 c.fresh c.past
+      let x = within_front own up slots n (sent_in 0 os) c.front c.tail p.0 tail c.is (sorted_in 0 os) (subst Good p.1 good) (subst Lost p.1 lost) p.2 c.last c.past in
+      (x.0, (let size = ap length x.1 in omega (arith, size)))
   | inr p ↦
-      let Fresh : List Sent → Type 0 = λ x. AreFresh own n x in
-      let Over : List Sent → Type 0 = λ x. BeginOver own x in
       let s = p.0 in
-      absurd (never_both own s.turn s.order.command s.order.ticks (subst Over p.3 over) (fresh_behind own n front (s ∷ p.1) (subst Fresh p.2 c.fresh)).0)
+      let m = p.1 in
+      let rest = m ++ c.tail in
+      let whole : sent_in 0 os ≡ front ++ s ∷ rest = is ∙ ap (λ x. front ++ x) p.3 in
+      let Sorted : List Sent → Type 0 = λ x. AreSorted x in
+      let Last : List Sent → Type 0 = λ x. AllLast own n x in
+      let Lost : List Sent → Type 0 = λ x. BeginLost own slots (known front) x in
+      let Timely : List Meant → Type 0 = λ x. AreTimely (own (s.turn + n + 1)) x in
+      let since = since_here front s rest (subst Sorted whole (sorted_in 0 os)) in
+      let last = subst Last p.2 c.last in
+      let mine = last_behind own n front (s ∷ m) last in
+      let late = subst Lost p.3 lost in
+      let t = s.turn + n + 1 in
+      let timely = timely_append (own t) (orders_in m) (orders_in c.tail) (last_timely own up n s.turn t m mine.1 (since_front s.turn m c.tail since) (omega arith))
+      (past_timely own up n s.turn t c.tail c.past (since_behind s.turn m c.tail since) (omega arith)) in (
+        record {
+          front = front;
+          tail = s ∷ rest;
+          is = sym whole;
+          good = good;
+          lost = late;
+          last = last_front own n front (s ∷ m) last;
+          past = (lost_past own s.turn (known front) s.order.command s.order.ticks late.1, mine.0, subst Timely (sym (orders_append m c.tail)) timely);
+        },
+        (let size = ap length p.2 in let both = length-append front (s ∷ m) in omega (arith, size, both)),
+      )
 ]

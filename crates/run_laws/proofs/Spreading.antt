@@ -1,5 +1,5 @@
 -- What is queued of sections splits into good commands and those behind a lost one.
-use Rattle.std.proofs.Common.{◌≡◌, ◌≢◌, ℕ, suc, true, ◌+◌, ◌-◌, ◌*◌, ◌<◌, ◌≤◌, ◌⊎◌, List, [], ◌∷◌, ◌++◌, length, map, All, refl, ap, sym, ◌∙◌, subst, arith, inl, inr, append_assoc, append-nil}
+use Rattle.std.proofs.Common.{◌≡◌, ◌≢◌, ℕ, suc, true, ◌+◌, ◌*◌, ◌<◌, ◌≤◌, ◌⊎◌, List, [], ◌∷◌, ◌++◌, length, map, All, refl, ap, sym, ◌∙◌, subst, arith, inl, inr, append_assoc, append-nil}
 use Rattle.std.proofs.lemmas.Bool.Decides.{leb_tells, eqb_tells}
 use Rattle.std.specs.Prelude.{slice_index}
 use Rattle.plan_types.specs.declared.plan.Pulse.{Pulse}
@@ -8,7 +8,7 @@ use Rattle.plan_types.specs.Lines.{lines_tick}
 use Rattle.clock_line.proofs.Turns.{turn-below}
 use Rattle.board_world.specs.Orders.{plain, unit_orders, units_orders}
 use Rattle.step_feed.specs.Units.{StepUnit}
-use Rattle.step_feed.specs.Pacing.{Release, HasRoom, batch_at, bytes_in, pending, units_of, over_turn}
+use Rattle.step_feed.specs.Pacing.{Release, HasRoom, batch_at, bytes_in, pending, units_of, over_turn, ArePaced}
 use Rattle.step_feed.specs.Rings.{count_from}
 use Rattle.link_work.specs.Turn.{Orders}
 use Rattle.link_work.specs.Runs.{queued_in}
@@ -78,7 +78,7 @@ so_far f turn from total ks before rs s oid = (steps_said oid (ks oid).up (of_st
 
 -- Late units: those that are left where the next section's units begin.
 -- steps of a section are over, and its units due, by then
-none_pending : (f : Frame) (turn oid : ℕ) (before : List Release) → AreInside f before → f.end + 10 ≤ turn → pending f.clocks oid turn before ≡ 0
+none_pending : (f : Frame) (turn oid : ℕ) (before : List Release) → AreInside f before → f.end + 5 ≤ turn → pending f.clocks oid turn before ≡ 0
 none_pending f turn oid [] i h = refl
 none_pending f turn oid (r ∷ before) i h =
     let by = turn-below f.clocks r.unit.last f.end i.0.high in
@@ -93,18 +93,22 @@ no_bytes turn [] a = refl
 no_bytes turn (r ∷ before) a = elim (eqb_tells r.turn turn) [ inl e ↦ absurd (omega (arith, e.1, a.0)) | inr e ↦ rw e.0 (omega (arith, no_bytes turn before a.1)) ]
 
 -- the first unit that is left is released in the very turn
-late_turn : (f : Frame) (turn from : ℕ) (total : ℕ → List Pulse) (ks : ℕ → Known) (before : List Release) (r : Release) (rs : List Release)
-    → Stands f turn from total ks before (r ∷ rs) → f.end + 10 ≤ turn → r.turn ≡ turn
-late_turn f turn from total ks before r rs s h =
-    let i = s.inside.0 in
+pub late_released : (f : Frame) (turn from : ℕ) (before : List Release) (r : Release) (rs : List Release) → ArePaced f.clocks f.slots from before (r ∷ rs) → AreInside f before → IsInside f r.unit → AreBefore turn before
+    → (from ≤ f.end) ⊎ (from < turn) → turn ≤ r.turn → f.end + 5 ≤ turn → r.turn ≡ turn
+late_released f turn from before r rs paced behind i earlier early later h =
     let due = turn-below f.clocks r.unit.first f.end (omega (arith, i.up, i.high)) in
     let room : HasRoom f.clocks f.slots before r.unit turn = record {
       due = omega (arith, i.due, due, h);
-      bytes = omega (arith, no_bytes turn before s.earlier, s.paced.0.room.bytes);
-      steps = omega (arith, none_pending f turn r.unit.stepper before s.behind h, s.paced.0.room.steps);
+      bytes = omega (arith, no_bytes turn before earlier, paced.0.room.bytes);
+      steps = omega (arith, none_pending f turn r.unit.stepper before behind h, paced.0.room.steps);
     } in
-    let early : from ≤ turn = elim s.early [ inl e ↦ omega (arith, e, h) | inr e ↦ omega (arith, e) ] in
-    omega (arith, s.paced.0.first turn early room, s.later.0)
+    let from_is : from ≤ turn = elim early [ inl e ↦ omega (arith, e, h) | inr e ↦ omega (arith, e) ] in
+    omega (arith, paced.0.first turn from_is room, later)
+
+late_turn : (f : Frame) (turn from : ℕ) (total : ℕ → List Pulse) (ks : ℕ → Known) (before : List Release) (r : Release) (rs : List Release)
+    → Stands f turn from total ks before (r ∷ rs) → f.end + 10 ≤ turn → r.turn ≡ turn
+late_turn f turn from total ks before r rs s h =
+    late_released f turn from before r rs s.paced s.behind s.inside.0 s.earlier s.early s.later.0 (omega (arith, h))
 
 pub lasts_below : (f : Frame) (turn oid : ℕ) (before : List Release) → AreInside f before → f.end + 5 ≤ turn → AreBelow (f.own turn) (lasts oid before)
 lasts_below f turn oid [] i h = tt
@@ -175,7 +179,6 @@ late_splits f turn from n total ks before r rs ss sent s h =
           rw (ap (λ (x : Known). x.ends) (ahead_known turn (ks oid) u)) below,
         ),
       );
-      over = first_below f oid (turn - 5) (total oid) (ks oid) (lasts oid before) u (of_stepper oid (units_of rs)) (subst At own (s.waits oid)) i (omega (arith, h));
       steps = λ k.
           let said = steps_said k (ks k).up (of_stepper k (units_of (r ∷ rs))) in
           rw (same_steps k) (said ++ all_steps k ss, sym (append_assoc (ks k).steps said (all_steps k ss)) ∙ ap (λ x. x ++ all_steps k ss) ((s.waits k).said));
@@ -208,7 +211,6 @@ total_same own slots n sent ks one two rs ss e x = record {
   is = x.is;
   good = x.good;
   lost = x.lost;
-  over = x.over;
   steps = λ oid. rw (← (e oid)) (x.steps oid);
   whole = λ none first others cut before released oid. rw (← (e oid)) (x.whole none first others cut before released oid);
   cut = λ done more same first others parts. elim (x.cut done more same first others parts) [
@@ -229,7 +231,7 @@ pub parts_sent : (turn : ℕ) (o : Orders) (us : List StepUnit) (later : List Se
 parts_sent turn o us later e =
     ap (λ x. sent_at turn (map plain o.control.commands ++ units_orders x) ++ later) e ∙ ap (λ x. x ++ later) (sent_append turn (map plain o.control.commands) (units_orders us))
 
-first_part : (turn : ℕ) (o : Orders) (u : StepUnit) (more : List StepUnit) (later : List Sent) → o.batch.units ≡ u ∷ more
+pub first_part : (turn : ℕ) (o : Orders) (u : StepUnit) (more : List StepUnit) (later : List Sent) → o.batch.units ≡ u ∷ more
     → sent_at turn (queued_in o) ++ later ≡ controls_of turn o ++ (sent_at turn (unit_orders u) ++ (sent_at turn (units_orders more) ++ later))
 first_part turn o u more later e =
     let c = controls_of turn o in

@@ -11,28 +11,33 @@ use Rattle.board_sim.proofs.RigShut.{all_left_by}
 use Rattle.board_world.specs.declared.event.Event.{Event}
 use Rattle.board_world.specs.declared.event.Event.TheVariants.{Put, Control, Arrive, Repeat, Pass}
 use Rattle.board_world.specs.Stands.{IsOrdered}
-use Rattle.board_world.specs.World.{Core, Step, Do, Turn, takes_in, orders_of, does, happens, after, IsFairAt}
+use Rattle.board_world.specs.World.{Core, Step, Do, Turn, takes_in, orders_of, does, happens, after, IsFairAt, run}
 use Rattle.board_world.proofs.Runs.{ordered_by, ordered_turn}
 use Rattle.link_work.proofs.Steps.{tick_held}
 use Rattle.run_laws.specs.Events.{IsQuiet}
 use Rattle.run_laws.specs.Known.{Sent, sent_at, orders_in}
 use Rattle.run_laws.specs.Timely.{AreTimely, IsTimelyAt}
-use Rattle.run_laws.specs.Courses.{Course, parts_of, IsFrom, no_course, course_behind, course_from, courses, AreMadeFor, IsMadeBy, AreGoodOn, AreAllGood, AreInTime}
+use Rattle.run_laws.specs.Courses.{Course, parts_of, IsFrom, no_course, course_behind, course_from, courses, AreMadeFor, IsMadeBy, AreGoodOn, AreAllGood, AreInTime, BeginLostOn, FindsFree, HeedsIn, HeedsAt, AllHeed, IsGoodOn}
 use Rattle.run_laws.proofs.Fits.{IsShutBy}
 use Rattle.run_laws.proofs.Taking.{shut_fair}
-use Rattle.run_laws.proofs.Lists.{sent_front, orders_append, orders_at, own_up}
+use Rattle.run_laws.proofs.Lists.{sent_front, orders_append, orders_at, own_up, cuts, lost_for}
 use Rattle.run_laws.proofs.Standing.{BoardStands}
-use Rattle.run_laws.proofs.Commanding.{AreQueued, all_stand, stands_same}
+use Rattle.run_laws.proofs.Commanding.{AreQueued, all_stand, stands_same, all_lost}
 
--- what is to be known of a run: a board's ticks, where parts of its steppers' steps stop, its slots, and the commands, all good
+-- what is to be known of a run: a board's ticks, where parts of its steppers' steps stop, its slots, and the commands: good ones, and
+-- perhaps others behind them of which the first comes too late
 pub record Script : Type 0 where
   pub own : ℕ → ℕ
   pub stops : ℕ → Option ℕ
   pub slots : ℕ
   pub all : List Sent
+  pub front : List Sent
+  pub tail : List Sent
+  pub are : front ++ tail ≡ all
   pub up : (k : ℕ) → own k ≤ own (k + 1)
   pub ahead : (u : ℕ) → IsFrom u (stops u) → ⊥
-  pub good : AreAllGood own stops slots all
+  pub good : AreAllGood own stops slots front
+  pub lost : BeginLostOn own stops slots (courses front) tail
 
 -- what each stepper has made is made for the parts of its steps behind some commands
 abbrev pub MadeFor : Script → List Sent → Core → Type 0
@@ -42,7 +47,9 @@ MadeFor p done h = (oid : ℕ) → AreMadeFor p.own p.stops (parts_of (courses d
 pub record Going (p : Script) (by turn : ℕ) (sent : List Sent) (h : Core) : Type 0 where
   pub done : List Sent
   pub left : List Sent
+  pub more : List Sent
   pub sent_is : sent ≡ done ++ left
+  pub front_is : done ++ more ≡ p.front
   pub taken : orders_in done ≡ h.taken
   pub stands : BoardStands p.own p.stops p.slots by turn (courses done) h.board.controller
   pub in_time : AreInTime p.stops by left
@@ -53,7 +60,7 @@ pub record Gone (p : Script) (h : Core) : Type 0 where
   pub shut : IsShutBy h.board.controller
   pub done : List Sent
   pub more : List Sent
-  pub all_is : done ++ more ≡ p.all
+  pub front_is : done ++ more ≡ p.front
   pub made : MadeFor p done h
 
 pub record Keeps (p : Script) (by turn : ℕ) (sent : List Sent) (h : Core) : Type 0 where
@@ -115,16 +122,14 @@ left_first done left ms rest e =
     sent_front ms rest left (append_cancel_left (orders_in done) (ms ++ rest) (orders_in left) (sym (append_assoc (orders_in done) ms rest) ∙ e ∙ orders_append done left))
 
 -- the first of the commands that are left are taken
-takes_these : (p : Script) (by turn : ℕ) (sent rest : List Sent) (h g : Core) (r : Going p by turn sent h) (first others : List Sent) → sent ++ rest ≡ p.all → by ≤ turn → AreQueued by sent → r.left ≡ first ++ others
+takes_these : (p : Script) (by turn : ℕ) (sent : List Sent) (h g : Core) (r : Going p by turn sent h) (first m others : List Sent) → by ≤ turn → AreQueued by sent → r.more ≡ first ++ m → r.left ≡ first ++ others
     → AreTimely (p.own turn) (orders_in first) → g.taken ≡ h.taken ++ orders_in first → g.board ≡ (takes_all h.board (commands_of (orders_in first))).rig → g.made ≡ h.made
     → Took p by turn sent h g (orders_in first)
-takes_these p by turn sent rest h g r first others all le old left timely taken board made =
+takes_these p by turn sent h g r first m others le old more left timely taken board made =
     let split : sent ≡ (r.done ++ first) ++ others = r.sent_is ∙ ap (λ x. r.done ++ x) left ∙ sym (append_assoc r.done first others) in
-    let whole : r.done ++ (first ++ (others ++ rest)) ≡ p.all =
-    ap (λ x. r.done ++ x) (sym (append_assoc first others rest)) ∙ sym (append_assoc r.done (first ++ others) rest) ∙ ap (λ x. (r.done ++ x) ++ rest) (sym left) ∙ ap (λ x. x ++ rest) (sym r.sent_is) ∙ all in
+    let whole : r.done ++ (first ++ m) ≡ p.front = ap (λ x. r.done ++ x) (sym more) ∙ r.front_is in
     let Good : List Sent → Type 0 = λ x. AreAllGood p.own p.stops p.slots x in
-    let good = λ (oid : ℕ). good_front p.own p.stops p.slots oid (courses r.done oid) first (others ++ rest)
-    (good_behind p.own p.stops p.slots oid no_course r.done (first ++ (others ++ rest)) (subst Good (sym whole) p.good oid)) in
+    let good = λ (oid : ℕ). good_front p.own p.stops p.slots oid (courses r.done oid) first m (good_behind p.own p.stops p.slots oid no_course r.done (first ++ m) (subst Good (sym whole) p.good oid)) in
     let Old : List Sent → Type 0 = λ x. AreQueued by x in
     let Time : List Sent → Type 0 = λ x. AreInTime p.stops by x in
     let time = subst Time left r.in_time in
@@ -138,7 +143,9 @@ takes_these p by turn sent rest h g r first others all le old left timely taken 
         | inl w ↦ inl (record {
           done = r.done ++ first;
           left = others;
+          more = m;
           sent_is = split;
+          front_is = append_assoc r.done first m ∙ whole;
           taken = orders_append r.done first ∙ ap (λ x. x ++ orders_in first) r.taken ∙ sym taken;
           stands = subst At (sym board) (stands_same p.own p.stops p.slots by turn (λ oid. course_from oid (courses r.done oid) first) (courses (r.done ++ first)) _ e w.0);
           in_time = time_behind p.stops by first others time;
@@ -150,19 +157,71 @@ takes_these p by turn sent rest h g r first others all le old left timely taken 
             inr (record {
               shut = subst To (sym board) shut;
               done = r.done ++ done;
-              more = more ++ (others ++ rest);
-              all_is = append_assoc r.done done (more ++ (others ++ rest)) ∙ ap (λ x. r.done ++ x) (sym (append_assoc done more (others ++ rest)) ∙ ap (λ x. x ++ (others ++ rest)) (sym is)) ∙ whole;
+              more = more ++ m;
+              front_is = append_assoc r.done done (more ++ m) ∙ ap (λ x. r.done ++ x) (sym (append_assoc done more m) ∙ ap (λ x. x ++ m) (sym is)) ∙ whole;
               made = λ oid. rw (made, course_append oid no_course r.done done) (to oid (only oid h.made) (r.made oid));
             })
       ],
     )
 
+-- all good ones that are left are taken, and the late one behind them
+takes_lost : (p : Script) (by turn : ℕ) (sent : List Sent) (h g : Core) (r : Going p by turn sent h) (s : Sent) (m others behind : List Sent) → by ≤ turn → AreQueued by sent → p.tail ≡ s ∷ behind → r.left ≡ (r.more ++ s ∷ m) ++ others
+    → AreTimely (p.own turn) (orders_in (r.more ++ s ∷ m))
+    → ((takes_all h.board (commands_of (orders_in r.more))).rig.controller.state ≡ Running → FindsFree (takes_all h.board (commands_of (orders_in r.more))).rig.controller s.order.command)
+    → g.board ≡ (takes_all h.board (commands_of (orders_in (r.more ++ s ∷ m)))).rig → g.made ≡ h.made → Took p by turn sent h g (orders_in (r.more ++ s ∷ m))
+takes_lost p by turn sent h g r s m others behind le old tail left timely free board made =
+    let l = r.more ++ s ∷ m in
+    let Good : List Sent → Type 0 = λ x. AreAllGood p.own p.stops p.slots x in
+    let Lost : List Sent → Type 0 = λ x. BeginLostOn p.own p.stops p.slots (courses p.front) x in
+    let Old : List Sent → Type 0 = λ x. AreQueued by x in
+    let Time : List Sent → Type 0 = λ x. AreInTime p.stops by x in
+    let To : Rig → Type 0 = λ x. IsShutBy x.controller in
+    let good = λ (oid : ℕ). good_behind p.own p.stops p.slots oid no_course r.done r.more (subst Good (sym r.front_is) p.good oid) in
+    let was : BeginLostOn p.own p.stops p.slots (courses p.front) (s ∷ behind) = subst Lost tail p.lost in
+    let e : (oid : ℕ) → courses p.front oid ≡ course_from oid (courses r.done oid) r.more = λ oid. ap (λ x. courses x oid) (sym r.front_is) ∙ course_append oid no_course r.done r.more in
+    let fine : (oid : ℕ) → IsGoodOn p.own p.stops p.slots oid s.turn (course_from oid (courses r.done oid) r.more) s.order.command s.order.ticks = λ oid.
+    (let At : Course → Type 0 = λ c. IsGoodOn p.own p.stops p.slots oid s.turn c s.order.command s.order.ticks in subst At (e oid) (was.0 oid)) in
+    let late = lost_for p.own s.turn (λ oid. (courses p.front oid).known) (λ oid. (course_from oid (courses r.done oid) r.more).known) s.order.command s.order.ticks (λ oid. ap (λ (c : Course). c.known) (e oid)) was.1 in
+    let now = queued_front by l others (queued_behind by r.done (l ++ others) (subst Old (r.sent_is ∙ ap (λ x. r.done ++ x) left) old)) in
+    let time = time_front p.stops by l others (subst Time left r.in_time) in
+    let (fair, shut, stop) = all_lost p.own (λ j k le. own_up p.own p.up j k le) p.stops p.slots by turn r.more s m (courses r.done) h.board r.stands le now good (fine, late) timely time free in
+    let (done, more, is, to) = stop in (
+      fair,
+      inr (record {
+        shut = subst To (sym board) shut;
+        done = r.done ++ done;
+        more = more;
+        front_is = append_assoc r.done done more ∙ ap (λ x. r.done ++ x) (sym is) ∙ r.front_is;
+        made = λ oid. rw (made, course_append oid no_course r.done done) (to oid (only oid h.made) (r.made oid));
+      }),
+    )
+
+-- with what the commands are
+as_orders : (p : Script) (by turn : ℕ) (sent : List Sent) (h g : Core) (l : List Sent) (ms : List Meant) → orders_in l ≡ ms
+    → (AreTimely (p.own turn) (orders_in l) → g.taken ≡ h.taken ++ orders_in l → g.board ≡ (takes_all h.board (commands_of (orders_in l))).rig → Took p by turn sent h g (orders_in l))
+    → AreTimely (p.own turn) ms → g.taken ≡ h.taken ++ ms → g.board ≡ (takes_all h.board (commands_of ms)).rig → Took p by turn sent h g ms
+as_orders p by turn sent h g l ms e k =
+    let At : List Meant → Type 0 = λ x. AreTimely (p.own turn) x → g.taken ≡ h.taken ++ x → g.board ≡ (takes_all h.board (commands_of x)).rig → Took p by turn sent h g x in
+    subst At e k
+
 going_took : (p : Script) (by turn : ℕ) (sent rest : List Sent) (h g : Core) (ms later : List Meant) (r : Going p by turn sent h) → sent ++ rest ≡ p.all → by ≤ turn → AreQueued by sent
-    → (h.taken ++ ms) ++ later ≡ orders_in sent → AreTimely (p.own turn) ms → g.taken ≡ h.taken ++ ms → g.board ≡ (takes_all h.board (commands_of ms)).rig → g.made ≡ h.made → Took p by turn sent h g ms
-going_took p by turn sent rest h g ms later r all le old queued =
-    let (first, others, left, is) = left_first r.done r.left ms later (rw (r.taken, ← r.sent_is) queued) in
-    let At : List Meant → Type 0 = λ x. AreTimely (p.own turn) x → g.taken ≡ h.taken ++ x → g.board ≡ (takes_all h.board (commands_of x)).rig → g.made ≡ h.made → Took p by turn sent h g x in
-    subst At is (takes_these p by turn sent rest h g r first others all le old left)
+    → (h.taken ++ ms) ++ later ≡ orders_in sent → HeedsIn p.front p.tail h ms → g.made ≡ h.made → AreTimely (p.own turn) ms → g.taken ≡ h.taken ++ ms → g.board ≡ (takes_all h.board (commands_of ms)).rig → Took p by turn sent h g ms
+going_took p by turn sent rest h g ms later r all le old queued heed made =
+    let (l, others, left, is) = left_first r.done r.left ms later (rw (r.taken, ← r.sent_is) queued) in
+    let here : l ++ (others ++ rest) ≡ r.more ++ p.tail =
+    append_cancel_left r.done (l ++ (others ++ rest)) (r.more ++ p.tail)
+    (ap (λ x. r.done ++ x) (sym (append_assoc l others rest)) ∙ sym (append_assoc r.done (l ++ others) rest) ∙ ap (λ x. (r.done ++ x) ++ rest) (sym left) ∙ ap (λ x. x ++ rest) (sym r.sent_is)
+    ∙ all ∙ sym p.are ∙ ap (λ x. x ++ p.tail) (sym r.front_is) ∙ append_assoc r.done r.more p.tail) in
+    elim (cuts l (others ++ rest) r.more p.tail here) [
+      | inl c ↦ as_orders p by turn sent h g l ms is (λ timely taken board. takes_these p by turn sent h g r l c.0 others le old c.1 left timely taken board made)
+      | inr c ↦
+          let (s, m, cut, tail) = c in
+          let Heeds : List Sent → Type 0 = λ x. HeedsIn p.front x h ms in
+          let mine : HeedsIn p.front (s ∷ m ++ (others ++ rest)) h ms = subst Heeds tail heed in
+          let free = mine (orders_in r.more) (orders_in m) (sym is ∙ ap orders_in cut ∙ orders_append r.more (s ∷ m)) (ap (λ x. x ++ orders_in r.more) (sym r.taken) ∙ sym (orders_append r.done r.more) ∙ ap orders_in r.front_is) in
+          as_orders p by turn sent h g (r.more ++ s ∷ m) ms (ap orders_in (sym cut) ∙ is)
+          (λ timely taken board. takes_lost p by turn sent h g r s m others (m ++ (others ++ rest)) le old tail (left ∙ ap (λ x. x ++ others) cut) timely free board made)
+    ]
 
 -- a board that is shut down
 gone_took : (p : Script) (by turn : ℕ) (sent : List Sent) (h g : Core) (ms : List Meant) → Gone p h → g.board ≡ (takes_all h.board (commands_of ms)).rig → g.made ≡ h.made → Took p by turn sent h g ms
@@ -174,7 +233,7 @@ gone_took p by turn sent h g ms k board made =
         shut = (reason, tick, first, ap (λ (x : Controller). x.state) left ∙ state, may);
         done = k.done;
         more = k.more;
-        all_is = k.all_is;
+        front_is = k.front_is;
         made = λ oid. rw made (k.made oid);
       }),
     )
@@ -182,14 +241,14 @@ gone_took p by turn sent h g ms k board made =
 -- a step that takes these commands and lets no time pass
 takes_on : (p : Script) (by turn : ℕ) (sent : List Sent) (h g : Core) (ms : List Meant) → Keeps p by turn sent h → IsOrdered g → g.queued ≡ h.queued → g.taken ≡ h.taken ++ ms
     → g.board ≡ (takes_all h.board (commands_of ms)).rig → g.meant ≡ meant_behind h.board h.made h.meant ms → g.made ≡ h.made → g.board.controller.tick ≡ h.board.controller.tick
-    → (h.board.controller.state ≡ Running → AreTimely h.board.controller.tick ms) → AreFair h.board ms × Keeps p by turn sent g
-takes_on p by turn sent h g ms k ordered queued taken board meant made tick timely =
+    → (h.board.controller.state ≡ Running → AreTimely h.board.controller.tick ms) → HeedsIn p.front p.tail h ms → AreFair h.board ms × Keeps p by turn sent g
+takes_on p by turn sent h g ms k ordered queued taken board meant made tick timely heed =
     let n = length g.link.taken in
     let later : (h.taken ++ ms) ++ drop n g.queued ≡ orders_in sent =
     ap (λ x. x ++ drop n g.queued) (sym taken ∙ ordered.first) ∙ take-append-drop n g.queued ∙ queued ∙ sym k.queued in
     let At : ℕ → Type 0 = λ x. AreTimely x ms in
     let took : Took p by turn sent h g ms = elim k.state [
-      | inl r ↦ going_took p by turn sent k.rest h g ms (drop n g.queued) r k.all_is k.order k.turns later (subst At k.tick (timely r.stands.running)) taken board made
+      | inl r ↦ going_took p by turn sent k.rest h g ms (drop n g.queued) r k.all_is k.order k.turns later heed made (subst At k.tick (timely r.stands.running)) taken board
       | inr e ↦ gone_took p by turn sent h g ms e board made
     ] in (
       took.0,
@@ -212,12 +271,12 @@ StepKeeps p by turn sent h s = IsFairAt h s × Keeps p by turn sent (after h s)
 -- an event that queues nothing and lets no time pass
 event_keeps : (p : Script) (by turn : ℕ) (sent : List Sent) (h : Core) (e : Event) → orders_of e ≡ [] → Keeps p by turn sent h
     → (does h e).board ≡ (takes_all h.board (commands_of (takes_in h e))).rig → (does h e).pulses ≡ [] → (does h e).board.controller.tick ≡ h.board.controller.tick
-    → (h.board.controller.state ≡ Running → AreTimely h.board.controller.tick (takes_in h e)) → AreFair h.board (takes_in h e) × Keeps p by turn sent (happens h e)
-event_keeps p by turn sent h e none k board made tick timely =
-    takes_on p by turn sent h (happens h e) (takes_in h e) k (ordered_by h e k.ordered) (ap (λ x. h.queued ++ x) none ∙ append-nil h.queued) refl board refl (ap (λ x. h.made ++ x) made ∙ append-nil h.made) tick timely
+    → (h.board.controller.state ≡ Running → AreTimely h.board.controller.tick (takes_in h e)) → HeedsIn p.front p.tail h (takes_in h e) → AreFair h.board (takes_in h e) × Keeps p by turn sent (happens h e)
+event_keeps p by turn sent h e none k board made tick timely heed =
+    takes_on p by turn sent h (happens h e) (takes_in h e) k (ordered_by h e k.ordered) (ap (λ x. h.queued ++ x) none ∙ append-nil h.queued) refl board refl (ap (λ x. h.made ++ x) made ∙ append-nil h.made) tick timely heed
 
-pub quiet_keeps : (p : Script) (by turn : ℕ) (sent : List Sent) (h : Core) (s : Step) → IsQuiet s → Keeps p by turn sent h → IsTimelyAt h s → StepKeeps p by turn sent h s
-quiet_keeps p by turn sent h (Turn n) q k timely = (
+pub quiet_keeps : (p : Script) (by turn : ℕ) (sent : List Sent) (h : Core) (s : Step) → IsQuiet s → Keeps p by turn sent h → IsTimelyAt h s → HeedsAt p.front p.tail h s → StepKeeps p by turn sent h s
+quiet_keeps p by turn sent h (Turn n) q k timely heed = (
   tt,
   record {
     ordered = ordered_turn h n k.ordered;
@@ -229,17 +288,17 @@ quiet_keeps p by turn sent h (Turn n) q k timely = (
     tick = k.tick;
     kept = k.kept;
     state = elim k.state [
-      | inl r ↦ inl (record { done = r.done; left = r.left; sent_is = r.sent_is; taken = r.taken; stands = r.stands; in_time = r.in_time; made = r.made })
-      | inr e ↦ inr (record { shut = e.shut; done = e.done; more = e.more; all_is = e.all_is; made = e.made })
+      | inl r ↦ inl (record { done = r.done; left = r.left; more = r.more; sent_is = r.sent_is; front_is = r.front_is; taken = r.taken; stands = r.stands; in_time = r.in_time; made = r.made })
+      | inr e ↦ inr (record { shut = e.shut; done = e.done; more = e.more; front_is = e.front_is; made = e.made })
     ];
   },
 )
-quiet_keeps p by turn sent h (Do (Put b)) q k timely = absurd q
-quiet_keeps p by turn sent h (Do (Control c)) q k timely = absurd q
-quiet_keeps p by turn sent h (Do (Pass t)) q k timely = absurd q
-quiet_keeps p by turn sent h (Do Arrive) q k timely = event_keeps p by turn sent h Arrive refl k refl refl (tick_held (Do Arrive ∷ []) h (tt, tt)) timely
-quiet_keeps p by turn sent h (Do Repeat) q k timely = event_keeps p by turn sent h Repeat refl k refl refl (tick_held (Do Repeat ∷ []) h (tt, tt)) timely
-quiet_keeps p by turn sent h (Do e) q k timely = event_keeps p by turn sent h e refl k refl refl refl timely
+quiet_keeps p by turn sent h (Do (Put b)) q k timely heed = absurd q
+quiet_keeps p by turn sent h (Do (Control c)) q k timely heed = absurd q
+quiet_keeps p by turn sent h (Do (Pass t)) q k timely heed = absurd q
+quiet_keeps p by turn sent h (Do Arrive) q k timely heed = event_keeps p by turn sent h Arrive refl k refl refl (tick_held (Do Arrive ∷ []) h (tt, tt)) timely heed
+quiet_keeps p by turn sent h (Do Repeat) q k timely heed = event_keeps p by turn sent h Repeat refl k refl refl (tick_held (Do Repeat ∷ []) h (tt, tt)) timely heed
+quiet_keeps p by turn sent h (Do e) q k timely heed = event_keeps p by turn sent h e refl k refl refl refl timely heed
 
 -- what is queued in a turn
 pub queues_on : (p : Script) (by turn : ℕ) (sent rest : List Sent) (h : Core) (e : Event) → Keeps p by turn sent h → (sent ++ sent_at by (orders_of e)) ++ rest ≡ p.all → AreInTime p.stops by (sent_at by (orders_of e))
@@ -262,6 +321,8 @@ queues_on p by turn sent rest h e k all time old none board made =
         | inl r ↦ inl (record {
           done = r.done;
           left = r.left ++ new;
+          more = r.more;
+          front_is = r.front_is;
           sent_is = ap (λ x. x ++ new) r.sent_is ∙ append_assoc r.done r.left new;
           taken = r.taken ∙ sym taken;
           stands = (let At : Rig → Type 0 = λ b. BoardStands p.own p.stops p.slots by turn (courses r.done) b.controller in subst At (sym board) r.stands);
@@ -272,8 +333,29 @@ queues_on p by turn sent rest h e k all time old none board made =
           shut = (let Shut : Rig → Type 0 = λ b. IsShutBy b.controller in subst Shut (sym board) d.shut);
           done = d.done;
           more = d.more;
-          all_is = d.all_is;
+          front_is = d.front_is;
           made = λ oid. rw does_make (d.made oid);
         })
       ];
     }
+
+-- where nothing comes too late
+pub none_heed : (front tail : List Sent) (steps : List Step) (h : Core) → tail ≡ [] → AllHeed front tail h steps
+none_heed front tail steps h none = let At : List Sent → Type 0 = λ x. AllHeed front x h steps in subst At (sym none) (all steps h)
+  where
+    one : (h : Core) (s : Step) → HeedsAt front [] h s
+    one h (Do e) = tt
+    one h (Turn turn) = tt
+
+    all : (steps : List Step) (h : Core) → AllHeed front [] h steps
+    all [] h = tt
+    all (s ∷ steps) h = (one h s, all steps (after h s))
+
+-- steps in two parts
+pub heed_front : (front tail : List Sent) (xs ys : List Step) (h : Core) → AllHeed front tail h (xs ++ ys) → AllHeed front tail h xs
+heed_front front tail [] ys h a = tt
+heed_front front tail (x ∷ xs) ys h a = (a.0, heed_front front tail xs ys (after h x) a.1)
+
+pub heed_behind : (front tail : List Sent) (xs ys : List Step) (h : Core) → AllHeed front tail h (xs ++ ys) → AllHeed front tail (run xs h) ys
+heed_behind front tail [] ys h a = a
+heed_behind front tail (x ∷ xs) ys h a = heed_behind front tail xs ys (after h x) a.1

@@ -8,16 +8,17 @@ use Rattle.plan_types.specs.declared.plan.Pulse.{Pulse}
 use Rattle.board_step.specs.Steps.{Pending}
 use Rattle.msg_code.specs.declared.cmd.Cmd.{Cmd}
 use Rattle.msg_code.specs.declared.cmd.Cmd.TheVariants as cmd
-use Rattle.board_sim.specs.Board.{stepper_at}
-use Rattle.board_sim.specs.Fair.{pending_at}
+use Rattle.board_sim.specs.Board.{stepper_at, Controller}
+use Rattle.board_sim.specs.Fair.{pending_at, Meant, commands_of}
 use Rattle.board_sim.specs.Halted.{is_halted}
-use Rattle.board_world.specs.World.{Core, Step, run, start}
+use Rattle.board_world.specs.World.{Core, Step, run, start, Do, Turn, after, takes_in}
 use Rattle.link_work.specs.Turn.{Orders}
 use Rattle.link_work.specs.Runs.{queued_in}
 use Rattle.run_laws.specs.Events.{AreTicks, AreTurnsOf}
-use Rattle.run_laws.specs.Known.{Sent, sent_at, sent_in, orders_in, Known, unknown, knows_of, AreBelow, IsGoodTriple}
+use Rattle.run_laws.specs.Known.{Sent, sent_at, sent_in, orders_in, Known, unknown, knows_of, AreBelow, IsGoodTriple, IsLostFor}
 use Rattle.run_laws.specs.Runs.{Begins}
 use Rattle.run_laws.specs.Timely.{AllTimely}
+use Rattle.board_sim.specs.Rig.{takes_all}
 
 -- the steps that a stepper was told between two commands that set its clock, and the turn in which the first of the two was
 -- queued, where there was one
@@ -131,6 +132,35 @@ AreGoodOn own stops slots oid c (s ∷ ss) =
 abbrev pub AreAllGood : (ℕ → ℕ) → (ℕ → Option ℕ) → ℕ → List Sent → Type 0
 AreAllGood own stops slots ss = (oid : ℕ) → AreGoodOn own stops slots oid no_course ss
 
+-- commands of which the first one is a triple that is queued too late, and good but for that: its first step is before the board's tick of
+-- that turn, as are all before it of the stepper's present part
+abbrev pub BeginLostOn : (ℕ → ℕ) → (ℕ → Option ℕ) → ℕ → (ℕ → Course) → List Sent → Type 0
+BeginLostOn own stops slots cs [] = Unit {0}
+BeginLostOn own stops slots cs (s ∷ ss) =
+    ((oid : ℕ) → IsGoodOn own stops slots oid s.turn (cs oid) s.order.command s.order.ticks) × IsLostFor own s.turn (λ oid. (cs oid).known) s.order.command s.order.ticks
+
+-- the stepper of a triple isn't halted
+abbrev pub FindsFree : Controller → Cmd → Type 0
+FindsFree b (cmd.QueueStep oid interval count add) = is_halted (stepper_at b oid) ≡ false
+FindsFree b _ = Unit {0}
+
+-- Where a board takes these commands, and runs when it took all of a front of what was queued, the stepper of the first triple behind that
+-- front isn't halted then: a halted stepper takes no triple, and so refuses none that comes too late.
+abbrev pub HeedsIn : List Sent → List Sent → Core → List Meant → Type 0
+HeedsIn front [] h ms = Unit {0}
+HeedsIn front (t ∷ tail) h ms =
+    (first rest : List Meant) → ms ≡ first ++ t.order ∷ rest → h.taken ++ first ≡ orders_in front → (takes_all h.board (commands_of first)).rig.controller.state ≡ Running →
+    FindsFree (takes_all h.board (commands_of first)).rig.controller t.order.command
+
+abbrev pub HeedsAt : List Sent → List Sent → Core → Step → Type 0
+HeedsAt front tail h (Do e) = HeedsIn front tail h (takes_in h e)
+HeedsAt front tail h (Turn turn) = Unit {0}
+
+-- so it is in some steps
+abbrev pub AllHeed : List Sent → List Sent → Core → List Step → Type 0
+AllHeed front tail h [] = Unit {0}
+AllHeed front tail h (s ∷ steps) = HeedsAt front tail h s × AllHeed front tail (after h s) steps
+
 -- a command that sets a clock is taken in a turn before the one in which the part that it begins stops
 abbrev pub IsInTime : (ℕ → Option ℕ) → ℕ → ℕ → Cmd → Type 0
 IsInTime stops turn queued (cmd.ResetStepClock oid clock) = IsStopped stops turn (Some queued) → ⊥
@@ -153,14 +183,19 @@ AreSettled stops own turn sent [] steps h t = IsSettled stops turn sent h
 AreSettled stops own turn sent (o ∷ os) steps h t =
     IsSettled stops turn sent h × AreSettled stops own (turn + 1) (sent ++ sent_at turn (queued_in o)) os t.1 (run t.0 h) t.4
 
--- What happens on a board and its link in some turns, where all commands that are queued are good, and triggers may halt steppers:
--- no unit is taken half a round of the 32-bit clock after its first tick, and where a part of a stepper's steps stops, the board
--- has begun it by then, and halted the stepper.
+-- What happens on a board and its link in some turns, where the commands that are queued are good, up to one that is queued too late, and
+-- triggers may halt steppers: no unit is taken half a round of the 32-bit clock after its first tick; where a part of a stepper's steps
+-- stops, the board has begun it by then, and halted the stepper; and where it takes the late one, that one's stepper isn't halted.
 pub record IsGoodRun (b : BoardDef) (pins : List (List Level)) (own : ℕ → ℕ) (stops : ℕ → Option ℕ) (os : List Orders) (steps : List Step) : Type 0 where
   pub ticks : AreTicks own
   pub first : own 0 ≡ b.start
   pub ahead : (turn : ℕ) → IsFrom turn (stops turn) → ⊥
-  pub good : AreAllGood own stops b.slots (sent_in 0 os)
+  pub front : List Sent
+  pub tail : List Sent
+  pub are : front ++ tail ≡ sent_in 0 os
+  pub good : AreAllGood own stops b.slots front
+  pub lost : BeginLostOn own stops b.slots (courses front) tail
   pub turns : AreTurnsOf own 0 os steps
   pub timely : AllTimely (start b pins) steps
   pub settled : AreSettled stops own 0 [] os steps (start b pins) turns
+  pub heed : AllHeed front tail (start b pins) steps

@@ -19,7 +19,7 @@ use Rattle.link_work.specs.Runs.{AreTurns, queued_in}
 use Rattle.link_work.specs.Stands.{first_state}
 use Rattle.link_work.specs.Turn.{LinkState, Orders}
 use Rattle.run_laws.specs.Boards.{OnBoard}
-use Rattle.run_laws.specs.Courses.{IsFrom, IsSettled, AreSettled}
+use Rattle.run_laws.specs.Courses.{IsFrom, IsSettled, AreSettled, AreAllGood, BeginLostOn, AreMadeFor, courses, parts_of}
 use Rattle.run_laws.specs.Courses as course
 use Rattle.run_laws.specs.Events.{AreOwn, AreTicks, AreTurnsOf}
 use Rattle.run_laws.specs.Known.{Sent, sent_at, sent_in}
@@ -33,12 +33,11 @@ pub record RunSection : Type 0 where
   pub section : BoardSection
   pub homes : Bool
 
--- A section of moves on a board, whose clock lines are near until a turn: all its units are released by five turns behind its end, and
--- no part of a stepper's steps that is begun in its turns stops before they are over.
+-- A section of moves on a board, whose clock lines are near until a turn: no part of a stepper's steps that is begun in its turns stops before
+-- they are over.
 pub record IsMovesIn (clocks : Clocks) (freq slots until : ℕ) (stops : ℕ → Option ℕ) (s : BoardSection) : Type 0 where
   pub is : IsSection clocks freq slots s
   pub limit : s.end < until
-  pub released : AreBefore (s.end + 6) s.releases
   pub goes_on : (turn : ℕ) → s.start ≤ turn + 254 → turn ≤ s.end + 5 → stops turn ≡ None
 
 -- A homing section on a board: its units are those that were released before its end, of a plan whose last step is due in a turn; none
@@ -91,6 +90,11 @@ AreOutBy turns end (r ∷ rs) = (r.unit.due < turns → r.unit.due < r.turn → 
 abbrev pub AreOut : ℕ → List RunSection → Type 0
 AreOut turns [] = Unit {0}
 AreOut turns (s ∷ ss) = (s.homes ≡ false → AreOutBy turns s.section.end s.section.releases) × AreOut turns ss
+
+-- all units of each section of moves are released by four turns behind its end
+abbrev pub AreReleasedIn : List RunSection → Type 0
+AreReleasedIn [] = Unit {0}
+AreReleasedIn (s ∷ ss) = (s.homes ≡ false → AreBefore (s.section.end + 5) s.section.releases) × AreReleasedIn ss
 
 -- what is queued in turns from a number on: control commands, and the units of the sections that are released in the turn
 abbrev pub AreOrdersIn : Clocks → List RunSection → ℕ → List Orders → Type 0
@@ -146,6 +150,17 @@ AreFrontsIn own oid [] ps = ps ≡ []
 AreFrontsIn own oid (s ∷ ss) ps =
     (first rest : List Pulse) × (ps ≡ first ++ rest) × Begins first (section_steps oid s.section) × course.AreBefore (own (s.section.end + 5)) first × AreFrontsIn own oid ss rest
 
+-- What is queued in a run in which axes home: commands that are good, of whose parts pulses are made section by section, and perhaps others
+-- behind them, of which the first is a triple that is queued too late; none where all units of moves are released soon.
+pub record IsSplitIn (own : ℕ → ℕ) (stops : ℕ → Option ℕ) (slots : ℕ) (ss : List RunSection) (os : List Orders) : Type 0 where
+  pub front : List Sent
+  pub tail : List Sent
+  pub are : front ++ tail ≡ sent_in 0 os
+  pub good : AreAllGood own stops slots front
+  pub lost : BeginLostOn own stops slots (courses front) tail
+  pub fronts : (oid : ℕ) (ps : List Pulse) → AreMadeFor own stops (parts_of (courses front oid)) ps → AreFrontsIn own oid ss ps
+  pub whole : AreReleasedIn ss → tail ≡ []
+
 -- the next section, where there is one, starts behind a turn
 abbrev pub NextBehind : ℕ → List RunSection → Type 0
 NextBehind turn [] = Unit {0}
@@ -163,6 +178,7 @@ pub record IsHomeSpan (b : BoardDef) (pins : List (List Level)) (own : ℕ → �
   pub ticks : AreTicks own
   pub begin : own 0 ≡ b.start
   pub run_is : IsHomeRun own clocks b.freq b.slots ready stops ss (before ++ (during ++ behind))
+  pub released : AreReleasedIn ss
   pub first_turns : AreTurnsOf own 0 before first
   pub second_turns : AreTurnsOf own (length before) during second
   pub timely : AllTimely (start b pins) (first ++ second)
@@ -184,6 +200,7 @@ pub record IsHomeBoard (place : ℕ) (entries : List Entry) (ready turns : ℕ) 
   pub own : ℕ → ℕ
   pub own_is : AreOwn x.board turns own
   pub run_is : IsHomeRun own x.clocks x.board.freq x.board.slots ready stops ss x.orders
+  pub released : AreReleasedIn ss
   pub count : length x.orders ≡ turns
   pub end : LinkState
   pub told : AreTold (clock_of x.board) 0 x.orders x.states (first_state x.board x.pins place entries) end

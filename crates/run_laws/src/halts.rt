@@ -1,6 +1,6 @@
 //! What a board makes of commands of which triggers halt some steppers.
 
-ghost use Rattle.std.specs.Prelude.{◌≡◌, ◌+◌, ◌++◌, ◌∷◌, ◌≤◌, ℕ, List, [], Option, length, map, take};
+ghost use Rattle.std.specs.Prelude.{◌≡◌, ◌+◌, ◌^◌, ◌++◌, ◌∷◌, ◌<◌, ◌≤◌, ℕ, List, [], Option, length, map, take};
 ghost use Rattle.plan_types.specs.declared.levels.Level.{Level};
 ghost use Rattle.plan_types.specs.declared.machine.BoardDef.{BoardDef};
 ghost use Rattle.board_sim.specs.Fair.{only};
@@ -8,16 +8,15 @@ ghost use Rattle.board_world.specs.World.{Step, AllFair, run, start};
 ghost use Rattle.link_work.specs.Turn.{LinkState, Orders};
 ghost use Rattle.plan_types.specs.declared.plan.Pulse.{Pulse};
 ghost use Rattle.plan_types.specs.Lines.{Clocks};
-ghost use Rattle.run_laws.specs.Courses.{AreAllGood, AreMadeFor, IsGoodRun, courses, parts_of};
+ghost use Rattle.run_laws.specs.Courses.{AreMadeFor, IsGoodRun, courses, parts_of};
 ghost use Rattle.run_laws.specs.Events.{AreOwn, AreTicks};
-ghost use Rattle.run_laws.specs.Homes.{AreFrontsIn, AreOverBy, IsHomeBoard, IsHomeRun, IsHomeSpan, NextBehind, RunSection};
+ghost use Rattle.run_laws.specs.Homes.{AreOverBy, AreReleasedIn, IsHomeBoard, IsHomeRun, IsHomeSpan, IsSplitIn, NextBehind, RunSection};
 ghost use Rattle.run_laws.specs.Boards.{OnBoard, told_in};
 ghost use Rattle.wire_scene.specs.declared.scene.Entry.{Entry};
 ghost use Rattle.run_laws.specs.Runs.{AreSpilled, Made};
 ghost use Rattle.run_laws.specs.Links.{ends_of, steps_of};
-ghost use Rattle.run_laws.specs.Timely.{AllTimely};
+ghost use Rattle.run_laws.specs.Timely.{AllTimely, ControlsKeep};
 ghost use Rattle.link_work.specs.Ends.{spoiled};
-ghost use Rattle.link_work.specs.Limits.{AllKeepLimits};
 ghost use Rattle.link_work.specs.Runs.{AreTurns};
 ghost use Rattle.link_work.specs.Stands.{first_state};
 ghost use Rattle.plan_types.specs.Clock.{clock_of};
@@ -26,26 +25,25 @@ ghost use Rattle.section_units.specs.Sections.{base_of};
 ghost use Rattle.run_laws.specs.Ends.{MayBe};
 ghost use Rattle.run_laws.specs.Known.{sent_in};
 
-/// The law of halts: where the commands that are queued for a board are good, whatever its triggers do, every unit is fair when a
-/// running board takes it; the board runs, or it shut down since a unit came too late or since it was told to stop; and the
-/// pulses of each stepper are, part by part, made for the first steps that it was told between two settings of its clock, none of them
-/// at or after the board's tick of the turn in which the part stops.
+/// The law of halts: where the commands that are queued for a board are good, up to one that is queued too late, whatever its triggers do, every
+/// unit is fair when a running board takes it; the board runs, or it shut down since a unit came too late or since it was told to stop; and the
+/// pulses of each stepper are, part by part, made for the first steps that the good ones told it between two settings of its clock, none of
+/// them at or after the board's tick of the turn in which the part stops. It is asked that the stepper of the late one isn't halted then.
 pub fn halted_steppers_keep_fronts()
     ensures fair { (b : BoardDef) (pins : List (List Level)) (own : ℕ → ℕ) (stops : ℕ → Option ℕ) (os : List Orders) (steps : List Step) →
         IsGoodRun b pins own stops os steps → AllFair (start b pins) steps }
     ensures reason { (b : BoardDef) (pins : List (List Level)) (own : ℕ → ℕ) (stops : ℕ → Option ℕ) (os : List Orders) (steps : List Step) →
         IsGoodRun b pins own stops os steps → MayBe (run steps (start b pins)).board.controller.state }
     ensures fronts { (b : BoardDef) (pins : List (List Level)) (own : ℕ → ℕ) (stops : ℕ → Option ℕ) (os : List Orders) (steps : List Step) →
-        IsGoodRun b pins own stops os steps → (oid : ℕ) → AreMadeFor own stops (parts_of (courses (sent_in 0 os) oid)) (only oid (run steps (start b pins)).made) }
+        (r : IsGoodRun b pins own stops os steps) → (oid : ℕ) → AreMadeFor own stops (parts_of (courses r.front oid)) (only oid (run steps (start b pins)).made) }
 {}
 
-/// The law of homing commands: what is queued for a board in a run in which axes home is good, as far as no unit is released more than
-/// five turns behind the end of its section; and pulses of a stepper that are made part by part are made section by section.
+/// The law of homing commands: what is queued for a board in a run in which axes home is good, up to the first unit that is left of a section
+/// of moves five turns behind its end, which is queued too late; and pulses of a stepper that are made part by part for the good ones are made
+/// section by section. Where all units of moves are released by four turns behind the ends of their sections, all is good.
 pub fn homing_commands_are_good()
-    ensures good { (own : ℕ → ℕ) (clocks : Clocks) (freq slots ready : ℕ) (stops : ℕ → Option ℕ) (ss : List RunSection) (os : List Orders) →
-        AreTicks own → IsHomeRun own clocks freq slots ready stops ss os → AreAllGood own stops slots (sent_in 0 os) }
-    ensures fronts { (own : ℕ → ℕ) (clocks : Clocks) (freq slots ready : ℕ) (stops : ℕ → Option ℕ) (ss : List RunSection) (os : List Orders) → AreTicks own →
-        IsHomeRun own clocks freq slots ready stops ss os → (oid : ℕ) (ps : List Pulse) → AreMadeFor own stops (parts_of (courses (sent_in 0 os) oid)) ps → AreFrontsIn own oid ss ps }
+    ensures { (own : ℕ → ℕ) (clocks : Clocks) (freq slots ready : ℕ) (stops : ℕ → Option ℕ) (ss : List RunSection) (os : List Orders) →
+        AreTicks own → IsHomeRun own clocks freq slots ready stops ss os → IsSplitIn own stops slots ss os }
 {}
 
 /// The law of a section's turns, in a run in which axes home: the pulses that a board makes from the turn before a section's start up
@@ -74,13 +72,15 @@ pub fn homing_boards_keep_their_sections()
         AreOverBy from past → from ≤ to → to ≤ turns → NextBehind to later → told_in from to x ≡ [] }
 {}
 
-/// The law of few spoiled turns, in a run in which axes home: where what is queued before the last turn keeps the limits, at the end of each
-/// turn at most n turns of a link's busy stretch were spoiled, and no unit that is due in the run's turns is released more than m turns behind its due one, no
-/// unit is taken half a round of the 32-bit clock after its first tick, for n + m up to 10,700 turns.
+/// The law of few spoiled turns, in a run in which axes home: where the control commands before the last turn keep the limits, all units of moves
+/// are released by four turns behind their section's end, at the end of each turn at most n turns of a link's busy stretch were spoiled, and no unit that is due in the run's turns is released more than m turns behind its due one, no
+/// unit is taken half a round of the 32-bit clock after its first tick, for every n and m for which n + m + 2 turns have fewer than 2^31 of the
+/// board's ticks: for all with n + m up to 10,700 turns, whatever its frequency.
 pub fn homing_links_are_timely()
-    ensures { (b : BoardDef) (pins : List (List Level)) (board : ℕ) (entries : List Entry) (own : ℕ → ℕ) (clocks : Clocks) (ready n m turns : ℕ) (stops : ℕ → Option ℕ) (ss : List RunSection) (os : List Orders) (l : LinkState)
-        (t : AreTurns (clock_of b) 0 os (first_state b pins board entries) l) → AreOwn b (length os) own → IsHomeRun own clocks b.freq b.slots ready stops ss os → AreSpilled turns m (map (λ s. s.section) ss) → length os ≤ turns →
-        ((done : List Orders) (o : Orders) (rest : List Orders) → os ≡ done ++ (o ∷ rest) → AllKeepLimits done) →
-        ((k : ℕ) → spoiled (take k (ends_of (clock_of b) 0 os (first_state b pins board entries) l t)) ≤ n) → n + m ≤ 10_700 →
+    ensures timely { (b : BoardDef) (pins : List (List Level)) (board : ℕ) (entries : List Entry) (own : ℕ → ℕ) (clocks : Clocks) (ready n m turns : ℕ) (stops : ℕ → Option ℕ) (ss : List RunSection) (os : List Orders) (l : LinkState)
+        (t : AreTurns (clock_of b) 0 os (first_state b pins board entries) l) → AreOwn b (length os) own → IsHomeRun own clocks b.freq b.slots ready stops ss os → AreReleasedIn ss → AreSpilled turns m (map (λ s. s.section) ss) → length os ≤ turns →
+        ((done : List Orders) (o : Orders) (rest : List Orders) → os ≡ done ++ (o ∷ rest) → ControlsKeep done) →
+        ((k : ℕ) → spoiled (take k (ends_of (clock_of b) 0 os (first_state b pins board entries) l t)) ≤ n) → ((k : ℕ) → own (k + (n + m + 2)) < own k + 2 ^ 31) →
         AllTimely (start b pins) (steps_of (clock_of b) 0 os (first_state b pins board entries) l t) }
+    ensures seconds { (b : BoardDef) (turns : ℕ) (own : ℕ → ℕ) (n m : ℕ) → AreOwn b turns own → n + m ≤ 10_700 → (k : ℕ) → own (k + (n + m + 2)) < own k + 2 ^ 31 }
 {}

@@ -62,13 +62,15 @@ pub fn units_taken_soon_are_timely()
 {}
 
 /// The law of few spoiled turns: where the control commands of each turn keep the limits, and at the end of each turn at most n turns of a
-/// link's busy stretch were spoiled, no unit is taken half a round of the 32-bit clock after its first tick, for n up to 10,000 turns, ten
-/// seconds. The units need no limit: where those of two sections meet in a turn, one before them is late, and shuts the board down.
+/// link's busy stretch were spoiled, no unit is taken half a round of the 32-bit clock after its first tick, for every n for which n + 7 turns
+/// have fewer than 2^31 of the board's ticks: for all up to 10,000 turns, ten seconds, whatever its frequency. The units need no limit: where
+/// those of two sections meet in a turn, one before them is late, and shuts the board down.
 pub fn few_spoiled_turns_are_timely()
-    ensures { (b : BoardDef) (pins : List (List Level)) (board : ℕ) (entries : List Entry) (own : ℕ → ℕ) (clocks : Clocks) (ready n turns : ℕ) (ss : List BoardSection) (os : List Orders) (l : LinkState)
+    ensures timely { (b : BoardDef) (pins : List (List Level)) (board : ℕ) (entries : List Entry) (own : ℕ → ℕ) (clocks : Clocks) (ready n turns : ℕ) (ss : List BoardSection) (os : List Orders) (l : LinkState)
         (t : AreTurns (clock_of b) 0 os (first_state b pins board entries) l) → AreOwn b (length os) own → IsRun own clocks b.freq b.slots ready ss os → All (AreSentTo clocks b.freq turns) ss → length os ≤ turns →
-        ControlsKeep os → ((k : ℕ) → spoiled (take k (ends_of (clock_of b) 0 os (first_state b pins board entries) l t)) ≤ n) → n ≤ 10_000 →
+        ControlsKeep os → ((k : ℕ) → spoiled (take k (ends_of (clock_of b) 0 os (first_state b pins board entries) l t)) ≤ n) → ((k : ℕ) → own (k + (n + 7)) < own k + 2 ^ 31) →
         AllTimely (start b pins) (steps_of (clock_of b) 0 os (first_state b pins board entries) l t) }
+    ensures seconds { (b : BoardDef) (turns n : ℕ) (own : ℕ → ℕ) → AreOwn b turns own → n ≤ 10_000 → (k : ℕ) → own (k + (n + 7)) < own k + 2 ^ 31 }
 {}
 
 /// The law of a run's shutdowns: a board runs, or it shut down since a unit came too late or since it was told to stop. So

@@ -112,17 +112,16 @@ homed_is m clocks b until stops s h small lines limit long out stop =
     homing_cut m clocks s.section.moves b until s.start s.end own stops lines.kept (homed_front m clocks s b lines.kept lines.soon lines.inside small h) before limit stop
 
 one_is : (kind : SectionKind) (m : Machine) (clocks : List Clocks) (b until : ℕ) (stops : ℕ → Option ℕ) (s : Started) → IsPlanned kind m clocks s → b < length m.boards → AreLasting clocks b → section_end m clocks s.section.moves s.start < until
-    → section_end m clocks s.section.moves s.start + 6 < no_end → AreBefore (section_end m clocks s.section.moves s.start + 6) (part_on m clocks s b).releases → StopsBy (is_home kind) stops s.start s.end
+    → section_end m clocks s.section.moves s.start + 6 < no_end → (is_home kind ≡ true → AreBefore (section_end m clocks s.section.moves s.start + 6) (part_on m clocks s b).releases) → StopsBy (is_home kind) stops s.start s.end
     → IsSectionBy (is_home kind) (clocks_at clocks b) (board_at m b).freq (board_at m b).slots until stops (part_on m clocks s b)
 one_is Moves m clocks b until stops s h small lines limit long out stop =
     let end = h.end in
     record {
       is = moved_is m clocks s b h small;
       limit = omega (arith, limit, end);
-      released = before_least (section_end m clocks s.section.moves s.start + 6) (s.end + 6) (part_on m clocks s b).releases (omega (arith, end)) out;
       goes_on = stop;
     }
-one_is (Home axis) m clocks b until stops s h small lines limit long out stop = homed_is m clocks b until stops s h small lines limit long out stop
+one_is (Home axis) m clocks b until stops s h small lines limit long out stop = homed_is m clocks b until stops s h small lines limit long (out refl) stop
 
 -- the sections
 sections_by : (m : Machine) (clocks : List Clocks) (b until ready : ℕ) (all past rest : List Started) → all ≡ past ++ rest → AreLong ready past → AreStarted m clocks ready rest → b < length m.boards → AreLasting clocks b

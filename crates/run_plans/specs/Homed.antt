@@ -1,5 +1,5 @@
 -- What one board has of the sections of a run in which axes home.
-use Rattle.std.specs.Prelude.{ℕ, ◌+◌, ◌<◌, ◌&&◌, Bool, true, false, List, [], ◌∷◌, All, map, nat_le, Option, Some, None, if◌then◌else◌}
+use Rattle.std.specs.Prelude.{◌≡◌, ℕ, ◌+◌, ◌<◌, ◌&&◌, Bool, true, false, List, [], ◌∷◌, All, map, nat_le, Option, Some, None, if◌then◌else◌}
 use Rattle.plan_types.specs.declared.machine.Machine.{Machine}
 use Rattle.plan_types.specs.declared.plan.SectionKind.{SectionKind}
 use Rattle.plan_types.specs.declared.plan.SectionKind.TheVariants.{Moves, Home}
@@ -40,11 +40,11 @@ ArePlannedBefore m clocks until [] = Unit {0}
 ArePlannedBefore m clocks until (s ∷ begun) =
     (section_end m clocks s.section.moves s.start < until) × (section_end m clocks s.section.moves s.start + 6 < no_end) × ArePlannedBefore m clocks until begun
 
--- no unit of these sections on a board is released more than five turns behind the planned end of its section
+-- no unit of those of these sections that home is released on a board more than five turns behind the planned end of its section
 abbrev pub AreOutInTime : Machine → List Clocks → ℕ → List Started → Type 0
 AreOutInTime m clocks b [] = Unit {0}
 AreOutInTime m clocks b (s ∷ begun) =
-    AreBefore (section_end m clocks s.section.moves s.start + 6) (part_on m clocks s b).releases × AreOutInTime m clocks b begun
+    (is_home s.section.kind ≡ true → AreBefore (section_end m clocks s.section.moves s.start + 6) (part_on m clocks s b).releases) × AreOutInTime m clocks b begun
 
 -- the controls of turns from a number on are those of a run in which axes home
 abbrev pub TookControlsIn : Clocks → List RunSection → ℕ → List Orders → Type 0

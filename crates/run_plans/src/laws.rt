@@ -58,7 +58,7 @@ pub fn planned_boards_run()
 
 /// The law of a board's orders in a run in which axes home: where the boards' controls are those of such a run, its orders are those of
 /// its sections; these are sections of moves or, as far as their units are released before the answer, of homing, where their planned
-/// ends are before the end of its clock lines, and no unit is released more than five turns behind them; and where then its
+/// ends are before the end of its clock lines, and no unit of homing is released more than five turns behind them; and where then its
 /// clock lines are tracked from 260 turns before the first start on, steppers are made by then, and the clocks are set
 /// of those that home, this is its part of a run.
 pub fn planned_boards_home()

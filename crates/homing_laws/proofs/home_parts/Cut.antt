@@ -26,7 +26,7 @@ use Rattle.section_units.specs.Sections.{AreBefore, BoardSection, IsSection, bas
 use Rattle.section_units.proofs.Fronting.{section_front, section_whole}
 use Rattle.link_work.specs.Turn.{Orders}
 use Rattle.run_laws.specs.Events.{AreTicks}
-use Rattle.run_laws.specs.Homes.{AreInTurn, AreOrdersIn, AreOut, AreOutBy, AreSet, HasUnits, IsHomeRun, IsHomingIn, IsMovesIn, IsSectionBy, RunSection, SetsAny}
+use Rattle.run_laws.specs.Homes.{AreInTurn, AreOrdersIn, AreOut, AreOutBy, AreSet, HasUnits, IsHomeRun, IsHomingIn, IsMovesIn, IsSectionBy, RunSection, SetsAny, AreReleasedIn}
 use Rattle.run_laws.specs.Parts.{AreTracked, MakesIn}
 use Rattle.run_laws.specs.Runs.{AreSpilled, IsSpilled}
 use Rattle.run_laws.proofs.Entering.{all_inside, begun_inside, early_fits}
@@ -106,8 +106,8 @@ cut_is clocks freq slots turn s i =
       paced = front.paced;
     }
 
--- all its units are released by five turns behind its end, where those that are late are
-out_in_time : (f : Frame) (turn turns : ℕ) (rs : List Release) → AreInside f rs → AreOutBy turns f.end rs → AreBefore turn rs → turn ≤ turns → AreBefore (f.end + 6) rs
+-- all its units are released by four turns behind its end, where those that are late are
+out_in_time : (f : Frame) (turn turns : ℕ) (rs : List Release) → AreInside f rs → AreOutBy turns f.end rs → AreBefore turn rs → turn ≤ turns → AreBefore (f.end + 5) rs
 out_in_time f turn turns [] i s b low = tt
 out_in_time f turn turns (r ∷ rs) i s b low =
     let up = i.0.up in
@@ -116,7 +116,7 @@ out_in_time f turn turns (r ∷ rs) i s b low =
     let first : r.unit.first < lines_tick f.clocks ((f.end + 1) * turn_ns) = omega (arith, up, high) in
     let due = turn-below f.clocks r.unit.first f.end first in
     let here = b.0 in
-    let now : r.turn < f.end + 6 = elim (leb_tells (suc r.unit.due) turns) [
+    let now : r.turn < f.end + 5 = elim (leb_tells (suc r.unit.due) turns) [
       | inl p ↦ elim (leb_tells (suc r.unit.due) r.turn) [
         | inl q ↦ (let late = s.0 p.1 q.1 in omega (arith, late))
         | inr q ↦ (let soon = q.1 in omega (arith, soon, is, due))
@@ -141,20 +141,19 @@ pub cuts_spilled : (m : Machine) (clocks : List Clocks) (turns turn n b : ℕ) (
 cuts_spilled m clocks turns turn n b [] s = tt
 cuts_spilled m clocks turns turn n b (x ∷ begun) s = (spilled_cut turns turn n (part_on m clocks x b).releases s.0, cuts_spilled m clocks turns turn n b begun s.1)
 
-moves_in : (own : ℕ → ℕ) (clocks : Clocks) (freq slots ready turn turns : ℕ) (stops : ℕ → Option ℕ) (s : BoardSection) → AreTicks own → (k : AreTracked own clocks ready) → IsSection clocks freq slots s → ready + 260 ≤ s.start → s.start ≤ s.end
-    → s.end < k.until → AreOutBy turns s.end s.releases → turn ≤ turns → StopsBy false stops s.start s.end → IsMovesIn clocks freq slots k.until stops (cut_section turn s)
-moves_in own clocks freq slots ready turn turns stops s ticks k i after order limit outs low stop =
+moves_in : (clocks : Clocks) (freq slots until turn : ℕ) (stops : ℕ → Option ℕ) (s : BoardSection) → IsSection clocks freq slots s → s.end < until → StopsBy false stops s.start s.end
+    → IsMovesIn clocks freq slots until stops (cut_section turn s)
+moves_in clocks freq slots until turn stops s i limit stop = record { is = cut_is clocks freq slots turn s i; limit = limit; goes_on = stop }
+
+moves_soon : (own : ℕ → ℕ) (clocks : Clocks) (freq slots ready turn turns : ℕ) (s : BoardSection) → AreTicks own → (k : AreTracked own clocks ready) → IsSection clocks freq slots s → ready + 260 ≤ s.start → s.start ≤ s.end
+    → s.end < k.until → AreOutBy turns s.end s.releases → turn ≤ turns → AreBefore (s.end + 5) (before_turn turn s.releases)
+moves_soon own clocks freq slots ready turn turns s ticks k i after order limit outs low =
     let cut = cut_section turn s in
     let c = cut_is clocks freq slots turn s i in
     let f : Frame = record { own = own; clocks = clocks; slots = slots; ready = ready; start = s.start; end = s.end; ticks = ticks; tracked = k; after = after; order = order; limit = limit } in
     let inside = all_inside f cut.releases (λ oid.
     begun_inside f false oid false (of_stepper oid (units_of cut.releases)) (c.begun oid) (early_fits freq (lines_tick clocks ((s.end + 1) * turn_ns)) (base_of clocks cut) (section_steps oid cut) (cut.plan oid) (c.fits oid) (c.within oid))) in
-    record {
-      is = c;
-      limit = limit;
-      released = out_in_time f turn turns cut.releases inside (out_front turns s.end turn s.releases outs) (cut_before turn s.releases) low;
-      goes_on = stop;
-    }
+    out_in_time f turn turns cut.releases inside (out_front turns s.end turn s.releases outs) (cut_before turn s.releases) low
 
 -- a homing section
 homing_steps : (clocks : Clocks) (freq slots until : ℕ) (stops : ℕ → Option ℕ) (start end : ℕ) (plans : List (List Planned)) (rs : List Release) → IsHomingIn clocks freq slots until stops (section_of start end plans rs)
@@ -256,31 +255,50 @@ over_late (Home axis) m clocks s order =
     let after = end_after m clocks s.section.moves s.start in
     elim (leb_tells (suc s.end) no_end) as (λ _. s.start ≤ over_in (Home axis) m clocks s) [ inl p ↦ rw p.0 (omega (arith, after, order)) | inr p ↦ rw p.0 after ]
 
-one_in : (kind : SectionKind) (m : Machine) (own : ℕ → ℕ) (clocks : List Clocks) (b ready turn turns : ℕ) (stops : ℕ → Option ℕ) (s : Started) → AreTicks own → (k : AreTracked own (clocks_at clocks b) ready) → IsPlanned kind m clocks s → b < length m.boards → AreLasting clocks b
-    → ready + 260 ≤ s.start → over_in kind m clocks s < k.until → (is_home kind ≡ false → AreOutBy turns s.end (part_on m clocks s b).releases) → turn ≤ turns → turn ≤ no_end → StopsBy (is_home kind) stops s.start s.end
-    → IsSectionBy (is_home kind) (clocks_at clocks b) (board_at m b).freq (board_at m b).slots k.until stops (cut_section turn (part_on m clocks s b))
-one_in Moves m own clocks b ready turn turns stops s ticks k h small lines after limit outs low few stop =
+one_in : (kind : SectionKind) (m : Machine) (clocks : List Clocks) (b until turn : ℕ) (stops : ℕ → Option ℕ) (s : Started) → IsPlanned kind m clocks s → b < length m.boards → AreLasting clocks b
+    → over_in kind m clocks s < until → turn ≤ no_end → StopsBy (is_home kind) stops s.start s.end
+    → IsSectionBy (is_home kind) (clocks_at clocks b) (board_at m b).freq (board_at m b).slots until stops (cut_section turn (part_on m clocks s b))
+one_in Moves m clocks b until turn stops s h small lines limit few stop =
+    let end = h.end in
+    moves_in (clocks_at clocks b) (board_at m b).freq (board_at m b).slots until turn stops (part_on m clocks s b) (moved_is m clocks s b h small) (omega (arith, end, limit)) stop
+one_in (Home axis) m clocks b until turn stops s h small lines limit few stop = homed_in axis m clocks b until turn stops s h small lines limit few stop
+
+one_soon : (kind : SectionKind) (m : Machine) (own : ℕ → ℕ) (clocks : List Clocks) (b ready turn turns : ℕ) (s : Started) → AreTicks own → (k : AreTracked own (clocks_at clocks b) ready) → IsPlanned kind m clocks s → b < length m.boards
+    → ready + 260 ≤ s.start → over_in kind m clocks s < k.until → (is_home kind ≡ false → AreOutBy turns s.end (part_on m clocks s b).releases) → turn ≤ turns → is_home kind ≡ false
+    → AreBefore (s.end + 5) (before_turn turn (part_on m clocks s b).releases)
+one_soon Moves m own clocks b ready turn turns s ticks k h small after limit outs low moves =
     let end = h.end in
     let order = end_after m clocks s.section.moves s.start in
-    moves_in own (clocks_at clocks b) (board_at m b).freq (board_at m b).slots ready turn turns stops (part_on m clocks s b) ticks k (moved_is m clocks s b h small) after (omega (arith, end, order)) (omega (arith, end, limit)) (outs refl) low stop
-one_in (Home axis) m own clocks b ready turn turns stops s ticks k h small lines after limit outs low few stop = homed_in axis m clocks b k.until turn stops s h small lines limit few stop
+    moves_soon own (clocks_at clocks b) (board_at m b).freq (board_at m b).slots ready turn turns (part_on m clocks s b) ticks k (moved_is m clocks s b h small) after (omega (arith, end, order)) (omega (arith, end, limit)) (outs refl) low
+one_soon (Home axis) m own clocks b ready turn turns s ticks k h small after limit outs low moves = absurd (let e : true ≡ false = moves in cc)
 
 -- the sections
-sections_in : (m : Machine) (own : ℕ → ℕ) (clocks : List Clocks) (b ready at turn turns : ℕ) (all past rest : List Started) → AreTicks own → (k : AreTracked own (clocks_at clocks b) ready) → all ≡ past ++ rest → AreLong at past → ready + 260 ≤ at
-    → AreStarted m clocks at rest → b < length m.boards → AreLasting clocks b → AreOverBefore m clocks k.until rest → AreOut turns (runs_on m clocks rest b) → turn ≤ turns → turn ≤ no_end
-    → All (λ s. IsSectionBy s.homes (clocks_at clocks b) (board_at m b).freq (board_at m b).slots k.until (stops_of all) s.section) (cuts_on m clocks turn rest b)
-sections_in m own clocks b ready at turn turns all past [] ticks k cut long after h small lines limits outs low few =
-    All-nil (λ (s : RunSection). IsSectionBy s.homes (clocks_at clocks b) (board_at m b).freq (board_at m b).slots k.until (stops_of all) s.section)
-sections_in m own clocks b ready at turn turns all past (s ∷ rest) ticks k cut long after h small lines limits outs low few =
-    let P : RunSection → Type 0 = λ x. IsSectionBy x.homes (clocks_at clocks b) (board_at m b).freq (board_at m b).slots k.until (stops_of all) x.section in
+sections_in : (m : Machine) (clocks : List Clocks) (b until at turn : ℕ) (all past rest : List Started) → all ≡ past ++ rest → AreLong at past
+    → AreStarted m clocks at rest → b < length m.boards → AreLasting clocks b → AreOverBefore m clocks until rest → turn ≤ no_end
+    → All (λ s. IsSectionBy s.homes (clocks_at clocks b) (board_at m b).freq (board_at m b).slots until (stops_of all) s.section) (cuts_on m clocks turn rest b)
+sections_in m clocks b until at turn all past [] cut long h small lines limits few =
+    All-nil (λ (s : RunSection). IsSectionBy s.homes (clocks_at clocks b) (board_at m b).freq (board_at m b).slots until (stops_of all) s.section)
+sections_in m clocks b until at turn all past (s ∷ rest) cut long h small lines limits few =
+    let P : RunSection → Type 0 = λ x. IsSectionBy x.homes (clocks_at clocks b) (board_at m b).freq (board_at m b).slots until (stops_of all) x.section in
     let Stops : List Started → Type 0 = λ x. StopsBy (is_home s.section.kind) (stops_of x) s.start s.end in
     let start = h.0.start in
     let late = planned_late s.section.kind m clocks s h.0.planned in
     let stop = subst Stops (sym cut) (stops_by m clocks (is_home s.section.kind) at past s rest refl long (omega (arith, start)) h.1) in
     All-cons P (cut_on m clocks turn b s) (cuts_on m clocks turn rest b)
-    (one_in s.section.kind m own clocks b ready turn turns (stops_of all) s ticks k h.0.planned small lines (omega (arith, start, after)) limits.0 outs.0 low few stop)
-    (sections_in m own clocks b ready (s.end + 260) turn turns all (past ++ s ∷ []) rest ticks k (cut ∙ sym (append_assoc past (s ∷ []) rest)) (long_more at past s (s.end + 260) long (omega (arith, start, late)) (omega (arith, late)))
-    (omega (arith, start, late, after)) h.1 small lines limits.1 outs.1 low few)
+    (one_in s.section.kind m clocks b until turn (stops_of all) s h.0.planned small lines limits.0 few stop)
+    (sections_in m clocks b until (s.end + 260) turn all (past ++ s ∷ []) rest (cut ∙ sym (append_assoc past (s ∷ []) rest)) (long_more at past s (s.end + 260) long (omega (arith, start, late)) (omega (arith, late)))
+    h.1 small lines limits.1 few)
+
+-- of those of moves all units are released by four turns behind their ends, where those that are late are
+pub cuts_soon : (m : Machine) (own : ℕ → ℕ) (clocks : List Clocks) (b ready at turn turns : ℕ) (begun : List Started) → AreTicks own → (k : AreTracked own (clocks_at clocks b) ready) → ready + 260 ≤ at → AreStarted m clocks at begun → b < length m.boards
+    → AreOverBefore m clocks k.until begun → AreOut turns (runs_on m clocks begun b) → turn ≤ turns → AreReleasedIn (cuts_on m clocks turn begun b)
+cuts_soon m own clocks b ready at turn turns [] ticks k after h small limits outs low = tt
+cuts_soon m own clocks b ready at turn turns (s ∷ begun) ticks k after h small limits outs low =
+    let start = h.0.start in
+    let late = planned_late s.section.kind m clocks s h.0.planned in (
+      one_soon s.section.kind m own clocks b ready turn turns s ticks k h.0.planned small (omega (arith, start, after)) limits.0 outs.0 low,
+      cuts_soon m own clocks b ready (s.end + 260) turn turns begun ticks k (omega (arith, start, late, after)) h.1 small limits.1 outs.1 low,
+    )
 
 cut_turn : (m : Machine) (clocks : List Clocks) (turn b e : ℕ) (begun : List Started) → AreInTurn e (runs_on m clocks begun b) → AreInTurn e (cuts_on m clocks turn begun b)
 cut_turn m clocks turn b e [] h = tt
@@ -360,10 +378,10 @@ cut_orders m text clocks begun turn b k (t ∷ made) bare (o ∷ os) rest small 
 
 pub home_run : (m : Machine) (ts : List MotionTurn) (p : Plans m (length m.boards) ts) (t : Told) (b ready until : ℕ) (own : ℕ → ℕ) (os : List Orders) → b < length m.boards → p.seen.told ≡ Some t → until ≤ length p.made
     → (length os ≤ until) ⊎ (length p.made ≤ until) → TookBatches b ts os → TookControlsIn (clocks_at t.clocks b) (cuts_on m t.clocks until p.seen.begun b) 0 os → AreTicks own → (k : AreTracked own (clocks_at t.clocks b) ready)
-    → ready + 260 ≤ t.first → AreOverBefore m t.clocks k.until p.seen.begun → AreOut until (runs_on m t.clocks p.seen.begun b) → ((oid : ℕ) → AreSet oid (cuts_on m t.clocks until p.seen.begun b) 0 os)
+    → ready + 260 ≤ t.first → AreOverBefore m t.clocks k.until p.seen.begun → ((oid : ℕ) → AreSet oid (cuts_on m t.clocks until p.seen.begun b) 0 os)
     → (ready ≤ length os → (oid : ℕ) → HasUnits oid (cuts_on m t.clocks until p.seen.begun b) ⊎ SetsAny oid os → MakesIn oid (take ready os))
     → IsHomeRun own (clocks_at t.clocks b) (board_at m b).freq (board_at m b).slots ready (stops_of p.seen.begun) (cuts_on m t.clocks until p.seen.begun b) os
-home_run m ts p t b ready until own os small told low far took controls ticks k early limits outs set made =
+home_run m ts p t b ready until own os small told low far took controls ticks k early limits set made =
     let begun = started_in m ts p t told in
     let size = length-map p.made put_of in
     let most = p.small in
@@ -371,7 +389,7 @@ home_run m ts p t b ready until own os small told low far took controls ticks k 
     let At : List MotionTurn → Type 0 = λ x. map (λ (o : Orders). o.batch) os ++ took.0 ≡ gather (λ (y : MotionTurn). item b y.batches) x in
     record {
       tracked = k;
-      sections = sections_in m own t.clocks b ready t.first until until p.seen.begun [] p.seen.begun ticks k refl tt early begun small (lines_last m (length m.boards) ts p t b told small) limits outs (omega arith) (omega (arith, low, size, most));
+      sections = sections_in m t.clocks b k.until t.first until p.seen.begun [] p.seen.begun refl tt begun small (lines_last m (length m.boards) ts p t b told small) limits (omega (arith, low, size, most));
       row = cut_turn m t.clocks until b ready p.seen.begun (in_turn m t.clocks b ready t.first p.seen.begun early begun);
       orders = cut_orders m p.seen.text t.clocks p.seen.begun until b 0 p.made p.bare os took.0 small p.put p.are_bare (omega (arith, low)) far_all (subst At p.are took.1) controls;
       set = set;

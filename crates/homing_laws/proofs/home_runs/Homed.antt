@@ -14,7 +14,7 @@ use Rattle.link_work.specs.Stands.{first_state}
 use Rattle.link_work.specs.Turn.{LinkState, Orders}
 use Rattle.board_world.specs.World.{start}
 use Rattle.run_laws.specs.Events.{AreOwn}
-use Rattle.run_laws.specs.Homes.{AreOrdersIn, IsHomeBoard, IsHomeRun, RunSection}
+use Rattle.run_laws.specs.Homes.{AreOrdersIn, IsHomeBoard, IsHomeRun, RunSection, AreReleasedIn}
 use Rattle.run_laws.specs.Links.{AreTold, steps_of, turns_told}
 use Rattle.run_laws.specs.Timely.{AllTimely}
 use Rattle.trigger_group.specs.declared.order.End.TheVariants.{Endstop}
@@ -89,28 +89,28 @@ orders_front clocks ss turn (o ∷ os) ps a = (a.0, a.1, orders_front clocks ss 
 
 -- no unit sets a clock from 254 turns before the start of one on
 pub none_set : (m : Machine) (switches : List Switch) (pins : List (List Level)) (entries : List Entry) (b freq slots ready end : ℕ) (own : ℕ → ℕ) (clocks : Clocks) (stops : ℕ → Option ℕ) (past : List RunSection) (s : RunSection) (later : List RunSection)
-    (turns : List BoardTurn) → IsHomeRun own clocks freq slots ready stops (past ++ s ∷ later) (orders_in turns) → s.homes ≡ true → s.section.end ≡ end → (t : IsToldIn m switches pins entries b s.section.start end turns)
+    (turns : List BoardTurn) → IsHomeRun own clocks freq slots ready stops (past ++ s ∷ later) (orders_in turns) → AreReleasedIn (past ++ s ∷ later) → s.homes ≡ true → s.section.end ≡ end → (t : IsToldIn m switches pins entries b s.section.start end turns)
     → (from : ℕ) → from + 254 ≡ s.section.start → SetNoClockFrom from t.past
-none_set m switches pins entries b freq slots ready end own clocks stops past s later turns run homes at t from begins =
+none_set m switches pins entries b freq slots ready end own clocks stops past s later turns run out homes at t from begins =
     let ss = past ++ s ∷ later in
     let long = t.long in
     let more = later_orders t.later t.past in
     let all : AreOrdersIn clocks ss 0 (orders_in t.past ++ more.0) = subst (λ (os : List Orders). AreOrdersIn clocks ss 0 os) (ap orders_in t.are ∙ more.1) run.orders in
-    none_from clocks freq slots run.tracked.until ready from stops past s later t.past run.row run.sections (orders_front clocks ss 0 (orders_in t.past) more.0 all) homes begins (omega (arith, long, at))
+    none_from clocks freq slots run.tracked.until ready from stops past s later t.past run.row run.sections out (orders_front clocks ss 0 (orders_in t.past) more.0 all) homes begins (omega (arith, long, at))
 
 one_homed : (m : Machine) (switches : List Switch) (pins : List (List Level)) (entries : List Entry) (b freq slots ready end : ℕ) (own : ℕ → ℕ) (clocks : Clocks) (stops : ℕ → Option ℕ) (past : List RunSection) (s : RunSection) (later : List RunSection)
-    (turns : List BoardTurn) → IsHomeRun own clocks freq slots ready stops (past ++ s ∷ later) (orders_in turns) → s.homes ≡ true → s.section.end ≡ end → IsToldIn m switches pins entries b s.section.start end turns
+    (turns : List BoardTurn) → IsHomeRun own clocks freq slots ready stops (past ++ s ∷ later) (orders_in turns) → AreReleasedIn (past ++ s ∷ later) → s.homes ≡ true → s.section.end ≡ end → IsToldIn m switches pins entries b s.section.start end turns
     → IsHomed m switches pins entries b s.section.start end turns
-one_homed m switches pins entries b freq slots ready end own clocks stops past s later turns run homes at t =
+one_homed m switches pins entries b freq slots ready end own clocks stops past s later turns run out homes at t =
     let start = s.section.start in
     let from = start - 254 in
     let soon = t.soon in
     let begins : from + 254 ≡ start = omega (arith, soon) in
-    told_homed m switches pins entries b start end from turns t begins (none_set m switches pins entries b freq slots ready end own clocks stops past s later turns run homes at t from begins)
+    told_homed m switches pins entries b start end from turns t begins (none_set m switches pins entries b freq slots ready end own clocks stops past s later turns run out homes at t from begins)
 
 all_homed : (m : Machine) (switches : List Switch) (pins : List (List Level)) (entries : List Entry) (b freq slots ready : ℕ) (own : ℕ → ℕ) (clocks : Clocks) (stops : ℕ → Option ℕ) (ss : List RunSection) (turns : List BoardTurn)
-    → IsHomeRun own clocks freq slots ready stops ss (orders_in turns) → AreToldIn m switches pins entries b stops ss turns → AreHomed m switches pins entries b stops turns
-all_homed m switches pins entries b freq slots ready own clocks stops ss turns run told = λ turn end is l.
+    → IsHomeRun own clocks freq slots ready stops ss (orders_in turns) → AreReleasedIn ss → AreToldIn m switches pins entries b stops ss turns → AreHomed m switches pins entries b stops turns
+all_homed m switches pins entries b freq slots ready own clocks stops ss turns run out told = λ turn end is l.
     let x = told turn end is l in
     let s = x.1 in
     let far = x.8.far in (
@@ -118,18 +118,18 @@ all_homed m switches pins entries b freq slots ready own clocks stops ss turns r
       x.6,
       x.7,
       far,
-      one_homed m switches pins entries b freq slots ready end own clocks stops x.0 s x.2 turns (subst (λ (y : List RunSection). IsHomeRun own clocks freq slots ready stops y (orders_in turns)) x.3 run) x.4 x.5 x.8,
+      one_homed m switches pins entries b freq slots ready end own clocks stops x.0 s x.2 turns (subst (λ (y : List RunSection). IsHomeRun own clocks freq slots ready stops y (orders_in turns)) x.3 run) (subst AreReleasedIn x.3 out) x.4 x.5 x.8,
     )
 
 pub home_board : (m : Machine) (switches : List Switch) (pins : List (List Level)) (entries : List Entry) (b ready : ℕ) (own : ℕ → ℕ) (clocks : Clocks) (stops : ℕ → Option ℕ) (ss : List RunSection) (turns : List BoardTurn) (states : List State) (end : LinkState)
     (told : AreTold (clock_of (board_at m b)) 0 (orders_in turns) states (first_state (board_at m b) pins b entries) end) → IsValidMachine m → b < length m.boards
     → AreBoardTurns (clock_of (board_at m b)) (first_state (board_at m b) pins b entries) turns
-    → AreOwn (board_at m b) (length turns) own → IsHomeRun own clocks (board_at m b).freq (board_at m b).slots ready stops ss (orders_in turns)
+    → AreOwn (board_at m b) (length turns) own → IsHomeRun own clocks (board_at m b).freq (board_at m b).slots ready stops ss (orders_in turns) → AreReleasedIn ss
     → AllTimely (start (board_at m b) pins) (steps_of (clock_of (board_at m b)) 0 (orders_in turns) (first_state (board_at m b) pins b entries) end
     (turns_told (clock_of (board_at m b)) 0 (orders_in turns) states (first_state (board_at m b) pins b entries) end told))
     → AreToldIn m switches pins entries b stops ss turns
     → IsHomeBoard b entries ready (length turns) ss (record { board = board_at m b; pins = pins; clocks = clocks; sections = map (λ s. s.section) ss; orders = orders_in turns; states = states })
-home_board m switches pins entries b ready own clocks stops ss turns states end told v l are own_is run timely sections =
+home_board m switches pins entries b ready own clocks stops ss turns states end told v l are own_is run out timely sections =
     let d = board_at m b in
     let clock = clock_of d in
     let first = first_state d pins b entries in
@@ -139,10 +139,11 @@ home_board m switches pins entries b ready own clocks stops ss turns states end 
       own = own;
       own_is = own_is;
       run_is = run;
+      released = out;
       count = order_length turns;
       end = end;
       told = told;
       timely = timely;
       settled = all_settled m switches pins entries b turns stops end (turns_told clock 0 (orders_in turns) states first end told) v are
-          (all_homed m switches pins entries b d.freq d.slots ready own clocks stops ss turns run sections);
+          (all_homed m switches pins entries b d.freq d.slots ready own clocks stops ss turns run out sections);
     }

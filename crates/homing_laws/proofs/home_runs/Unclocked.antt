@@ -13,7 +13,7 @@ use Rattle.link_work.specs.Turn.{Orders}
 use Rattle.board_runs.specs.Turns.{BoardTurn}
 use Rattle.clock_runs.specs.Runs.{orders_in}
 use Rattle.clock_runs.proofs.Orders.{order_length}
-use Rattle.run_laws.specs.Homes.{AreInTurn, AreOrdersIn, IsHomingIn, IsSectionBy, RunSection}
+use Rattle.run_laws.specs.Homes.{AreInTurn, AreOrdersIn, IsHomingIn, IsSectionBy, RunSection, AreReleasedIn}
 use Rattle.run_laws.proofs.Releasing.{AreFrom, from_down, none_at, paced_from}
 use Rattle.homing_laws.specs.home_runs.Settled.{SetNoClock, SetNoClockFrom}
 
@@ -63,9 +63,10 @@ set_none : (us : List StepUnit) → us ≡ [] → SetNoClock us
 set_none us e = subst SetNoClock (sym e) tt
 
 -- a section that is over, one that is to come, and one that homes
-past_none : (homes : Bool) (clocks : Clocks) (freq slots until k : ℕ) (stops : ℕ → Option ℕ) (x : RunSection) → x.homes ≡ homes → IsSectionBy homes clocks freq slots until stops x.section → x.section.end + 6 ≤ k → SetNoClock (batch_at k x.section.releases)
-past_none true clocks freq slots until k stops x e i l = set_none _ (early_none x.section.end k x.section.releases i.released (omega (arith, l)))
-past_none false clocks freq slots until k stops x e i l = set_none _ (early_none (x.section.end + 6) k x.section.releases i.released l)
+past_none : (homes : Bool) (clocks : Clocks) (freq slots until k : ℕ) (stops : ℕ → Option ℕ) (x : RunSection) → x.homes ≡ homes → IsSectionBy homes clocks freq slots until stops x.section → (x.homes ≡ false → AreBefore (x.section.end + 5) x.section.releases)
+    → x.section.end + 6 ≤ k → SetNoClock (batch_at k x.section.releases)
+past_none true clocks freq slots until k stops x e i soon l = set_none _ (early_none x.section.end k x.section.releases i.released (omega (arith, l)))
+past_none false clocks freq slots until k stops x e i soon l = set_none _ (early_none (x.section.end + 5) k x.section.releases (soon e) (omega (arith, l)))
 
 late_none : (clocks : Clocks) (slots from start k : ℕ) (rs : List Release) → AreFrom from rs → from + 250 ≡ start → k + 251 ≤ start → batch_at k rs ≡ []
 late_none clocks slots from start k rs a soon l = none_at k rs (from_down (k + 1) from rs (omega (arith, soon, l)) a)
@@ -97,16 +98,16 @@ start_behind turn [] s later row = row.0
 start_behind turn (x ∷ past) s later row = let a = row.0 in let b = row.1 in let c = start_behind x.section.end past s later row.2 in omega (arith, a, b, c)
 
 turn_none : (clocks : Clocks) (freq slots until k turn : ℕ) (stops : ℕ → Option ℕ) (past : List RunSection) (s : RunSection) (later : List RunSection) → AreInTurn turn (past ++ s ∷ later)
-    → All (λ x. By clocks freq slots until stops x) (past ++ s ∷ later) → s.homes ≡ true → s.section.start ≤ k + 254 → k < s.section.end → SetNoClock (Units k (past ++ s ∷ later))
-turn_none clocks freq slots until k turn stops [] s later row all homes soon early =
+    → All (λ x. By clocks freq slots until stops x) (past ++ s ∷ later) → AreReleasedIn (past ++ s ∷ later) → s.homes ≡ true → s.section.start ≤ k + 254 → k < s.section.end → SetNoClock (Units k (past ++ s ∷ later))
+turn_none clocks freq slots until k turn stops [] s later row all out homes soon early =
     let own : IsSectionBy true clocks freq slots until stops s.section = subst (λ (t : Bool). IsSectionBy t clocks freq slots until stops s.section) homes (All-head (λ y. By clocks freq slots until stops y) s later all) in
     none_both (batch_at k s.section.releases) (Units k later) (home_none clocks freq slots until k stops s own)
     (all_later clocks freq slots until k s.section.end stops later row.2 (All-tail (λ y. By clocks freq slots until stops y) s later all) early)
-turn_none clocks freq slots until k turn stops (x ∷ past) s later row all homes soon early =
+turn_none clocks freq slots until k turn stops (x ∷ past) s later row all out homes soon early =
     let rest = past ++ s ∷ later in
     let a = start_behind x.section.end past s later row.2 in
-    none_both (batch_at k x.section.releases) (Units k rest) (past_none x.homes clocks freq slots until k stops x refl (All-head (λ y. By clocks freq slots until stops y) x rest all) (omega (arith, a, soon)))
-    (turn_none clocks freq slots until k x.section.end stops past s later row.2 (All-tail (λ y. By clocks freq slots until stops y) x rest all) homes soon early)
+    none_both (batch_at k x.section.releases) (Units k rest) (past_none x.homes clocks freq slots until k stops x refl (All-head (λ y. By clocks freq slots until stops y) x rest all) out.0 (omega (arith, a, soon)))
+    (turn_none clocks freq slots until k x.section.end stops past s later row.2 (All-tail (λ y. By clocks freq slots until stops y) x rest all) out.1 homes soon early)
 
 -- over turns
 orders_last : (clocks : Clocks) (ss : List RunSection) (turn : ℕ) (os : List Orders) (o : Orders) → AreOrdersIn clocks ss turn (os ++ o ∷ []) → AreOrdersIn clocks ss turn os × (o.batch.units ≡ Units (turn + length os) ss)
@@ -117,14 +118,14 @@ orders_last clocks ss turn (x ∷ os) o a =
     ((a.0, a.1, rest.0), rest.1 ∙ ap (λ (k : ℕ). Units k ss) e)
 
 pub none_from : (clocks : Clocks) (freq slots until ready from : ℕ) (stops : ℕ → Option ℕ) (past : List RunSection) (s : RunSection) (later : List RunSection) (turns : List BoardTurn) → AreInTurn ready (past ++ s ∷ later)
-    → All (λ x. IsSectionBy x.homes clocks freq slots until stops x.section) (past ++ s ∷ later) → AreOrdersIn clocks (past ++ s ∷ later) 0 (orders_in turns) → s.homes ≡ true → from + 254 ≡ s.section.start
+    → All (λ x. IsSectionBy x.homes clocks freq slots until stops x.section) (past ++ s ∷ later) → AreReleasedIn (past ++ s ∷ later) → AreOrdersIn clocks (past ++ s ∷ later) 0 (orders_in turns) → s.homes ≡ true → from + 254 ≡ s.section.start
     → length turns ≤ s.section.end → SetNoClockFrom from turns
-none_from clocks freq slots until ready from stops past s later [] row all a homes e l = tt
-none_from clocks freq slots until ready from stops past s later (t ∷ before) row all a homes e l =
+none_from clocks freq slots until ready from stops past s later [] row all out a homes e l = tt
+none_from clocks freq slots until ready from stops past s later (t ∷ before) row all out a homes e l =
     let ss = past ++ s ∷ later in
     let both = orders_last clocks ss 0 (orders_in before) (orders t.control t.batch) a in
     let n = order_length before in
     let at : 0 + length (orders_in before) ≡ length before = omega (arith, n) in (
-      λ far. subst SetNoClock (sym (both.1 ∙ ap (λ (k : ℕ). Units k ss) at)) (turn_none clocks freq slots until (length before) ready stops past s later row all homes (omega (arith, far, e)) (omega (arith, l))),
-      none_from clocks freq slots until ready from stops past s later before row all both.0 homes e (omega (arith, l)),
+      λ far. subst SetNoClock (sym (both.1 ∙ ap (λ (k : ℕ). Units k ss) at)) (turn_none clocks freq slots until (length before) ready stops past s later row all out homes (omega (arith, far, e)) (omega (arith, l))),
+      none_from clocks freq slots until ready from stops past s later before row all out both.0 homes e (omega (arith, l)),
     )

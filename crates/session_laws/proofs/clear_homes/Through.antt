@@ -277,7 +277,7 @@ module _ (m : Machine) (v : IsValidMachine m) (short : HaveShortDictionaries m) 
 
         told_fits : UnitsFit (behind [] w.made)
         told_fits =
-            turns_fit home.own (clocks_at t.clocks b) (board_at m b).freq (board_at m b).slots (length (came_from [] Ready_in.past)) home.stops (cuts_on m t.clocks (length (rest ++ end ∷ [])) p.seen.begun b) (behind [] w.made) home.run_is
+            turns_fit home.own (clocks_at t.clocks b) (board_at m b).freq (board_at m b).slots (length (came_from [] Ready_in.past)) home.stops (cuts_on m t.clocks (length (rest ++ end ∷ [])) p.seen.begun b) (behind [] w.made) home.run_is home.released
 
         -- the line of an exact clock
         exact : (board_at m b).drift ≡ pos 0 → (k : ℕ) → length (came_from [] Ready_in.past) ≤ k → board_tick (clock_of (board_at m b)) k ≤ lines_tick (clocks_at t.clocks b) ((k + 0) * turn_ns)

@@ -158,7 +158,7 @@ module _ (m : Machine) (v : IsValidMachine m) (s : Scene) (ts : List MotionTurn)
   plain b h =
       let run = boards.run_of m v s ts p t first rest end c told f long short little b h in
       let home = boards.on m v s ts p t first rest end c told f long short little b h in
-      let units = turns_fit home.own (clocks_at t.clocks b) (board_at m b).freq (board_at m b).slots From home.stops (cuts_on m t.clocks (length (rest ++ end ∷ [])) p.seen.begun b) (Turns b h) home.run_is in
+      let units = turns_fit home.own (clocks_at t.clocks b) (board_at m b).freq (board_at m b).slots From home.stops (cuts_on m t.clocks (length (rest ++ end ∷ [])) p.seen.begun b) (Turns b h) home.run_is home.released in
       let limits = all_limits m s.switches (Pins b) s.entries b Came_all (Turns b h) v run stop units in
       let none = end_none b s.entries From (length (rest ++ end ∷ [])) (cuts_on m t.clocks (length (rest ++ end ∷ [])) p.seen.begun b) (boards.Here m v s ts p t first rest end c told f long short little b h) home (last b h).front (last b h).last (last b h).are
       (never_stop m s.switches (Pins b) s.entries b Came_all (Turns b h) run stop) (λ n shut one. in_time b h (last b h).last n (last b h).at shut one) in

@@ -11,7 +11,6 @@ use Rattle.msg_code.specs.declared.talk.State.{State}
 use Rattle.msg_code.specs.declared.talk.WordMsg.{WordMsg}
 use Rattle.wire_scene.specs.declared.scene.Scene.{Scene}
 use Rattle.link_work.specs.Ends.{spoiled}
-use Rattle.link_work.specs.Limits.{AllKeepLimits}
 use Rattle.link_work.specs.Runs.{AreTurns}
 use Rattle.link_work.specs.Switches.{pins_of}
 use Rattle.link_work.specs.Turn.{LinkState, Orders}
@@ -30,14 +29,15 @@ use Rattle.session_work.specs.Rows.{gather}
 use Rattle.session_run.specs.Boards.{AreReactorTurns, came_from, came_in}
 use Rattle.run_laws.specs.Boards.{OnBoard}
 use Rattle.run_laws.specs.Ends.{MayBe}
-use Rattle.run_laws.specs.Homes.{HasUnits, IsHomeBoard, IsHomeRun, RunSection, SetsAny}
+use Rattle.run_laws.specs.Homes.{HasUnits, IsHomeBoard, IsHomeRun, RunSection, SetsAny, AreReleasedIn}
 use Rattle.board_world.specs.World.{start}
 use Rattle.run_laws.specs.Links.{AreTold, ends_of, steps_of, turns_told}
-use Rattle.run_laws.specs.Timely.{AllTimely}
+use Rattle.run_laws.specs.Timely.{AllTimely, ControlsKeep}
 use Rattle.run_laws.specs.Parts.{AreTracked, MakesIn}
 use Rattle.run_laws.specs.Runs.{AreSpilled}
 use Rattle.run_laws.proofs.Calm.{calm_links}
 use Rattle.run_laws.proofs.HomeTimes.{home_timely}
+use Rattle.run_laws.proofs.Spoiled.{ten_seconds}
 use Rattle.run_laws.proofs.Released.{out_before, spilled_before}
 use Rattle.run_parts.proofs.Going.{own_on}
 use Rattle.run_boards.specs.Boards.{IsInWhole, behind, orders_of, states_of}
@@ -48,7 +48,7 @@ use Rattle.run_plans.specs.Planned.{Plans}
 use Rattle.run_plans.proofs.Running.{started_in}
 use Rattle.session_laws.specs.run_headline.Timely.{AreSound, link_of}
 use Rattle.session_laws.proofs.run_headline.Boarded.{Ready, lines_renewed, ready, run_of, valid_at}
-use Rattle.session_laws.proofs.run_headline.Fronts.{front_of, limited, one_less, stepper_made}
+use Rattle.session_laws.proofs.run_headline.Fronts.{controls_limited, front_of, limited, one_less, stepper_made}
 use Rattle.session_laws.proofs.run_headline.Showing.{came_long}
 use Rattle.homing_laws.specs.home_runs.Words.{AreToldIn}
 use Rattle.homing_laws.proofs.home_runs.Homed.{home_board}
@@ -58,7 +58,7 @@ use Rattle.homing_laws.specs.home_parts.Answers.{ArePastConnecting, IsPlannedBy,
 use Rattle.homing_laws.specs.home_parts.Cuts.{AreOverBefore, cut_on, cuts_on, over_in}
 use Rattle.homing_laws.specs.home_parts.Known.{KnowsLately, StartInRange}
 use Rattle.homing_laws.proofs.home_parts.Controls.{hold_all, took_all}
-use Rattle.homing_laws.proofs.home_parts.Cut.{cuts_spilled, home_run}
+use Rattle.homing_laws.proofs.home_parts.Cut.{cuts_spilled, home_run, cuts_soon}
 use Rattle.homing_laws.proofs.home_parts.Limits.{turns_fit}
 use Rattle.homing_laws.proofs.home_parts.Movers.{all_movers}
 use Rattle.homing_laws.proofs.home_parts.Set.{all_set}
@@ -105,7 +105,7 @@ followed m b turns ready clocks begun r =
 -- a board in turns that its link told of, where few of them were spoiled
 module _ (m : Machine) (v : IsValidMachine m) (s : Scene) (b ready until lasts : ℕ) (ts : List MotionTurn) (p : Plans m (length m.boards) ts) (t : Told) (turns : List BoardTurn) (states : List State) (end : LinkState) (small : b < length m.boards)
     (ss : List RunSection) (are : AreBoardTurns (clock_of (board_at m b)) (link_of m s b) turns) (upto : length turns ≤ lasts + 349) (run : IsHomeRun (Own m b lasts) (clocks_at t.clocks b) (board_at m b).freq (board_at m b).slots ready (stops_of p.seen.begun) ss (orders_in turns))
-    (limits : (done : List Orders) (o : Orders) (more : List Orders) → orders_in turns ≡ done ++ (o ∷ more) → AllKeepLimits done)
+    (soon : AreReleasedIn ss) (controls : (done : List Orders) (o : Orders) (more : List Orders) → orders_in turns ≡ done ++ (o ∷ more) → ControlsKeep done)
     (sections : AreToldIn m s.switches (pins_of (board_at m b) b s.switches) s.entries b (stops_of p.seen.begun) ss turns) where
   abbrev Clock : BoardClock
   Clock = clock_of (board_at m b)
@@ -138,10 +138,11 @@ module _ (m : Machine) (v : IsValidMachine m) (s : Scene) (b ready until lasts :
         | inr t ↦ t
         | inl x ↦
             let (late, most, spills, few) = x in
-            home_timely def pins b s.entries (Own m b lasts) (clocks_at t.clocks b) ready (10_700 - late) late (length (orders_in turns)) (stops_of p.seen.begun) ss (orders_in turns) end (turns_told Clock 0 (orders_in turns) states (link_of m s b) end told) (own_on def (length (orders_in turns)) (lasts + 349) valid (let size = order_length turns in omega (arith, size, upto))) run
-            spills (omega arith) limits few (omega (arith, most))
+            let own = own_on def (length (orders_in turns)) (lasts + 349) valid (let size = order_length turns in omega (arith, size, upto)) in
+            home_timely def pins b s.entries (Own m b lasts) (clocks_at t.clocks b) ready (10_700 - late) late (length (orders_in turns)) (stops_of p.seen.begun) ss (orders_in turns) end (turns_told Clock 0 (orders_in turns) states (link_of m s b) end told) own run soon
+            spills (omega arith) controls few (ten_seconds def (length (orders_in turns)) (Own m b lasts) (10_700 - late) late own (omega (arith, most)))
       ] in
-      home_board m s.switches pins s.entries b ready (Own m b lasts) (clocks_at t.clocks b) (stops_of p.seen.begun) ss turns states end told v small are (own_on def (length turns) (lasts + 349) valid upto) run timely sections
+      home_board m s.switches pins s.entries b ready (Own m b lasts) (clocks_at t.clocks b) (stops_of p.seen.begun) ss turns states end told v small are (own_on def (length turns) (lasts + 349) valid upto) run soon timely sections
 
   home_by : (os : List Orders) → orders_in turns ≡ os → (told : AreTold Clock 0 os states (link_of m s b) end) → Near os told → Result
   home_by os same told near =
@@ -178,7 +179,8 @@ module _ (m : Machine) (v : IsValidMachine m) (s : Scene) (ts : List MotionTurn)
     pub count : length (orders_in turns) ≡ length (rest ++ end ∷ [])
     pub home : IsHomeRun (Own m b (length rest)) (clocks_at t.clocks b) (board_at m b).freq (board_at m b).slots (length (came_from [] r.past)) (stops_of p.seen.begun)
         (cuts_on m t.clocks until p.seen.begun b) (orders_in turns)
-    pub limits : (done : List Orders) (o : Orders) (more : List Orders) → orders_in turns ≡ done ++ (o ∷ more) → AllKeepLimits done
+    pub released : AreReleasedIn (cuts_on m t.clocks until p.seen.begun b)
+    pub controls : (done : List Orders) (o : Orders) (more : List Orders) → orders_in turns ≡ done ++ (o ∷ more) → ControlsKeep done
     pub set_ups : TakeSetUps m (pins_of (board_at m b) b s.switches) s.entries b p.seen.begun turns
 
   -- a turn up to which the planner made all turns of the run, and behind it none
@@ -224,15 +226,16 @@ module _ (m : Machine) (v : IsValidMachine m) (s : Scene) (ts : List MotionTurn)
         let Batches : List Orders → Type 0 = λ os. TookBatches b ts os in
         let outs = out_before until (length p.made) (runs_on m t.clocks p.seen.begun b) low little.out in
         let behind_all : (length (orders_in turns) ≤ until) ⊎ (length p.made ≤ until) = elim far [ inl a ↦ inl (omega (arith, a, count)) | inr a ↦ inr a ] in
-        let home = home_run m ts p t b (length before) until (Own m b (length rest)) (orders_in turns) h told low behind_all (subst Batches (sym w.in_order) w.batches) controls (own_on (board_at m b) 0 (length rest + 349) valid (omega arith)).ticks lines.tracked r.early lines.over outs set (λ ready_by. used) in
-        let units = turns_fit (Own m b (length rest)) (clocks_at t.clocks b) (board_at m b).freq (board_at m b).slots (length before) (stops_of p.seen.begun) (cuts_on m t.clocks until p.seen.begun b) turns home in
+        let home = home_run m ts p t b (length before) until (Own m b (length rest)) (orders_in turns) h told low behind_all (subst Batches (sym w.in_order) w.batches) controls (own_on (board_at m b) 0 (length rest + 349) valid (omega arith)).ticks lines.tracked r.early lines.over set (λ ready_by. used) in
+        let soon = cuts_soon m (Own m b (length rest)) t.clocks b (length before) t.first until until p.seen.begun (own_on (board_at m b) 0 (length rest + 349) valid (omega arith)).ticks lines.tracked r.early (started_in m ts p t told) h lines.over outs (omega arith) in
+        let units = turns_fit (Own m b (length rest)) (clocks_at t.clocks b) (board_at m b).freq (board_at m b).slots (length before) (stops_of p.seen.begun) (cuts_on m t.clocks until p.seen.begun b) turns home soon in
         let limits = limited m v s.switches pins s.entries b whole turns run units in
         let first_low = r.early in
         let set_ups : TakeSetUps m pins s.entries b p.seen.begun turns = elim little.set_up [
           | inl none ↦ clear_set_ups m pins s.entries b turns none w.turns_are limits t.first p.seen.begun (omega (arith, first_low)) row
           | inr takes ↦ takes
         ] in
-        record { by = by; known = known; run = run; count = count; home = home; limits = limits; set_ups = set_ups }
+        record { by = by; known = known; run = run; count = count; home = home; released = soon; controls = controls_limited m v s.switches pins s.entries b whole turns run; set_ups = set_ups }
 
     -- so it is a board of such a run
     pub boarded_by : IsHomeBoard b s.entries (length (came_from [] r.past)) (length (rest ++ end ∷ [])) (cuts_on m t.clocks until p.seen.begun b) (here_by until b w)
@@ -261,7 +264,7 @@ module _ (m : Machine) (v : IsValidMachine m) (s : Scene) (ts : List MotionTurn)
               inl (late, most, cuts_spilled m t.clocks (length (orders_in turns)) until late b p.seen.begun spills, few)
           | inr g ↦ inr g
         ] in
-        subst Long many (home_by m v s b (length before) until (length rest) ts p t turns (states_of w.made) (stands_after (link_of m s b) turns) h (cuts_on m t.clocks until p.seen.begun b) w.turns_are (let size = length-append rest (end ∷ []) in omega (arith, many, size)) x.home x.limits
+        subst Long many (home_by m v s b (length before) until (length rest) ts p t turns (states_of w.made) (stands_after (link_of m s b) turns) h (cuts_on m t.clocks until p.seen.begun b) w.turns_are (let size = length-append rest (end ∷ []) in omega (arith, many, size)) x.home x.released x.controls
         sections (orders_of w.made) w.in_order w.told near)
 
     -- behind its last turn it runs, or shut down for one of the two reasons

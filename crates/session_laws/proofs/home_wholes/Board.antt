@@ -37,7 +37,7 @@ use Rattle.run_laws.proofs.Wholes.{first_of_own}
 use Rattle.session_laws.specs.home_wholes.Still.{BringStill, IsStillAt, IsStillIn}
 use Rattle.session_laws.proofs.home_wholes.Counts.{fits_many, middle_many}
 use Rattle.session_laws.proofs.home_wholes.Cutting.{cut_board}
-use Rattle.session_laws.proofs.home_wholes.Front.{row_later}
+use Rattle.session_laws.proofs.home_wholes.Front.{row_later, released_at}
 use Rattle.session_laws.proofs.home_wholes.Phases.{Holds}
 use Rattle.session_laws.proofs.home_wholes.Section.{made_or_early, made_where_taken, never_last, reason_last}
 use Rattle.run_laws.proofs.Passing.{last_runs, tells}
@@ -273,7 +273,7 @@ module _ (place : ℕ) (entries : List Entry) (ready turns from to : ℕ) (x : O
     pub whole_idle : (n : ℕ) (rest others : List State) (last : State) → to ≤ n → n ≤ turns → AreBefore n s.section.releases → x.states ≡ (rest ++ last ∷ []) ++ others → length (rest ++ last ∷ []) ≡ n → NeverStop (take n x.orders)
         → ((t : ShutNews) → last.shut ≡ Some t → t.reason ≡ timer_too_close → ⊥) → last.idle ≡ true → (oid : ℕ) → length (only oid (told_in from to x)) ≡ length (s.section.plan oid)
     whole_idle n rest others last reach within released cut size never in_time quiet oid = elim (leb_tells (s.section.end + 6) n) [
-      | inl p ↦ let i = is_moves in idle_at (s.section.end + 6) n rest others last (omega arith) (omega arith) i.released p.1 reach within cut size never in_time quiet oid
+      | inl p ↦ let late = p.1 in idle_at (s.section.end + 5) n rest others last (omega arith) (omega arith) (released_at past s later k.released moves) (omega (arith, late)) reach within cut size never in_time quiet oid
       | inr p ↦ let low = p.1 in idle_at n n rest others last (omega (arith, over, reach)) (omega (arith, low)) released (omega arith) reach within cut size never in_time quiet oid
     ]
 
@@ -290,8 +290,7 @@ module _ (place : ℕ) (entries : List Entry) (ready turns from to : ℕ) (x : O
         let size_n : length front ≡ n = length-append y.front (y.state ∷ []) in
         let are : x.states ≡ front ++ y.behind = y.are ∙ sym (append_assoc y.front (y.state ∷ []) y.behind) in
         let few : n ≤ turns = (let e = ap length are in omega (arith, e, length-append front y.behind, size_n, count, size)) in
-        let i = is_moves in
-        let r = ran (s.section.end + 6) n (omega arith) (omega arith) i.released (omega (arith, late, over)) few in
+        let r = ran (s.section.end + 5) n (omega arith) (omega arith) (released_at past s later k.released moves) (omega (arith, late, over)) few in
         let same : r.front ≡ front = front_is r.front r.others front y.behind (sym r.are ∙ are) (r.long ∙ sym size_n) in
         let Told : List State → Type 0 = λ t. AreTold (clock_of x.board) 0 (take n x.orders) t (first_state x.board x.pins place entries) r.last in
         let told = subst Told same r.told in

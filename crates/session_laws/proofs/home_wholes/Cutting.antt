@@ -95,6 +95,7 @@ cut_here x place entries ready ss turns k before during behind all_is r t timely
         ticks = k.own_is.ticks;
         begin = own_first x.board turns own k.own_is;
         run_is = r;
+        released = k.released;
         first_turns = turns_owned x.board own turns 0 before first k.own_is one_within t1.1;
         second_turns = two_turns;
         timely = timely_front (first ++ second) third h (subst Timely whole timely);

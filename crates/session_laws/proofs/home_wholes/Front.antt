@@ -1,14 +1,14 @@
 -- The first turns of a board's part of a run in which axes home, up to the end of a section: a run of the sections up to this one.
-use Rattle.std.proofs.Common.{◌≡◌, ℕ, ◌+◌, ◌≤◌, ◌⊎◌, List, [], ◌∷◌, ◌++◌, All, length, Option, refl, ap, sym, ◌∙◌, subst, arith, inl, inr, append_assoc, append-nil, length-append}
+use Rattle.std.proofs.Common.{◌≡◌, ℕ, ◌+◌, ◌≤◌, ◌⊎◌, List, [], ◌∷◌, ◌++◌, All, length, Option, refl, ap, sym, ◌∙◌, subst, arith, inl, inr, append_assoc, append-nil, length-append, false}
 use Rattle.std.proofs.lemmas.List.{take-append-le}
 use Rattle.std.proofs.lemmas.List.Elements.{All-cons, All-head, All-nil, All-tail}
 use Rattle.plan_types.specs.Lines.{Clocks}
 use Rattle.msg_code.specs.declared.cmd.Cmd.{Cmd}
 use Rattle.msg_code.specs.declared.cmd.Cmd.TheVariants as cmd
 use Rattle.step_feed.specs.Pacing.{batch_at}
-use Rattle.section_units.specs.Sections.{BoardSection}
+use Rattle.section_units.specs.Sections.{BoardSection, AreBefore}
 use Rattle.link_work.specs.Turn.{Orders}
-use Rattle.run_laws.specs.Homes.{AreInTurn, AreOrdersIn, AreOverBy, AreSet, HasUnits, IsControlIn, IsHomeRun, IsSectionBy, RunSection, SetsAny, SetsClock, SetsIn}
+use Rattle.run_laws.specs.Homes.{AreInTurn, AreOrdersIn, AreOverBy, AreSet, HasUnits, IsControlIn, IsHomeRun, IsSectionBy, RunSection, SetsAny, SetsClock, SetsIn, AreReleasedIn}
 use Rattle.run_laws.specs.Parts.{MakesIn}
 use Rattle.run_laws.proofs.HomeControls.{none_sets}
 use Rattle.run_laws.proofs.Spans.{all_split}
@@ -123,3 +123,12 @@ over_front e n [] s later row h = (h, tt)
 over_front e n (t ∷ past) s later row h =
     let rest = row_later t.section.end past s later row.2 in
     (omega (arith, rest.1, rest.2, h), over_front t.section.end n past s later row.2 h)
+
+-- what is released by four turns behind the ends
+pub released_front : (past : List RunSection) (s : RunSection) (later : List RunSection) → AreReleasedIn (past ++ s ∷ later) → AreReleasedIn (past ++ s ∷ [])
+released_front [] s later w = (w.0, tt)
+released_front (t ∷ past) s later w = (w.0, released_front past s later w.1)
+
+pub released_at : (past : List RunSection) (s : RunSection) (later : List RunSection) → AreReleasedIn (past ++ s ∷ later) → s.homes ≡ false → AreBefore (s.section.end + 5) s.section.releases
+released_at [] s later w moves = w.0 moves
+released_at (t ∷ past) s later w moves = released_at past s later w.1 moves

@@ -38,7 +38,7 @@ use Rattle.session_work.specs.declared.table.ReactorTurn.{ReactorTurn}
 use Rattle.session_run.specs.Boards.{came_from, came_in}
 use Rattle.session_run.specs.Runs.{RunsOver}
 use Rattle.run_laws.specs.Ends.{MayBe}
-use Rattle.run_laws.specs.Homes.{IsHomeRun, RunSection}
+use Rattle.run_laws.specs.Homes.{IsHomeRun, RunSection, AreReleasedIn}
 use Rattle.run_boards.specs.Boards.{IsInWhole}
 use Rattle.run_plans.specs.Homed.{is_home}
 use Rattle.run_plans.specs.Planned.{Plans}
@@ -132,9 +132,10 @@ module _ (m : Machine) (v : IsValidMachine m) (s : Scene) (ts : List MotionTurn)
         let Upto = Made m v s ts p t first rest end c told f short little in
         let From = By m v s ts p t first rest end c told f short little in
         let Run : List RunSection → Type 0 = λ ss. IsHomeRun k.own (clocks_at t.clocks Board) (board_at m Board).freq (board_at m Board).slots From k.stops ss (orders_in Turns) in
+        let parts = ap (map (cut_on m t.clocks Upto Board)) cut ∙ map-append (cut_on m t.clocks Upto Board) past (st ∷ later) in
         none_set m s.switches Pins s.entries Board (board_at m Board).freq (board_at m Board).slots From st.end k.own (clocks_at t.clocks Board) k.stops
         (cuts_on m t.clocks Upto past Board) (cut_on m t.clocks Upto Board st) (cuts_on m t.clocks Upto later Board) Turns
-        (subst Run (ap (map (cut_on m t.clocks Upto Board)) cut ∙ map-append (cut_on m t.clocks Upto Board) past (st ∷ later)) k.run_is) (ap is_home home) refl section.0
+        (subst Run parts k.run_is) (subst AreReleasedIn parts k.released) (ap is_home home) refl section.0
 
     runs : (stands_after (link_of m s Board) section.0.past).core.board.controller.state ≡ Running
     runs =

@@ -173,7 +173,7 @@ module _ (m : Machine) (v : IsValidMachine m) (s : Scene) (ts : List MotionTurn)
   set_ups b h =
       let k = on b h in
       let pins = pins_of (board_at m b) b s.switches in
-      let units = turns_fit k.own (clocks_at t.clocks b) (board_at m b).freq (board_at m b).slots By k.stops (cuts_on m t.clocks Made p.seen.begun b) (Turns_of b h) k.run_is in
+      let units = turns_fit k.own (clocks_at t.clocks b) (board_at m b).freq (board_at m b).slots By k.stops (cuts_on m t.clocks Made p.seen.begun b) (Turns_of b h) k.run_is k.released in
       let limits = limited m v s.switches pins s.entries b Came_all (Turns_of b h) (run_of b h) units in
       let early = turn.early in
       elim (little b h (whole b h)).set_up [
@@ -186,7 +186,7 @@ module _ (m : Machine) (v : IsValidMachine m) (s : Scene) (ts : List MotionTurn)
       let k = on b h in
       let pins = pins_of (board_at m b) b s.switches in
       let told_all = all_told m s.switches pins s.entries b By Made ts p t Came_all (Turns_of b h) by told turn.early connected formed (run_of b h) (set_ups b h) in
-      all_homed m s.switches pins s.entries b (board_at m b).freq (board_at m b).slots By k.own (clocks_at t.clocks b) k.stops (stops_of p.seen.begun) (cuts_on m t.clocks Made p.seen.begun b) (Turns_of b h) k.run_is told_all
+      all_homed m s.switches pins s.entries b (board_at m b).freq (board_at m b).slots By k.own (clocks_at t.clocks b) k.stops (stops_of p.seen.begun) (cuts_on m t.clocks Made p.seen.begun b) (Turns_of b h) k.run_is k.released told_all
 
   pub took_states : (b : ℕ) (h : b < length m.boards) → TookStates b (rest ++ end ∷ []) (Here b h).states
   took_states b h = took b (rest ++ end ∷ []) (Here b h).states (whole b h).states

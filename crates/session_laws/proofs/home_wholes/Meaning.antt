@@ -16,7 +16,7 @@ use Rattle.section_units.specs.Sections.{AreBefore, AreBegun, AreChained, BoardS
 use Rattle.link_work.specs.Turn.{Orders}
 use Rattle.run_laws.specs.Known.{Known, Sent, known_from, knows_of, sent_at, sent_in}
 use Rattle.run_laws.specs.Courses.{Course, course_behind, course_from, course_of, next_part}
-use Rattle.run_laws.specs.Homes.{AreInTurn, AreOrdersIn, IsControlIn, IsSectionBy, RunSection, SetsClock}
+use Rattle.run_laws.specs.Homes.{AreInTurn, AreOrdersIn, IsControlIn, IsSectionBy, RunSection, SetsClock, AreReleasedIn}
 use Rattle.run_laws.proofs.Entering.{dir_told}
 use Rattle.run_laws.proofs.HomeControls.{none_sets}
 use Rattle.run_laws.proofs.HomeUnits.{ArePlain, IsPlain, clock_ahead, other_unit, set_at, unclocked, unit_plain}
@@ -190,9 +190,10 @@ none_before : (turn k : ℕ) (rs : List Release) → AreBefore k rs → k ≤ tu
 none_before turn k [] a h = refl
 none_before turn k (r ∷ rs) a h = elim (eqb_tells r.turn turn) [ inl p ↦ absurd (omega (arith, p.1, a.0, h)) | inr p ↦ rw p.0 (none_before turn k rs a.1 h) ]
 
-section_over : (clocks : Clocks) (freq slots until turn : ℕ) (stops : ℕ → Option ℕ) (homes : Bool) (s : BoardSection) → IsSectionBy homes clocks freq slots until stops s → s.end + 6 ≤ turn → batch_at turn s.releases ≡ []
-section_over clocks freq slots until turn stops true s i h = none_before turn s.end s.releases i.released (omega (arith, h))
-section_over clocks freq slots until turn stops false s i h = none_before turn (s.end + 6) s.releases i.released h
+section_over : (clocks : Clocks) (freq slots until turn : ℕ) (stops : ℕ → Option ℕ) (homes : Bool) (s : BoardSection) → IsSectionBy homes clocks freq slots until stops s → (homes ≡ false → AreBefore (s.end + 5) s.releases)
+    → s.end + 6 ≤ turn → batch_at turn s.releases ≡ []
+section_over clocks freq slots until turn stops true s i soon h = none_before turn s.end s.releases i.released (omega (arith, h))
+section_over clocks freq slots until turn stops false s i soon h = none_before turn (s.end + 5) s.releases (soon refl) (omega (arith, h))
 
 from_start : (f : ℕ) (s : BoardSection) → f + 250 ≡ s.start → AreFrom f s.releases → AreFrom (s.start - 250) s.releases
 from_start f s h a = from_down (s.start - 250) f s.releases (omega (arith, h)) a
@@ -218,30 +219,30 @@ sets_over clocks s turn clock later moves row h (inl x) = let e : true ≡ false
 sets_over clocks s turn clock later moves row h (inr x) = none_sets clocks s.section.end turn clock later row h x
 
 one_window : (clocks : Clocks) (freq slots until turn e : ℕ) (stops : ℕ → Option ℕ) (past : List RunSection) (s : RunSection) (later : List RunSection) → All (λ (x : RunSection). IsSectionBy x.homes clocks freq slots until stops x.section) (past ++ s ∷ later)
-    → AreInTurn e (past ++ s ∷ later) → s.homes ≡ false → s.section.start ≤ turn + 250 → turn ≤ s.section.end + 5
+    → AreInTurn e (past ++ s ∷ later) → AreReleasedIn (past ++ s ∷ later) → s.homes ≡ false → s.section.start ≤ turn + 250 → turn ≤ s.section.end + 5
     → SetsNone clocks (past ++ s ∷ later) turn × (units_at turn (past ++ s ∷ later) ≡ batch_at turn s.section.releases) × (e + 260 ≤ s.section.start)
-one_window clocks freq slots until turn e stops [] s later i row moves soon h =
+one_window clocks freq slots until turn e stops [] s later i row out moves soon h =
     let P : RunSection → Type 0 = λ (x : RunSection). IsSectionBy x.homes clocks freq slots until stops x.section in (
       λ clock x. sets_over clocks s turn clock later moves row.2 h x,
       ap (λ x. batch_at turn s.section.releases ++ x) (later_none clocks freq slots until turn s.section.end stops later (All-tail P s later i) row.2 h) ∙ append-nil (batch_at turn s.section.releases),
       row.0,
     )
-one_window clocks freq slots until turn e stops (t ∷ past) s later i row moves soon h =
+one_window clocks freq slots until turn e stops (t ∷ past) s later i row out moves soon h =
     let P : RunSection → Type 0 = λ (x : RunSection). IsSectionBy x.homes clocks freq slots until stops x.section in
-    let rest = one_window clocks freq slots until turn t.section.end stops past s later (All-tail P t (past ++ s ∷ later) i) row.2 moves soon h in
-    let over = section_over clocks freq slots until turn stops t.homes t.section (All-head P t (past ++ s ∷ later) i) (omega (arith, rest.2, soon)) in (
+    let rest = one_window clocks freq slots until turn t.section.end stops past s later (All-tail P t (past ++ s ∷ later) i) row.2 out.1 moves soon h in
+    let over = section_over clocks freq slots until turn stops t.homes t.section (All-head P t (past ++ s ∷ later) i) out.0 (omega (arith, rest.2, soon)) in (
       λ clock x. elim x [ inl y ↦ absurd (omega (arith, y.1, y.2, rest.2, soon, row.1)) | inr y ↦ rest.0 clock y ],
       ap (λ x. x ++ units_at turn (past ++ s ∷ later)) over ∙ rest.1,
       omega (arith, rest.2, row.0, row.1),
     )
 
 pub window_brings : (clocks : Clocks) (freq slots until e : ℕ) (stops : ℕ → Option ℕ) (past : List RunSection) (s : RunSection) (later : List RunSection) (os : List Orders) (turn : ℕ)
-    → All (λ (x : RunSection). IsSectionBy x.homes clocks freq slots until stops x.section) (past ++ s ∷ later) → AreInTurn e (past ++ s ∷ later) → s.homes ≡ false → s.section.start ≤ turn + 250 → turn + length os ≤ s.section.end + 6
+    → All (λ (x : RunSection). IsSectionBy x.homes clocks freq slots until stops x.section) (past ++ s ∷ later) → AreInTurn e (past ++ s ∷ later) → AreReleasedIn (past ++ s ∷ later) → s.homes ≡ false → s.section.start ≤ turn + 250 → turn + length os ≤ s.section.end + 6
     → AreOrdersIn clocks (past ++ s ∷ later) turn os → Brings clocks (past ++ s ∷ later) turn s.section.releases os
-window_brings clocks freq slots until e stops past s later [] turn i row moves soon h os = tt
-window_brings clocks freq slots until e stops past s later (o ∷ rest) turn i row moves soon h os =
-    let one = one_window clocks freq slots until turn e stops past s later i row moves soon (omega (arith, h)) in
-    (os.0, one.0, os.1 ∙ one.1, window_brings clocks freq slots until e stops past s later rest (turn + 1) i row moves (omega (arith, soon)) (omega (arith, h)) os.2)
+window_brings clocks freq slots until e stops past s later [] turn i row out moves soon h os = tt
+window_brings clocks freq slots until e stops past s later (o ∷ rest) turn i row out moves soon h os =
+    let one = one_window clocks freq slots until turn e stops past s later i row out moves soon (omega (arith, h)) in
+    (os.0, one.0, os.1 ∙ one.1, window_brings clocks freq slots until e stops past s later rest (turn + 1) i row out moves (omega (arith, soon)) (omega (arith, h)) os.2)
 
 pub orders_behind : (clocks : Clocks) (ss : List RunSection) (turn : ℕ) (xs ys : List Orders) → AreOrdersIn clocks ss turn (xs ++ ys) → AreOrdersIn clocks ss (turn + length xs) ys
 orders_behind clocks ss turn [] ys h = let e : turn ≡ turn + 0 = omega arith in subst (λ (n : ℕ). AreOrdersIn clocks ss n ys) e h

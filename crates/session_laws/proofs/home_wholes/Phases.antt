@@ -45,6 +45,7 @@ Holds steps ps = (early : List Pulse) × (more : List Pulse) × (ps ≡ early ++
 -- Some commands that are queued before a turn, and what they mean for each stepper: these steps, all before the board's tick of another turn, of a part
 -- that was begun in a turn or later.
 pub record Aim (p : Script) : Type 0 where
+  pub none : p.tail ≡ []
   pub low : ℕ
   pub upto : List Sent
   pub rest : List Sent

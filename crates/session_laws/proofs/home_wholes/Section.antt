@@ -34,9 +34,9 @@ use Rattle.run_laws.proofs.Lists.{orders_append, orders_at, own_up}
 use Rattle.run_laws.proofs.Spans.{all_split, section_early, sent_in_append}
 use Rattle.run_laws.proofs.Releasing.{AreFrom}
 use Rattle.run_laws.proofs.Standing.{BoardStands, made_for}
-use Rattle.run_laws.proofs.Stepping.{Going, Keeps, Script, course_append}
+use Rattle.run_laws.proofs.Stepping.{Going, Keeps, Script, course_append, none_heed}
 use Rattle.run_laws.proofs.Turning.{timely_behind, timely_front}
-use Rattle.session_laws.proofs.home_wholes.Front.{over_front, row_later, run_front}
+use Rattle.session_laws.proofs.home_wholes.Front.{over_front, row_later, run_front, released_front}
 use Rattle.session_laws.proofs.home_wholes.Meaning.{all_mean, orders_behind, section_from, turns_mean, window_brings}
 use Rattle.session_laws.proofs.home_wholes.Phases.{Aim, AllStill, AreFree, Holds, IsSince, finish}
 use Rattle.session_laws.proofs.home_wholes.Stages.{Stage, done_same, turns_stage}
@@ -161,7 +161,7 @@ module _ (b : BoardDef) (pins : List (List Level)) (own : ℕ → ℕ) (clocks :
       let At : ℕ → Type 0 = λ n. AreOrdersIn clocks (past ++ s ∷ later) n (mine ++ (others ++ behind)) in
       let here = orders_first a mine (others ++ behind) (subst At zero_more all) in
       let b_first : s.section.start - 250 ≡ a = omega (arith, low) in
-      let window = window_brings clocks b.freq b.slots r.run_is.tracked.until ready stops past s later mine a r.run_is.sections r.run_is.row moves (omega (arith, low)) (omega (arith, limit)) here in
+      let window = window_brings clocks b.freq b.slots r.run_is.tracked.until ready stops past s later mine a r.run_is.sections r.run_is.row r.released moves (omega (arith, low)) (omega (arith, limit)) here in
       let c = courses (sent_in 0 before) oid in
       let left = turns_mean a clocks b.slots (base_of clocks s.section) oid total (past ++ s ∷ later) mine a is.from c [] s.section.releases (omega arith) (inl (is.begun oid, refl)) is.paced
       (subst (λ n. AreFrom n s.section.releases) b_first from_b) window in
@@ -186,6 +186,7 @@ module _ (b : BoardDef) (pins : List (List Level)) (own : ℕ → ℕ) (clocks :
 
   aim : Aim P
   aim = record {
+    none = refl;
     low = length before;
     upto = Upto;
     rest = Rest;
@@ -216,7 +217,7 @@ module _ (b : BoardDef) (pins : List (List Level)) (own : ℕ → ℕ) (clocks :
   mid_keeps : Keeps P (length before) (length before) (sent_in 0 before) Mid
   mid_keeps =
       let zero_more : 0 + length before ≡ length before = omega arith in
-      let k = turns_keep P 0 [] (sent_in (length before) (mine ++ others) ++ sent_in End behind) before first (start b pins) r.first_turns (begins P b pins r.begin refl) whole_is (timely_front first second (start b pins) r.timely) r.first_settled in
+      let k = turns_keep P 0 [] (sent_in (length before) (mine ++ others) ++ sent_in End behind) before first (start b pins) r.first_turns (begins P b pins r.begin refl) whole_is (timely_front first second (start b pins) r.timely) r.first_settled (none_heed P.front [] first (start b pins) refl) in
       subst (λ n. Keeps P n n (sent_in 0 before) Mid) zero_more k.1
 
   abbrev Sent_by : List Sent
@@ -227,7 +228,7 @@ module _ (b : BoardDef) (pins : List (List Level)) (own : ℕ → ℕ) (clocks :
 
   last_keeps : Keeps P End End Sent_by Last
   last_keeps =
-      let k = turns_keep P (length before) (sent_in 0 before) (sent_in End behind) (mine ++ others) second Mid r.second_turns mid_keeps last_all (timely_behind first second (start b pins) r.timely) r.second_settled in
+      let k = turns_keep P (length before) (sent_in 0 before) (sent_in End behind) (mine ++ others) second Mid r.second_turns mid_keeps last_all (timely_behind first second (start b pins) r.timely) r.second_settled (none_heed P.front [] second Mid refl) in
       subst (λ (h : Core). Keeps P End End Sent_by h) (sym (run_append first second (start b pins))) k.1
 
   -- as the section's units may be released
@@ -279,7 +280,7 @@ module _ (b : BoardDef) (pins : List (List Level)) (own : ℕ → ℕ) (clocks :
       let front = run_front own clocks b.freq b.slots ready stops past s later xs ys (subst Run cut_all r.run_is) (omega (arith, long, limit)) in
       let sent : Upto ≡ sent_in 0 xs = ap (λ n. sent_in 0 before ++ sent_in n mine) (sym zero_more) ∙ sym (sent_in_append 0 before mine) in
       let Made : List Sent → Type 0 = λ x. AreMadeFor own stops (parts_of (courses x oid)) (only oid Last.made) in
-      let f = run_fronts own clocks b.freq b.slots ready stops (past ++ s ∷ []) xs r.ticks front oid (only oid Last.made) (subst Made sent made) in
+      let f = run_fronts own clocks b.freq b.slots ready stops (past ++ s ∷ []) xs r.ticks front (released_front past s later r.released) oid (only oid Last.made) (subst Made sent made) in
       fronts_early own oid (s.section.end + 5) (past ++ s ∷ []) (only oid Last.made) r.ticks (over_front ready (s.section.end + 5) past s later r.run_is.row (omega arith)) f
 
   finished : (g : Going P End End Sent_by Last) → g.done ≡ Upto → AreFree (length before) (courses g.done) Last.board.controller → AllSteps

@@ -23,7 +23,7 @@ use Rattle.run_laws.specs.Courses.{courses, no_course, AreAllGood, AreInTime, Ar
 use Rattle.run_laws.proofs.Commanding.{AreQueued}
 use Rattle.run_laws.proofs.Coursed.{old_at, pass_keeps, quiet_keep, settles, time_at}
 use Rattle.run_laws.proofs.Lists.{cuts, orders_append, own_up, sent_append}
-use Rattle.run_laws.proofs.Stepping.{Going, Keeps, Script, good_behind, good_front, queued_behind, queued_front, queues_on, quiet_keeps, time_front}
+use Rattle.run_laws.proofs.Stepping.{Going, Keeps, Script, good_behind, good_front, queued_behind, queued_front, queues_on, quiet_keeps, time_front, none_heed}
 use Rattle.run_laws.proofs.Turning.{timely_behind, timely_front}
 use Rattle.session_laws.proofs.home_wholes.Phases.{Aim, Phase, more_made, shut_on, take_ahead}
 use Rattle.session_laws.proofs.home_wholes.Still.{time_passes}
@@ -52,6 +52,9 @@ done_same xs ys zs ws all e f same = front_same xs ys zs ws (e ∙ sym f) (sym (
 clash : (r t f : ℕ) → Running ≡ Shut r t f → ⊥
 clash r t f e = cc
 
+all_front : (p : Script) → Aim p → p.front ≡ p.all
+all_front p a = sym (append-nil p.front) ∙ ap (λ x. p.front ++ x) (sym a.none) ∙ p.are
+
 -- an event that queues nothing and lets no time pass
 these_stage : (p : Script) (a : Aim p) (by turn : ℕ) (sent rest : List Sent) (h : Core) (r : Going p by turn sent h) (first others : List Sent) → sent ++ rest ≡ p.all → by ≤ turn → AreQueued by sent → r.left ≡ first ++ others
     → AreTimely (p.own turn) (orders_in first) → (takes_all h.board (commands_of (orders_in first))).rig.controller.state ≡ Running → Stage p a h
@@ -62,7 +65,7 @@ these_stage p a by turn sent rest h r first others all le old split timely on g 
     let before : r.done ++ (r.left ++ rest) ≡ p.all = sym (append_assoc r.done r.left rest) ∙ ap (λ x. x ++ rest) (sym r.sent_is) ∙ all in
     let Good : List Sent → Type 0 = λ x. AreAllGood p.own p.stops p.slots x in
     let good = λ (oid : ℕ). good_front p.own p.stops p.slots oid (courses r.done oid) first (others ++ rest)
-    (good_behind p.own p.stops p.slots oid no_course r.done (first ++ (others ++ rest)) (subst Good (sym whole) p.good oid)) in
+    (good_behind p.own p.stops p.slots oid no_course r.done (first ++ (others ++ rest)) (subst Good (all_front p a ∙ sym whole) p.good oid)) in
     let Old : List Sent → Type 0 = λ x. AreQueued by x in
     let Time : List Sent → Type 0 = λ x. AreInTime p.stops by x in
     let time = subst Time split r.in_time in
@@ -118,7 +121,7 @@ quiet_stage p a by turn sent h (Do e) q k timely g = event_stage p a by turn sen
 quiet_stages : (p : Script) (a : Aim p) (by turn : ℕ) (sent : List Sent) (steps : List Step) (h : Core) → AreQuiet steps → Keeps p by turn sent h → AllTimely h steps → Stage p a h → Stage p a (run steps h)
 quiet_stages p a by turn sent [] h q k timely g = g
 quiet_stages p a by turn sent (s ∷ steps) h q k timely g =
-    quiet_stages p a by turn sent steps (after h s) q.1 (quiet_keeps p by turn sent h s q.0 k timely.0).1 timely.1 (quiet_stage p a by turn sent h s q.0 k timely.0 g)
+    quiet_stages p a by turn sent steps (after h s) q.1 (quiet_keeps p by turn sent h s q.0 k timely.0 (none_heed p.front p.tail (s ∷ []) h a.none).0).1 timely.1 (quiet_stage p a by turn sent h s q.0 k timely.0 g)
 
 -- time
 pass_stage : (p : Script) (a : Aim p) (by turn t : ℕ) (sent : List Sent) (h : Core) → Keeps p by turn sent h → Stage p a h → Stage p a (happens h (Pass t))
@@ -152,7 +155,7 @@ turn_steps_stage p a turn sent rest o before rear h bq rq k all timely g =
     let pass = Do (Pass (p.own (turn + 1))) in
     let split : sent_at turn (queued_in o) ≡ sent_at turn cs ++ sent_at turn us = sent_append turn cs us in
     let h1 = after h (Turn turn) in
-    let k1 = (quiet_keeps p turn turn sent h (Turn turn) tt k tt).1 in
+    let k1 = (quiet_keeps p turn turn sent h (Turn turn) tt k tt tt).1 in
     let h2 = happens h1 (Control o.control) in
     let whole : ((sent ++ sent_at turn cs) ++ sent_at turn us) ++ rest ≡ p.all =
     ap (λ x. x ++ rest) (append_assoc sent (sent_at turn cs) (sent_at turn us) ∙ ap (λ x. sent ++ x) (sym split)) ∙ all in
@@ -164,7 +167,7 @@ turn_steps_stage p a turn sent rest o before rear h bq rq k all timely g =
     queues_on p turn turn (sent ++ sent_at turn cs) rest h2 (Put o.batch) k2 whole (time_at p.stops turn us (p.ahead turn)) (old_at turn us) refl refl refl in
     let g3 = queued_stage p a h2 (Put o.batch) refl refl refl g2 in
     let early = timely_front before (pass ∷ rear) h3 timely.1.1.1 in
-    let q = quiet_keep p turn turn ((sent ++ sent_at turn cs) ++ sent_at turn us) before h3 bq k3 early in
+    let q = quiet_keep p turn turn ((sent ++ sent_at turn cs) ++ sent_at turn us) before h3 bq k3 early (none_heed p.front p.tail before h3 a.none) in
     let g4 = quiet_stages p a turn turn ((sent ++ sent_at turn cs) ++ sent_at turn us) before h3 bq k3 early g3 in
     let h4 = run before h3 in
     let k5 = pass_keeps p turn ((sent ++ sent_at turn cs) ++ sent_at turn us) h4 q.1 in
@@ -172,7 +175,7 @@ turn_steps_stage p a turn sent rest o before rear h bq rq k all timely g =
     let h5 = after h4 pass in
     let late = timely_behind before (pass ∷ rear) h3 timely.1.1.1 in
     let g6 = quiet_stages p a turn (turn + 1) ((sent ++ sent_at turn cs) ++ sent_at turn us) rear h5 rq k5.0 late.1 g5 in
-    let r = quiet_keep p turn (turn + 1) ((sent ++ sent_at turn cs) ++ sent_at turn us) rear h5 rq k5.0 late.1 in
+    let r = quiet_keep p turn (turn + 1) ((sent ++ sent_at turn cs) ++ sent_at turn us) rear h5 rq k5.0 late.1 (none_heed p.front p.tail rear h5 a.none) in
     let At : List Sent → Type 0 = λ x. Keeps p turn (turn + 1) x (run rear h5) in
     let To : Core → Type 0 = λ x. TurnGoes p a turn sent o x in
     subst To (sym (run_append before (pass ∷ rear) h3)) (subst At (append_assoc sent (sent_at turn cs) (sent_at turn us) ∙ ap (λ x. sent ++ x) (sym split)) r.1, g6)

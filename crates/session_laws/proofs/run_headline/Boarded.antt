@@ -49,7 +49,7 @@ use Rattle.run_laws.specs.Parts.{AreOrdersOf, IsRun, MakesIn}
 use Rattle.run_parts.proofs.Going.{own_on}
 use Rattle.run_laws.specs.Links.{turns_told}
 use Rattle.run_laws.proofs.Calm.{calm_links}
-use Rattle.run_laws.proofs.HeededLinks.{few_heeded}
+use Rattle.run_laws.proofs.HeededLinks.{few_heeded, ten_seconds}
 use Rattle.run_laws.specs.Timely.{ControlsKeep}
 use Rattle.run_laws.specs.Stops.{NeverStop}
 use Rattle.run_boards.specs.Boards.{IsInWhole, TookEach, behind, orders_of, states_of}
@@ -450,7 +450,7 @@ module _ (m : Machine) (v : IsValidMachine m) (s : Scene) (ts : List MotionTurn)
       record {
         timely = few_heeded def pins b s.entries (Own m b (length rest)) (clocks_at t.clocks b) (length (came_from [] r.past)) 10_000 (length p.made) parts (orders_of w.made) after all (subst (λ n. AreOwn def n (Own m b (length rest))) (sym x.count) (own_to b h)) x.is (sent_on m t.clocks (length p.made) b p.seen.begun h homes (all_sent m (length m.boards) ts p t told)) (omega (arith, x.count, goes))
             (controls_before b r w x)
-            (λ k. elim little.few [ inl e ↦ omega (arith, calm_links clock def pins b s.entries (orders_of w.made) after all k e) | inr f ↦ f k ]) (omega arith);
+            (λ k. elim little.few [ inl e ↦ omega (arith, calm_links clock def pins b s.entries (orders_of w.made) after all k e) | inr f ↦ f k ]) (ten_seconds def (length (rest ++ end ∷ [])) 10_000 (Own m b (length rest)) (own_to b h) (omega arith));
       }
 
   homes : (came : List Came) → GoesOn m s.switches came → AllMoves came → NoneHomes m s.switches came

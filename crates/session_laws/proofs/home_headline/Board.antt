@@ -11,6 +11,7 @@ use Rattle.msg_code.specs.declared.talk.State.{State}
 use Rattle.msg_code.specs.declared.talk.WordMsg.{WordMsg}
 use Rattle.wire_scene.specs.declared.scene.Scene.{Scene}
 use Rattle.link_work.specs.Ends.{spoiled}
+use Rattle.link_work.specs.Limits.{AllKeepLimits}
 use Rattle.link_work.specs.Runs.{AreTurns}
 use Rattle.link_work.specs.Switches.{pins_of}
 use Rattle.link_work.specs.Turn.{LinkState, Orders}
@@ -181,6 +182,7 @@ module _ (m : Machine) (v : IsValidMachine m) (s : Scene) (ts : List MotionTurn)
         (cuts_on m t.clocks until p.seen.begun b) (orders_in turns)
     pub released : AreReleasedIn (cuts_on m t.clocks until p.seen.begun b)
     pub controls : (done : List Orders) (o : Orders) (more : List Orders) → orders_in turns ≡ done ++ (o ∷ more) → ControlsKeep done
+    pub limits : (done : List Orders) (o : Orders) (more : List Orders) → orders_in turns ≡ done ++ (o ∷ more) → AllKeepLimits done
     pub set_ups : TakeSetUps m (pins_of (board_at m b) b s.switches) s.entries b p.seen.begun turns
 
   -- a turn up to which the planner made all turns of the run, and behind it none
@@ -235,7 +237,7 @@ module _ (m : Machine) (v : IsValidMachine m) (s : Scene) (ts : List MotionTurn)
           | inl none ↦ clear_set_ups m pins s.entries b turns none w.turns_are limits t.first p.seen.begun (omega (arith, first_low)) row
           | inr takes ↦ takes
         ] in
-        record { by = by; known = known; run = run; count = count; home = home; released = soon; controls = controls_limited m v s.switches pins s.entries b whole turns run; set_ups = set_ups }
+        record { by = by; known = known; run = run; count = count; home = home; released = soon; controls = controls_limited m v s.switches pins s.entries b whole turns run; limits = limits; set_ups = set_ups }
 
     -- so it is a board of such a run
     pub boarded_by : IsHomeBoard b s.entries (length (came_from [] r.past)) (length (rest ++ end ∷ [])) (cuts_on m t.clocks until p.seen.begun b) (here_by until b w)

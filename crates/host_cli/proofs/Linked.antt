@@ -52,6 +52,14 @@ use Rattle.session_laws.proofs.run_headline.Cutting.{run_silent}
 use Rattle.session_laws.proofs.run_headline.Making.{run_made}
 use Rattle.session_laws.specs.run_links.Links.{AreLinksIn}
 use Rattle.session_laws.proofs.run_links.Links.{run_links}
+use Rattle.session_laws.proofs.run_lates.Ending.{run_home_tells, run_near_tells}
+use Rattle.session_laws.proofs.run_lates.Late.{run_late}
+use Rattle.session_laws.proofs.run_lates.Naming.{run_home_units}
+use Rattle.session_laws.proofs.run_turns.Ending.{ends}
+use Rattle.session_laws.proofs.run_turns.Starting.{starts}
+use Rattle.session_laws.proofs.run_turns.Words.{run_taken}
+use Rattle.session_laws.proofs.run_clocks.First as clocks
+use Rattle.session_laws.proofs.run_clocks.Printed.{run_printed}
 use Rattle.session_laws.proofs.run_headline.Runs.{facts, run_ended, run_names, run_none, run_shows}
 use Rattle.session_laws.proofs.run_headline.Showing.{cut_last}
 use Rattle.session_laws.proofs.home_headline.Cuts.{run_answers}
@@ -955,6 +963,12 @@ module _ {F S : Type 0} (f : Files F) (o : Sink S) (m : Machine) (s : Scene) (gc
   of_no_switch : (r : IsReported f o m s gcode files files' out out' c lines counts links) (section : ℕ) → c ≡ cause.NoSwitch section → r.told.cause ≡ cause.NoSwitch section
   of_no_switch r section e = of_run r (cause.NoSwitch section) (λ g. let h : cause.NoSwitch section ≡ cause.Memory = g in cc) (λ g. let h : cause.NoSwitch section ≡ cause.WriteFault = g in cc) e
 
+  of_late : (r : IsReported f o m s gcode files files' out out' c lines counts links) (board first arrival spoiled spill : ℕ) → c ≡ cause.Late board first arrival spoiled spill
+      → r.told.cause ≡ cause.Late board first arrival spoiled spill
+  of_late r board first arrival spoiled spill e =
+      let late = cause.Late board first arrival spoiled spill in
+      of_run r late (λ g. let h : late ≡ cause.Memory = g in cc) (λ g. let h : late ≡ cause.WriteFault = g in cc) e
+
   -- and so does one of any text whose switches close in time
   switches_complete : (r : IsReported f o m s gcode files files' out out' c lines counts links) (text : List ℕ) → f.told files gcode ≡ Some text → ((line : ℕ) → (program_end m text).stop ≡ read.Stop line → ⊥)
       → s.entries ≡ [] → SendsAllSoon m text r.runs.runs.0 → AllClose m s text r.runs.runs.0 → IsCauseOf (cause_of (program_end m text).stop) c
@@ -999,6 +1013,26 @@ module _ {F S : Type 0} (f : Files F) (o : Sink S) (m : Machine) (s : Scene) (gc
         (of_run r (cause.Stale board turn) (λ g. let h : cause.Stale board turn ≡ cause.Memory = g in cc) (λ g. let h : cause.Stale board turn ≡ cause.WriteFault = g in cc) e);
     expired = λ board turn e. run_first f o m s gcode files files' out r.behind r.kept r.kept' r.told r.runs board turn
         (of_run r (cause.Expired board turn) (λ g. let h : cause.Expired board turn ≡ cause.Memory = g in cc) (λ g. let h : cause.Expired board turn ≡ cause.WriteFault = g in cc) e);
+    late = λ board first arrival spoiled spill e. run_late f o m s gcode files files' out r.behind r.kept r.kept' r.told r.runs v board first arrival spoiled spill (of_late r board first arrival spoiled spill e);
+    late_unit = λ text told board first arrival spoiled spill e little.
+        run_home_units f o m s gcode files files' out r.behind r.kept r.kept' r.told r.runs v short board first arrival spoiled spill text told r.fresh.at (of_late r board first arrival spoiled spill e) little;
+    shutdowns = λ text told other near. elim near [
+      | inl little ↦ run_home_tells f o m s gcode files files' out r.behind r.kept r.kept' r.told r.runs v short text told r.fresh.at other little
+      | inr x ↦ run_near_tells f o m s gcode files files' out r.behind r.kept r.kept' r.told r.runs v short text told r.fresh.at other x.0 x.1
+    ];
+    times = λ text told. ∥∥₁_map (run_made f o m s gcode files files' out r.behind r.kept r.kept' r.told r.runs text told r.fresh.at) (λ w.
+        let ts = r.runs.runs.0 in
+        let rs = r.runs.runs.1 in
+        let took = run_taken f o m s gcode files files' out r.behind r.kept r.kept' r.told r.runs ts [] (sym (append-nil ts)) in (
+          w.0,
+          w.1,
+          record {
+            first = λ t known. starts m v s ts w.0.plans t r.runs.runs.2 known rs took;
+            ends = λ past x others axis. ends m s ts w.0.plans rs took past x others axis;
+            exact = λ other t known. clocks.run_first f o m s gcode files files' out r.behind r.kept r.kept' r.told r.runs v other w.0 t known;
+          },
+        ));
+    board_lines = λ other. run_printed f o m s gcode files files' out r.behind r.kept r.kept' r.told r.runs v other;
   }
 
 -- none was begun

@@ -7,6 +7,7 @@ pub mod Promises
 pub mod Answers
 pub mod Cuts
 pub mod Homes
+pub mod Times
 pub mod Scenes
 pub mod Traffic
 pub mod Fans

@@ -24,8 +24,13 @@ use Rattle.session_laws.specs.home_headline.Cuts.{TellAnswers, cuts_of}
 use Rattle.session_laws.specs.home_headline.Reports.{TellOfReadings}
 use Rattle.session_laws.specs.run_headline.Told.{AreTold}
 use Rattle.session_laws.specs.run_links.Links.{AreLinksIn}
+use Rattle.session_laws.specs.run_lates.Late.{AllMayTell, ComesLateIn, HasLateUnitIn}
+use Rattle.session_laws.specs.run_clocks.Printed.{TellKnownLines}
+use Rattle.session_laws.specs.run_ends.Boards.{boards_of}
+use Rattle.session_desk.specs.Desks.{lines_of}
+use Rattle.motion_work.specs.Told.{Told as Heard}
 use Rattle.session_laws.specs.run_headline.Further.{AreNamed, BoardsFirst, TellsFurther}
-use Rattle.session_laws.specs.run_headline.Timely.{AreOfMoves, AreSound, HoldsNothingLong}
+use Rattle.session_laws.specs.run_headline.Timely.{AllTakeNear, AreOfMoves, AreSound, HoldsNothingLong}
 use Rattle.session_laws.specs.run_lines.Due.{BoardsHave, StandApart}
 use Rattle.session_laws.specs.home_headline.Little.{AllHomeLittle, ShownHoldLittle}
 use Rattle.session_laws.specs.home_wholes.Own.{AllHearSoon, TellOwn}
@@ -38,6 +43,7 @@ use Rattle.host_cli.specs.Headline.{moves_of}
 use Rattle.host_cli.specs.Homes.{ShowsBegun, ShowsFront, ShowsHomes}
 use Rattle.host_cli.specs.Promises.{FollowsPlanBy, IsCauseOf, IsCompleteBefore, IsCompleteBy, IsCut, lines_line, sections_by, sections_over}
 use Rattle.host_cli.specs.Shown.{section_turn, sections_shown}
+use Rattle.host_cli.specs.Times.{AreTimed}
 
 -- What the lines of a run over links show of a text of moves, as they were written, with those of pulses.
 pub record ShowsText (m : Machine) (text : List ℕ) (c : Cause) (said : List ReportLine) : Type 0 where
@@ -127,6 +133,23 @@ pub record IsLinkReport {F S : Type 0} (f : Files F) (o : Sink S) (m : Machine) 
   pub connect : (text : List ℕ) → f.told files gcode ≡ Some text → (board turn : ℕ) → c ≡ cause.Connect board turn → ∥ GaveNoAnswer m s board turn reported.runs.runs.0 reported.runs.runs.1 reported.runs.runs.2 ∥₁
   pub stale : (board turn : ℕ) → c ≡ cause.Stale board turn → IsStaleSince m s board turn reported.runs.runs.0 reported.runs.runs.1 reported.runs.runs.2
   pub expired : (board turn : ℕ) → c ≡ cause.Expired board turn → IsFirstExpired m s.switches board turn reported.runs.runs.1 reported.runs.runs.2
+  pub late : (board first arrival spoiled spill : ℕ) → c ≡ cause.Late board first arrival spoiled spill →
+      ComesLateIn m s board first arrival spoiled spill reported.runs.runs.0 reported.runs.runs.1 reported.runs.runs.2
+  pub late_unit : (text : List ℕ) → f.told files gcode ≡ Some text → (board first arrival spoiled spill : ℕ) → c ≡ cause.Late board first arrival spoiled spill →
+      AllHomeLittle m s text reported.runs.runs.0 (reported.runs.runs.1 ++ reported.runs.runs.2 ∷ []) →
+      ∥ ((made : IsMade m s reported.runs.runs.0 reported.runs.runs.1) × (made.plans.seen.text ≡ text)
+      × (x : ComesLateIn m s board first arrival spoiled spill reported.runs.runs.0 reported.runs.runs.1 reported.runs.runs.2)
+      × ((heard : Heard) × (made.plans.seen.told ≡ Some heard)
+      × HasLateUnitIn m s board first arrival spoiled spill reported.runs.runs.0 reported.runs.runs.1 reported.runs.runs.2 heard.clocks made.plans.seen.begun x)) ∥₁
+  pub shutdowns : (text : List ℕ) → f.told files gcode ≡ Some text → (reported.told.cause ≡ cause.Memory → ⊥) →
+      AllHomeLittle m s text reported.runs.runs.0 (reported.runs.runs.1 ++ reported.runs.runs.2 ∷ [])
+      ⊎ (AreOfMoves (sections_over m text) × AllTakeNear m s text reported.runs.runs.0 (reported.runs.runs.1 ++ reported.runs.runs.2 ∷ [])) →
+      ∥ AllMayTell (reported.runs.runs.1 ++ reported.runs.runs.2 ∷ []) ∥₁
+  pub times : (text : List ℕ) → f.told files gcode ≡ Some text →
+      ∥ ((made : IsMade m s reported.runs.runs.0 reported.runs.runs.1) × (made.plans.seen.text ≡ text)
+      × AreTimed m s reported.told.cause reported.runs.runs.0 reported.runs.runs.1 reported.runs.runs.2 made.plans.seen) ∥₁
+  pub board_lines : (reported.told.cause ≡ cause.Memory → ⊥) → (boards_of (lines_of (reported.runs.runs.1 ++ reported.runs.runs.2 ∷ [])) ≡ [])
+      ⊎ TellKnownLines m s.switches reported.runs.runs.1 (lines_of (reported.runs.runs.1 ++ reported.runs.runs.2 ∷ []))
 
 -- Links: the report is that of a run of the planner, a link for each board and the reactor, over this file of G-code; or there is
 -- an end line alone, of want of memory or of a file that can't be read.

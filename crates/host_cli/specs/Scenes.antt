@@ -99,7 +99,10 @@ pub record ShowsText (m : Machine) (text : List ℕ) (c : Cause) (said : List Re
 -- never closed; where each section's switch closes in time (`AllClose`) there is no such exception, each line of a switch is of the first tick at which
 -- it closes (`TellFirst`), and where a run ends since no switch closed, none did in time (`MissesSwitch`). Causes: a run ends for a board that gives no
 -- answer, or whose clock line is too old, only where its askings in a row were hindered on its link (`GaveNoAnswer`, `IsStaleSince`), and for a board
--- that expired only where, by what the members of the homing section's group told, it is the first of them (`IsFirstExpired`). The turn that ends a run
+-- that expired only where, by what the members of the homing section's group told, it is the first of them (`IsFirstExpired`). It ends for steps that came too late only
+-- where the board took them so in its link's last turn (`ComesLateIn`), and they are a unit's of its plan, with its spoiled turns and its spill
+-- (`HasLateUnitIn`); no state tells of any other shutdown but the order to stop (`AllMayTell`). Sections start and end in their turns (`AreTimed`), and the
+-- `board` lines are of clock lines that follow the boards' clocks (`TellKnownLines`). The turn that ends a run
 -- tells of no switch.
 pub record IsLinkReport {F S : Type 0} (f : Files F) (o : Sink S) (m : Machine) (s : Scene) (gcode : List ℕ) (files files' : F) (out out' : S) (c : Cause) (lines : List ReportLine) (counts : List ℕ) (links : List LinkLog) : Type 0 where
   pub reported : IsReported f o m s gcode files files' out out' c lines counts links

@@ -1,5 +1,5 @@
 -- The report of a run over links in which axes home checks.
-use Rattle.std.proofs.Common.{◌≡◌, ◌≢◌, ◌∙◌, ℕ, true, ◌+◌, ◌*◌, ◌<◌, ◌≤◌, ◌^◌, All, List, [], ◌∷◌, ◌++◌, length, Option, Some, None, ap, sym, refl, subst, arith, append-nil, inl, inr, length-append, map}
+use Rattle.std.proofs.Common.{◌≡◌, ◌≢◌, ◌∙◌, ℕ, true, false, ◌+◌, ◌*◌, ◌<◌, ◌≤◌, ◌^◌, All, List, [], ◌∷◌, ◌++◌, length, Option, Some, None, ap, sym, refl, subst, arith, append-nil, inl, inr, length-append, map}
 use Rattle.std.proofs.Math.Logic.{∥∥₁_elim, ∥∥₁_map, ∥∥₁_prop}
 use Rattle.std.proofs.Props.{props}
 use Rattle.std.proofs.lemmas.Grind.{flat_map-append}
@@ -24,7 +24,8 @@ use Rattle.report_laws.specs.Logged.{logged}
 use Rattle.report_laws.proofs.Configured.{names-of-reading}
 use Rattle.host_reactor.specs.Reactor.{Run, reacts}
 use Rattle.host_reactor.specs.declared.ordered.Known.{Known}
-use Rattle.host_reactor.specs.Rows.{IsOwn}
+use Rattle.host_reactor.specs.Notes.{news_of, noted}
+use Rattle.host_reactor.specs.Report.{first_lines}
 use Rattle.host_reactor.specs.Runs.{Came, known_by}
 use Rattle.motion_work.specs.Seen.{Started}
 use Rattle.motion_work.specs.Told.{Told}
@@ -41,16 +42,15 @@ use Rattle.wire_scene.specs.declared.scene.Switch.{Switch}
 use Rattle.run_plans.specs.Lines.{heads_of}
 use Rattle.run_plans.specs.Planned.{AreToldBy, Plans, Seen, put_of}
 use Rattle.run_plans.proofs.Spreading.{plans_spread}
-use Rattle.session_laws.specs.run_ends.Boards.{board_in, boards_of, counts_of}
+use Rattle.session_laws.specs.run_ends.Boards.{board_in, boards_of}
 use Rattle.session_laws.specs.run_ends.Ends.{GoesThrough}
-use Rattle.session_laws.proofs.run_ends.Ending.{own_cause}
 use Rattle.session_laws.specs.run_headline.Further.{ShowsAll, TellFurther}
 use Rattle.session_laws.specs.run_headline.Timely.{clocks_heard, ready_heard}
 use Rattle.session_laws.specs.run_headline.Told.{AreTold}
 use Rattle.session_laws.proofs.run_headline.Boarded.{ready}
-use Rattle.session_laws.proofs.run_headline.Runs.{facts}
-use Rattle.session_laws.proofs.run_headline.Showing.{Facts, counts_or, long_own, untold_alone}
-use Rattle.session_laws.proofs.run_headline.Telling.{reacts_told}
+use Rattle.session_laws.proofs.run_headline.Runs.{facts, run_ended}
+use Rattle.session_laws.proofs.run_headline.Showing.{Ended, Facts, few, untold_alone}
+use Rattle.session_laws.proofs.run_headline.Telling.{first_told, reacts_told}
 use Rattle.session_laws.specs.run_lines.Due.{begun_lines}
 use Rattle.session_laws.proofs.run_lines.Heads.{first_heads}
 use Rattle.session_laws.specs.run_causes.Unanswered.{GaveNoAnswer}
@@ -62,7 +62,6 @@ use Rattle.cause_runs.proofs.ShortNames.{short_dictionaries}
 use Rattle.session_laws.proofs.home_headline.Shows.{run_shows}
 use Rattle.session_laws.specs.run_limits.Limits.{AreLow, DriftsLow, greatest_tick, start_limit}
 use Rattle.session_laws.proofs.run_limits.Early.{heads_low, starts_early}
-use Rattle.session_laws.proofs.run_limits.Few.{read_few}
 use Rattle.session_laws.proofs.run_limits.Drifts.{drifts_low}
 use Rattle.session_laws.proofs.run_limits.Keeping.{gather_both, low_of, ready_by}
 use Rattle.session_laws.proofs.run_limits.Ticks.{board_low, lines_low}
@@ -73,14 +72,15 @@ use Rattle.host_cli.specs.Scenes.{IsLinkReport}
 use Rattle.host_cli.specs.Shown.{section_turn, sections_shown}
 use Rattle.host_cli.proofs.Inside.{some_behind}
 use Rattle.run_checks.specs.page.Log.{Follows, SaysLog}
+use Rattle.run_checks.proofs.Faulted.{last_lines}
 use Rattle.run_checks.proofs.Homed.{home-checks, home-front, read-back}
-use Rattle.run_checks.proofs.Unbegun.{ShowsNone}
-use Rattle.run_checks.proofs.Unshown.{alone_own, shown_heads, shown_none, whole_before}
+use Rattle.run_checks.proofs.Unbegun.{ShowsNone, counts_low}
+use Rattle.run_checks.proofs.Unshown.{alone_own, alone_plain, shown_heads, shown_none, whole_before}
 use Rattle.run_checks.proofs.page.Front.{heads-follow}
 use Rattle.run_checks.proofs.Linking.{text-cause, written-whole}
 use Rattle.run_checks.proofs.Low.{shown_turn}
 use Rattle.run_checks.proofs.Standing.{first_shown}
-use Rattle.run_checks.proofs.Wide.{turns_long}
+use Rattle.run_checks.proofs.Wide.{long_uncut, turn_long, turns_long}
 use Rattle.run_checks.proofs.Limits.{HaveLongCuts}
 
 -- sections that have their line were begun
@@ -94,9 +94,10 @@ begun_some m seen clocks at c first rest shows some none =
     by [] ys e = refl
     by (x ∷ xs) ys e = absurd (let f : [] ≡ x ∷ (xs ++ ys) = e in cc)
 
--- the lines of the turns of a run that ended for a cause of its own keep the limits of a run
-module _ (m : Machine) (v : IsValidMachine m) (s : Scene) (ts : List MotionTurn) (p : Plans m (length m.boards) ts) (end : ReactorTurn) (c : Cause) (own_one : IsOwn c) (some : p.seen.begun ≢ []) where
-  module _ (first : ReactorTurn) (rest : List ReactorTurn) (f : Facts m s ts (first ∷ rest) end c) (shows : ShowHomes m p.seen (clocks_heard p.seen.told) (ready_heard p.seen.told) c first (rest ++ end ∷ [])) where
+-- the lines of the turns of a run keep the limits of a run
+module _ (m : Machine) (v : IsValidMachine m) (s : Scene) (ts : List MotionTurn) (p : Plans m (length m.boards) ts) (end : ReactorTurn) (c : Cause) (some : p.seen.begun ≢ []) where
+  module _ (first : ReactorTurn) (rest : List ReactorTurn) (f : Facts m s ts (first ∷ rest) end c) (why : Some c ≡ (reacts m s.switches f.known (length (came_from [] (first ∷ rest))) end.states end.note).ordered.end)
+      (shows : ShowHomes m p.seen (clocks_heard p.seen.told) (ready_heard p.seen.told) c first (rest ++ end ∷ [])) where
     early : All (λ x. x.start < start_limit) p.seen.begun
     early = starts_early m (length m.boards) ts p (length m.boards) f.from f.to f.goes
 
@@ -113,16 +114,6 @@ module _ (m : Machine) (v : IsValidMachine m) (s : Scene) (ts : List MotionTurn)
         subst AreLow (sym cut)
         (lines_low (ready_heard p.seen.told) 0 (clocks_heard p.seen.told) (ready_by m (clocks_heard p.seen.told) (ready_heard p.seen.told) p.seen.begun shows.started some early) (λ i lt. low_ticks p.seen.told refl i (omega (arith, lt, count))))
 
-    counts_low : AreLow (counts_of (gather (λ t. t.lines) (first ∷ (rest ++ end ∷ []))))
-    counts_low =
-        let few = read_few m p.seen.text in
-        let deeds = few.deeds in
-        let passed = few.passed in
-        elim (counts_or m v s ts p end c first rest f own_one (long_own m v s ts p end c first rest f own_one)) [
-          | inl none ↦ subst AreLow (sym none) tt
-          | inr is ↦ subst AreLow (sym is) ((omega (arith, deeds), omega (arith, passed)), tt)
-        ]
-
     further_low : DriftsLow (gather (λ t. t.lines) (first ∷ (rest ++ end ∷ [])))
     further_low = by p.seen.told refl
       where
@@ -132,13 +123,13 @@ module _ (m : Machine) (v : IsValidMachine m) (s : Scene) (ts : List MotionTurn)
             let made = length-map p.made put_of in
             let small = p.small in
             let many = length-append rest (end ∷ []) in
-            let own = long_own m v s ts p end c first rest f own_one in
+            let own = few m v s ts p end c first rest f in
             let Tell : Option Told → Type 0 = λ o. TellFurther m (clocks_heard o) (length (rest ++ end ∷ []) + 271) c (gather (λ t. t.lines) (first ∷ (rest ++ end ∷ []))) in
             drifts_low m v s ts p t first rest end e (ready m v s ts p t first rest end e f.ahead f.words_left f.turns f.words) (λ b h. f.boards b first rest h refl) (omega (arith, made, small, many, own)) (length (rest ++ end ∷ []) + 271) c (gather (λ t. t.lines) (first ∷ (rest ++ end ∷ []))) (subst Tell e (shows.further some))
 
     home_low : AreLow (gather (λ t. t.lines) (first ∷ (rest ++ end ∷ [])))
     home_low =
-        low_of (gather (λ t. t.lines) (first ∷ (rest ++ end ∷ []))) (heads_low m p.seen.begun 0 (first ∷ (rest ++ end ∷ [])) (plans_spread m (length m.boards) ts p) early shows.lines) boards_low counts_low
+        low_of (gather (λ t. t.lines) (first ∷ (rest ++ end ∷ []))) (heads_low m p.seen.begun 0 (first ∷ (rest ++ end ∷ [])) (plans_spread m (length m.boards) ts p) early shows.lines) boards_low (counts_low m v s ts p end c first rest f why)
         further_low
 
 -- and each is one that a reactor may tell
@@ -155,55 +146,65 @@ all_told m switches before [] end known k turns last = told_both m end.lines [] 
 all_told m switches before (r ∷ rs) end known k turns last =
     told_both m r.lines (gather (λ (t : ReactorTurn). t.lines) (rs ++ end ∷ [])) (turn_told m switches (known_by m switches before) (length before) r turns.0.lines_are) (all_told m switches (came_in r ∷ before) rs end known k turns.1 last)
 
--- a run for a cause of its own shows all its lines
-pub own_shows : (c : Cause) → IsOwn c → (c ≡ cause.Memory → ⊥) → ShowsAll c
-own_shows cause.Memory own other = absurd (other refl)
-own_shows cause.WriteFault own other = absurd own
-own_shows c own other = tt
+-- a run that ended neither for want of memory nor for a write that failed shows all its lines
+pub all_shown : (c : Cause) → (c ≡ cause.Memory → ⊥) → (c ≡ cause.WriteFault → ⊥) → ShowsAll c
+all_shown cause.Memory other wrote = absurd (other refl)
+all_shown cause.WriteFault other wrote = absurd (wrote refl)
+all_shown c other wrote = tt
 
 module _ {F S : Type 0} (f : Files F) (o : Sink S) (m : Machine) (s : Scene) (name : List ℕ) (files files' : F) (out out' : S) (kept kept' : Kept) (t : near.Told Run) (r : RunsOver f o m s name files out kept t files' out' kept') where
   limits : (v : IsValidMachine m) (rs : List ReactorTurn) (p : Plans m (length m.boards) r.runs.0) → rs ≡ r.runs.1 → AllShowHomes m p.seen (clocks_heard p.seen.told) (ready_heard p.seen.told) t.cause (rs ++ r.runs.2 ∷ [])
-      → heads_of (gather (λ t. t.lines) (rs ++ r.runs.2 ∷ [])) ≢ [] → IsOwn t.cause → (t.cause ≡ cause.Memory → ⊥) → AreLow (gather (λ t. t.lines) (rs ++ r.runs.2 ∷ []))
-  limits v [] p e shows some own other =
+      → heads_of (gather (λ t. t.lines) (rs ++ r.runs.2 ∷ [])) ≢ [] → (t.cause ≡ cause.Memory → ⊥) → AreLow (gather (λ t. t.lines) (rs ++ r.runs.2 ∷ []))
+  limits v [] p e shows some other =
       let Of : List ReactorTurn → Type 0 = λ z. Facts m s r.runs.0 z r.runs.2 t.cause in
       absurd (untold_alone m v s r.runs.0 p r.runs.2 t.cause p.seen.told refl (subst Of (sym e) (facts f o m s name files files' out out' kept kept' t r other)) (begun_some m p.seen (clocks_heard p.seen.told) (ready_heard p.seen.told) t.cause r.runs.2 [] shows some))
-  limits v (first ∷ rest) p e shows some own other =
-      let Of : List ReactorTurn → Type 0 = λ z. Facts m s r.runs.0 z r.runs.2 t.cause in
-      home_low m v s r.runs.0 p r.runs.2 t.cause own (begun_some m p.seen (clocks_heard p.seen.told) (ready_heard p.seen.told) t.cause first (rest ++ r.runs.2 ∷ []) shows some) first rest
-      (subst Of (sym e) (facts f o m s name files files' out out' kept kept' t r other)) shows
+  limits v (first ∷ rest) p e shows some other =
+      let End : List ReactorTurn → Type 0 = λ z. Ended m s r.runs.0 z r.runs.2 t.cause in
+      let ended = subst End (sym e) (run_ended f o m s name files files' out out' kept kept' t r other) in
+      home_low m v s r.runs.0 p r.runs.2 t.cause (begun_some m p.seen (clocks_heard p.seen.told) (ready_heard p.seen.told) t.cause first (rest ++ r.runs.2 ∷ []) shows some) first rest ended.facts ended.end_is shows
 
   -- and where no section has its line they are those of boards and notes
   nones : (v : IsValidMachine m) (rs : List ReactorTurn) (p : Plans m (length m.boards) r.runs.0) → rs ≡ r.runs.1 → AllShowHomes m p.seen (clocks_heard p.seen.told) (ready_heard p.seen.told) t.cause (rs ++ r.runs.2 ∷ [])
-      → AreTold true m (gather (λ t. t.lines) (rs ++ r.runs.2 ∷ [])) → cuts_of (gather (λ t. t.lines) (rs ++ r.runs.2 ∷ [])) ≡ [] → heads_of (gather (λ t. t.lines) (rs ++ r.runs.2 ∷ [])) ≡ [] → IsOwn t.cause → (t.cause ≡ cause.Memory → ⊥)
+      → AreTold true m (gather (λ t. t.lines) (rs ++ r.runs.2 ∷ [])) → cuts_of (gather (λ t. t.lines) (rs ++ r.runs.2 ∷ [])) ≡ [] → heads_of (gather (λ t. t.lines) (rs ++ r.runs.2 ∷ [])) ≡ [] → (t.cause ≡ cause.Memory → ⊥) → (t.cause ≡ cause.WriteFault → ⊥)
       → ((board turn : ℕ) → t.cause ≡ cause.Connect board turn → r.runs.1 ≡ [] → ⊥) → ShowsNone m (gather (λ t. t.lines) (rs ++ r.runs.2 ∷ []))
-  nones v [] p e shows told uncut none own other answers =
-      let Of : List ReactorTurn → Type 0 = λ z. Facts m s r.runs.0 z r.runs.2 t.cause in
-      absurd (alone_own m s r.runs.0 r.runs.2 t.cause (subst Of (sym e) (facts f o m s name files files' out out' kept kept' t r other)) own other (λ board turn is. answers board turn is (sym e)))
-  nones v (first ∷ rest) p e shows told uncut none own other answers =
-      let Of : List ReactorTurn → Type 0 = λ z. Facts m s r.runs.0 z r.runs.2 t.cause in
-      shown_none m v s r.runs.0 p r.runs.2 t.cause own first rest (subst Of (sym e) (facts f o m s name files files' out out' kept kept' t r other)) shows told uncut none (own_shows t.cause own other)
+  nones v [] p e shows told uncut none other wrote answers =
+      let End : List ReactorTurn → Type 0 = λ z. Ended m s r.runs.0 z r.runs.2 t.cause in
+      let ended = subst End (sym e) (run_ended f o m s name files files' out out' kept kept' t r other) in
+      elim (last_lines m s r.runs.0 [] r.runs.2 t.cause ended.facts ended.end_is) [
+        | inl own ↦ absurd (alone_own m s r.runs.0 r.runs.2 t.cause ended.facts own other (λ board turn is. answers board turn is (sym e)))
+        | inr plain ↦ alone_plain m s r.runs.0 r.runs.2 t.cause ended.facts plain
+      ]
+  nones v (first ∷ rest) p e shows told uncut none other wrote answers =
+      let End : List ReactorTurn → Type 0 = λ z. Ended m s r.runs.0 z r.runs.2 t.cause in
+      let ended = subst End (sym e) (run_ended f o m s name files files' out out' kept kept' t r other) in
+      shown_none m v s r.runs.0 p r.runs.2 t.cause first rest ended.facts ended.end_is shows told uncut none (all_shown t.cause other wrote)
 
   home_nones : IsValidMachine m → HaveShortDictionaries m → (text : List ℕ) → f.told files name ≡ Some text → kept.at ≡ 0 → AllHomeLittle m s text r.runs.0 (r.runs.1 ++ r.runs.2 ∷ []) → AreTold true m (gather (λ t. t.lines) (r.runs.1 ++ r.runs.2 ∷ []))
-      → cuts_of (gather (λ t. t.lines) (r.runs.1 ++ r.runs.2 ∷ [])) ≡ [] → heads_of (gather (λ t. t.lines) (r.runs.1 ++ r.runs.2 ∷ [])) ≡ [] → IsOwn t.cause → (t.cause ≡ cause.Memory → ⊥)
+      → cuts_of (gather (λ t. t.lines) (r.runs.1 ++ r.runs.2 ∷ [])) ≡ [] → heads_of (gather (λ t. t.lines) (r.runs.1 ++ r.runs.2 ∷ [])) ≡ [] → (t.cause ≡ cause.Memory → ⊥) → (t.cause ≡ cause.WriteFault → ⊥)
       → ((board turn : ℕ) → t.cause ≡ cause.Connect board turn → r.runs.1 ≡ [] → ⊥) → ∥ ShowsNone m (gather (λ t. t.lines) (r.runs.1 ++ r.runs.2 ∷ [])) ∥₁
-  home_nones v short text told at little lines uncut none own other answers =
-      ∥∥₁_map (run_shows f o m s name files files' out out' kept kept' t r v short text told at) (λ w. nones v r.runs.1 w.0.plans refl (w.2 other little) lines uncut none own other answers)
+  home_nones v short text told at little lines uncut none other wrote answers =
+      ∥∥₁_map (run_shows f o m s name files files' out out' kept kept' t r v short text told at) (λ w. nones v r.runs.1 w.0.plans refl (w.2 other little) lines uncut none other wrote answers)
 
   home_limits : IsValidMachine m → HaveShortDictionaries m → (text : List ℕ) → f.told files name ≡ Some text → kept.at ≡ 0 → AllHomeLittle m s text r.runs.0 (r.runs.1 ++ r.runs.2 ∷ []) → heads_of (gather (λ t. t.lines) (r.runs.1 ++ r.runs.2 ∷ [])) ≢ []
-      → IsOwn t.cause → (t.cause ≡ cause.Memory → ⊥) → ∥ AreLow (gather (λ t. t.lines) (r.runs.1 ++ r.runs.2 ∷ [])) ∥₁
-  home_limits v short text told at little some own other =
-      ∥∥₁_map (run_shows f o m s name files files' out out' kept kept' t r v short text told at) (λ w. limits v r.runs.1 w.0.plans refl (w.2 other little) some own other)
+      → (t.cause ≡ cause.Memory → ⊥) → ∥ AreLow (gather (λ t. t.lines) (r.runs.1 ++ r.runs.2 ∷ [])) ∥₁
+  home_limits v short text told at little some other =
+      ∥∥₁_map (run_shows f o m s name files files' out out' kept kept' t r v short text told at) (λ w. limits v r.runs.1 w.0.plans refl (w.2 other little) some other)
 
   home_told : (t.cause ≡ cause.Memory → ⊥) → AreTold true m (gather (λ t. t.lines) (r.runs.1 ++ r.runs.2 ∷ []))
   home_told other =
       let x = facts f o m s name files files' out out' kept kept' t r other in
       all_told m s.switches [] r.runs.1 r.runs.2 x.known (length (came_from [] r.runs.1)) x.turns x.lines_are
 
-  home_long : All (λ w. w.line < 2 ^ 64) s.switches → IsOwn t.cause → (t.cause ≡ cause.Memory → ⊥) → HaveLongCuts (gather (λ t. t.lines) (r.runs.1 ++ r.runs.2 ∷ []))
-  home_long scene own other =
-      let x = facts f o m s name files files' out out' kept kept' t r other in
-      let known = (x.own own).0 in
-      turns_long m s.switches scene [] r.runs.1 r.runs.2 tt x.turns (x.lines_are ∙ ap (λ (k : Known). (reacts m s.switches k (length (came_from [] r.runs.1)) r.runs.2.states r.runs.2.note).ordered.lines) known)
+  home_long : All (λ w. w.line < 2 ^ 64) s.switches → (t.cause ≡ cause.Memory → ⊥) → HaveLongCuts (gather (λ t. t.lines) (r.runs.1 ++ r.runs.2 ∷ []))
+  home_long scene other =
+      let ended = run_ended f o m s name files files' out out' kept kept' t r other in
+      let x = ended.facts in
+      let end = r.runs.2 in
+      let before = came_from [] r.runs.1 in
+      turns_long m s.switches scene [] r.runs.1 end tt x.turns (λ goes. elim (last_lines m s r.runs.0 r.runs.1 end t.cause x ended.end_is) [
+        | inl own ↦ turn_long m s.switches scene before end goes (x.lines_are ∙ ap (λ (k : Known). (reacts m s.switches k (length before) end.states end.note).ordered.lines) (x.own own).0)
+        | inr plain ↦ subst (λ (z : List ReportLine). HaveLongCuts z) (sym plain) (long_uncut m (first_lines m (noted m end.note x.known) (length before) (news_of end.note) end.states) (first_told false m (noted m end.note x.known) (length before) (news_of end.note) end.states))
+      ])
 
 module _ {F S : Type 0} (f : Files F) (o : Sink S) (printer : List ℕ) (m : Machine) (s : Scene) (gcode : List ℕ) (files files' : F) (out out' : S) (c : Cause) (lines : List ReportLine) (counts : List ℕ) (links : List LinkLog) (configured : reading printer ≡ Ok m)
     (r : IsLinkReport f o m s gcode files files' out out' c lines counts links) (text : List ℕ) (told : f.told files gcode ≡ Some text)
@@ -211,7 +212,7 @@ module _ {F S : Type 0} (f : Files F) (o : Sink S) (printer : List ℕ) (m : Mac
   home_valid : IsValidMachine m
   home_valid = subst (λ (x : Machine). IsValidMachine x) r.reported.runs.printer r.reported.runs.fresh.machine
 
-  -- what the lines of such a run show that ended for a cause of its own
+  -- what the lines of such a run show that were all printed
   record Showing : Type 0 where
     shows : ShowsHomes m s.switches text c r.reported.said
     told_all : AreTold true m r.reported.said
@@ -225,22 +226,20 @@ module _ {F S : Type 0} (f : Files F) (o : Sink S) (printer : List ℕ) (m : Mac
       let Gave : List ReactorTurn → Type 0 = λ z. GaveNoAnswer m s board turn r.reported.runs.runs.0 z r.reported.runs.runs.2 in
       ∥∥₁_elim (r.connect text told board turn is) (hlevel props) (λ gave. subst Gave alone gave)
 
-  showing : IsOwn c → (c ≡ cause.Memory → ⊥) → ∥ Showing ∥₁
-  showing own_one other =
+  showing : (c ≡ cause.Memory → ⊥) → (c ≡ cause.WriteFault → ⊥) → ∥ Showing ∥₁
+  showing other wrote =
       let own = r.reported in
-      let Own : Cause → Type 0 = λ z. IsOwn z in
-      let w = own.cause_is other (λ e. subst Own e own_one) in
+      let w = own.cause_is other wrote in
       let said : gather (λ (t : ReactorTurn). t.lines) (own.runs.runs.1 ++ own.runs.runs.2 ∷ []) ≡ own.said = own.shown ∙ ap (λ (z : List ReportLine). own.said ++ z) w.0 ∙ append-nil own.said in
-      let went = subst Own w.2 own_one in
       let not = λ (e : own.told.cause ≡ cause.Memory). other (w.2 ∙ e) in
       let Some_in : List ReportLine → Type 0 = λ z. heads_of z ≢ [] in
       let Low : List ReportLine → Type 0 = λ z. ∥ AreLow z ∥₁ in
       ∥∥₁_map (r.homes text told not little) (λ shows. record {
         shows = shows;
         told_all = subst (λ (z : List ReportLine). AreTold true m z) said (home_told f o m s gcode files files' out own.behind own.kept own.kept' own.told own.runs not);
-        long = subst (λ (z : List ReportLine). HaveLongCuts z) said (home_long f o m s gcode files files' out own.behind own.kept own.kept' own.told own.runs scene went not);
+        long = subst (λ (z : List ReportLine). HaveLongCuts z) said (home_long f o m s gcode files files' out own.behind own.kept own.kept' own.told own.runs scene not);
         low = λ some. subst Low said
-            (home_limits f o m s gcode files files' out own.behind own.kept own.kept' own.told own.runs home_valid (short_dictionaries printer m configured) text told own.fresh.at little (subst Some_in (sym said) some) went not);
+            (home_limits f o m s gcode files files' out own.behind own.kept own.kept' own.told own.runs home_valid (short_dictionaries printer m configured) text told own.fresh.at little (subst Some_in (sym said) some) not);
         none = λ none.
             let Told : List ReportLine → Type 0 = λ z. AreTold true m z in
             let Uncut : List ReportLine → Type 0 = λ z. cuts_of z ≡ [] in
@@ -249,7 +248,7 @@ module _ {F S : Type 0} (f : Files F) (o : Sink S) (printer : List ℕ) (m : Mac
             let uncut : cuts_of own.said ≡ [] = ap cuts_of (sym (whole_before own.said none)) ∙ shows.cuts.before in
             subst None_in said
             (home_nones f o m s gcode files files' out own.behind own.kept own.kept' own.told own.runs home_valid (short_dictionaries printer m configured) text told own.fresh.at little
-            (home_told f o m s gcode files files' out own.behind own.kept own.kept' own.told own.runs not) (subst Uncut (sym said) uncut) (subst Unshown (sym said) none) went not (λ board turn is. unanswered board turn (w.2 ∙ is)));
+            (home_told f o m s gcode files files' out own.behind own.kept own.kept' own.told own.runs not) (subst Uncut (sym said) uncut) (subst Unshown (sym said) none) not (λ e. wrote (w.2 ∙ e)) (λ board turn is. unanswered board turn (w.2 ∙ is)));
       })
 
   -- a section is shown
@@ -258,20 +257,19 @@ module _ {F S : Type 0} (f : Files F) (o : Sink S) (printer : List ℕ) (m : Mac
 
   pub home-links : sections_over m text ≢ [] → GoesThrough c → check_cause m text (report_text m (r.reported.said ++ report.End c ∷ [])) ≡ cause.Done
   home-links some through =
-      let own_one = own_cause c through in
-      let other = (written-whole c through).0 in
-      ∥∥₁_elim (showing own_one other) (hlevel props) (λ (z : Showing).
+      let whole = written-whole c through in
+      ∥∥₁_elim (showing whole.0 whole.1) (hlevel props) (λ (z : Showing).
       let first = begun_first z.shows.begun ((z.shows.all through).1) (λ none. some (sym (z.shows.all through).0 ∙ ap (map (λ (x : Started). x.section)) none)) in
       ∥∥₁_elim (z.low (some_behind 0 first.0 r.reported.said first.1)) (hlevel props) (λ low.
-      home-checks m s.switches text c r.reported.said home_valid (shown_some 0 first.0 first.1) z.shows (own_shows c own_one other) low z.told_all z.long through (names-of-reading printer m configured) (z.shows.whole through) (text-cause m text c (z.shows.cause through))))
+      home-checks m s.switches text c r.reported.said home_valid (shown_some 0 first.0 first.1) z.shows (all_shown c whole.0 whole.1) low z.told_all z.long through (names-of-reading printer m configured) (z.shows.whole through) (text-cause m text c (z.shows.cause through))))
     where
       begun_first : (begun : List Started) → sections_shown r.reported.said ≡ begun_lines 0 begun → begun ≢ [] → (turn : ℕ) × (section_turn 0 r.reported.said ≡ Some turn)
       begun_first [] e never = absurd (never refl)
       begun_first (x ∷ begun) e never = (x.start, first_shown 0 x.start x.section.kind (begun_lines 1 begun) r.reported.said e)
 
   -- what was printed before the end line follows the plan, as far as the run came
-  pub printed-front : IsOwn c → (c ≡ cause.Memory → ⊥) → ∥ ((log : List LogLine) × SaysLog m (report_text m r.reported.said) log × Follows (GoesThrough c) m (sections_over m text) log) ∥₁
-  printed-front own_one other = ∥∥₁_elim (showing own_one other) ∥∥₁_prop (λ (z : Showing). by z (heads_of r.reported.said) refl)
+  pub printed-front : (c ≡ cause.Memory → ⊥) → (c ≡ cause.WriteFault → ⊥) → ∥ ((log : List LogLine) × SaysLog m (report_text m r.reported.said) log × Follows (GoesThrough c) m (sections_over m text) log) ∥₁
+  printed-front other wrote = ∥∥₁_elim (showing other wrote) ∥∥₁_prop (λ (z : Showing). by z (heads_of r.reported.said) refl)
     where
       by : (z : Showing) (heads : List ReportLine) → heads_of r.reported.said ≡ heads → ∥ ((log : List LogLine) × SaysLog m (report_text m r.reported.said) log × Follows (GoesThrough c) m (sections_over m text) log) ∥₁
       by z [] e = ∥∥₁_map (z.none e) (λ shows.
@@ -279,4 +277,4 @@ module _ {F S : Type 0} (f : Files F) (o : Sink S) (printer : List ℕ) (m : Mac
       by z (h ∷ hs) e =
           let some : heads_of r.reported.said ≢ [] = λ none. (let g : h ∷ hs ≡ [] = sym e ∙ none in cc) in
           ∥∥₁_map (z.low some) (λ low.
-          home-front m s.switches text c r.reported.said home_valid (λ none. some (sym (shown_heads r.reported.said) ∙ none)) z.shows (own_shows c own_one other) low z.told_all z.long (names-of-reading printer m configured))
+          home-front m s.switches text c r.reported.said home_valid (λ none. some (sym (shown_heads r.reported.said) ∙ none)) z.shows (all_shown c other wrote) low z.told_all z.long (names-of-reading printer m configured))

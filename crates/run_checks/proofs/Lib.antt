@@ -13,6 +13,7 @@ pub mod Wide
 pub mod Homing
 pub mod Still
 pub mod Quiet
+pub mod Faulted
 pub mod Unbegun
 pub mod Untold
 pub mod UnbegunLines

@@ -1,5 +1,5 @@
 -- The report of a run over links that begins no section.
-use Rattle.std.proofs.Common.{◌≡◌, ◌⊎◌, ◌∙◌, ℕ, zero, suc, ◌+◌, ◌-◌, ◌*◌, ◌^◌, ◌<◌, ◌≤◌, Bool, true, false, List, [], ◌∷◌, ◌++◌, All, length, map, ap, sym, refl, subst, arith, inl, inr, append_assoc, append-nil, length-append}
+use Rattle.std.proofs.Common.{Some, ◌≡◌, ◌⊎◌, ◌∙◌, ℕ, zero, suc, ◌+◌, ◌-◌, ◌*◌, ◌^◌, ◌<◌, ◌≤◌, Bool, true, false, List, [], ◌∷◌, ◌++◌, All, length, map, ap, sym, refl, subst, arith, inl, inr, append_assoc, append-nil, length-append}
 use Rattle.std.specs.Prelude.{◌==◌, if◌then◌else◌, min}
 use Rattle.std.specs.List.{flat_map}
 use Rattle.std.proofs.lemmas.Grind.{flat_map-append}
@@ -28,7 +28,6 @@ use Rattle.board_asking.specs.declared.asking.Asking.{Asking}
 use Rattle.board_asking.specs.Connecting.{board_lines, connected_lines, first_start, listen_all, ready_all, turn_tick}
 use Rattle.link_work.specs.Switches.{pins_of}
 use Rattle.link_work.specs.Turn.{Orders}
-use Rattle.link_work.specs.Stands.{orders}
 use Rattle.host_reactor.specs.declared.ordered.Known.{Known}
 use Rattle.host_reactor.specs.declared.ordered.Phase.TheVariants.{Connecting, Running}
 use Rattle.host_reactor.specs.Notes.{noted}
@@ -36,12 +35,10 @@ use Rattle.host_reactor.specs.Report.{machine_line, pulse_line, pulse_lines}
 use Rattle.host_reactor.specs.Reactor.{Reacted, reacts}
 use Rattle.host_reactor.specs.Running.{text_end}
 use Rattle.host_reactor.specs.Runs.{Came, known_by}
-use Rattle.board_runs.specs.Turns.{BoardTurn}
 use Rattle.clock_runs.specs.Runs.{IsInRun}
 use Rattle.clock_runs.proofs.Lines.{noted_askings}
 use Rattle.clock_runs.proofs.Turning as turning
 use Rattle.session_laws.proofs.clear_runs.Bare.{listened}
-use Rattle.motion_work.specs.Puts.{ArePut}
 use Rattle.motion_work.specs.Seen.{Started}
 use Rattle.session_work.specs.declared.table.MotionTurn.{MotionTurn}
 use Rattle.session_work.specs.declared.table.ReactorTurn.{ReactorTurn}
@@ -51,19 +48,21 @@ use Rattle.session_run.specs.Boards.{AreReactorTurns, came_from, came_in}
 use Rattle.run_boards.specs.Boards.{TookEach, behind, orders_of, states_of}
 use Rattle.run_boards.specs.Turns.{came_before}
 use Rattle.run_plans.specs.Given.{TookControls}
-use Rattle.run_plans.specs.Lines.{TellTurns, TellsTurn, TookNotes, head_in, heads_of, pulses_of}
-use Rattle.run_plans.specs.Planned.{Plans, put_of, puts_of}
-use Rattle.run_plans.proofs.Giving.{AreGiven, units_given}
+use Rattle.run_plans.specs.Lines.{TellTurns, TellsTurn, head_in, heads_of, pulses_of}
+use Rattle.run_plans.specs.Planned.{Plans, put_of}
 use Rattle.run_plans.proofs.Telling.{pulses_append}
 use Rattle.session_laws.specs.run_ends.Boards.{boards_of, counts_of, lines_at}
 use Rattle.session_laws.specs.run_ends.Ends.{GoesThrough}
 use Rattle.session_laws.proofs.run_ends.Connecting.{after_boards, as_clocks, boards_append, end_none, tells_boards}
 use Rattle.session_laws.specs.run_headline.Told.{AreTold}
-use Rattle.session_laws.proofs.run_headline.Boarded.{came_cut, took_long, valid_at}
+use Rattle.session_laws.proofs.run_headline.Boarded.{came_cut, valid_at}
 use Rattle.session_laws.proofs.run_headline.Fronts.{controlled}
 use Rattle.session_laws.proofs.run_headline.Plain.{AllMoves, all_moves}
-use Rattle.session_laws.proofs.run_headline.Showing.{Facts, came_long, counts_or, ends_own, front_notes, lines_long, long_own, through_long, took_notes}
+use Rattle.session_laws.proofs.run_headline.Showing.{Facts, all_lines, came_long, counts_or, few, long_own, notes_before, through_long, took_notes}
 use Rattle.session_laws.proofs.run_headline.Telling.{turns_told}
+use Rattle.session_laws.proofs.run_lates.Unbegun.{unbegun}
+use Rattle.session_laws.proofs.clear_runs.Punctual.{NoUnits}
+use Rattle.session_laws.proofs.run_ends.Ending.{own_cause}
 use Rattle.session_laws.specs.run_headline.Timely.{AreSound}
 use Rattle.session_laws.specs.run_headline.Further.{AreNamed, BoardsFirst, ShowsAll, TellsFurther}
 use Rattle.session_laws.specs.run_lines.Due.{BoardsHave}
@@ -74,6 +73,7 @@ use Rattle.log_text.specs.declared.line.LogLine.TheVariants as line
 use Rattle.report_laws.specs.Further.{AllMayStand, further_told}
 use Rattle.report_laws.specs.Logged.{AreOfRun, IsCauseOn, logged}
 use Rattle.report_laws.specs.Through.{AreHeads}
+use Rattle.run_checks.proofs.Faulted.{last_lines, plain_none}
 use Rattle.run_checks.proofs.Further.{EachFurther, IsLongFurther}
 use Rattle.run_checks.proofs.Shorts.{longs, shorts}
 use Rattle.run_checks.proofs.Standing.{are_heads, some_pulse, uncut_told}
@@ -226,9 +226,9 @@ turns_empty m n k (t ∷ ts) tells full still =
     ]
 
 -- orders without units, which have the controls of a run of moves
-still_given : (b k : ℕ) (os : List Orders) → AreGiven b k [] os → TookControls os → AreStill os
-still_given b k [] given controls = tt
-still_given b k (o ∷ os) given controls = (controls.0, given.0, still_given b (k + 1) os given.1 controls.1)
+still_given : (os : List Orders) → NoUnits os → TookControls os → AreStill os
+still_given [] given controls = tt
+still_given (o ∷ os) given controls = (controls.0, given.0, still_given os given.1 controls.1)
 
 -- lines without sections and pulses are those of a run
 capped : (n : ℕ) → min n (2 ^ 64 - 1) < 2 ^ 64
@@ -334,12 +334,10 @@ stop_small m read.End few = tt
 stop_small m (read.Stop line) few = omega (arith, few)
 stop_small m (read.Refused line kind) few = omega (arith, few)
 
-module _ (m : Machine) (v : IsValidMachine m) (s : Scene) (ts : List MotionTurn) (p : Plans m (length m.boards) ts) (end : ReactorTurn) (c : Cause) (own_one : IsOwn c) (first : ReactorTurn) (rest : List ReactorTurn) (f : Facts m s ts (first ∷ rest) end c) where
-  all : length (rest ++ end ∷ []) ≤ length p.made
-  all = long_own m v s ts p end c first rest f own_one
-
-  took : TookNotes (map (λ t. t.note) p.made) (first ∷ (rest ++ end ∷ []))
-  took = took_notes m v s ts p end c first rest f all
+module _ (m : Machine) (v : IsValidMachine m) (s : Scene) (ts : List MotionTurn) (p : Plans m (length m.boards) ts) (end : ReactorTurn) (c : Cause) (first : ReactorTurn) (rest : List ReactorTurn) (f : Facts m s ts (first ∷ rest) end c)
+    (why : Some c ≡ (reacts m s.switches f.known (length (came_from [] (first ∷ rest))) end.states end.note).ordered.end) where
+  most : length (rest ++ end ∷ []) ≤ length p.made + 1
+  most = few m v s ts p end c first rest f
 
   last_full : length end.states ≡ length m.boards
   last_full = by f.row
@@ -368,29 +366,33 @@ module _ (m : Machine) (v : IsValidMachine m) (s : Scene) (ts : List MotionTurn)
 
   boards_are : boards_of (gather (λ t. t.lines) (first ∷ (rest ++ end ∷ []))) ≡ lines_at each.ready 0 each.clocks
   boards_are =
-      let last = ap boards_of f.lines_are ∙ end_none m s.switches f.known (length (came_from [] (first ∷ rest))) end.states end.note c (sym (ends_own m s ts (first ∷ rest) end c f own_one)) in
+      let last = ap boards_of f.lines_are ∙ end_none m s.switches f.known (length (came_from [] (first ∷ rest))) end.states end.note c (sym why) in
       let lines = gather (λ (t : ReactorTurn). t.lines) (first ∷ rest) in
       lines_then (first ∷ rest) ∙ ap (λ z. boards_of lines ++ z) last ∙ append-nil (boards_of lines) ∙ each.are
 
   abbrev pub All_lines : List ReportLine
   All_lines = gather (λ t. t.lines) (first ∷ (rest ++ end ∷ []))
 
-  counts : AreLow (counts_of All_lines)
-  counts =
-      let few = read_few m p.seen.text in
-      let deeds = few.deeds in
-      let passed = few.passed in
-      elim (counts_or m v s ts p end c first rest f own_one all) [
-        | inl none ↦ subst AreLow (sym none) tt
-        | inr is ↦ subst AreLow (sym is) ((omega (arith, deeds), omega (arith, passed)), tt)
+  -- the numbers of what was read are low
+  pub counts_low : AreLow (counts_of All_lines)
+  counts_low =
+      let read = read_few m p.seen.text in
+      let deeds = read.deeds in
+      let passed = read.passed in
+      elim (last_lines m s ts (first ∷ rest) end c f why) [
+        | inl own_one ↦ elim (counts_or m v s ts p end c first rest f own_one (long_own m v s ts p end c first rest f own_one)) [
+          | inl none ↦ subst AreLow (sym none) tt
+          | inr is ↦ subst AreLow (sym is) ((omega (arith, deeds), omega (arith, passed)), tt)
+        ]
+        | inr plain ↦ subst AreLow (sym (plain_none m s.switches [] (first ∷ rest) end (noted m end.note f.known) (length (came_from [] (first ∷ rest))) f.turns plain)) tt
       ]
 
   -- the cause of one that went through has small numbers
   pub cause_on : GoesThrough c → IsCauseOn m c
   cause_on through =
-      let few = read_few m p.seen.text in
-      let is = (through_long m v s ts p end c first rest f through all).cause_is in
-      subst (λ (x : Cause). IsCauseOn m x) (sym is) (stop_small m (program_end m p.seen.text).stop few.stop)
+      let read = read_few m p.seen.text in
+      let is = (through_long m v s ts p end c first rest f through (long_own m v s ts p end c first rest f (own_cause c through))).cause_is in
+      subst (λ (x : Cause). IsCauseOn m x) (sym is) (stop_small m (program_end m p.seen.text).stop read.stop)
 
   -- where they tell no section, no pulse and no cut
   module _ (told_all : AreTold false m All_lines) (bare : AreBare m All_lines) where
@@ -403,7 +405,7 @@ module _ (m : Machine) (v : IsValidMachine m) (s : Scene) (ts : List MotionTurn)
         let made = length-map p.made put_of in
         let small = p.small in
         let many = length-append rest (end ∷ []) in
-        bare_run m each.ready 0 each.clocks All_lines (omega (arith, soon, made, small, many, all)) told_all bare counts long names boards_are each.freqs
+        bare_run m each.ready 0 each.clocks All_lines (omega (arith, soon, made, small, many, most)) told_all bare counts_low long names boards_are each.freqs
 
     pub shows_none : ShowsAll c → ShowsLines m c All_lines ⊎ NoneDrifts All_lines → ShowsNone m All_lines
     shows_none full (inr plain) = record { of_run = of_lines (none_long All_lines plain) (none_named m All_lines plain); may = none_stand m All_lines [] plain; heads = heads }
@@ -418,15 +420,13 @@ module _ (m : Machine) (v : IsValidMachine m) (s : Scene) (ts : List MotionTurn)
     kinds : All (λ x. x.section.kind ≡ Moves) p.seen.begun
     kinds = subst (λ (z : List Started). All (λ x. x.section.kind ≡ Moves) z) (sym none) (All-nil (λ (x : Started). x.section.kind ≡ Moves))
 
-    nothing : ArePut m p.seen.text [] 0 (puts_of p.made)
-    nothing = subst (λ (z : List Started). ArePut m p.seen.text z 0 (puts_of p.made)) none p.put
-
     moves : AllMoves (came_from [] (first ∷ rest))
-    moves = all_moves m p.seen.text p.seen.begun p.made first rest kinds p.put (front_notes m v s ts p end c first rest f took)
+    moves = all_moves m p.seen.text p.seen.begun p.made first rest kinds p.put (notes_before m v s ts p end c first rest f)
 
-    pub told_none : AreTold false m (gather (λ t. t.lines) (first ∷ (rest ++ end ∷ [])))
-    told_none =
+    pub told_none : IsOwn c → AreTold false m (gather (λ t. t.lines) (first ∷ (rest ++ end ∷ [])))
+    told_none own_one =
         let own = f.own own_one in
+        let took = took_notes m v s ts p end c first rest f (long_own m v s ts p end c first rest f own_one) in
         let before = came_from [] (first ∷ rest) in
         turns_told m s.switches [] (first ∷ rest) end f.turns tt (all_moves m p.seen.text p.seen.begun p.made first (rest ++ end ∷ []) kinds p.put took)
         (f.lines_are ∙ ap (λ (k : Known). (reacts m s.switches k (length before) end.states end.note).ordered.lines) own.0)
@@ -442,14 +442,12 @@ module _ (m : Machine) (v : IsValidMachine m) (s : Scene) (ts : List MotionTurn)
         let Run : List Came → Type 0 = λ z. IsInRun m s.switches pins s.entries b z turns in
         let run = subst Run (came_cut [] first rest end) run_first in
         let controls = subst (λ (os : List Orders). TookControls os) w.in_order (controlled m v s.switches pins s.entries b (came_from [] (first ∷ rest)) turns run moves) in
-        let count = length-map w.made (λ (x : BoardTurn). orders x.control x.batch) ∙ sym (length-map w.made (λ (x : BoardTurn). x.state)) ∙ took_long b (rest ++ end ∷ []) (states_of w.made) w.states in
-        let At : List MotionTurn → Type 0 = λ x. map (λ (o : Orders). o.batch) (orders_of w.made) ++ w.batches.0 ≡ gather (λ (y : MotionTurn). item b y.batches) x in
-        let given = units_given m p.seen.text [] b 0 p.made p.bare (orders_of w.made) w.batches.0 h nothing (omega (arith, count, all)) (subst At p.are w.batches.1) in
-        took_still b (rest ++ end ∷ []) (states_of w.made) w.states (still_states (board_at m b) pins b s.entries (orders_of w.made) (states_of w.made) _ valid (still_given b 0 (orders_of w.made) given controls) w.told)
+        let given = unbegun m ts p b (orders_of w.made) h none w.batches in
+        took_still b (rest ++ end ∷ []) (states_of w.made) w.states (still_states (board_at m b) pins b s.entries (orders_of w.made) (states_of w.made) _ valid (still_given (orders_of w.made) given controls) w.told)
 
     empty : AreEmpty (gather (λ t. t.lines) (first ∷ (rest ++ end ∷ [])))
     empty =
-        let tells : TellTurns m [] 0 (first ∷ (rest ++ end ∷ [])) = subst (λ (z : List Started). TellTurns m z 0 (first ∷ (rest ++ end ∷ []))) none (lines_long m v s ts p end c first rest f all) in
+        let tells : TellTurns m [] 0 (first ∷ (rest ++ end ∷ [])) = subst (λ (z : List Started). TellTurns m z 0 (first ∷ (rest ++ end ∷ []))) none (all_lines m v s ts p end c first rest f) in
         let full = turns_full m s.switches (came_in first ∷ []) rest end (omega arith) f.turns.1 last_full in
         both_empty first.lines (gather (λ (t : ReactorTurn). t.lines) (rest ++ end ∷ []))
         (turn_empty m 0 first tells.0 (λ j x e. absurd (let g : [] ≡ x ∷ [] = sym (ap (item j) first_none) ∙ e in cc)))

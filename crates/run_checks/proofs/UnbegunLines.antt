@@ -13,18 +13,17 @@ use Rattle.session_work.specs.Rows.{gather}
 use Rattle.session_run.specs.Boards.{came_from}
 use Rattle.run_plans.specs.Planned.{Plans, put_of}
 use Rattle.session_laws.specs.run_ends.Boards.{board_in, boards_of}
-use Rattle.host_reactor.specs.Rows.{IsOwn}
 use Rattle.session_laws.proofs.run_headline.Boarded.{ready, sound_of}
 use Rattle.session_laws.proofs.run_headline.Facts.{came_long}
 use Rattle.session_laws.proofs.run_headline.Reporting.{told_further}
-use Rattle.session_laws.proofs.run_headline.Showing.{Facts, long_own, told_boards}
+use Rattle.session_laws.proofs.run_headline.Showing.{Facts, few, told_boards}
 use Rattle.session_laws.proofs.run_limits.Keeping.{gather_both}
 use Rattle.session_laws.proofs.run_limits.Ticks.{board_low}
 use Rattle.run_checks.proofs.Unbegun.{ShowsLines}
 use Rattle.run_checks.proofs.Untold.{untold_none}
 use Rattle.session_laws.proofs.run_headline.Drifts.{NoneDrifts}
 
-module _ (m : Machine) (v : IsValidMachine m) (s : Scene) (ts : List MotionTurn) (p : Plans m (length m.boards) ts) (end : ReactorTurn) (c : Cause) (own_one : IsOwn c) (first : ReactorTurn) (rest : List ReactorTurn) (f : Facts m s ts (first ∷ rest) end c) where
+module _ (m : Machine) (v : IsValidMachine m) (s : Scene) (ts : List MotionTurn) (p : Plans m (length m.boards) ts) (end : ReactorTurn) (c : Cause) (first : ReactorTurn) (rest : List ReactorTurn) (f : Facts m s ts (first ∷ rest) end c) where
   -- those of the boards that the planner heard
   told_lines : (t : Told) → p.seen.told ≡ Some t → ShowsLines m c (gather (λ x. x.lines) (first ∷ (rest ++ end ∷ [])))
   told_lines t e =
@@ -39,7 +38,7 @@ module _ (m : Machine) (v : IsValidMachine m) (s : Scene) (ts : List MotionTurn)
       let made = length-map p.made put_of in
       let small = p.small in
       let many = length-append rest (end ∷ []) in
-      let own = long_own m v s ts p end c first rest f own_one in
+      let own = few m v s ts p end c first rest f in
       record {
         clocks = t.clocks;
         ready = t.first;
@@ -57,5 +56,5 @@ module _ (m : Machine) (v : IsValidMachine m) (s : Scene) (ts : List MotionTurn)
   unbegun_lines = by p.seen.told refl
     where
       by : (o : Option Told) → p.seen.told ≡ o → ShowsLines m c (gather (λ x. x.lines) (first ∷ (rest ++ end ∷ []))) ⊎ NoneDrifts (gather (λ x. x.lines) (first ∷ (rest ++ end ∷ [])))
-      by None e = inr (untold_none m v s ts p end c own_one first rest f e)
+      by None e = inr (untold_none m v s ts p end c first rest f e)
       by (Some t) e = inl (told_lines t e)

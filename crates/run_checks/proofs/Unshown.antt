@@ -1,5 +1,5 @@
 -- The report of a run over links that has no line of a section.
-use Rattle.std.proofs.Common.{◌≡◌, ◌∙◌, ℕ, ◌+◌, ◌≤◌, Bool, true, false, List, [], ◌∷◌, ◌++◌, length, Some, None, ap, sym, refl, subst, arith, append-nil, inl, inr}
+use Rattle.std.proofs.Common.{◌≡◌, ◌∙◌, ℕ, ◌+◌, ◌≤◌, Bool, true, false, List, [], ◌∷◌, ◌++◌, length, Option, Some, None, ap, sym, refl, subst, arith, append-nil, inl, inr}
 use Rattle.std.specs.Prelude.{if◌then◌else◌}
 use Rattle.std.proofs.lemmas.Grind.{flat_map-append}
 use Rattle.std.proofs.lemmas.Bool.{cases_lt}
@@ -13,7 +13,7 @@ use Rattle.report_text.specs.declared.line.ReportLine.TheVariants as report
 use Rattle.wire_scene.specs.declared.scene.Scene.{Scene}
 use Rattle.host_reactor.specs.declared.ordered.Phase.TheVariants.{Connecting, Running, Stopping}
 use Rattle.host_reactor.specs.declared.ordered.Known.{Known}
-use Rattle.host_reactor.specs.Notes.{noted}
+use Rattle.host_reactor.specs.Notes.{news_of, noted}
 use Rattle.host_reactor.specs.Running.{late}
 use Rattle.host_reactor.specs.Rows.{IsOwn}
 use Rattle.host_reactor.specs.Runs.{known_by}
@@ -22,7 +22,13 @@ use Rattle.motion_work.specs.Seen.{Started}
 use Rattle.session_work.specs.declared.table.MotionTurn.{MotionTurn}
 use Rattle.session_work.specs.declared.table.ReactorTurn.{ReactorTurn}
 use Rattle.session_work.specs.Rows.{gather}
-use Rattle.host_reactor.specs.Report.{machine_line}
+use Rattle.msg_code.specs.declared.talk.Note.{Note}
+use Rattle.msg_code.specs.declared.talk.State.{State}
+use Rattle.host_reactor.specs.declared.ordered.Begun.{Begun}
+use Rattle.host_reactor.specs.Reactor.{reacts}
+use Rattle.host_reactor.specs.Report.{drift_lines, first_lines, machine_line, pulse_lines, section_line}
+use Rattle.session_run.specs.Boards.{came_from}
+use Rattle.session_laws.proofs.run_headline.Joining.{row_none}
 use Rattle.run_plans.specs.Lines.{TellTurns, head_in, heads_of, starts_at}
 use Rattle.run_plans.specs.Planned.{Plans}
 use Rattle.session_laws.specs.run_ends.Ends.{EndsSo}
@@ -35,7 +41,8 @@ use Rattle.session_laws.specs.home_headline.Cuts.{cuts_of}
 use Rattle.session_laws.specs.home_headline.Follow.{ShowHomes}
 use Rattle.host_cli.specs.Cuts.{lines_before}
 use Rattle.host_cli.specs.Shown.{sections_shown}
-use Rattle.run_checks.proofs.Unbegun.{AreBare, ShowsNone, bare_none, shows_none, told_none}
+use Rattle.run_checks.proofs.Faulted.{EndsPlain}
+use Rattle.run_checks.proofs.Unbegun.{AreBare, ShowsNone, bare_none, shows_none}
 use Rattle.run_checks.proofs.UnbegunLines.{unbegun_lines}
 
 -- the section lines are those of the heads
@@ -116,7 +123,19 @@ alone_own m s ts end c f own other answers = by c refl (subst At (f.own own).0 (
         one (cause.Scene line kind) own other answers g = own
         one d own other answers g = running g.0
 
-module _ (m : Machine) (v : IsValidMachine m) (s : Scene) (ts : List MotionTurn) (p : Plans m (length m.boards) ts) (end : ReactorTurn) (c : Cause) (own_one : IsOwn c) (first : ReactorTurn) (rest : List ReactorTurn) (f : Facts m s ts (first ∷ rest) end c)
+-- one that was told to stop before its first turn shows the line of the machine alone
+pub alone_plain : (m : Machine) (s : Scene) (ts : List MotionTurn) (end : ReactorTurn) (c : Cause) (f : Facts m s ts [] end c) → EndsPlain m [] end f.known → ShowsNone m (gather (λ t. t.lines) (end ∷ []))
+alone_plain m s ts end c f plain =
+    let states : end.states ≡ [] = elim f.row [ inl a ↦ a.1 | inr a ↦ absurd (omega (arith, a.0)) ] in
+    let note = row_none (length m.boards) end f.row in
+    let begun = ap (λ (o : Option Note). (noted m o f.known).begun) note ∙ f.begun in
+    let alone : first_lines m (noted m end.note f.known) 0 (news_of end.note) end.states ≡ report.Machine m.corexy (length m.boards) (length m.steppers) ∷ [] =
+    ap (λ (o : Option Begun). machine_line m 0 ++ (section_line 0 o ++ (drift_lines (news_of end.note) ++ pulse_lines m 0 end.states))) begun
+    ∙ ap (λ (o : Option Note). machine_line m 0 ++ ([] ++ (drift_lines (news_of o) ++ pulse_lines m 0 end.states))) note ∙ ap (λ (z : List State). machine_line m 0 ++ ([] ++ ([] ++ pulse_lines m 0 z))) states in
+    subst (λ (z : List ReportLine). ShowsNone m z) (sym (append-nil end.lines ∙ plain ∙ alone)) (record { of_run = ((refl, refl, refl), tt); may = (tt, tt); heads = tt })
+
+module _ (m : Machine) (v : IsValidMachine m) (s : Scene) (ts : List MotionTurn) (p : Plans m (length m.boards) ts) (end : ReactorTurn) (c : Cause) (first : ReactorTurn) (rest : List ReactorTurn) (f : Facts m s ts (first ∷ rest) end c)
+    (why : Some c ≡ (reacts m s.switches f.known (length (came_from [] (first ∷ rest))) end.states end.note).ordered.end)
     (shows : ShowHomes m p.seen (clocks_heard p.seen.told) (ready_heard p.seen.told) c first (rest ++ end ∷ [])) (told : AreTold true m (gather (λ t. t.lines) (first ∷ (rest ++ end ∷ [])))) (uncut : cuts_of (gather (λ t. t.lines) (first ∷ (rest ++ end ∷ []))) ≡ [])
     (none : heads_of (gather (λ t. t.lines) (first ∷ (rest ++ end ∷ []))) ≡ []) (full : ShowsAll c) where
   -- no pulse comes before the first section starts
@@ -132,5 +151,5 @@ module _ (m : Machine) (v : IsValidMachine m) (s : Scene) (ts : List MotionTurn)
   shown_none = by p.seen.begun refl
     where
       by : (begun : List Started) → p.seen.begun ≡ begun → ShowsNone m (gather (λ t. t.lines) (first ∷ (rest ++ end ∷ [])))
-      by [] e = shows_none m v s ts p end c own_one first rest f (told_none m v s ts p end c own_one first rest f e) (bare_none m v s ts p end c own_one first rest f e) full (unbegun_lines m v s ts p end c own_one first rest f)
-      by (x ∷ later) e = shows_none m v s ts p end c own_one first rest f (told_uncut m (gather (λ t. t.lines) (first ∷ (rest ++ end ∷ []))) told uncut) (still x later e) full (unbegun_lines m v s ts p end c own_one first rest f)
+      by [] e = shows_none m v s ts p end c first rest f why (told_uncut m (gather (λ t. t.lines) (first ∷ (rest ++ end ∷ []))) told uncut) (bare_none m v s ts p end c first rest f why e) full (unbegun_lines m v s ts p end c first rest f)
+      by (x ∷ later) e = shows_none m v s ts p end c first rest f why (told_uncut m (gather (λ t. t.lines) (first ∷ (rest ++ end ∷ []))) told uncut) (still x later e) full (unbegun_lines m v s ts p end c first rest f)

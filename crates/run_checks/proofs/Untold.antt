@@ -45,13 +45,12 @@ use Rattle.run_boards.specs.Boards.{behind}
 use Rattle.run_boards.specs.Turns.{came_before}
 use Rattle.run_plans.specs.Planned as planned
 use Rattle.run_plans.specs.Planned.{Plans, heard_in, put_of, words_in}
-use Rattle.host_reactor.specs.Rows.{IsOwn}
 use Rattle.session_laws.proofs.run_ends.Connecting as connecting
 use Rattle.session_laws.proofs.run_headline.Boarded.{came_cut, came_split}
 use Rattle.session_laws.proofs.run_headline.Facts.{came_long, turns_cut}
 use Rattle.session_laws.proofs.run_headline.Fronts.{front_of, one_less}
 use Rattle.session_laws.proofs.run_headline.Noting.{IsOf, all_noted, heard_running, word_said}
-use Rattle.session_laws.proofs.run_headline.Showing.{Facts, long_own}
+use Rattle.session_laws.proofs.run_headline.Showing.{Facts, few}
 use Rattle.session_laws.proofs.run_headline.Words.{Among, among_either, among_number, gather_words, made_numbered}
 use Rattle.run_checks.proofs.Quiet.{made_quiet, plans_quiet, runs_plain}
 use Rattle.run_checks.proofs.Unbegun.{readied, told_lines}
@@ -178,7 +177,7 @@ word_tells m w k lines at low news fit =
     ∙ (ap (λ (b : Bool). if b then told_in m k (word.Lines lines ∷ []) else None) (lt_true k (2 ^ 61) low)
     ∙ ap (λ (b : Bool). first_told (if b then Some (map one_line lines) else None) None) fit))
 
-module _ (m : Machine) (v : IsValidMachine m) (s : Scene) (ts : List MotionTurn) (p : Plans m (length m.boards) ts) (end : ReactorTurn) (c : Cause) (own_one : IsOwn c) (first : ReactorTurn) (rest : List ReactorTurn) (f : Facts m s ts (first ∷ rest) end c) (untold : p.seen.told ≡ None) where
+module _ (m : Machine) (v : IsValidMachine m) (s : Scene) (ts : List MotionTurn) (p : Plans m (length m.boards) ts) (end : ReactorTurn) (c : Cause) (first : ReactorTurn) (rest : List ReactorTurn) (f : Facts m s ts (first ∷ rest) end c) (untold : p.seen.told ≡ None) where
   -- a board's line, where connecting ended in a turn, is that of a sample
   board_sampled : (past : List ReactorTurn) (turn : ReactorTurn) (later : List ReactorTurn) (lines : List Line) → first ∷ rest ≡ past ++ turn ∷ later → (last_turn m s.switches (came_in turn) (came_from [] past)).ordered.word.news ≡ word.Lines lines ∷ []
       → (b : ℕ) → b < length m.boards → (l : Line) → line_at b lines ≡ l ∷ [] → is_fit (get_or m.boards b no_board) (length (came_from [] past)) l ≡ true
@@ -226,7 +225,7 @@ module _ (m : Machine) (v : IsValidMachine m) (s : Scene) (ts : List MotionTurn)
       let made = length-map p.made put_of in
       let small = p.small in
       let tail = length-append rest (end ∷ []) in
-      let own = long_own m v s ts p end c first rest f own_one in
+      let own = few m v s ts p end c first rest f in
       let long_by = ap length by.are ∙ length-append by.past (by.turn ∷ by.later) in
       let long_e = ap length e.are ∙ length-append e.past (e.turn ∷ e.later) in
       let came_e = came_long [] e.past in

@@ -262,7 +262,7 @@ long_both (report.Cut i board pin tick from ∷ xs) ys a b = (a.0, a.1, long_bot
 long_both (report.Section i turn kind ∷ xs) ys a b = long_both xs ys a b
 long_both (x ∷ xs) ys a b = long_both xs ys a b
 
-long_uncut : (m : Machine) (lines : List ReportLine) → AreTold false m lines → HaveLongCuts lines
+pub long_uncut : (m : Machine) (lines : List ReportLine) → AreTold false m lines → HaveLongCuts lines
 long_uncut m [] told_lines = tt
 long_uncut m (report.Cut i board pin tick from ∷ lines) told_lines = absurd (let e : false ≡ true = told_lines.0 in cc)
 long_uncut m (report.Section i turn kind ∷ lines) told_lines = long_uncut m lines told_lines.1
@@ -323,11 +323,11 @@ module _ (m : Machine) (switches : List Switch) (scene : All (λ w. w.line < 2 ^
       let lines = first_lines m s k (news_of note) states in
       ended_long (first_cause (is_out note) s.stopped states) s k states lines (noted_small m note r small) (long_uncut m lines (first_told false m s k (news_of note) states))
 
-  turn_long : (before : List Came) (t : ReactorTurn) → GoesOn m switches before → t.lines ≡ (reacts m switches (known_by m switches before) (length before) t.states t.note).ordered.lines → HaveLongCuts t.lines
+  pub turn_long : (before : List Came) (t : ReactorTurn) → GoesOn m switches before → t.lines ≡ (reacts m switches (known_by m switches before) (length before) t.states t.note).ordered.lines → HaveLongCuts t.lines
   turn_long before t g e = subst (λ (z : List ReportLine). HaveLongCuts z) (sym e) (reacts_long (known_by m switches before) (length before) t.states t.note (known_small m switches before g))
 
   pub turns_long : (before : List Came) (rs : List ReactorTurn) (end : ReactorTurn) → GoesOn m switches before → AreReactorTurns m switches before rs
-      → end.lines ≡ (reacts m switches (known_by m switches (came_from before rs)) (length (came_from before rs)) end.states end.note).ordered.lines → HaveLongCuts (gather (λ t. t.lines) (rs ++ end ∷ []))
-  turns_long before [] end g turns last = long_both end.lines [] (turn_long before end g last) tt
+      → (GoesOn m switches (came_from before rs) → HaveLongCuts end.lines) → HaveLongCuts (gather (λ t. t.lines) (rs ++ end ∷ []))
+  turns_long before [] end g turns last = long_both end.lines [] (last g) tt
   turns_long before (r ∷ rs) end g turns last =
       long_both r.lines (gather (λ (t : ReactorTurn). t.lines) (rs ++ end ∷ [])) (turn_long before r g turns.0.lines_are) (turns_long (came_in r ∷ before) rs end (turns.0.goes_on, g) turns.1 last)

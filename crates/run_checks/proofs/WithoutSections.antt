@@ -39,8 +39,8 @@ use Rattle.session_laws.specs.run_ends.Ends.{GoesThrough}
 use Rattle.session_laws.proofs.run_ends.Ending.{own_cause}
 use Rattle.session_laws.proofs.run_lines.Further.{through_shows}
 use Rattle.session_laws.proofs.run_headline.Making.{run_made}
-use Rattle.session_laws.proofs.run_headline.Runs.{facts}
-use Rattle.session_laws.proofs.run_headline.Showing.{Facts, alone_ends}
+use Rattle.session_laws.proofs.run_headline.Runs.{facts, run_ended}
+use Rattle.session_laws.proofs.run_headline.Showing.{Ended, Facts, alone_ends}
 use Rattle.host_cli.specs.Checks.{check_cause}
 use Rattle.host_cli.specs.Promises.{sections_over}
 use Rattle.host_cli.specs.Scenes.{IsLinkReport}
@@ -78,13 +78,15 @@ module _ {F S : Type 0} (f : Files F) (o : Sink S) (m : Machine) (s : Scene) (na
       let Of : List ReactorTurn → Type 0 = λ z. Facts m s r.runs.0 z r.runs.2 t.cause in
       absurd (alone_ends m v s r.runs.0 p r.runs.2 t.cause (subst Of (sym e) (facts f o m s name files files' out out' kept kept' t r (written-whole t.cause through).0)) through)
   none_by v (first ∷ rest) p e none through =
-      let Of : List ReactorTurn → Type 0 = λ z. Facts m s r.runs.0 z r.runs.2 t.cause in
+      let End : List ReactorTurn → Type 0 = λ z. Ended m s r.runs.0 z r.runs.2 t.cause in
       let begun = none_begun p.seen.begun p.of_text.0 (sym none ∙ p.of_text.1) in
-      let own = subst Of (sym e) (facts f o m s name files files' out out' kept kept' t r (written-whole t.cause through).0) in
+      let ended = subst End (sym e) (run_ended f o m s name files files' out out' kept kept' t r (written-whole t.cause through).0) in
+      let own = ended.facts in
+      let why = ended.end_is in
       let one = own_cause t.cause through in (
-        cause_on m v s r.runs.0 p r.runs.2 t.cause one first rest own through,
-        shows_none m v s r.runs.0 p r.runs.2 t.cause one first rest own (told_none m v s r.runs.0 p r.runs.2 t.cause one first rest own begun) (bare_none m v s r.runs.0 p r.runs.2 t.cause one first rest own begun)
-            (through_shows t.cause through) (unbegun_lines m v s r.runs.0 p r.runs.2 t.cause one first rest own),
+        cause_on m v s r.runs.0 p r.runs.2 t.cause first rest own why through,
+        shows_none m v s r.runs.0 p r.runs.2 t.cause first rest own why (told_none m v s r.runs.0 p r.runs.2 t.cause first rest own why begun one) (bare_none m v s r.runs.0 p r.runs.2 t.cause first rest own why begun)
+            (through_shows t.cause through) (unbegun_lines m v s r.runs.0 p r.runs.2 t.cause first rest own),
       )
 
   pub none_shown : IsValidMachine m → (text : List ℕ) → f.told files name ≡ Some text → kept.at ≡ 0 → program_sections m text ≡ [] → GoesThrough t.cause → ∥ (IsCauseOn m t.cause × ShowsNone m (gather (λ t. t.lines) (r.runs.1 ++ r.runs.2 ∷ []))) ∥₁

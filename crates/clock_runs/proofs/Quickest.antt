@@ -18,13 +18,20 @@ Quick q s samples = ((q ≡ s) × All (λ t. took s ≤ took t) samples) ⊎ Sho
 later : (q s t : Sample) (us : List Sample) → took q < took t → Shorter q s us → Shorter q s (t ∷ us)
 later q s t us low h = record {
   less = h.less;
-  is = record { ahead = t ∷ h.is.ahead; behind = h.is.behind; among = ap (λ (l : List Sample). t ∷ l) h.is.among; longer = All-cons (λ u. took q < took u) t h.is.ahead low h.is.longer; no_less = h.is.no_less };
+  is = record {
+    ahead = t ∷ h.is.ahead;
+    behind = h.is.behind;
+    among = ap (λ (l : List Sample). t ∷ l) h.is.among;
+    longer = All-cons (λ u. took q < took u) t h.is.ahead low h.is.longer;
+    no_less = h.is.no_less;
+  };
 }
 
 -- behind a first sample that took longer than the next one
 over_next : (q s t : Sample) (us : List Sample) → took t < took s → Quick q t us → Quick q s (t ∷ us)
 over_next q s t us low (inl k) =
-    subst (λ (p : Sample). Quick p s (t ∷ us)) (sym k.0) (inr (record { less = low; is = record { ahead = []; behind = us; among = refl; longer = All-nil (λ u. took t < took u); no_less = k.1 } }))
+    let first : IsQuickest t (t ∷ us) = record { ahead = []; behind = us; among = refl; longer = All-nil (λ u. took t < took u); no_less = k.1 } in
+    subst (λ (p : Sample). Quick p s (t ∷ us)) (sym k.0) (inr (record { less = low; is = first }))
 over_next q s t us low (inr h) = inr (record { less = let l = h.less in omega (arith, l, low); is = (later q t t us h.less h).is })
 
 -- behind one that did not

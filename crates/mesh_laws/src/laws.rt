@@ -59,7 +59,7 @@ pub fn ends_are_comments()
 {}
 
 /// The law of borders: the height at a place, brought within the grid, is that in each cell that has it. So where the place is on the
-/// border of cells, it is exactly the same by each of them, and the bed has no step there.
+/// border of cells, it is exactly the same by each of them.
 pub fn heights_agree_on_borders()
     ensures { (t : Mesh) (x y : ℤ) (i j : ℕ) → IsValidMesh t → IsInCell t.x i (offset t.x x) → IsInCell t.y j (offset t.y y) →
         height t x y ≡ cell_height t i j (offset t.x x - i * t.x.step) (offset t.y y - j * t.y.step) }

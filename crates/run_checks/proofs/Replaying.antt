@@ -170,7 +170,8 @@ unfolding new_controller
 starts b oid = refl
 
 pub replay_ticks : (b : BoardDef) (turns : List TraceTurn) (pulses : List Pulse) (state : BoardState) (ms : List MeantIn) → (r : IsReplay b turns pulses state)
-    → r.given ≡ turns_given ms → TurnsAreFair b (new_rig b []) ms → TurnsFind b (new_rig b []) ms → (oid : ℕ) → (rest : List ℕ) × (pulse_ticks oid pulses ++ rest ≡ ticks_of oid (all_meant ms))
+    → r.given ≡ turns_given ms → TurnsAreFair b (new_rig b []) ms → TurnsFind b (new_rig b []) ms
+    → (oid : ℕ) → (rest : List ℕ) × (pulse_ticks oid pulses ++ rest ≡ ticks_of oid (all_meant ms))
 replay_ticks b turns pulses state ms r is fair finds oid =
     let cut = replay_cut b turns pulses state ms r is fair oid in
     let more = all_sofar b (new_rig b []) ms oid [] [] [] finds (starts b oid) in

@@ -16,8 +16,9 @@ ghost use Rattle.run_checks.specs.Replayed.{MeantIn, TurnsAreFair, TurnsFind, al
 /// its next reset is left out. Where each unit is taken after its stepper was made and while no trigger halted that, they are at the first
 /// of its units' ticks.
 pub fn replayed_pulses_are_meant()
-    ensures ticks { (b : BoardDef) (turns : List TraceTurn) (pulses : List Pulse) (state : BoardState) (ms : List MeantIn) → (r : IsReplay b turns pulses state) →
-        r.given ≡ turns_given ms → TurnsAreFair b (new_rig b []) ms → TurnsFind b (new_rig b []) ms → (oid : ℕ) → (rest : List ℕ) × (pulse_ticks oid pulses ++ rest ≡ ticks_of oid (all_meant ms)) }
-    ensures cut { (b : BoardDef) (turns : List TraceTurn) (pulses : List Pulse) (state : BoardState) (ms : List MeantIn) → (r : IsReplay b turns pulses state) →
-        r.given ≡ turns_given ms → TurnsAreFair b (new_rig b []) ms → IsCut pulses (steps_meant b (new_rig b []) [] [] ms) }
+    ensures ticks { (b : BoardDef) (turns : List TraceTurn) (pulses : List Pulse) (state : BoardState) (ms : List MeantIn) →
+        (r : IsReplay b turns pulses state) → r.given ≡ turns_given ms → TurnsAreFair b (new_rig b []) ms → TurnsFind b (new_rig b []) ms →
+        (oid : ℕ) → (rest : List ℕ) × (pulse_ticks oid pulses ++ rest ≡ ticks_of oid (all_meant ms)) }
+    ensures cut { (b : BoardDef) (turns : List TraceTurn) (pulses : List Pulse) (state : BoardState) (ms : List MeantIn) →
+        (r : IsReplay b turns pulses state) → r.given ≡ turns_given ms → TurnsAreFair b (new_rig b []) ms → IsCut pulses (steps_meant b (new_rig b []) [] [] ms) }
 {}

@@ -19,3 +19,4 @@ pub mod Exact
 pub mod Orders
 pub mod Fresh
 pub mod Clocked
+pub mod Quickest

@@ -3,3 +3,4 @@ pub mod Samples
 pub mod Near
 pub mod Ordered
 pub mod Clocked
+pub mod Quickest

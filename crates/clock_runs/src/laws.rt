@@ -1,6 +1,6 @@
 //! What holds of a board and the reactor over the turns of any run.
 
-ghost use Rattle.std.specs.Prelude.{◌≡◌, ◌+◌, ◌-◌, ◌*◌, ◌%◌, ◌<◌, ◌≤◌, ℕ, pos, List, [], ◌∷◌, ◌++◌, All, Some, length, map, true, false};
+ghost use Rattle.std.specs.Prelude.{◌≡◌, ◌+◌, ◌-◌, ◌*◌, ◌%◌, ◌<◌, ◌≤◌, ℕ, pos, List, [], ◌∷◌, ◌++◌, All, None, Some, length, map, true, false};
 ghost use Rattle.std.specs.List.{filter};
 ghost use Rattle.plan_types.specs.declared.levels.Level.{Level};
 ghost use Rattle.plan_types.specs.declared.clock.BoardClock.{BoardClock};
@@ -12,7 +12,7 @@ ghost use Rattle.plan_types.specs.Lines.{Clocks};
 ghost use Rattle.plan_types.specs.Machines.{IsValidFreq, IsValidMachine, board_at, stepper_at};
 ghost use Rattle.clock_line.specs.declared.sample.Sample.{Sample};
 ghost use Rattle.clock_line.specs.Kept.{AreKept};
-ghost use Rattle.clock_line.specs.Samples.{AreWithin, line_reach, ppm_size, sampled};
+ghost use Rattle.clock_line.specs.Samples.{AreWithin, chosen, line_reach, ppm_size, sampled};
 ghost use Rattle.msg_code.specs.declared.cmd.Cmd.{Cmd};
 ghost use Rattle.board_asking.specs.Machine.{configuration, setup_command, trigger_of};
 ghost use Rattle.wire_scene.specs.declared.scene.Entry.{Entry};
@@ -36,6 +36,7 @@ ghost use Rattle.axis_homing.specs.declared.homing.Homing.{Homing};
 ghost use Rattle.clock_runs.specs.Clocked.{SetsTo};
 ghost use Rattle.clock_runs.specs.Near.{AllKeepUp, IsExact, IsUndisturbed, KeepsUp, LinesKeepUp};
 ghost use Rattle.clock_runs.specs.Ordered.{MayOrder, commands_in, configures, times_made};
+ghost use Rattle.clock_runs.specs.Quickest.{IsQuickest, best_behind};
 ghost use Rattle.clock_runs.specs.Runs.{IsInRun, UnitsFit, ends_in, orders_in};
 ghost use Rattle.clock_runs.specs.Samples.{IsFresh, IsSample, IsSampled, IsSampledAtOnce, WasPut, WasTold, first_line, further_lines, lines_told};
 
@@ -61,6 +62,13 @@ pub fn clock_lines_are_samples()
     ensures further { (m : Machine) (switches : List Switch) (pins : List (List Level)) (entries : List Entry) (b : ℕ) (c : Came) (before : List Came) (t : BoardTurn) (turns : List BoardTurn) →
         IsInRun m switches pins entries b (c ∷ before) (t ∷ turns) →
         All (IsFresh (clock_of (board_at m b)) turns) (further_lines b (last_turn m switches c before).ordered.word.news) }
+{}
+
+/// The law of samples: where there are some, the line is taken of the first of the quickest: the sample is one of those given, each one
+/// ahead of it took longer, and none behind it took less. It is the one that is kept of a board, sample by sample.
+pub fn quickest_samples_are_chosen()
+    ensures { (first : Sample) (others : List Sample) (freq : ℕ) →
+        (s : Sample) × IsQuickest s (first ∷ others) × (chosen (first ∷ others) freq ≡ sampled s freq) × (best_behind None (first ∷ others) ≡ Some s) }
 {}
 
 /// The law of nearness: the clock line of a sample, from the turn in which that was sent on. Where the board's clock is exact, the

@@ -13,3 +13,4 @@ pub mod Accepting
 pub mod Joining
 pub mod Extruding
 pub mod Marking
+pub mod Bordering

@@ -1,3 +1,4 @@
 pub mod Bent
 pub mod Joined
 pub mod Written
+pub mod Borders

@@ -1,10 +1,12 @@
 //! The laws of the files that are written for a text of G-code.
 
-ghost use Rattle.std.specs.Prelude.{◌≡◌, ◌⊎◌, ◌++◌, ◌∷◌, [], All, ℕ, ℤ, List, codes, pos};
+ghost use Rattle.std.specs.Prelude.{◌≡◌, ◌⊎◌, ◌-◌, ◌*◌, ◌++◌, ◌∷◌, [], All, ℕ, ℤ, List, codes, pos};
 ghost use Rattle.bed_mesh.specs.Cuts.{ends};
+ghost use Rattle.bed_mesh.specs.Grids.{IsValidMesh, cell_height, height, offset};
 ghost use Rattle.bed_mesh.specs.declared.mesh.Mesh.{Mesh};
 ghost use Rattle.gcode_program.specs.Programs.{program_end, program_sections};
 ghost use Rattle.mesh_laws.specs.Bent.{parts_to, raised_place};
+ghost use Rattle.mesh_laws.specs.Borders.{IsInCell};
 ghost use Rattle.mesh_laws.specs.Joined.{ExtrudeThrough, IsAsFast, Join, change_by};
 ghost use Rattle.mesh_laws.specs.Written.{IsEnding, IsRefusedThere, IsSmallFile, accepted_end, bent_program, first_sections};
 ghost use Rattle.mesh_text.specs.Files.{mesh_code, mesh_end};
@@ -54,4 +56,11 @@ pub fn ends_are_comments()
     ensures done { (names : Machine) → IsEnding (codes "; " ++ end_text names cause.Done) }
     ensures asked { (names : Machine) (line : ℕ) → IsEnding (codes "; " ++ end_text names (cause.Asked line)) }
     ensures refused { (names : Machine) (line : ℕ) (kind : LineKind) → IsEnding (codes "; " ++ end_text names (cause.Line line kind)) }
+{}
+
+/// The law of borders: the height at a place, brought within the grid, is that in each cell that has it. So where the place is on the
+/// border of cells, it is exactly the same by each of them.
+pub fn heights_agree_on_borders()
+    ensures { (t : Mesh) (x y : ℤ) (i j : ℕ) → IsValidMesh t → IsInCell t.x i (offset t.x x) → IsInCell t.y j (offset t.y y) →
+        height t x y ≡ cell_height t i j (offset t.x x - i * t.x.step) (offset t.y y - j * t.y.step) }
 {}

@@ -4,6 +4,6 @@
 mod laws;
 
 pub use laws::{
-    ends_are_comments, moves_to_ends_join, texts_are_read_for_files, written_files_are_accepted,
-    written_files_follow_the_bed,
+    ends_are_comments, heights_agree_on_borders, moves_to_ends_join, texts_are_read_for_files,
+    written_files_are_accepted, written_files_follow_the_bed,
 };

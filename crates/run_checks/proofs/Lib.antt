@@ -21,3 +21,4 @@ pub mod Unshown
 pub mod WithoutSections
 pub mod Scenes
 pub mod Any
+pub mod Replaying

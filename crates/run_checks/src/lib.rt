@@ -3,6 +3,7 @@
 
 mod law;
 mod page;
+mod replays;
 
 pub use law::{
     homing_runs_check, reports_that_follow_the_plan_check, runs_over_links_check,
@@ -10,3 +11,4 @@ pub use law::{
     what_runs_over_links_write_checks, what_runs_without_sections_write_checks,
 };
 pub use page::{printed_lines_follow_the_plan, runs_that_went_through_follow_the_plan};
+pub use replays::replayed_pulses_are_meant;

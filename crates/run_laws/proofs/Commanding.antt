@@ -189,7 +189,7 @@ since_all stops by oid c (s ∷ ss) time st =
     (one.0, (one.1, rest.1))
 
 -- what the commands behind one find
-finds_on : (stops : ℕ → Option ℕ) (by : ℕ) (s : Sent) (cs : ℕ → Course) (r : Rig) (ms : List Meant) → IsInTime stops by s.turn s.order.command
+pub finds_on : (stops : ℕ → Option ℕ) (by : ℕ) (s : Sent) (cs : ℕ → Course) (r : Rig) (ms : List Meant) → IsInTime stops by s.turn s.order.command
     → ((oid : ℕ) → IsStopped stops by (cs oid).since → AllFindHalted oid r (s.order ∷ ms)) → (oid : ℕ) → IsStopped stops by (course_behind oid (cs oid) s).since → AllFindHalted oid (takes r s.order.command).rig ms
 finds_on stops by s cs r ms time finds oid st =
     let was = since_one stops by s.turn oid (cs oid) s.order.command s.order.ticks time st in

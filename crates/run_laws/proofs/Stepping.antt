@@ -121,7 +121,7 @@ abbrev pub Finds : Script → ℕ → ℕ → List Sent → Core → List Step �
 Finds p by turn sent h steps = (r : Going p by turn sent h) → (oid : ℕ) → IsStopped p.stops by (courses r.done oid).since → StepsFindHalted oid h steps
 
 -- so in some commands that the board takes
-abbrev TakesFind : Script → ℕ → (ℕ → Course) → Rig → List Meant → Type 0
+abbrev pub TakesFind : Script → ℕ → (ℕ → Course) → Rig → List Meant → Type 0
 TakesFind p by cs r ms = (oid : ℕ) → IsStopped p.stops by (cs oid).since → AllFindHalted oid r ms
 
 -- what the first commands left are

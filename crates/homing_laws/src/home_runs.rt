@@ -39,7 +39,8 @@ ghost use Rattle.board_world.specs.World.{start};
 ghost use Rattle.msg_code.specs.declared.talk.State.{State};
 ghost use Rattle.run_laws.specs.Links.{AreTold, steps_of, turns_told};
 ghost use Rattle.run_laws.specs.Timely.{AllTimely};
-ghost use Rattle.homing_laws.specs.home_runs.Words.{AreToldIn, BeginsNone, IsBegunIn, IsToldIn, TellsHomed};
+ghost use Rattle.homing_laws.specs.home_runs.Words.{BeginsNone, IsBegunIn, TellsHomed};
+ghost use Rattle.homing_laws.specs.home_runs.Ended.{AreToldIn, IsToldIn};
 ghost use Rattle.homing_laws.specs.home_runs.Windows.{BringCalm, HasAnswer, IsSetUp, IsWatched, TellFired};
 ghost use Rattle.homing_laws.specs.home_runs.Guards.{ReasonFits, StandsFired};
 ghost use Rattle.msg_code.specs.declared.cmd.Cmd.TheVariants.{TrsyncState};
@@ -144,8 +145,8 @@ pub fn homing_turns_set_no_clocks()
         AreOrdersIn clocks (past ++ s ∷ later) 0 (orders_in turns) → s.homes ≡ true → from + 254 ≡ s.section.start → SendNoneIn from (from + 4) turns }
 {}
 
-/// The law of told sections: a homing section that a note began and a word told of, and whose set-up the board took in time, is one
-/// that was answered.
+/// The law of told sections: a homing section that a note began and a word told of, and whose set-up the board took in time or whose reports are
+/// read as the ticks since which its trigger can't trigger, is one that was answered.
 pub fn told_sections_are_homed()
     ensures { (m : Machine) (switches : List Switch) (pins : List (List Level)) (entries : List Entry) (b start end from : ℕ) (turns : List BoardTurn) (t : IsToldIn m switches pins entries b start end turns) →
         from + 254 ≡ start → SetNoClockFrom from t.past → SendNoneIn from (from + 4) t.past → IsHomed m switches pins entries b start end turns }

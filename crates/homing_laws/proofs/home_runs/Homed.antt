@@ -24,7 +24,7 @@ use Rattle.clock_runs.proofs.Lines.{as_long}
 use Rattle.clock_runs.proofs.Orders.{order_length}
 use Rattle.homing_laws.specs.home_runs.Sections.{HomesFrom}
 use Rattle.homing_laws.specs.home_runs.Settled.{AreHomed, IsHomed, SendNoneIn, SetNoClockFrom}
-use Rattle.homing_laws.specs.home_runs.Words.{AreToldIn, IsToldIn}
+use Rattle.homing_laws.specs.home_runs.Ended.{AreToldIn, IsToldIn}
 use Rattle.homing_laws.proofs.home_runs.Along.{all_settled}
 use Rattle.homing_laws.proofs.home_runs.Joining.{homes_later}
 use Rattle.homing_laws.proofs.home_runs.Knowing.{homing_known, word_answers}
@@ -59,7 +59,7 @@ told_homed m switches pins entries b start end from turns t begins none sends =
       begin = x.3;
       sets_none = none;
       sends_none = sends;
-      fires = inl t.took;
+      fires = t.fires;
     }
 
 -- the orders of earlier turns

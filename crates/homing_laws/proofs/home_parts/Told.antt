@@ -157,7 +157,7 @@ may_at : (m : Machine) (past : List Started) (s : Started) (later : List Started
 may_at m [] s later axis home h = h.0 axis home
 may_at m (y ∷ past) s later axis home h = may_at m past s later axis home h.1
 
-take_at : (m : Machine) (pins : List (List Level)) (entries : List Entry) (b : ℕ) (past : List Started) (s : Started) (later : List Started) (axis : ℕ) (turns : List BoardTurn) → s.section.kind ≡ Home axis → TakeSetUps m pins entries b (past ++ s ∷ later) turns
+pub take_at : (m : Machine) (pins : List (List Level)) (entries : List Entry) (b : ℕ) (past : List Started) (s : Started) (later : List Started) (axis : ℕ) (turns : List BoardTurn) → s.section.kind ≡ Home axis → TakeSetUps m pins entries b (past ++ s ∷ later) turns
     → (behind before : List BoardTurn) → turns ≡ behind ++ before → length before ≡ s.end → TakesSetUp (first_state (board_at m b) pins b entries) s.start before
 take_at m pins entries b [] s later axis turns home h = h.0 axis home
 take_at m pins entries b (y ∷ past) s later axis turns home h = take_at m pins entries b past s later axis turns home h.1

@@ -10,7 +10,7 @@ use Rattle.run_laws.specs.Homes.{AreOrdersIn, IsHomeRun, RunSection, AreReleased
 use Rattle.board_runs.specs.Turns.{BoardTurn}
 use Rattle.clock_runs.specs.Runs.{orders_in}
 use Rattle.homing_laws.specs.home_runs.Settled.{AreHomed, IsHomed}
-use Rattle.homing_laws.specs.home_runs.Words.{AreToldIn, IsToldIn}
+use Rattle.homing_laws.specs.home_runs.Ended.{AreToldIn, IsToldIn}
 use Rattle.homing_laws.proofs.home_runs.Homed.{none_sent, orders_front, told_homed}
 use Rattle.homing_laws.proofs.home_runs.Settled.{later_orders}
 use Rattle.homing_laws.proofs.home_runs.Unclocked.{none_from}

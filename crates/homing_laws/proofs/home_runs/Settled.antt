@@ -472,13 +472,15 @@ module _ (m : Machine) (switches : List Switch) (pins : List (List Level)) (entr
       let Ends : ℕ → Type 0 = λ n. (IsHalted (board.stepper_at Then.board.controller n) ⊎ TookNone n a.from First past) × ((steps : List Step) → StepsFindHalted n Then steps) in
       subst Ends x.same (elim hm.fires [
         | inl soon ↦
-            let halted = answered_halt m switches pins entries b c before past h x.stepper v r hm.states a x.own (subst (λ (n : ℕ). TakesSetUp First n past) (sym hm.begin) soon) ran in
-            (inl halted,
-            λ steps. steps_settle i (trigger_of m b) steps Then left.0 (ordered_after (board_at m b) pins b entries past r.turns_are) (left.1 ∙ sym (all_queued (board_at m b) pins b entries past r.turns_are)) (inr (inl halted)))
+            let halted = answered_halt m switches pins entries b c before past h x.stepper v r hm.states a x.own (subst (λ (n : ℕ). TakesSetUp First n past) (sym hm.begin) soon) ran in (
+              inl halted,
+              λ steps. steps_settle i (trigger_of m b) steps Then left.0 (ordered_after (board_at m b) pins b entries past r.turns_are) (left.1 ∙ sym (all_queued (board_at m b) pins b entries past r.turns_are)) (inr (inl halted)),
+            )
         | inr so ↦
-            let none = moves_none i a.from (a.from + 4) past hm.sends_none in
-            (halts_or_took_none m v switches pins entries b c before past h x.stepper r hm.states a x.own so.apart so.reads so.behind none ran,
-            λ steps. steps_find_halted m v switches pins entries b c before past h x.stepper r hm.states a x.own so.apart so.reads so.behind none ran steps)
+            let none = moves_none i a.from (a.from + 4) past hm.sends_none in (
+              halts_or_took_none m v switches pins entries b c before past h x.stepper r hm.states a x.own so.apart so.reads so.behind none ran,
+              λ steps. steps_find_halted m v switches pins entries b c before past h x.stepper r hm.states a x.own so.apart so.reads so.behind none ran steps,
+            )
       ])
 
   -- what was taken since sets the clock no more

@@ -13,6 +13,7 @@ pub mod Whole
 pub mod Joining
 pub mod Sole
 pub mod Staying
+pub mod Found
 pub mod Resetting
 pub mod Forming
 pub mod Settled

@@ -5,3 +5,4 @@ pub mod Stages
 pub mod Sections
 pub mod Settled
 pub mod Words
+pub mod Ended

@@ -24,7 +24,8 @@ ghost use Rattle.clock_runs.specs.Runs.{IsInRun};
 ghost use Rattle.homing_laws.specs.home_runs.Sections.{IsAnswered, IsMoved};
 ghost use Rattle.homing_laws.specs.home_runs.Told.{IsMember};
 ghost use Rattle.homing_laws.specs.fired_runs.Since.{AreBehind, AreReadTrue, BeginsApart, HasFiredSince};
-ghost use Rattle.homing_laws.specs.fired_runs.Waiting.{MoveNoneIn, StepsFindHalted, TookNone};
+ghost use Rattle.run_laws.specs.Finds.{StepsFindHalted};
+ghost use Rattle.homing_laws.specs.fired_runs.Waiting.{MoveNoneIn, TookNone};
 
 /// The law of firings: as the turn begins in which the group of a homing section answers, each member's board took the command that starts its trigger for
 /// this section, with all that was queued before it, and its trigger has triggered since, whatever happens on the lines. What it takes is that the board's

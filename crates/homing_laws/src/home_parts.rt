@@ -31,9 +31,9 @@ ghost use Rattle.run_plans.specs.Given.{TookBatches};
 ghost use Rattle.run_plans.specs.Homed.{TookControlsIn, runs_on, stops_of};
 ghost use Rattle.run_plans.specs.Lines.{TellTurns, pulses_of};
 ghost use Rattle.run_plans.specs.Planned.{Plans};
-ghost use Rattle.homing_laws.specs.home_runs.Words.{AreToldIn};
+ghost use Rattle.homing_laws.specs.home_runs.Ended.{AreToldIn};
 ghost use Rattle.homing_laws.specs.home_plans.Notes.{AreInARow, CameNotes, IsNoteOf};
-ghost use Rattle.homing_laws.specs.fired_runs.Since.{AreBehind, BeginsApart};
+ghost use Rattle.homing_laws.specs.fired_runs.Since.{AreBehind, AreReadSo, BeginsApart};
 ghost use Rattle.homing_laws.specs.home_parts.Answers.{ArePastConnecting, IsPlannedBy, MayHome, TakeSetUps, TellNone, TellsIn};
 ghost use Rattle.homing_laws.specs.home_parts.Cuts.{AreOverBefore, cuts_on};
 ghost use Rattle.homing_laws.specs.home_parts.Known.{KnowsLately, StartInRange};
@@ -52,12 +52,13 @@ pub fn sections_end_with_their_answer()
         TellNone m switches from s.end behind }
 {}
 
-/// The law of told sections, of the planner's: where the planner began them, and the board took their set-ups in time, the homing sections of a
-/// board that have ended by its last turn were told of, as `home_runs` asks.
+/// The law of told sections, of the planner's: where the planner began them, and the board took their set-ups in time or what it tells is read as the
+/// ticks since which its trigger can't trigger (`AreReadSo`), the homing sections of a board that have ended by its last turn were told of, as
+/// `home_runs` asks.
 pub fn ended_sections_are_told()
     ensures { (m : Machine) (switches : List Switch) (pins : List (List Level)) (entries : List Entry) (b ready until : ℕ) (ts : List MotionTurn) (p : Plans m (length m.boards) ts) (t : Told) (came : List Came) (turns : List BoardTurn) →
         IsPlannedBy m switches (length m.boards) ts p came → p.seen.told ≡ Some t → ready + 260 ≤ t.first → ArePastConnecting m switches ready came → MayHome m p.seen.begun →
-        IsInRun m switches pins entries b came turns → TakeSetUps m pins entries b p.seen.begun turns →
+        IsInRun m switches pins entries b came turns → TakeSetUps m pins entries b p.seen.begun turns ⊎ AreReadSo m switches b came turns →
         AreToldIn m switches pins entries b (stops_of p.seen.begun) (cuts_on m t.clocks until p.seen.begun b) turns }
 {}
 

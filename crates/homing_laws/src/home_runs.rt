@@ -33,13 +33,14 @@ ghost use Rattle.run_laws.specs.Events.{AreOwn};
 ghost use Rattle.run_laws.specs.Homes.{AreInTurn, AreOrdersIn, AreReleasedIn, AreSettledOn, IsHomeBoard, IsHomeRun, IsSectionBy, RunSection, SetsIn};
 ghost use Rattle.plan_types.specs.Lines.{Clocks};
 ghost use Rattle.clock_runs.specs.Runs.{orders_in};
-ghost use Rattle.homing_laws.specs.home_runs.Settled.{AreHomed, IsHomed, SetNoClockFrom};
+ghost use Rattle.homing_laws.specs.home_runs.Settled.{AreHomed, IsHomed, SendNoneIn, SetNoClockFrom};
 ghost use Rattle.homing_laws.specs.home_runs.Told.{IsMember, TellFiredFrom};
 ghost use Rattle.board_world.specs.World.{start};
 ghost use Rattle.msg_code.specs.declared.talk.State.{State};
 ghost use Rattle.run_laws.specs.Links.{AreTold, steps_of, turns_told};
 ghost use Rattle.run_laws.specs.Timely.{AllTimely};
-ghost use Rattle.homing_laws.specs.home_runs.Words.{AreToldIn, BeginsNone, IsBegunIn, IsToldIn, TellsHomed};
+ghost use Rattle.homing_laws.specs.home_runs.Words.{BeginsNone, IsBegunIn, TellsHomed};
+ghost use Rattle.homing_laws.specs.home_runs.Ended.{AreToldIn, IsToldIn};
 ghost use Rattle.homing_laws.specs.home_runs.Windows.{BringCalm, HasAnswer, IsSetUp, IsWatched, TellFired};
 ghost use Rattle.homing_laws.specs.home_runs.Guards.{ReasonFits, StandsFired};
 ghost use Rattle.msg_code.specs.declared.cmd.Cmd.TheVariants.{TrsyncState};
@@ -104,8 +105,8 @@ pub fn answered_sections_are_halted()
 {}
 
 /// The law of parts that stop: where the parts of a board's steps stop with homing sections, it is settled as each of its turns begins: while it runs it
-/// has begun the parts that stop by then, and halted their steppers. What it takes is that it took the set-up of each by the answer; and that it did so in
-/// time (`TakesSetUp`), or that what it tells is read as the ticks since which its trigger can't trigger (`IsReadSo`).
+/// has begun the parts that stop by then, and it halts their steppers by then or before it takes a step of the part. What it takes is that it took the
+/// set-up of each in time (`TakesSetUp`), or that what it tells is read as the ticks since which its trigger can't trigger (`IsReadSo`).
 pub fn boards_settle_with_the_answer()
     ensures { (m : Machine) (switches : List Switch) (pins : List (List Level)) (entries : List Entry) (b : ℕ) (turns : List BoardTurn) (stops : ℕ → Option ℕ) (end : LinkState)
         (t : AreTurns (clock_of (board_at m b)) 0 (orders_in turns) (first_state (board_at m b) pins b entries) end) → IsValidMachine m →
@@ -133,19 +134,22 @@ pub fn words_tell_of_answers()
 {}
 
 /// The law of homing turns: where a board's orders are those of its sections, those of moves released by four turns behind their ends, no unit
-/// that is released from 254 turns before the start of one that homes up to its end sets a clock.
+/// that is released from 254 turns before the start of one that homes up to its end sets a clock, and none is released in the first four of them.
 pub fn homing_turns_set_no_clocks()
-    ensures { (clocks : Clocks) (freq slots until ready from : ℕ) (stops : ℕ → Option ℕ) (past : List RunSection) (s : RunSection) (later : List RunSection) (turns : List BoardTurn) →
+    ensures sets { (clocks : Clocks) (freq slots until ready from : ℕ) (stops : ℕ → Option ℕ) (past : List RunSection) (s : RunSection) (later : List RunSection) (turns : List BoardTurn) →
         AreInTurn ready (past ++ s ∷ later) → All (λ x. IsSectionBy x.homes clocks freq slots until stops x.section) (past ++ s ∷ later) → AreReleasedIn (past ++ s ∷ later) →
         AreOrdersIn clocks (past ++ s ∷ later) 0 (orders_in turns) →
         s.homes ≡ true → from + 254 ≡ s.section.start → length turns ≤ s.section.end → SetNoClockFrom from turns }
+    ensures sends { (clocks : Clocks) (freq slots until ready from : ℕ) (stops : ℕ → Option ℕ) (past : List RunSection) (s : RunSection) (later : List RunSection) (turns : List BoardTurn) →
+        AreInTurn ready (past ++ s ∷ later) → All (λ x. IsSectionBy x.homes clocks freq slots until stops x.section) (past ++ s ∷ later) → AreReleasedIn (past ++ s ∷ later) →
+        AreOrdersIn clocks (past ++ s ∷ later) 0 (orders_in turns) → s.homes ≡ true → from + 254 ≡ s.section.start → SendNoneIn from (from + 4) turns }
 {}
 
-/// The law of told sections: a homing section that a note began and a word told of, and whose set-up the board took in time, is one
-/// that was answered.
+/// The law of told sections: a homing section that a note began and a word told of, and whose set-up the board took in time or whose reports are
+/// read as the ticks since which its trigger can't trigger, is one that was answered.
 pub fn told_sections_are_homed()
     ensures { (m : Machine) (switches : List Switch) (pins : List (List Level)) (entries : List Entry) (b start end from : ℕ) (turns : List BoardTurn) (t : IsToldIn m switches pins entries b start end turns) →
-        from + 254 ≡ start → SetNoClockFrom from t.past → IsHomed m switches pins entries b start end turns }
+        from + 254 ≡ start → SetNoClockFrom from t.past → SendNoneIn from (from + 4) t.past → IsHomed m switches pins entries b start end turns }
 {}
 
 /// The law of boards that home: a board of a run whose part of it is one in which axes home, whose units of moves are released by four turns

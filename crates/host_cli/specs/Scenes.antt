@@ -90,9 +90,9 @@ pub record ShowsText (m : Machine) (text : List ℕ) (c : Cause) (said : List Re
 -- which its readings of the endstop of an axis that homes were complete. Whatever ended it, each board's lists in `links` hold the units
 -- of the text's sections, each in its turn, in order and with longest triples, the controls that the reactor orders, and the states of the board's turns, whose pulses its lines show (`AreLinksIn`). Its lines, as they were written, with those of pulses, show the sections that were begun, whatever its links hold, where it does not end for want of memory (`ShowsBegun`). Prefix and Sections hold of every run, whatever
 -- ended it, want of memory too, where no line holds a command for half a round of the 32-bit clock and each board takes the set-up of a homing
--- section in time (`ShowsFront`). And they show the file's text; of a run of moves that does not end for want of memory, where no line holds a
--- command for half a round of the 32-bit clock; and of one of any text, where besides each board takes the set-up of a homing section in time. Where
--- moreover what a board's trigger does in a homing section is heard of within half a round (`AllHearSoon`), the tick that a turn tells of a switch is one at which this very section's readings are
+-- section in time or its reports are read true (`ShowsFront`). And they show the file's text; of a run of moves that does not end for want of memory, where no line holds a
+-- command for half a round of the 32-bit clock; and of one of any text, where besides each board takes the set-up of a homing section in time or its
+-- reports are read true. Where moreover the set-up is taken in time, and what a board's trigger does in a homing section is heard of within half a round (`AllHearSoon`), the tick that a turn tells of a switch is one at which this very section's readings are
 -- complete (`TellOwn`). What suffices for these
 -- premises in a scene without entries is said by laws (`clear_links_hold_nothing_long`, `clear_scenes_hold_little`). Completeness: in a scene without entries, and where no line asks for a stop, a run of moves whose units are all sent soon (`SendsAllSoon`) ends as the reading
 -- of its text does, but for want of memory and for faults of files and output; and so does one of any text whose units are sent so, or a switch

@@ -1,5 +1,6 @@
 -- A board takes good commands, those of triggers among them, one behind the other.
-use Rattle.std.proofs.Common.{◌≡◌, ℕ, true, ◌≤◌, ◌⊎◌, List, [], ◌∷◌, ◌++◌, Option, refl, ap, sym, ◌∙◌, subst, arith, inl, inr, append-nil}
+use Rattle.std.proofs.Common.{◌≡◌, ℕ, Bool, true, false, cond, ◌≤◌, ◌==◌, ◌⊎◌, List, [], ◌∷◌, ◌++◌, Option, Some, refl, ap, sym, ◌∙◌, subst, arith, inl, inr, append-nil}
+use Rattle.std.proofs.lemmas.Bool.{eq-eqb}
 use Rattle.plan_types.specs.declared.plan.BoardState.{BoardState}
 use Rattle.plan_types.specs.declared.plan.BoardState.TheVariants.{Running}
 use Rattle.plan_types.specs.declared.plan.Pulse.{Pulse}
@@ -8,12 +9,13 @@ use Rattle.msg_code.specs.declared.cmd.Cmd.TheVariants as cmd
 use Rattle.board_sim.specs.Board.{Controller, stepper_at, is_shut, acts, command_request}
 use Rattle.board_sim.specs.Rig.{Rig, acts_running, takes, takes_all}
 use Rattle.board_sim.specs.Rig as rig
-use Rattle.board_sim.specs.Fair.{commands_of, IsFairCommand, IsFairRunning, AreFair}
+use Rattle.board_sim.specs.Fair.{Meant, commands_of, IsFairCommand, IsFairRunning, AreFair}
 use Rattle.board_sim.proofs.RigShut.{all_left_by}
 use Rattle.board_sim.proofs.RigStates.{all_tick}
 use Rattle.run_laws.specs.Known.{Sent, orders_in, IsLostFor}
 use Rattle.run_laws.specs.Timely.{IsTimely, AreTimely}
-use Rattle.run_laws.specs.Courses.{Course, parts_of, course_of, course_behind, course_from, AreMadeFor, IsMadeBy, IsGoodOn, AreGoodOn, IsInTime, AreInTime, BeginLostOn, FindsFree}
+use Rattle.run_laws.specs.Finds.{AllFindHalted, AllSetNot, FindsHalted, SetsNot}
+use Rattle.run_laws.specs.Courses.{Course, IsStopped, next_part, parts_of, course_of, course_behind, course_from, AreMadeFor, IsMadeBy, IsGoodOn, AreGoodOn, IsInTime, AreInTime, BeginLostOn, FindsFree}
 use Rattle.run_laws.proofs.Fits.{IsShutBy}
 use Rattle.run_laws.proofs.Free.{board_acts}
 use Rattle.run_laws.proofs.Taking.{shut_fair}
@@ -69,18 +71,20 @@ plainly : (own : ℕ → ℕ) (stops : ℕ → Option ℕ) (slots by turn : ℕ)
 plainly own stops slots by turn cs b c state tick slots_same steppers f = (tt, same_stands own stops slots by turn cs b c state tick slots_same steppers f)
 
 -- a command of a board's own
-acts_stand : (own : ℕ → ℕ) (stops : ℕ → Option ℕ) (slots by queued turn : ℕ) (cs : ℕ → Course) (b : Controller) (c : Cmd) (ticks : List ℕ) → BoardStands own stops slots by turn cs b → own queued ≤ own turn → queued ≤ by
-    → ((oid : ℕ) → IsGoodOn own stops slots oid queued (cs oid) c ticks) → IsTimely (own turn) c ticks → IsInTime stops by queued c → Acts own stops slots by queued turn cs b c ticks
-acts_stand own stops slots by queued turn cs b (cmd.QueueStep other interval count add) ticks f h k good timely time =
-    push_stands own stops slots by queued turn cs b other (stepper_at b other) (record { interval = interval; count = count; add = add }) ticks refl f h (good other refl) timely
-acts_stand own stops slots by queued turn cs b (cmd.ResetStepClock other clock) ticks f h k good timely time =
-    (tt, reset_stands own stops slots by turn queued cs b other clock (stepper_at b other) refl f h k (good other refl) time)
-acts_stand own stops slots by queued turn cs b (cmd.SetNextStepDir other dir) ticks f h k good timely time = (tt, dir_stands own stops slots by turn cs b other dir (stepper_at b other) refl f (good other refl))
-acts_stand own stops slots by queued turn cs b (cmd.ConfigStepper other step dir invert width) ticks f h k good timely time = (tt, make_stands own stops slots by turn cs b other (stepper_at b other) refl f (good other))
-acts_stand own stops slots by queued turn cs b cmd.EmergencyStop ticks f h k good timely time = (tt, inr (command_request, b.tick, 0, refl, inr refl))
-acts_stand own stops slots by queued turn cs b (cmd.AllocateOids count) ticks f h k good timely time = plainly own stops slots by turn cs b (record b { oids = count }) refl refl refl refl f
-acts_stand own stops slots by queued turn cs b (cmd.FinalizeConfig crc) ticks f h k good timely time = plainly own stops slots by turn cs b (record b { complete = true; crc = crc }) refl refl refl refl f
-acts_stand own stops slots by queued turn cs b _ ticks f h k good timely time = plainly own stops slots by turn cs b b refl refl refl refl f
+acts_stand : (own : ℕ → ℕ) (stops : ℕ → Option ℕ) (slots by queued turn : ℕ) (cs : ℕ → Course) (r : Rig) (c : Cmd) (ticks : List ℕ) → BoardStands own stops slots by turn cs r.controller → own queued ≤ own turn → queued ≤ by
+    → ((oid : ℕ) → IsGoodOn own stops slots oid queued (cs oid) c ticks) → IsTimely (own turn) c ticks → IsInTime stops by queued c → ((oid : ℕ) → IsStopped stops by (cs oid).since → FindsHalted oid r c)
+    → Acts own stops slots by queued turn cs r.controller c ticks
+acts_stand own stops slots by queued turn cs r (cmd.QueueStep other interval count add) ticks f h k good timely time finds =
+    push_stands own stops slots by queued turn cs r.controller other (stepper_at r.controller other) (record { interval = interval; count = count; add = add }) ticks refl f h (good other refl) timely
+    (λ st. finds other st f.running refl)
+acts_stand own stops slots by queued turn cs r (cmd.ResetStepClock other clock) ticks f h k good timely time finds =
+    (tt, reset_stands own stops slots by turn queued cs r.controller other clock (stepper_at r.controller other) refl f h k (good other refl) time)
+acts_stand own stops slots by queued turn cs r (cmd.SetNextStepDir other dir) ticks f h k good timely time finds = (tt, dir_stands own stops slots by turn cs r.controller other dir (stepper_at r.controller other) refl f (good other refl))
+acts_stand own stops slots by queued turn cs r (cmd.ConfigStepper other step dir invert width) ticks f h k good timely time finds = (tt, make_stands own stops slots by turn cs r.controller other (stepper_at r.controller other) refl f (good other))
+acts_stand own stops slots by queued turn cs r cmd.EmergencyStop ticks f h k good timely time finds = (tt, inr (command_request, r.controller.tick, 0, refl, inr refl))
+acts_stand own stops slots by queued turn cs r (cmd.AllocateOids count) ticks f h k good timely time finds = plainly own stops slots by turn cs r.controller (record r.controller { oids = count }) refl refl refl refl f
+acts_stand own stops slots by queued turn cs r (cmd.FinalizeConfig crc) ticks f h k good timely time finds = plainly own stops slots by turn cs r.controller (record r.controller { complete = true; crc = crc }) refl refl refl refl f
+acts_stand own stops slots by queued turn cs r _ ticks f h k good timely time finds = plainly own stops slots by turn cs r.controller r.controller refl refl refl refl f
 
 -- a board that halts steppers at most
 moves_stand : (own : ℕ → ℕ) (stops : ℕ → Option ℕ) (slots by turn : ℕ) (cs : ℕ → Course) (b c : Controller) → BoardStands own stops slots by turn cs b → BoardMoves b c [] → c.tick ≡ b.tick
@@ -134,8 +138,9 @@ OneStands own stops slots by queued turn cs r c ticks =
     IsFairRunning r.controller.state r.controller c ticks × StandsOn own stops slots by turn cs (next_of queued cs c ticks) r.controller (takes r c).rig.controller
 
 one_stands : (own : ℕ → ℕ) (stops : ℕ → Option ℕ) (slots by queued turn : ℕ) (cs : ℕ → Course) (r : Rig) (c : Cmd) (ticks : List ℕ) → BoardStands own stops slots by turn cs r.controller → own queued ≤ own turn → queued ≤ by
-    → ((oid : ℕ) → IsGoodOn own stops slots oid queued (cs oid) c ticks) → IsTimely (own turn) c ticks → IsInTime stops by queued c → OneStands own stops slots by queued turn cs r c ticks
-one_stands own stops slots by queued turn cs r c ticks f h k good timely time =
+    → ((oid : ℕ) → IsGoodOn own stops slots oid queued (cs oid) c ticks) → IsTimely (own turn) c ticks → IsInTime stops by queued c
+    → ((oid : ℕ) → IsStopped stops by (cs oid).since → FindsHalted oid r c) → OneStands own stops slots by queued turn cs r c ticks
+one_stands own stops slots by queued turn cs r c ticks f h k good timely time finds =
     let Fair : BoardState → Type 0 = λ o. IsFairRunning o r.controller c ticks in
     let Then : Controller → Type 0 = λ d. StandsOn own stops slots by turn cs (next_of queued cs c ticks) r.controller d in
     elim (either c) [
@@ -145,7 +150,7 @@ one_stands own stops slots by queued turn cs r c ticks f h k good timely time =
             (moves_stand own stops slots by turn cs r.controller (takes r c).rig.controller f (triggers_move r c f.running i) (all_tick r (c ∷ []))),
       )
       | inr i ↦
-          let a = acts_stand own stops slots by queued turn cs r.controller c ticks f h k good timely time in
+          let a = acts_stand own stops slots by queued turn cs r c ticks f h k good timely time finds in
           (subst Fair (sym f.running) a.0, subst Then (sym (takes_acts r c f.running i)) a.1)
     ]
 
@@ -163,16 +168,44 @@ AllStand own stops slots by turn cs r ss =
     ⊎ (IsShutBy after × ((done more : List Sent) × (ss ≡ done ++ more)
     × ((oid : ℕ) (m : List Pulse) → IsMadeBy own stops oid (stepper_at r.controller oid) (cs oid) m → AreMadeFor own stops (parts_of (course_from oid (cs oid) done)) m))))
 
+-- a part that is stopped behind a command was so before it, and the command sets no clock of its stepper
+set_since : (t : Bool) (stops : ℕ → Option ℕ) (by queued oid other clock : ℕ) (c : Course) → (other == oid) ≡ t → (IsStopped stops by (Some queued) → ⊥) → IsStopped stops by (cond t (next_part queued clock c) c).since
+    → IsStopped stops by c.since × (other ≡ oid → ⊥)
+set_since true stops by queued oid other clock c e time st = absurd (time st)
+set_since false stops by queued oid other clock c e time st = (st, λ same. clash (other == oid) (eq-eqb other oid same) e)
+  where
+    clash : (x : Bool) → x ≡ true → x ≡ false → ⊥
+    clash x e f = cc
+
+since_one : (stops : ℕ → Option ℕ) (by queued oid : ℕ) (c : Course) (m : Cmd) (ticks : List ℕ) → IsInTime stops by queued m → IsStopped stops by (course_of oid queued c m ticks).since → IsStopped stops by c.since × SetsNot oid m
+since_one stops by queued oid c (cmd.ResetStepClock other clock) ticks time st = set_since (other == oid) stops by queued oid other clock c refl time st
+since_one stops by queued oid c m ticks time st = (st, tt)
+
+pub since_all : (stops : ℕ → Option ℕ) (by oid : ℕ) (c : Course) (ss : List Sent) → AreInTime stops by ss → IsStopped stops by (course_from oid c ss).since → IsStopped stops by c.since × AllSetNot oid (orders_in ss)
+since_all stops by oid c [] time st = (st, tt)
+since_all stops by oid c (s ∷ ss) time st =
+    let rest = since_all stops by oid (course_behind oid c s) ss time.1 st in
+    let one = since_one stops by s.turn oid c s.order.command s.order.ticks time.0 rest.0 in
+    (one.0, (one.1, rest.1))
+
+-- what the commands behind one find
+pub finds_on : (stops : ℕ → Option ℕ) (by : ℕ) (s : Sent) (cs : ℕ → Course) (r : Rig) (ms : List Meant) → IsInTime stops by s.turn s.order.command
+    → ((oid : ℕ) → IsStopped stops by (cs oid).since → AllFindHalted oid r (s.order ∷ ms)) → (oid : ℕ) → IsStopped stops by (course_behind oid (cs oid) s).since → AllFindHalted oid (takes r s.order.command).rig ms
+finds_on stops by s cs r ms time finds oid st =
+    let was = since_one stops by s.turn oid (cs oid) s.order.command s.order.ticks time st in
+    (finds oid was.0).1 was.1
+
 pub all_stand : (own : ℕ → ℕ) → ((j k : ℕ) → j ≤ k → own j ≤ own k) → (stops : ℕ → Option ℕ) (slots by turn : ℕ) (ss : List Sent) (cs : ℕ → Course) (r : Rig) → BoardStands own stops slots by turn cs r.controller → by ≤ turn → AreQueued by ss
-    → ((oid : ℕ) → AreGoodOn own stops slots oid (cs oid) ss) → AreTimely (own turn) (orders_in ss) → AreInTime stops by ss → AllStand own stops slots by turn cs r ss
-all_stand own up stops slots by turn [] cs r f le old good timely time = (tt, inl (f, λ oid m k. k))
-all_stand own up stops slots by turn (s ∷ ss) cs r f le old good timely time =
-    let one = one_stands own stops slots by s.turn turn cs r s.order.command s.order.ticks f (up s.turn turn (omega (arith, old.0, le))) old.0 (λ oid. (good oid).0) timely.0 time.0 in
+    → ((oid : ℕ) → AreGoodOn own stops slots oid (cs oid) ss) → AreTimely (own turn) (orders_in ss) → AreInTime stops by ss
+    → ((oid : ℕ) → IsStopped stops by (cs oid).since → AllFindHalted oid r (orders_in ss)) → AllStand own stops slots by turn cs r ss
+all_stand own up stops slots by turn [] cs r f le old good timely time finds = (tt, inl (f, λ oid m k. k))
+all_stand own up stops slots by turn (s ∷ ss) cs r f le old good timely time finds =
+    let one = one_stands own stops slots by s.turn turn cs r s.order.command s.order.ticks f (up s.turn turn (omega (arith, old.0, le))) old.0 (λ oid. (good oid).0) timely.0 time.0 (λ oid st. (finds oid st).0) in
     let next : ℕ → Course = λ oid. course_behind oid (cs oid) s in
     let after = (takes r s.order.command).rig in
     elim one.1 [
       | inl g ↦
-          let rest = all_stand own up stops slots by turn ss next after g.0 le old.1 (λ oid. (good oid).1) timely.1 time.1 in (
+          let rest = all_stand own up stops slots by turn ss next after g.0 le old.1 (λ oid. (good oid).1) timely.1 time.1 (finds_on stops by s cs r (orders_in ss) time.0 finds) in (
             (one.0, rest.0),
             elim rest.1 [
               | inl q ↦ inl (q.0, λ oid m k. q.1 oid m (g.1 oid m k))
@@ -204,21 +237,22 @@ AllLost own stops cs r ss tail =
 pub all_lost : (own : ℕ → ℕ) → ((j k : ℕ) → j ≤ k → own j ≤ own k) → (stops : ℕ → Option ℕ) (slots by turn : ℕ) (ss : List Sent) (s : Sent) (tail : List Sent) (cs : ℕ → Course) (r : Rig) → BoardStands own stops slots by turn cs r.controller
     → by ≤ turn → AreQueued by (ss ++ s ∷ tail) → ((oid : ℕ) → AreGoodOn own stops slots oid (cs oid) ss) → BeginLostOn own stops slots (λ oid. course_from oid (cs oid) ss) (s ∷ tail)
     → AreTimely (own turn) (orders_in (ss ++ s ∷ tail)) → AreInTime stops by (ss ++ s ∷ tail)
-    → ((takes_all r (commands_of (orders_in ss))).rig.controller.state ≡ Running → FindsFree (takes_all r (commands_of (orders_in ss))).rig.controller s.order.command) → AllLost own stops cs r ss (s ∷ tail)
-all_lost own up stops slots by turn [] s tail cs r f le old good lost timely time free =
+    → ((takes_all r (commands_of (orders_in ss))).rig.controller.state ≡ Running → FindsFree (takes_all r (commands_of (orders_in ss))).rig.controller s.order.command)
+    → ((oid : ℕ) → IsStopped stops by (cs oid).since → AllFindHalted oid r (orders_in (ss ++ s ∷ tail))) → AllLost own stops cs r ss (s ∷ tail)
+all_lost own up stops slots by turn [] s tail cs r f le old good lost timely time free finds =
     let h = up s.turn turn (omega (arith, old.0, le)) in
-    let one = one_stands own stops slots by s.turn turn cs r s.order.command s.order.ticks f h old.0 lost.0 timely.0 time.0 in
+    let one = one_stands own stops slots by s.turn turn cs r s.order.command s.order.ticks f h old.0 lost.0 timely.0 time.0 (λ oid st. (finds oid st).0) in
     let (reason, t, first, state, may) = one_lost own stops slots by s.turn turn cs r s.order.command s.order.ticks f h lost.0 timely.0 lost.1 (free f.running) in
     let after = (takes r s.order.command).rig in
     let same = ap (λ (x : Controller). x.state) (all_left_by after (commands_of (orders_in tail)) (ap is_shut state)) ∙ state in
     ((one.0, shut_fair after (orders_in tail) reason t first state), (reason, t, first, same, may), ([], [], refl, λ oid m k. made_for own stops oid (stepper_at r.controller oid) (cs oid) m k))
-all_lost own up stops slots by turn (x ∷ ss) s tail cs r f le old good lost timely time free =
-    let one = one_stands own stops slots by x.turn turn cs r x.order.command x.order.ticks f (up x.turn turn (omega (arith, old.0, le))) old.0 (λ oid. (good oid).0) timely.0 time.0 in
+all_lost own up stops slots by turn (x ∷ ss) s tail cs r f le old good lost timely time free finds =
+    let one = one_stands own stops slots by x.turn turn cs r x.order.command x.order.ticks f (up x.turn turn (omega (arith, old.0, le))) old.0 (λ oid. (good oid).0) timely.0 time.0 (λ oid st. (finds oid st).0) in
     let next : ℕ → Course = λ oid. course_behind oid (cs oid) x in
     let after = (takes r x.order.command).rig in
     elim one.1 [
       | inl g ↦
-          let (fair, shut, stop) = all_lost own up stops slots by turn ss s tail next after g.0 le old.1 (λ oid. (good oid).1) lost timely.1 time.1 free in
+          let (fair, shut, stop) = all_lost own up stops slots by turn ss s tail next after g.0 le old.1 (λ oid. (good oid).1) lost timely.1 time.1 free (finds_on stops by x cs r (orders_in (ss ++ s ∷ tail)) time.0 finds) in
           let (done, more, is, made) = stop in
           ((one.0, fair), shut, (x ∷ done, more, ap (λ y. x ∷ y) is, λ oid m k. made oid m (g.1 oid m k)))
       | inr g ↦

@@ -22,16 +22,16 @@ use Rattle.link_work.proofs.Steps.{tick_passed}
 use Rattle.run_laws.specs.Events.{AreQuiet, IsTurnOf, AreTurnsOf}
 use Rattle.run_laws.specs.Known.{Sent, sent_at, sent_in}
 use Rattle.run_laws.specs.Timely.{AllTimely}
-use Rattle.run_laws.specs.Courses.{courses, IsFrom, IsStopped, IsInTime, AreInTime, IsSettled, AreSettled, AllHeed}
+use Rattle.run_laws.specs.Courses.{courses, IsFrom, IsStopped, IsInTime, AreInTime, IsSettled, AreSettled, FindStopped, AllHeed}
 use Rattle.run_laws.proofs.Lists.{sent_append, own_up}
 use Rattle.run_laws.proofs.Passes.{AreBetween, between_append, between_wide}
 use Rattle.run_laws.proofs.Turning.{fair_append, timely_front, timely_behind, none_at, places_length}
 use Rattle.run_laws.proofs.Windows.{quiet_made, Makes}
 use Rattle.run_laws.proofs.Moving.{SlotMoves, BoardMoves}
 use Rattle.run_laws.proofs.MovingRigs.{passes_move}
-use Rattle.run_laws.proofs.Standing.{slot_moved, halted_moved, halted_none, slot_between, stop_before, made_moved}
+use Rattle.run_laws.proofs.Standing.{slot_moved, held_moved, held_none, slot_between, stop_before, made_moved}
 use Rattle.run_laws.proofs.Commanding.{AreQueued}
-use Rattle.run_laws.proofs.Stepping.{Script, Going, Gone, Keeps, quiet_keeps, queues_on, heed_front, heed_behind}
+use Rattle.run_laws.proofs.Stepping.{Script, Finds, Going, Gone, Keeps, finds_first, finds_next, quiet_keeps, queues_on, heed_front, heed_behind}
 
 -- what a stepper's place makes of the time of a turn
 abbrev PlaceMoves : Script → ℕ → Core → ℕ → Type 0
@@ -64,7 +64,7 @@ going_passes p turn sent h k r tick =
     let between = λ (oid : ℕ).
     slot_between oid p.slots (p.own turn) t (stepper_at h.board.controller oid) (stepper_at q.board.controller oid) (courses r.done oid) (only oid ps) (r.stands.each oid) (each oid) in
     let none = λ (oid : ℕ) (i : IsStopped p.stops turn (courses r.done oid).since).
-    halted_none oid p.slots (p.own turn) t (stepper_at h.board.controller oid) (stepper_at q.board.controller oid) (courses r.done oid) (only oid ps) (r.stands.each oid) (each oid) (r.stands.stopped oid i) in (
+    held_none oid p.slots (p.own turn) t (stepper_at h.board.controller oid) (stepper_at q.board.controller oid) (courses r.done oid) (only oid ps) (r.stands.each oid) (each oid) (r.stands.stopped oid i) in (
       record {
         done = r.done;
         left = r.left;
@@ -78,7 +78,7 @@ going_passes p turn sent h k r tick =
           slots_are = m.slots ∙ r.stands.slots_are;
           places = m.places ∙ r.stands.places;
           each = λ oid. slot_moved oid p.slots (p.own turn) t (stepper_at h.board.controller oid) (stepper_at q.board.controller oid) (courses r.done oid) (only oid ps) (r.stands.each oid) (each oid);
-          stopped = λ oid i. halted_moved oid (p.own turn) t (stepper_at h.board.controller oid) (stepper_at q.board.controller oid) (only oid ps) (each oid) (r.stands.stopped oid i);
+          stopped = λ oid i. held_moved oid (p.own turn) t (stepper_at h.board.controller oid) (stepper_at q.board.controller oid) (courses r.done oid) (only oid ps) (each oid) (r.stands.stopped oid i);
         };
         in_time = r.in_time;
         made = λ oid. rw (only-append oid h.made ps)
@@ -166,16 +166,21 @@ settles p turn sent h k settled = record {
   ];
 }
 
-abbrev QuietKeeps : Script → ℕ → ℕ → List Sent → List Step → Core → Type 0
-QuietKeeps p by turn sent steps h = AllFair h steps × Keeps p by turn sent (run steps h)
+-- what is found as the next turn begins
+pub settled_finds : (p : Script) (turn : ℕ) (sent : List Sent) (h : Core) (steps : List Step) → FindStopped p.stops turn sent h steps → Finds p turn turn sent h steps
+settled_finds p turn sent h steps f = λ r oid st. f r.stands.running r.done r.left (sym r.sent_is) r.taken oid st
 
-pub quiet_keep : (p : Script) (by turn : ℕ) (sent : List Sent) (steps : List Step) (h : Core) → AreQuiet steps → Keeps p by turn sent h → AllTimely h steps → AllHeed p.front p.tail h steps
-    → QuietKeeps p by turn sent steps h
-quiet_keep p by turn sent [] h q k timely heed = (tt, k)
-quiet_keep p by turn sent (s ∷ steps) h q k timely heed =
-    let one = quiet_keeps p by turn sent h s q.0 k timely.0 heed.0 in
-    let rest = quiet_keep p by turn sent steps (after h s) q.1 one.1 timely.1 heed.1 in
-    ((one.0, rest.0), rest.1)
+abbrev QuietKeeps : Script → ℕ → ℕ → List Sent → List Step → List Step → Core → Type 0
+QuietKeeps p by turn sent steps rest h = AllFair h steps × Keeps p by turn sent (run steps h) × Finds p by turn sent (run steps h) rest
+
+pub quiet_keep : (p : Script) (by turn : ℕ) (sent : List Sent) (steps rest : List Step) (h : Core) → AreQuiet steps → Keeps p by turn sent h → AllTimely h steps → AllHeed p.front p.tail h steps → Finds p by turn sent h (steps ++ rest)
+    → QuietKeeps p by turn sent steps rest h
+quiet_keep p by turn sent [] rest h q k timely heed finds = (tt, k, finds)
+quiet_keep p by turn sent (s ∷ steps) rest h q k timely heed finds =
+    let one = quiet_keeps p by turn sent h s q.0 k timely.0 heed.0 (finds_first p by turn sent h s (steps ++ rest) finds) in
+    let next = finds_next p by turn turn sent [] sent h s (steps ++ rest) (sym (append-nil sent)) k tt finds in
+    let more = quiet_keep p by turn sent steps rest (after h s) q.1 one.1 timely.1 heed.1 next in
+    ((one.0, more.0), more.1, more.2)
 
 -- what is queued in a turn is taken in time then
 pub time_of : (stops : ℕ → Option ℕ) (turn : ℕ) (c : Cmd) → (IsFrom turn (stops turn) → ⊥) → IsInTime stops turn turn c
@@ -199,29 +204,38 @@ turn_steps_keep : (p : Script) (turn : ℕ) (sent rest : List Sent) (o : Orders)
     → (sent ++ sent_at turn (queued_in o)) ++ rest ≡ p.all
     → AllTimely h (Turn turn ∷ Do (Control o.control) ∷ Do (Put o.batch) ∷ before ++ Do (Pass (p.own (turn + 1))) ∷ rear)
     → AllHeed p.front p.tail h (Turn turn ∷ Do (Control o.control) ∷ Do (Put o.batch) ∷ before ++ Do (Pass (p.own (turn + 1))) ∷ rear)
+    → Finds p turn turn sent h (Turn turn ∷ Do (Control o.control) ∷ Do (Put o.batch) ∷ before ++ Do (Pass (p.own (turn + 1))) ∷ rear)
     → TurnKeeps p turn sent o h (Turn turn ∷ Do (Control o.control) ∷ Do (Put o.batch) ∷ before ++ Do (Pass (p.own (turn + 1))) ∷ rear)
-turn_steps_keep p turn sent rest o before rear h bq rq k all timely heed =
+turn_steps_keep p turn sent rest o before rear h bq rq k all timely heed finds =
     let cs = map plain o.control.commands in
     let us = units_orders o.batch.units in
     let pass = Do (Pass (p.own (turn + 1))) in
     let split : sent_at turn (queued_in o) ≡ sent_at turn cs ++ sent_at turn us = sent_append turn cs us in
     let h1 = after h (Turn turn) in
-    let k1 = (quiet_keeps p turn turn sent h (Turn turn) tt k tt tt).1 in
+    let others = before ++ pass ∷ rear in
+    let k1 = (quiet_keeps p turn turn sent h (Turn turn) tt k tt tt (λ r oid st. tt)).1 in
+    let f1 = finds_next p turn turn turn sent [] sent h (Turn turn) (Do (Control o.control) ∷ Do (Put o.batch) ∷ others) (sym (append-nil sent)) k tt finds in
     let h2 = happens h1 (Control o.control) in
     let whole : ((sent ++ sent_at turn cs) ++ sent_at turn us) ++ rest ≡ p.all =
     ap (λ x. x ++ rest) (append_assoc sent (sent_at turn cs) (sent_at turn us) ∙ ap (λ x. sent ++ x) (sym split)) ∙ all in
     let k2 : Keeps p turn turn (sent ++ sent_at turn cs) h2 =
     queues_on p turn turn sent (sent_at turn us ++ rest) h1 (Control o.control) k1 (sym (append_assoc (sent ++ sent_at turn cs) (sent_at turn us) rest) ∙ whole) (time_at p.stops turn cs (p.ahead turn)) (old_at turn cs) refl refl refl in
+    let f2 = finds_next p turn turn turn sent (sent_at turn cs) (sent ++ sent_at turn cs) h1 (Do (Control o.control)) (Do (Put o.batch) ∷ others) refl k1 (time_at p.stops turn cs (p.ahead turn)) f1 in
     let h3 = happens h2 (Put o.batch) in
     let k3 : Keeps p turn turn ((sent ++ sent_at turn cs) ++ sent_at turn us) h3 =
     queues_on p turn turn (sent ++ sent_at turn cs) rest h2 (Put o.batch) k2 whole (time_at p.stops turn us (p.ahead turn)) (old_at turn us) refl refl refl in
-    let q = quiet_keep p turn turn ((sent ++ sent_at turn cs) ++ sent_at turn us) before h3 bq k3 (timely_front before (pass ∷ rear) h3 timely.1.1.1) (heed_front p.front p.tail before (pass ∷ rear) h3 heed.1.1.1) in
+    let f3 =
+    finds_next p turn turn turn (sent ++ sent_at turn cs) (sent_at turn us) ((sent ++ sent_at turn cs) ++ sent_at turn us) h2 (Do (Put o.batch)) others refl k2 (time_at p.stops turn us (p.ahead turn)) f2 in
+    let q = quiet_keep p turn turn ((sent ++ sent_at turn cs) ++ sent_at turn us) before (pass ∷ rear) h3 bq k3 (timely_front before (pass ∷ rear) h3 timely.1.1.1) (heed_front p.front p.tail before (pass ∷ rear) h3 heed.1.1.1) f3 in
     let h4 = run before h3 in
     let k5 = pass_keeps p turn ((sent ++ sent_at turn cs) ++ sent_at turn us) h4 q.1 in
     let h5 = after h4 pass in
     let late = timely_behind before (pass ∷ rear) h3 timely.1.1.1 in
     let behind = heed_behind p.front p.tail before (pass ∷ rear) h3 heed.1.1.1 in
-    let r = quiet_keep p turn (turn + 1) ((sent ++ sent_at turn cs) ++ sent_at turn us) rear h5 rq k5.0 late.1 behind.1 in
+    let all_sent = (sent ++ sent_at turn cs) ++ sent_at turn us in
+    let f5 = finds_next p turn turn (turn + 1) all_sent [] all_sent h4 pass rear (sym (append-nil all_sent)) q.1 tt q.2 in
+    let Found : List Step → Type 0 = λ x. Finds p turn (turn + 1) all_sent h5 x in
+    let r = quiet_keep p turn (turn + 1) ((sent ++ sent_at turn cs) ++ sent_at turn us) rear [] h5 rq k5.0 late.1 behind.1 (subst Found (sym (append-nil rear)) f5) in
     let new = (does h4 (Pass (p.own (turn + 1)))).pulses in
     let At : List Sent → Type 0 = λ x. Keeps p turn (turn + 1) x (run rear h5) in
     let To : Core → Type 0 = λ x. Keeps p turn (turn + 1) (sent ++ sent_at turn (queued_in o)) x in (
@@ -235,12 +249,13 @@ turn_steps_keep p turn sent rest o before rear h bq rq k all timely heed =
     )
 
 turn_keeps : (p : Script) (turn : ℕ) (sent rest : List Sent) (o : Orders) (steps : List Step) (h : Core) → IsTurnOf p.own turn o steps → Keeps p turn turn sent h
-    → (sent ++ sent_at turn (queued_in o)) ++ rest ≡ p.all → AllTimely h steps → AllHeed p.front p.tail h steps → TurnKeeps p turn sent o h steps
-turn_keeps p turn sent rest o steps h t k all timely heed =
+    → (sent ++ sent_at turn (queued_in o)) ++ rest ≡ p.all → AllTimely h steps → AllHeed p.front p.tail h steps → Finds p turn turn sent h steps → TurnKeeps p turn sent o h steps
+turn_keeps p turn sent rest o steps h t k all timely heed finds =
     let At : List Step → Type 0 = λ x. TurnKeeps p turn sent o h x in
     let Timely : List Step → Type 0 = λ x. AllTimely h x in
     let Heed : List Step → Type 0 = λ x. AllHeed p.front p.tail h x in
-    subst At (sym t.are) (turn_steps_keep p turn sent rest o t.before t.after h t.before_quiet t.after_quiet k all (subst Timely t.are timely) (subst Heed t.are heed))
+    let Found : List Step → Type 0 = λ x. Finds p turn turn sent h x in
+    subst At (sym t.are) (turn_steps_keep p turn sent rest o t.before t.after h t.before_quiet t.after_quiet k all (subst Timely t.are timely) (subst Heed t.are heed) (subst Found t.are finds))
 
 abbrev pub TurnsKeep : Script → ℕ → List Sent → List Orders → Core → List Step → Type 0
 TurnsKeep p turn sent os h steps =
@@ -274,9 +289,10 @@ turns_keep p turn sent rest (o ∷ os) steps h t k all timely settled heed =
     let mid = sent ++ sent_at turn (queued_in o) in
     let cut : mid ++ sent_in (turn + 1) os ≡ sent ++ sent_in turn (o ∷ os) = append_assoc sent (sent_at turn (queued_in o)) (sent_in (turn + 1) os) in
     let whole : (mid ++ sent_in (turn + 1) os) ++ rest ≡ p.all = ap (λ x. x ++ rest) cut ∙ all in
-    let a = turn_keeps p turn sent (sent_in (turn + 1) os ++ rest) o first h one k (sym (append_assoc mid (sent_in (turn + 1) os) rest) ∙ whole) (timely_front first later h all_timely) (heed_front p.front p.tail first later h all_heed) in
-    let next = settles p turn mid (run first h) a.1 (settled_first (turn + 1) mid os later (run first h) more settled.1) in
-    let b = turns_keep p (turn + 1) mid rest os later (run first h) more next whole (timely_behind first later h all_timely) settled.1 (heed_behind p.front p.tail first later h all_heed) in
+    let a = turn_keeps p turn sent (sent_in (turn + 1) os ++ rest) o first h one k (sym (append_assoc mid (sent_in (turn + 1) os) rest) ∙ whole) (timely_front first later h all_timely) (heed_front p.front p.tail first later h all_heed)
+    (settled_finds p turn sent h first settled.1) in
+    let next = settles p turn mid (run first h) a.1 (settled_first (turn + 1) mid os later (run first h) more settled.2) in
+    let b = turns_keep p (turn + 1) mid rest os later (run first h) more next whole (timely_behind first later h all_timely) settled.2 (heed_behind p.front p.tail first later h all_heed) in
     let n : turn + 1 + length os ≡ turn + length (o ∷ os) = omega arith in
     let To : Core → Type 0 = λ x. Keeps p (turn + length (o ∷ os)) (turn + length (o ∷ os)) (sent ++ sent_in turn (o ∷ os)) x in
     let On : ℕ → Type 0 = λ x. Keeps p x x (mid ++ sent_in (turn + 1) os) (run later (run first h)) in

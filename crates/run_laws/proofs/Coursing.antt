@@ -10,11 +10,12 @@ use Rattle.board_step.proofs.Whole.{whole}
 use Rattle.board_sim.specs.Board.{Controller, Done, stepper_at, with_stepper, quiet, is_none_pending, first_of, refusal, takes_triple, queue_step, set_dir, reset, make_stepper, pulse_of, timer_too_close}
 use Rattle.board_sim.specs.Fair.{IsFairOn, pending_at}
 use Rattle.board_sim.specs.Halted.{is_halted}
+use Rattle.board_sim.specs.RigRuns.{IsHalted}
 use Rattle.board_sim.proofs.Steps.{pending_push}
 use Rattle.run_laws.specs.Known.{Known, unknown, more_steps, AreBelow, IsGoodTriple}
 use Rattle.run_laws.specs.Courses.{Course, no_course, next_part, IsFrom, IsStopped, IsMadeBy, MaySetClock}
 use Rattle.run_laws.proofs.Fits.{StepperFits, IsShutBy, split_at, within, at_own, at_others, room_left, fair_for, refusal_is, not_late, first_is, none_pends, one_more, queue_lost}
-use Rattle.run_laws.proofs.Standing.{QueueStands, SlotStands, BoardStands, fits_of, made_for, stop_none}
+use Rattle.run_laws.proofs.Standing.{QueueStands, SlotStands, BoardStands, IsHeld, fits_of, made_for, none_held, stop_none}
 
 -- what each stepper has made stands as before
 abbrev pub MadeOn : (ℕ → ℕ) → (ℕ → Option ℕ) → (ℕ → Course) → (ℕ → Course) → Controller → Controller → Type 0
@@ -27,6 +28,9 @@ StandsOn own stops slots by turn cs next b after = (BoardStands own stops slots 
 -- with a stepper that is there
 here : (b : Controller) (other slots now : ℕ) (c : Course) (o : Option Pending) → stepper_at b other ≡ o → SlotStands slots now (stepper_at b other) c → SlotStands slots now o c
 here b other slots now c o at f = let At : Option Pending → Type 0 = λ x. SlotStands slots now x c in subst At at f
+
+held_at : (b : Controller) (other : ℕ) (q : Pending) (c : Course) → stepper_at b other ≡ Some q → IsHeld (stepper_at b other) c → IsHeld (Some q) c
+held_at b other q c at w = subst (λ (o : Option Pending). IsHeld o c) at w
 
 not_there : (c : Course) → c ≡ no_course → c.known.made ≡ true → ⊥
 not_there c e made = clash (sym (ap (λ (x : Course). x.known.made) e) ∙ made) where
@@ -51,7 +55,7 @@ same_stands own stops slots by turn cs b c state tick slots_same steppers f =
 
 -- a stepper is replaced
 replaced : (own : ℕ → ℕ) (stops : ℕ → Option ℕ) (slots by turn : ℕ) (cs next : ℕ → Course) (b : Controller) (other : ℕ) (q : Pending) → other < 256 → BoardStands own stops slots by turn cs b
-    → QueueStands slots (own turn) q (next other) → (IsStopped stops by (next other).since → q.halted ≡ true) → ((oid : ℕ) → oid ≢ other → next oid ≡ cs oid)
+    → QueueStands slots (own turn) q (next other) → (IsStopped stops by (next other).since → IsHeld (Some q) (next other)) → ((oid : ℕ) → oid ≢ other → next oid ≡ cs oid)
     → BoardStands own stops slots by turn next (with_stepper b other q)
 replaced own stops slots by turn cs next b other q small f here stopped there =
     let inside : other < length b.steppers = rw f.places small in
@@ -65,7 +69,7 @@ replaced own stops slots by turn cs next b other q small f here stopped there =
           (rw (get_or-set_same b.steppers other (Some q) None inside) here)
           (λ oid ne. rw (get_or-set_other b.steppers other oid (Some q) None ne, there oid ne) (f.each oid));
       stopped =
-          split_at other (λ oid. IsStopped stops by (next oid).since → is_halted (get_or (set b.steppers other (Some q)) oid None) ≡ true)
+          split_at other (λ oid. IsStopped stops by (next oid).since → IsHeld (get_or (set b.steppers other (Some q)) oid None) (next oid))
           (rw (get_or-set_same b.steppers other (Some q) None inside) stopped)
           (λ oid ne. rw (get_or-set_other b.steppers other oid (Some q) None ne, there oid ne) (f.stopped oid));
     }
@@ -91,9 +95,9 @@ changed_others F other cs oid ne = ap (λ (k : Known). record (cs oid) { known =
 
 -- the stepper that it concerns, and the others, on a board that stays as it is
 kept_stands : (own : ℕ → ℕ) (stops : ℕ → Option ℕ) (slots by turn : ℕ) (cs next : ℕ → Course) (b : Controller) (other : ℕ) (q : Pending) → stepper_at b other ≡ Some q → BoardStands own stops slots by turn cs b
-    → QueueStands slots (own turn) q (next other) → (next other).since ≡ (cs other).since → ((oid : ℕ) → oid ≢ other → next oid ≡ cs oid)
+    → QueueStands slots (own turn) q (next other) → (IsStopped stops by (next other).since → IsHeld (Some q) (next other)) → ((oid : ℕ) → oid ≢ other → next oid ≡ cs oid)
     → ((m : List Pulse) → IsMadeBy own stops other (Some q) (cs other) m → IsMadeBy own stops other (Some q) (next other) m) → StandsOn own stops slots by turn cs next b b
-kept_stands own stops slots by turn cs next b other q at f fits since there made =
+kept_stands own stops slots by turn cs next b other q at f fits stopped there made =
     inl (
       record {
         running = f.running;
@@ -101,8 +105,7 @@ kept_stands own stops slots by turn cs next b other q at f fits since there made
         slots_are = f.slots_are;
         places = f.places;
         each = split_at other (λ oid. SlotStands slots (own turn) (stepper_at b oid) (next oid)) (rw at fits) (λ oid ne. rw (there oid ne) (f.each oid));
-        stopped = split_at other (λ oid. IsStopped stops by (next oid).since → is_halted (stepper_at b oid) ≡ true)
-            (rw since (f.stopped other)) (λ oid ne. rw (there oid ne) (f.stopped oid));
+        stopped = split_at other (λ oid. IsStopped stops by (next oid).since → IsHeld (stepper_at b oid) (next oid)) (rw at stopped) (λ oid ne. rw (there oid ne) (f.stopped oid));
       },
       split_at other (λ oid. (m : List Pulse) → IsMadeBy own stops oid (stepper_at b oid) (cs oid) m → IsMadeBy own stops oid (stepper_at b oid) (next oid) m)
           (λ m. rw at (made m)) (λ oid ne m. rw (there oid ne) (λ k. k)),
@@ -125,12 +128,11 @@ dir_stands own stops slots by turn cs b other dir (Some q) at f made =
     let is : next other ≡ one = changed_own (turned dir) other cs in
     let there = changed_others (turned dir) other cs in
     let fits : QueueStands slots (own turn) r one = record { made = s.made; slots_are = s.slots_are; up = refl; clock = s.clock; rises = s.rises; few = s.few; empty = s.empty } in
-    let Halted : Option Pending → Type 0 = λ x. is_halted x ≡ true in
     let Stands : Course → Type 0 = λ x. QueueStands slots (own turn) r x in
     let Made : Course → Type 0 = λ x. (m : List Pulse) → IsMadeBy own stops other (Some q) (cs other) m → IsMadeBy own stops other (Some r) x m in
-    let Stopped : Course → Type 0 = λ x. IsStopped stops by x.since → q.halted ≡ true in
+    let Stopped : Course → Type 0 = λ x. IsStopped stops by x.since → IsHeld (Some r) x in
     inl (
-      replaced own stops slots by turn cs next b other r small f (subst Stands (sym is) fits) (subst Stopped (sym is) (λ h. subst Halted at (f.stopped other h))) there,
+      replaced own stops slots by turn cs next b other r small f (subst Stands (sym is) fits) (subst Stopped (sym is) (λ h. held_at b other q (cs other) at (f.stopped other h))) there,
       made_replaced own stops cs next b other (Some q) r (rw f.places small) at
           (subst Made (sym is) (λ m k. record { early = k.early; late = k.late; is = k.is; past = k.past; dropped = k.dropped; steps = k.steps; whole = k.whole; before = k.before })) there,
     )
@@ -154,7 +156,7 @@ make_stands own stops slots by turn cs b other None at f small =
     let fits : QueueStands slots (own turn) q new =
     record { made = refl; slots_are = f.slots_are; up = refl; clock = λ _. refl; rises = tt; few = λ x. omega arith; empty = λ h. refl } in
     let Stands : Course → Type 0 = λ x. QueueStands slots (own turn) q x in
-    let Stopped : Course → Type 0 = λ x. IsStopped stops by x.since → false ≡ true in
+    let Stopped : Course → Type 0 = λ x. IsStopped stops by x.since → IsHeld (Some q) x in
     let Made : Course → Type 0 = λ x. (m : List Pulse) → IsMadeBy own stops other None (cs other) m → IsMadeBy own stops other (Some q) x m in
     let there = changed_others made_known other cs in
     inl (
@@ -169,7 +171,8 @@ make_stands own stops slots by turn cs b other (Some q) at f small =
     let fits : QueueStands slots (own turn) q one = record { made = refl; slots_are = s.slots_are; up = s.up; clock = s.clock; rises = s.rises; few = s.few; empty = s.empty } in
     let Stands : Course → Type 0 = λ x. QueueStands slots (own turn) q x in
     let Made : Course → Type 0 = λ x. (m : List Pulse) → IsMadeBy own stops other (Some q) (cs other) m → IsMadeBy own stops other (Some q) x m in
-    kept_stands own stops slots by turn cs (changed made_known other cs) b other q at f (subst Stands (sym is) fits) (ap (λ (x : Course). x.since) is) (changed_others made_known other cs)
+    let Stopped : Course → Type 0 = λ x. IsStopped stops by x.since → IsHeld (Some q) x in
+    kept_stands own stops slots by turn cs (changed made_known other cs) b other q at f (subst Stands (sym is) fits) (subst Stopped (sym is) (λ h. held_at b other q (cs other) at (f.stopped other h))) (changed_others made_known other cs)
     (subst Made (sym is) (λ m k. record { early = k.early; late = k.late; is = k.is; past = k.past; dropped = k.dropped; steps = k.steps; whole = k.whole; before = k.before }))
 
 -- a stepper's clock is set
@@ -182,9 +185,9 @@ stopped_up stops queued turn None h s = s
 stopped_up stops queued turn (Some u) h s = from_up queued turn (stops u) h s
 
 nothing_pends : (own : ℕ → ℕ) (stops : ℕ → Option ℕ) (slots by turn queued : ℕ) (q : Pending) (c : Course) (x : Bool) → q.halted ≡ x → QueueStands slots (own turn) q c → own queued ≤ own turn → queued ≤ by
-    → (IsStopped stops by c.since → q.halted ≡ true) → IsStopped stops queued c.since ⊎ AreBelow (own queued) c.known.ends → q.groups ≡ []
+    → (IsStopped stops by c.since → IsHeld (Some q) c) → IsStopped stops queued c.since ⊎ AreBelow (own queued) c.known.ends → q.groups ≡ []
 nothing_pends own stops slots by turn queued q c true e s h k stopped over = s.empty e
-nothing_pends own stops slots by turn queued q c false e s h k stopped (inl o) = s.empty (stopped (stopped_up stops queued by c.since k o))
+nothing_pends own stops slots by turn queued q c false e s h k stopped (inl o) = none_held slots (own turn) q c s (stopped (stopped_up stops queued by c.since k o))
 nothing_pends own stops slots by turn queued q c false e s h k stopped (inr below) = none_pends (own turn) slots (own queued) q c.known (fits_of slots (own turn) q c s e) h below
 
 abbrev set_course : ℕ → ℕ → ℕ → (ℕ → Course) → ℕ → Course
@@ -196,15 +199,14 @@ pub reset_stands : (own : ℕ → ℕ) (stops : ℕ → Option ℕ) (slots by tu
 reset_stands own stops slots by turn queued cs b other clock None at f h k good time = absurd (not_there (cs other) (here b other slots (own turn) (cs other) None at (f.each other)) good.made)
 reset_stands own stops slots by turn queued cs b other clock (Some q) at f h k good time =
     let s = here b other slots (own turn) (cs other) (Some q) at (f.each other) in
-    let Halted : Option Pending → Type 0 = λ x. is_halted x ≡ true in
-    let none : q.groups ≡ [] = nothing_pends own stops slots by turn queued q (cs other) q.halted refl s h k (λ i. subst Halted at (f.stopped other i)) good.over in
+    let none : q.groups ≡ [] = nothing_pends own stops slots by turn queued q (cs other) q.halted refl s h k (λ i. held_at b other q (cs other) at (f.stopped other i)) good.over in
     let one = next_part queued clock (cs other) in
     let is : set_course queued clock other cs other ≡ one = at_own other one (cs other) in
     let r : Pending = record q { groups = []; last = clock; halted = false } in
     let fits : QueueStands slots (own turn) r one =
     record { made = s.made; slots_are = s.slots_are; up = s.up; clock = λ _. refl; rises = tt; few = λ x. omega arith; empty = λ e. refl } in
     let Stands : Course → Type 0 = λ x. QueueStands slots (own turn) r x in
-    let Stopped : Course → Type 0 = λ x. IsStopped stops by x.since → false ≡ true in
+    let Stopped : Course → Type 0 = λ x. IsStopped stops by x.since → IsHeld (Some r) x in
     let Made : Course → Type 0 = λ x. (m : List Pulse) → IsMadeBy own stops other (Some q) (cs other) m → IsMadeBy own stops other (Some r) x m in
     let there = λ (oid : ℕ) (ne : oid ≢ other). at_others other oid (next_part queued clock (cs oid)) (cs oid) ne in
     rw none
@@ -248,25 +250,24 @@ push_pending other q ticks =
 
 triple_stands : (late : Bool) (own : ℕ → ℕ) (stops : ℕ → Option ℕ) (slots by queued turn : ℕ) (cs : ℕ → Course) (b : Controller) (other : ℕ) (q : Pending) (t : Triple) (ticks : List ℕ)
     → stepper_at b other ≡ Some q → BoardStands own stops slots by turn cs b → IsGoodTriple own slots queued (cs other).known t ticks → StepperFits (own turn) slots q (cs other).known
-    → IsFair (own turn) q t ticks → first_of (own turn) q t ≡ slice_index ticks 0 → (is_none_pending q.groups && nat_lt (first_of (own turn) q t) (own turn)) ≡ late
+    → (IsStopped stops by (cs other).since → q.halted ≡ true) → IsFair (own turn) q t ticks → first_of (own turn) q t ≡ slice_index ticks 0 → (is_none_pending q.groups && nat_lt (first_of (own turn) q t) (own turn)) ≡ late
     → StandsOn own stops slots by turn cs (changed (more_known ticks) other cs) b (takes_triple (if late then Some (timer_too_close, first_of (own turn) q t) else None) b other q ticks).board
-triple_stands true own stops slots by queued turn cs b other q t ticks at f good s fair first e =
+triple_stands true own stops slots by queued turn cs b other q t ticks at f good s found fair first e =
     inr (timer_too_close, b.tick, first_of (own turn) q t, refl, inl refl)
-triple_stands false own stops slots by queued turn cs b other q t ticks at f good s fair first e =
+triple_stands false own stops slots by queued turn cs b other q t ticks at f good s found fair first e =
     let now = own turn in
     let one : Course = record (cs other) { known = more_steps other (cs other).known ticks } in
     let is : changed (more_known ticks) other cs other ≡ one = changed_own (more_known ticks) other cs in
     let r = with_ticks q ticks in
     let fits = stands_of slots now r one (one_more own slots queued now other q (cs other).known t ticks s good fair (λ none. rw first at (not_late now (first_of now q t) q.groups e none))) in
-    let Halted : Option Pending → Type 0 = λ x. is_halted x ≡ true in
     let Stands : Course → Type 0 = λ x. QueueStands slots now r x in
-    let Stopped : Course → Type 0 = λ x. IsStopped stops by x.since → q.halted ≡ true in
+    let Stopped : Course → Type 0 = λ x. IsStopped stops by x.since → IsHeld (Some r) x in
     let Made : Course → Type 0 = λ x. (m : List Pulse) → IsMadeBy own stops other (Some q) (cs other) m → IsMadeBy own stops other (Some r) x m in
     let there = changed_others (more_known ticks) other cs in
     let new = map (pulse_of other) (steps_of q.up ticks) in
     inl (
       replaced own stops slots by turn cs (changed (more_known ticks) other cs) b other r (within b other q f.places at) f (subst Stands (sym is) fits)
-          (subst Stopped (sym is) (λ i. subst Halted at (f.stopped other i))) there,
+          (subst Stopped (sym is) (λ i. inl (found i))) there,
       made_replaced own stops cs (changed (more_known ticks) other cs) b other (Some q) r (rw f.places (within b other q f.places at)) at
           (subst Made (sym is) (λ m k. record {
             early = k.early;
@@ -313,7 +314,8 @@ halted_stands own stops slots by turn cs b other q ticks at e f =
     let Stands : Course → Type 0 = λ x. QueueStands slots (own turn) q x in
     let Made : Course → Type 0 = λ x. (m : List Pulse) → IsMadeBy own stops other (Some q) (cs other) m → IsMadeBy own stops other (Some q) x m in
     let new = map (pulse_of other) (steps_of k.up ticks) in
-    kept_stands own stops slots by turn cs (changed (more_known ticks) other cs) b other q at f (subst Stands (sym is) fits) (ap (λ (x : Course). x.since) is) (changed_others (more_known ticks) other cs)
+    let Stopped : Course → Type 0 = λ x. IsStopped stops by x.since → IsHeld (Some q) x in
+    kept_stands own stops slots by turn cs (changed (more_known ticks) other cs) b other q at f (subst Stands (sym is) fits) (subst Stopped (sym is) (λ i. inl e)) (changed_others (more_known ticks) other cs)
     (subst Made (sym is) (λ m i. record {
       early = i.early;
       late = i.late;
@@ -331,13 +333,13 @@ StepStands own stops slots by turn cs b other o t ticks =
 
 step_stands : (own : ℕ → ℕ) (stops : ℕ → Option ℕ) (slots by queued turn : ℕ) (cs : ℕ → Course) (b : Controller) (other : ℕ) (q : Pending) (t : Triple) (ticks : List ℕ) (x : Bool)
     → q.halted ≡ x → b.tick ≡ own turn → stepper_at b other ≡ Some q → BoardStands own stops slots by turn cs b → own queued ≤ own turn → IsGoodTriple own slots queued (cs other).known t ticks
-    → own turn < slice_index ticks 0 + 2 ^ 31 → StepStands own stops slots by turn cs b other (Some q) t ticks
-step_stands own stops slots by queued turn cs b other q t ticks true e tick at f h good timely =
+    → own turn < slice_index ticks 0 + 2 ^ 31 → (IsStopped stops by (cs other).since → q.halted ≡ true) → StepStands own stops slots by turn cs b other (Some q) t ticks
+step_stands own stops slots by queued turn cs b other q t ticks true e tick at f h good timely found =
     let P : Controller → Type 0 = λ c. StandsOn own stops slots by turn cs (changed (more_known ticks) other cs) b c in (
       λ runs. absurd (true_false (sym e ∙ runs)),
       quiet_if q.halted P b (takes_triple (refusal b.tick q t) b other q (ticks_at (first_of b.tick q t) t)) e (halted_stands own stops slots by turn cs b other q ticks at e f),
     )
-step_stands own stops slots by queued turn cs b other q t ticks false e tick at f h good timely =
+step_stands own stops slots by queued turn cs b other q t ticks false e tick at f h good timely found =
     let now = own turn in
     let s = fits_of slots now q (cs other) (here b other slots now (cs other) (Some q) at (f.each other)) e in
     let fair = fair_for own slots queued now q (cs other).known t ticks s h good timely in
@@ -350,14 +352,15 @@ step_stands own stops slots by queued turn cs b other q t ticks false e tick at 
       runs_if q.halted P b (takes_triple (refusal now q t) b other q (ticks_at (first_of now q t) t)) e
           (with_is own stops slots by turn cs (changed (more_known ticks) other cs) b other q (refusal now q t) (if late then Some (timer_too_close, first_of now q t) else None) (ticks_at (first_of now q t) t) ticks r
           (whole now q t ticks good.small fair)
-          (triple_stands late own stops slots by queued turn cs b other q t ticks at f good s fair (first_is now q t ticks good.small fair) refl)),
+          (triple_stands late own stops slots by queued turn cs b other q t ticks at f good s found fair (first_is now q t ticks good.small fair) refl)),
     )
 
 pub push_stands : (own : ℕ → ℕ) (stops : ℕ → Option ℕ) (slots by queued turn : ℕ) (cs : ℕ → Course) (b : Controller) (other : ℕ) (o : Option Pending) (t : Triple) (ticks : List ℕ)
     → stepper_at b other ≡ o → BoardStands own stops slots by turn cs b → own queued ≤ own turn → IsGoodTriple own slots queued (cs other).known t ticks
-    → own turn < slice_index ticks 0 + 2 ^ 31 → StepStands own stops slots by turn cs b other o t ticks
-push_stands own stops slots by queued turn cs b other None t ticks at f h good timely = absurd (not_there (cs other) (here b other slots (own turn) (cs other) None at (f.each other)) good.made)
-push_stands own stops slots by queued turn cs b other (Some q) t ticks at f h good timely = step_stands own stops slots by queued turn cs b other q t ticks q.halted refl f.tick at f h good timely
+    → own turn < slice_index ticks 0 + 2 ^ 31 → (IsStopped stops by (cs other).since → IsHalted (stepper_at b other)) → StepStands own stops slots by turn cs b other o t ticks
+push_stands own stops slots by queued turn cs b other None t ticks at f h good timely found = absurd (not_there (cs other) (here b other slots (own turn) (cs other) None at (f.each other)) good.made)
+push_stands own stops slots by queued turn cs b other (Some q) t ticks at f h good timely found =
+    step_stands own stops slots by queued turn cs b other q t ticks q.halted refl f.tick at f h good timely (λ i. (subst IsHalted at (found i)).0)
 
 -- one that comes too late shuts the board down, where its stepper isn't halted
 pub lost_stands : (own : ℕ → ℕ) (stops : ℕ → Option ℕ) (slots by queued turn : ℕ) (cs : ℕ → Course) (b : Controller) (other : ℕ) (o : Option Pending) (t : Triple) (ticks : List ℕ) → stepper_at b other ≡ o

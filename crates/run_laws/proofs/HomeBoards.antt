@@ -39,7 +39,7 @@ settled_head stops clock turn sent (o ∷ os) l m t s =
     let later = steps_of clock (turn + 1) os mid m more in
     let is : mid.core ≡ run first l.core = ap (λ (x : LinkState). x.core) one.becomes ∙ turn_runs clock turn o one.resent l in
     let At : Core → Type 0 = λ h. AreSettled stops (board_tick clock) (turn + 1) (sent ++ sent_at turn (queued_in o)) os later h (turns_are clock (turn + 1) os mid m more).1 in
-    (s.0, subst At is (settled_head stops clock (turn + 1) (sent ++ sent_at turn (queued_in o)) os mid m more s.1))
+    (s.0, s.1, subst At is (settled_head stops clock (turn + 1) (sent ++ sent_at turn (queued_in o)) os mid m more s.2))
 
 -- so it is by other ticks that are the same by then
 pub settled_owned : (b : BoardDef) (stops : ℕ → Option ℕ) (own : ℕ → ℕ) (last turn : ℕ) (sent : List Sent) (os : List Orders) (steps : List Step) (h : Core) (o : AreOwn b last own) (within : turn + length os ≤ last)
@@ -47,7 +47,7 @@ pub settled_owned : (b : BoardDef) (stops : ℕ → Option ℕ) (own : ℕ → �
 unfolding turns_owned
 settled_owned b stops own last turn sent [] steps h o within t s = s
 settled_owned b stops own last turn sent (x ∷ os) steps h o within t s =
-    (s.0, settled_owned b stops own last (turn + 1) (sent ++ sent_at turn (queued_in x)) os t.1 (run t.0 h) o (next_within turn last x os within) t.4 s.1)
+    (s.0, s.1, settled_owned b stops own last (turn + 1) (sent ++ sent_at turn (queued_in x)) os t.1 (run t.0 h) o (next_within turn last x os within) t.4 s.2)
 
 abbrev steps_told : (clock : BoardClock) (turn : ℕ) (os : List Orders) (states : List State) (l m : LinkState) → AreTold clock turn os states l m → List Step
 steps_told clock turn os states l m t = steps_of clock turn os l m (turns_told clock turn os states l m t)
@@ -96,7 +96,7 @@ split_at stops clock turn next sent [] ys states l m t e s =
 split_at stops clock turn next sent (x ∷ xs) ys [] l m t e s = absurd t
 split_at stops clock turn next sent (x ∷ xs) ys (y ∷ states) l m t e s =
     let (mid, is, told, more) = t in
-    let rest = split_at stops clock (turn + 1) next (sent ++ sent_at turn (queued_in x)) xs ys states mid m more (omega (arith, e)) s.1 in
+    let rest = split_at stops clock (turn + 1) next (sent ++ sent_at turn (queued_in x)) xs ys states mid m more (omega (arith, e)) s.2 in
     let head = steps_of_turn clock turn x is.resent l in
     let Sent_is : List Sent → Type 0 = λ z. SettledTold stops clock next z ys rest.second rest.mid m rest.two in
     record {
@@ -109,7 +109,7 @@ split_at stops clock turn next sent (x ∷ xs) ys (y ∷ states) l m t e s =
       two = rest.two;
       steps = ap (λ z. head ++ z) rest.steps
           ∙ sym (append_assoc head (steps_told clock (turn + 1) xs rest.first mid rest.mid rest.one) (steps_told clock next ys rest.second rest.mid m rest.two));
-      settled_one = (s.0, rest.settled_one);
+      settled_one = (s.0, s.1, rest.settled_one);
       settled_two = subst Sent_is (append_assoc sent (sent_at turn (queued_in x)) (sent_in (turn + 1) xs)) rest.settled_two;
     }
 

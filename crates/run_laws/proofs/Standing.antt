@@ -1,5 +1,5 @@
 -- A board on which triggers may halt steppers stands as the host knows it, part by part.
-use Rattle.std.proofs.Common.{◌≡◌, ℕ, true, false, ◌+◌, ◌≤◌, List, [], ◌∷◌, ◌++◌, length, map, Option, Some, None, refl, ap, sym, ◌∙◌, subst, arith, inl, inr, append_assoc, append-nil}
+use Rattle.std.proofs.Common.{◌≡◌, ℕ, Bool, true, false, ◌+◌, ◌≤◌, ◌⊎◌, List, [], ◌∷◌, ◌++◌, length, map, Option, Some, None, refl, ap, sym, ◌∙◌, subst, arith, inl, inr, append_assoc, append-nil}
 use Rattle.std.proofs.lemmas.Bool.Decides.{leb_tells}
 use Rattle.plan_types.specs.declared.plan.BoardState.TheVariants.{Running}
 use Rattle.plan_types.specs.declared.plan.Pulse.{Pulse}
@@ -11,7 +11,8 @@ use Rattle.board_sim.specs.Halted.{is_halted}
 use Rattle.step_feed.specs.Rings.{count_from}
 use Rattle.run_laws.specs.Courses.{Course, parts_of, no_course, IsFrom, IsStopped, AreBefore, AreBeforeTurn, AreBeforeStop, AreMadeFor, IsMadeBy}
 use Rattle.run_laws.proofs.Counts.{ends_from}
-use Rattle.run_laws.proofs.Fits.{StepperFits}
+use Rattle.run_laws.specs.Known.{AreBelow}
+use Rattle.run_laws.proofs.Fits.{StepperFits, none_pends}
 use Rattle.run_laws.proofs.Lists.{own_up}
 use Rattle.run_laws.proofs.Moving.{QueueMoves, SlotMoves, BoardMoves}
 use Rattle.run_laws.proofs.Passes.{AreBetween}
@@ -30,14 +31,18 @@ abbrev pub SlotStands : ℕ → ℕ → Option Pending → Course → Type 0
 SlotStands slots now None c = c ≡ no_course
 SlotStands slots now (Some q) c = QueueStands slots now q c
 
--- a board that runs, at its tick of a turn, with its steppers, of which those are halted whose part is stopped by then
+-- a stepper is halted, or no step of its part was taken
+abbrev pub IsHeld : Option Pending → Course → Type 0
+IsHeld o c = (is_halted o ≡ true) ⊎ (c.known.ends ≡ [])
+
+-- a board that runs, at its tick of a turn, with its steppers: of those whose part is stopped by then each is halted, or no step of it was taken
 pub record BoardStands (own : ℕ → ℕ) (stops : ℕ → Option ℕ) (slots by turn : ℕ) (cs : ℕ → Course) (b : Controller) : Type 0 where
   pub running : b.state ≡ Running
   pub tick : b.tick ≡ own turn
   pub slots_are : b.slots ≡ slots
   pub places : length b.steppers ≡ 256
   pub each : (oid : ℕ) → SlotStands slots (own turn) (stepper_at b oid) (cs oid)
-  pub stopped : (oid : ℕ) → IsStopped stops by (cs oid).since → is_halted (stepper_at b oid) ≡ true
+  pub stopped : (oid : ℕ) → IsStopped stops by (cs oid).since → IsHeld (stepper_at b oid) (cs oid)
 
 -- such a queue, where the stepper isn't halted
 pub fits_of : (slots now : ℕ) (q : Pending) (c : Course) → QueueStands slots now q c → q.halted ≡ false → StepperFits now slots q c.known
@@ -61,11 +66,28 @@ slot_moved oid slots now later (Some q) None c ps s m = absurd m
 slot_moved oid slots now later (Some q) (Some r) c ps s m = queue_moved oid slots now later q r c ps s m
 
 -- a stepper that was halted stays so
-pub halted_moved : (oid now later : ℕ) (o p : Option Pending) (ps : List Pulse) → SlotMoves oid now later o p ps → is_halted o ≡ true → is_halted p ≡ true
+halted_moved : (oid now later : ℕ) (o p : Option Pending) (ps : List Pulse) → SlotMoves oid now later o p ps → is_halted o ≡ true → is_halted p ≡ true
 halted_moved oid now later None None ps m h = h
 halted_moved oid now later None (Some r) ps m h = absurd m
 halted_moved oid now later (Some q) None ps m h = absurd m
 halted_moved oid now later (Some q) (Some r) ps m h = m.stays h
+
+-- nor does one stand otherwise of which no step was taken
+pub held_moved : (oid now later : ℕ) (o p : Option Pending) (c : Course) (ps : List Pulse) → SlotMoves oid now later o p ps → IsHeld o c → IsHeld p c
+held_moved oid now later o p c ps m (inl h) = inl (halted_moved oid now later o p ps m h)
+held_moved oid now later o p c ps m (inr e) = inr e
+
+-- then nothing pends
+none_below : (x : ℕ) (ends : List ℕ) → ends ≡ [] → AreBelow x ends
+none_below x ends e = rw e tt
+
+pub none_held : (slots now : ℕ) (q : Pending) (c : Course) → QueueStands slots now q c → IsHeld (Some q) c → q.groups ≡ []
+none_held slots now q c s (inl h) = s.empty h
+none_held slots now q c s (inr e) = by q.halted refl
+  where
+    by : (x : Bool) → q.halted ≡ x → q.groups ≡ []
+    by true h = s.empty h
+    by false h = none_pends now slots now q c.known (fits_of slots now q c s h) (omega arith) (none_below now c.known.ends e)
 
 pub no_front : (ps qs : List Pulse) → ps ++ qs ≡ [] → ps ≡ []
 no_front [] qs e = refl
@@ -73,13 +95,13 @@ no_front (p ∷ ps) qs e = absurd (clash p (ps ++ qs) e) where
   clash : (p : Pulse) (qs : List Pulse) → p ∷ qs ≡ [] → ⊥
   clash p qs e = cc
 
--- and makes nothing
-pub halted_none : (oid slots now later : ℕ) (o p : Option Pending) (c : Course) (ps : List Pulse) → SlotStands slots now o c → SlotMoves oid now later o p ps → is_halted o ≡ true → ps ≡ []
-halted_none oid slots now later None None c ps s m h = m
-halted_none oid slots now later None (Some r) c ps s m h = absurd m
-halted_none oid slots now later (Some q) None c ps s m h = absurd m
-halted_none oid slots now later (Some q) (Some r) c ps s m h =
-    let none : map (pulse_of oid) (pending_steps q.groups) ≡ [] = ap (λ gs. map (pulse_of oid) (pending_steps gs)) (s.empty h) in
+-- and nothing is made
+pub held_none : (oid slots now later : ℕ) (o p : Option Pending) (c : Course) (ps : List Pulse) → SlotStands slots now o c → SlotMoves oid now later o p ps → IsHeld o c → ps ≡ []
+held_none oid slots now later None None c ps s m h = m
+held_none oid slots now later None (Some r) c ps s m h = absurd m
+held_none oid slots now later (Some q) None c ps s m h = absurd m
+held_none oid slots now later (Some q) (Some r) c ps s m h =
+    let none : map (pulse_of oid) (pending_steps q.groups) ≡ [] = ap (λ gs. map (pulse_of oid) (pending_steps gs)) (none_held slots now q c s h) in
     no_front ps (map (pulse_of oid) (pending_steps r.groups)) (no_front (ps ++ map (pulse_of oid) (pending_steps r.groups)) m.dropped (m.made ∙ none))
 
 pub slot_between : (oid slots now later : ℕ) (o p : Option Pending) (c : Course) (ps : List Pulse) → SlotStands slots now o c → SlotMoves oid now later o p ps → AreBetween now later ps
@@ -166,5 +188,5 @@ board_moved own stops slots by turn cs b c ps s m same = record {
       let To : ℕ → Type 0 = λ n. SlotMoves oid (own turn) n (stepper_at b oid) (stepper_at c oid) (only oid ps) in
       slot_moved oid slots (own turn) (own turn) (stepper_at b oid) (stepper_at c oid) (cs oid) (only oid ps) (s.each oid)
       (subst To (same ∙ s.tick) (subst From s.tick (m.each oid)));
-  stopped = λ oid h. halted_moved oid b.tick c.tick (stepper_at b oid) (stepper_at c oid) (only oid ps) (m.each oid) (s.stopped oid h);
+  stopped = λ oid h. held_moved oid b.tick c.tick (stepper_at b oid) (stepper_at c oid) (cs oid) (only oid ps) (m.each oid) (s.stopped oid h);
 }

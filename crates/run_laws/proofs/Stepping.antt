@@ -1,13 +1,13 @@
 -- What every step of a board and its link keeps, where the commands that are queued are good and triggers may halt steppers.
-use Rattle.std.proofs.Common.{◌≡◌, ℕ, ◌+◌, ◌≤◌, ◌⊎◌, List, [], ◌∷◌, ◌++◌, length, drop, Option, refl, ap, sym, ◌∙◌, subst, inl, inr, append_assoc, append-nil}
+use Rattle.std.proofs.Common.{◌≡◌, ℕ, true, ◌+◌, ◌≤◌, ◌⊎◌, List, [], ◌∷◌, ◌++◌, length, drop, Option, refl, ap, sym, ◌∙◌, subst, inl, inr, append_assoc, append-nil}
 use Rattle.std.proofs.lemmas.List.{append_cancel_left, take-append-drop}
-use Rattle.plan_types.specs.declared.plan.BoardState.TheVariants.{Running}
+use Rattle.plan_types.specs.declared.plan.BoardState.TheVariants.{Running, Shut}
 use Rattle.board_sim.specs.Board.{Controller, is_shut, stepper_at}
 use Rattle.board_sim.specs.Rig.{Rig, takes_all}
 use Rattle.board_sim.specs.Fair.{Meant, commands_of, AreFair, only}
 use Rattle.board_sim.specs.Halted.{meant_behind, KeptPart}
 use Rattle.board_sim.proofs.HaltedTakes.{commands_keep}
-use Rattle.board_sim.proofs.RigShut.{all_left_by}
+use Rattle.board_sim.proofs.RigShut.{all_left_by, passes_left}
 use Rattle.board_world.specs.declared.event.Event.{Event}
 use Rattle.board_world.specs.declared.event.Event.TheVariants.{Put, Control, Arrive, Repeat, Pass}
 use Rattle.board_world.specs.Stands.{IsOrdered}
@@ -17,12 +17,13 @@ use Rattle.link_work.proofs.Steps.{tick_held}
 use Rattle.run_laws.specs.Events.{IsQuiet}
 use Rattle.run_laws.specs.Known.{Sent, sent_at, orders_in}
 use Rattle.run_laws.specs.Timely.{AreTimely, IsTimelyAt}
-use Rattle.run_laws.specs.Courses.{Course, parts_of, IsFrom, no_course, course_behind, course_from, courses, AreMadeFor, IsMadeBy, AreGoodOn, AreAllGood, AreInTime, BeginLostOn, FindsFree, HeedsIn, HeedsAt, AllHeed, IsGoodOn}
+use Rattle.run_laws.specs.Finds.{AllFindHalted, AllSetNot, StepsFindHalted}
+use Rattle.run_laws.specs.Courses.{Course, parts_of, IsFrom, IsStopped, no_course, course_behind, course_from, courses, AreMadeFor, IsMadeBy, AreGoodOn, AreAllGood, AreInTime, BeginLostOn, FindsFree, HeedsIn, HeedsAt, AllHeed, IsGoodOn}
 use Rattle.run_laws.proofs.Fits.{IsShutBy}
 use Rattle.run_laws.proofs.Taking.{shut_fair}
-use Rattle.run_laws.proofs.Lists.{sent_front, orders_append, orders_at, own_up, cuts, lost_for}
+use Rattle.run_laws.proofs.Lists.{sent_front, orders_append, orders_at, own_up, cuts, longer, lost_for}
 use Rattle.run_laws.proofs.Standing.{BoardStands}
-use Rattle.run_laws.proofs.Commanding.{AreQueued, all_stand, stands_same, all_lost}
+use Rattle.run_laws.proofs.Commanding.{AreQueued, all_stand, since_all, stands_same, all_lost}
 
 -- what is to be known of a run: a board's ticks, where parts of its steppers' steps stop, its slots, and the commands: good ones, and
 -- perhaps others behind them of which the first comes too late
@@ -115,6 +116,14 @@ good_front own stops slots oid c (s ∷ ss) ts g = (g.0, good_front own stops sl
 abbrev Took : Script → ℕ → ℕ → List Sent → Core → Core → List Meant → Type 0
 Took p by turn sent h g ms = AreFair h.board ms × (Going p by turn sent g ⊎ Gone p g)
 
+-- each stepper whose part is stopped is halted before a board that runs takes a step of it, in some steps
+abbrev pub Finds : Script → ℕ → ℕ → List Sent → Core → List Step → Type 0
+Finds p by turn sent h steps = (r : Going p by turn sent h) → (oid : ℕ) → IsStopped p.stops by (courses r.done oid).since → StepsFindHalted oid h steps
+
+-- so in some commands that the board takes
+abbrev pub TakesFind : Script → ℕ → (ℕ → Course) → Rig → List Meant → Type 0
+TakesFind p by cs r ms = (oid : ℕ) → IsStopped p.stops by (cs oid).since → AllFindHalted oid r ms
+
 -- what the first commands left are
 left_first : (done left : List Sent) (ms rest : List Meant) → (orders_in done ++ ms) ++ rest ≡ orders_in (done ++ left)
     → (first : List Sent) × (others : List Sent) × (left ≡ first ++ others) × (orders_in first ≡ ms)
@@ -123,9 +132,9 @@ left_first done left ms rest e =
 
 -- the first of the commands that are left are taken
 takes_these : (p : Script) (by turn : ℕ) (sent : List Sent) (h g : Core) (r : Going p by turn sent h) (first m others : List Sent) → by ≤ turn → AreQueued by sent → r.more ≡ first ++ m → r.left ≡ first ++ others
-    → AreTimely (p.own turn) (orders_in first) → g.taken ≡ h.taken ++ orders_in first → g.board ≡ (takes_all h.board (commands_of (orders_in first))).rig → g.made ≡ h.made
-    → Took p by turn sent h g (orders_in first)
-takes_these p by turn sent h g r first m others le old more left timely taken board made =
+    → AreTimely (p.own turn) (orders_in first) → TakesFind p by (courses r.done) h.board (orders_in first)
+    → g.taken ≡ h.taken ++ orders_in first → g.board ≡ (takes_all h.board (commands_of (orders_in first))).rig → g.made ≡ h.made → Took p by turn sent h g (orders_in first)
+takes_these p by turn sent h g r first m others le old more left timely finds taken board made =
     let split : sent ≡ (r.done ++ first) ++ others = r.sent_is ∙ ap (λ x. r.done ++ x) left ∙ sym (append_assoc r.done first others) in
     let whole : r.done ++ (first ++ m) ≡ p.front = ap (λ x. r.done ++ x) (sym more) ∙ r.front_is in
     let Good : List Sent → Type 0 = λ x. AreAllGood p.own p.stops p.slots x in
@@ -134,7 +143,7 @@ takes_these p by turn sent h g r first m others le old more left timely taken bo
     let Time : List Sent → Type 0 = λ x. AreInTime p.stops by x in
     let time = subst Time left r.in_time in
     let now = queued_front by first others (queued_behind by r.done (first ++ others) (subst Old (r.sent_is ∙ ap (λ x. r.done ++ x) left) old)) in
-    let went = all_stand p.own (λ j k le. own_up p.own p.up j k le) p.stops p.slots by turn first (courses r.done) h.board r.stands le now good timely (time_front p.stops by first others time) in
+    let went = all_stand p.own (λ j k le. own_up p.own p.up j k le) p.stops p.slots by turn first (courses r.done) h.board r.stands le now good timely (time_front p.stops by first others time) finds in
     let e : (oid : ℕ) → courses (r.done ++ first) oid ≡ course_from oid (courses r.done oid) first = λ oid. course_append oid no_course r.done first in
     let At : Rig → Type 0 = λ x. BoardStands p.own p.stops p.slots by turn (courses (r.done ++ first)) x.controller in
     let To : Rig → Type 0 = λ x. IsShutBy x.controller in (
@@ -166,10 +175,10 @@ takes_these p by turn sent h g r first m others le old more left timely taken bo
 
 -- all good ones that are left are taken, and the late one behind them
 takes_lost : (p : Script) (by turn : ℕ) (sent : List Sent) (h g : Core) (r : Going p by turn sent h) (s : Sent) (m others behind : List Sent) → by ≤ turn → AreQueued by sent → p.tail ≡ s ∷ behind → r.left ≡ (r.more ++ s ∷ m) ++ others
-    → AreTimely (p.own turn) (orders_in (r.more ++ s ∷ m))
+    → AreTimely (p.own turn) (orders_in (r.more ++ s ∷ m)) → TakesFind p by (courses r.done) h.board (orders_in (r.more ++ s ∷ m))
     → ((takes_all h.board (commands_of (orders_in r.more))).rig.controller.state ≡ Running → FindsFree (takes_all h.board (commands_of (orders_in r.more))).rig.controller s.order.command)
     → g.board ≡ (takes_all h.board (commands_of (orders_in (r.more ++ s ∷ m)))).rig → g.made ≡ h.made → Took p by turn sent h g (orders_in (r.more ++ s ∷ m))
-takes_lost p by turn sent h g r s m others behind le old tail left timely free board made =
+takes_lost p by turn sent h g r s m others behind le old tail left timely finds free board made =
     let l = r.more ++ s ∷ m in
     let Good : List Sent → Type 0 = λ x. AreAllGood p.own p.stops p.slots x in
     let Lost : List Sent → Type 0 = λ x. BeginLostOn p.own p.stops p.slots (courses p.front) x in
@@ -184,7 +193,7 @@ takes_lost p by turn sent h g r s m others behind le old tail left timely free b
     let late = lost_for p.own s.turn (λ oid. (courses p.front oid).known) (λ oid. (course_from oid (courses r.done oid) r.more).known) s.order.command s.order.ticks (λ oid. ap (λ (c : Course). c.known) (e oid)) was.1 in
     let now = queued_front by l others (queued_behind by r.done (l ++ others) (subst Old (r.sent_is ∙ ap (λ x. r.done ++ x) left) old)) in
     let time = time_front p.stops by l others (subst Time left r.in_time) in
-    let (fair, shut, stop) = all_lost p.own (λ j k le. own_up p.own p.up j k le) p.stops p.slots by turn r.more s m (courses r.done) h.board r.stands le now good (fine, late) timely time free in
+    let (fair, shut, stop) = all_lost p.own (λ j k le. own_up p.own p.up j k le) p.stops p.slots by turn r.more s m (courses r.done) h.board r.stands le now good (fine, late) timely time free finds in
     let (done, more, is, to) = stop in (
       fair,
       inr (record {
@@ -197,15 +206,16 @@ takes_lost p by turn sent h g r s m others behind le old tail left timely free b
     )
 
 -- with what the commands are
-as_orders : (p : Script) (by turn : ℕ) (sent : List Sent) (h g : Core) (l : List Sent) (ms : List Meant) → orders_in l ≡ ms
-    → (AreTimely (p.own turn) (orders_in l) → g.taken ≡ h.taken ++ orders_in l → g.board ≡ (takes_all h.board (commands_of (orders_in l))).rig → Took p by turn sent h g (orders_in l))
-    → AreTimely (p.own turn) ms → g.taken ≡ h.taken ++ ms → g.board ≡ (takes_all h.board (commands_of ms)).rig → Took p by turn sent h g ms
-as_orders p by turn sent h g l ms e k =
-    let At : List Meant → Type 0 = λ x. AreTimely (p.own turn) x → g.taken ≡ h.taken ++ x → g.board ≡ (takes_all h.board (commands_of x)).rig → Took p by turn sent h g x in
+as_orders : (p : Script) (by turn : ℕ) (sent : List Sent) (h g : Core) (cs : ℕ → Course) (l : List Sent) (ms : List Meant) → orders_in l ≡ ms
+    → (AreTimely (p.own turn) (orders_in l) → TakesFind p by cs h.board (orders_in l) → g.taken ≡ h.taken ++ orders_in l → g.board ≡ (takes_all h.board (commands_of (orders_in l))).rig → Took p by turn sent h g (orders_in l))
+    → AreTimely (p.own turn) ms → TakesFind p by cs h.board ms → g.taken ≡ h.taken ++ ms → g.board ≡ (takes_all h.board (commands_of ms)).rig → Took p by turn sent h g ms
+as_orders p by turn sent h g cs l ms e k =
+    let At : List Meant → Type 0 = λ x. AreTimely (p.own turn) x → TakesFind p by cs h.board x → g.taken ≡ h.taken ++ x → g.board ≡ (takes_all h.board (commands_of x)).rig → Took p by turn sent h g x in
     subst At e k
 
 going_took : (p : Script) (by turn : ℕ) (sent rest : List Sent) (h g : Core) (ms later : List Meant) (r : Going p by turn sent h) → sent ++ rest ≡ p.all → by ≤ turn → AreQueued by sent
-    → (h.taken ++ ms) ++ later ≡ orders_in sent → HeedsIn p.front p.tail h ms → g.made ≡ h.made → AreTimely (p.own turn) ms → g.taken ≡ h.taken ++ ms → g.board ≡ (takes_all h.board (commands_of ms)).rig → Took p by turn sent h g ms
+    → (h.taken ++ ms) ++ later ≡ orders_in sent → HeedsIn p.front p.tail h ms → g.made ≡ h.made → AreTimely (p.own turn) ms → TakesFind p by (courses r.done) h.board ms → g.taken ≡ h.taken ++ ms
+    → g.board ≡ (takes_all h.board (commands_of ms)).rig → Took p by turn sent h g ms
 going_took p by turn sent rest h g ms later r all le old queued heed made =
     let (l, others, left, is) = left_first r.done r.left ms later (rw (r.taken, ← r.sent_is) queued) in
     let here : l ++ (others ++ rest) ≡ r.more ++ p.tail =
@@ -213,14 +223,14 @@ going_took p by turn sent rest h g ms later r all le old queued heed made =
     (ap (λ x. r.done ++ x) (sym (append_assoc l others rest)) ∙ sym (append_assoc r.done (l ++ others) rest) ∙ ap (λ x. (r.done ++ x) ++ rest) (sym left) ∙ ap (λ x. x ++ rest) (sym r.sent_is)
     ∙ all ∙ sym p.are ∙ ap (λ x. x ++ p.tail) (sym r.front_is) ∙ append_assoc r.done r.more p.tail) in
     elim (cuts l (others ++ rest) r.more p.tail here) [
-      | inl c ↦ as_orders p by turn sent h g l ms is (λ timely taken board. takes_these p by turn sent h g r l c.0 others le old c.1 left timely taken board made)
+      | inl c ↦ as_orders p by turn sent h g (courses r.done) l ms is (λ timely finds taken board. takes_these p by turn sent h g r l c.0 others le old c.1 left timely finds taken board made)
       | inr c ↦
           let (s, m, cut, tail) = c in
           let Heeds : List Sent → Type 0 = λ x. HeedsIn p.front x h ms in
           let mine : HeedsIn p.front (s ∷ m ++ (others ++ rest)) h ms = subst Heeds tail heed in
           let free = mine (orders_in r.more) (orders_in m) (sym is ∙ ap orders_in cut ∙ orders_append r.more (s ∷ m)) (ap (λ x. x ++ orders_in r.more) (sym r.taken) ∙ sym (orders_append r.done r.more) ∙ ap orders_in r.front_is) in
-          as_orders p by turn sent h g (r.more ++ s ∷ m) ms (ap orders_in (sym cut) ∙ is)
-          (λ timely taken board. takes_lost p by turn sent h g r s m others (m ++ (others ++ rest)) le old tail (left ∙ ap (λ x. x ++ others) cut) timely free board made)
+          as_orders p by turn sent h g (courses r.done) (r.more ++ s ∷ m) ms (ap orders_in (sym cut) ∙ is)
+          (λ timely finds taken board. takes_lost p by turn sent h g r s m others (m ++ (others ++ rest)) le old tail (left ∙ ap (λ x. x ++ others) cut) timely finds free board made)
     ]
 
 -- a board that is shut down
@@ -241,14 +251,15 @@ gone_took p by turn sent h g ms k board made =
 -- a step that takes these commands and lets no time pass
 takes_on : (p : Script) (by turn : ℕ) (sent : List Sent) (h g : Core) (ms : List Meant) → Keeps p by turn sent h → IsOrdered g → g.queued ≡ h.queued → g.taken ≡ h.taken ++ ms
     → g.board ≡ (takes_all h.board (commands_of ms)).rig → g.meant ≡ meant_behind h.board h.made h.meant ms → g.made ≡ h.made → g.board.controller.tick ≡ h.board.controller.tick
-    → (h.board.controller.state ≡ Running → AreTimely h.board.controller.tick ms) → HeedsIn p.front p.tail h ms → AreFair h.board ms × Keeps p by turn sent g
-takes_on p by turn sent h g ms k ordered queued taken board meant made tick timely heed =
+    → (h.board.controller.state ≡ Running → AreTimely h.board.controller.tick ms) → HeedsIn p.front p.tail h ms
+    → ((r : Going p by turn sent h) → TakesFind p by (courses r.done) h.board ms) → AreFair h.board ms × Keeps p by turn sent g
+takes_on p by turn sent h g ms k ordered queued taken board meant made tick timely heed finds =
     let n = length g.link.taken in
     let later : (h.taken ++ ms) ++ drop n g.queued ≡ orders_in sent =
     ap (λ x. x ++ drop n g.queued) (sym taken ∙ ordered.first) ∙ take-append-drop n g.queued ∙ queued ∙ sym k.queued in
     let At : ℕ → Type 0 = λ x. AreTimely x ms in
     let took : Took p by turn sent h g ms = elim k.state [
-      | inl r ↦ going_took p by turn sent k.rest h g ms (drop n g.queued) r k.all_is k.order k.turns later heed made (subst At k.tick (timely r.stands.running)) taken board
+      | inl r ↦ going_took p by turn sent k.rest h g ms (drop n g.queued) r k.all_is k.order k.turns later heed made (subst At k.tick (timely r.stands.running)) (finds r) taken board
       | inr e ↦ gone_took p by turn sent h g ms e board made
     ] in (
       took.0,
@@ -271,12 +282,14 @@ StepKeeps p by turn sent h s = IsFairAt h s × Keeps p by turn sent (after h s)
 -- an event that queues nothing and lets no time pass
 event_keeps : (p : Script) (by turn : ℕ) (sent : List Sent) (h : Core) (e : Event) → orders_of e ≡ [] → Keeps p by turn sent h
     → (does h e).board ≡ (takes_all h.board (commands_of (takes_in h e))).rig → (does h e).pulses ≡ [] → (does h e).board.controller.tick ≡ h.board.controller.tick
-    → (h.board.controller.state ≡ Running → AreTimely h.board.controller.tick (takes_in h e)) → HeedsIn p.front p.tail h (takes_in h e) → AreFair h.board (takes_in h e) × Keeps p by turn sent (happens h e)
-event_keeps p by turn sent h e none k board made tick timely heed =
+    → (h.board.controller.state ≡ Running → AreTimely h.board.controller.tick (takes_in h e)) → HeedsIn p.front p.tail h (takes_in h e)
+    → Finds p by turn sent h (Do e ∷ []) → AreFair h.board (takes_in h e) × Keeps p by turn sent (happens h e)
+event_keeps p by turn sent h e none k board made tick timely heed finds =
     takes_on p by turn sent h (happens h e) (takes_in h e) k (ordered_by h e k.ordered) (ap (λ x. h.queued ++ x) none ∙ append-nil h.queued) refl board refl (ap (λ x. h.made ++ x) made ∙ append-nil h.made) tick timely heed
+    (λ r oid st. (finds r oid st).0)
 
-pub quiet_keeps : (p : Script) (by turn : ℕ) (sent : List Sent) (h : Core) (s : Step) → IsQuiet s → Keeps p by turn sent h → IsTimelyAt h s → HeedsAt p.front p.tail h s → StepKeeps p by turn sent h s
-quiet_keeps p by turn sent h (Turn n) q k timely heed = (
+pub quiet_keeps : (p : Script) (by turn : ℕ) (sent : List Sent) (h : Core) (s : Step) → IsQuiet s → Keeps p by turn sent h → IsTimelyAt h s → HeedsAt p.front p.tail h s → Finds p by turn sent h (s ∷ []) → StepKeeps p by turn sent h s
+quiet_keeps p by turn sent h (Turn n) q k timely heed finds = (
   tt,
   record {
     ordered = ordered_turn h n k.ordered;
@@ -293,12 +306,12 @@ quiet_keeps p by turn sent h (Turn n) q k timely heed = (
     ];
   },
 )
-quiet_keeps p by turn sent h (Do (Put b)) q k timely heed = absurd q
-quiet_keeps p by turn sent h (Do (Control c)) q k timely heed = absurd q
-quiet_keeps p by turn sent h (Do (Pass t)) q k timely heed = absurd q
-quiet_keeps p by turn sent h (Do Arrive) q k timely heed = event_keeps p by turn sent h Arrive refl k refl refl (tick_held (Do Arrive ∷ []) h (tt, tt)) timely heed
-quiet_keeps p by turn sent h (Do Repeat) q k timely heed = event_keeps p by turn sent h Repeat refl k refl refl (tick_held (Do Repeat ∷ []) h (tt, tt)) timely heed
-quiet_keeps p by turn sent h (Do e) q k timely heed = event_keeps p by turn sent h e refl k refl refl refl timely heed
+quiet_keeps p by turn sent h (Do (Put b)) q k timely heed finds = absurd q
+quiet_keeps p by turn sent h (Do (Control c)) q k timely heed finds = absurd q
+quiet_keeps p by turn sent h (Do (Pass t)) q k timely heed finds = absurd q
+quiet_keeps p by turn sent h (Do Arrive) q k timely heed finds = event_keeps p by turn sent h Arrive refl k refl refl (tick_held (Do Arrive ∷ []) h (tt, tt)) timely heed finds
+quiet_keeps p by turn sent h (Do Repeat) q k timely heed finds = event_keeps p by turn sent h Repeat refl k refl refl (tick_held (Do Repeat ∷ []) h (tt, tt)) timely heed finds
+quiet_keeps p by turn sent h (Do e) q k timely heed finds = event_keeps p by turn sent h e refl k refl refl refl timely heed finds
 
 -- what is queued in a turn
 pub queues_on : (p : Script) (by turn : ℕ) (sent rest : List Sent) (h : Core) (e : Event) → Keeps p by turn sent h → (sent ++ sent_at by (orders_of e)) ++ rest ≡ p.all → AreInTime p.stops by (sent_at by (orders_of e))
@@ -359,3 +372,60 @@ heed_front front tail (x ∷ xs) ys h a = (a.0, heed_front front tail xs ys (aft
 pub heed_behind : (front tail : List Sent) (xs ys : List Step) (h : Core) → AllHeed front tail h (xs ++ ys) → AllHeed front tail (run xs h) ys
 heed_behind front tail [] ys h a = a
 heed_behind front tail (x ∷ xs) ys h a = heed_behind front tail xs ys (after h x) a.1
+
+-- and each of some steps finds what is to be halted so
+find_first : (oid : ℕ) (h : Core) (s : Step) (steps : List Step) → StepsFindHalted oid h (s ∷ steps) → StepsFindHalted oid h (s ∷ [])
+find_first oid h (Do e) steps f = (f.0, λ none. tt)
+find_first oid h (Turn turn) steps f = tt
+
+pub finds_first : (p : Script) (by turn : ℕ) (sent : List Sent) (h : Core) (s : Step) (steps : List Step) → Finds p by turn sent h (s ∷ steps) → Finds p by turn sent h (s ∷ [])
+finds_first p by turn sent h s steps f = λ r oid st. find_first oid h s steps (f r oid st)
+
+-- what a step takes
+abbrev takes_at : Core → Step → List Meant
+takes_at h (Do e) = takes_in h e
+takes_at h (Turn turn) = []
+
+took_at : (h : Core) (s : Step) → (after h s).taken ≡ h.taken ++ takes_at h s
+took_at h (Do e) = refl
+took_at h (Turn turn) = sym (append-nil h.taken)
+
+find_next : (oid : ℕ) (h : Core) (s : Step) (steps : List Step) → AllSetNot oid (takes_at h s) → StepsFindHalted oid h (s ∷ steps) → StepsFindHalted oid (after h s) steps
+find_next oid h (Do e) steps none f = f.1 none
+find_next oid h (Turn turn) steps none f = f
+
+-- a board that is shut down stays so
+shut_event : (h : Core) (e : Event) → is_shut h.board.controller.state ≡ true → (does h e).board.controller.state ≡ h.board.controller.state
+shut_event h Arrive k = ap (λ (x : Controller). x.state) (all_left_by h.board (commands_of (takes_in h Arrive)) k)
+shut_event h Repeat k = ap (λ (x : Controller). x.state) (all_left_by h.board (commands_of (takes_in h Repeat)) k)
+shut_event h (Pass t) k = (passes_left h.board t k).1
+shut_event h e k = refl
+
+shut_step : (h : Core) (s : Step) → is_shut h.board.controller.state ≡ true → (after h s).board.controller.state ≡ h.board.controller.state
+shut_step h (Do e) k = shut_event h e k
+shut_step h (Turn turn) k = refl
+
+not_both : (r t f : ℕ) → Shut r t f ≡ Running → ⊥
+not_both r t f e = cc
+
+pub finds_next : (p : Script) (by turn next : ℕ) (sent new all : List Sent) (h : Core) (s : Step) (steps : List Step) → all ≡ sent ++ new → Keeps p by turn sent h → AreInTime p.stops by new → Finds p by turn sent h (s ∷ steps)
+    → Finds p by next all (after h s) steps
+finds_next p by turn next sent new all h s steps are k time f = λ r oid st.
+    elim k.state [
+      | inl was ↦
+          let ms = takes_at h s in
+          let took : orders_in r.done ≡ orders_in was.done ++ ms = r.taken ∙ took_at h s ∙ ap (λ x. x ++ ms) (sym was.taken) in
+          let cut : r.done ++ r.left ≡ was.done ++ (was.left ++ new) = sym r.sent_is ∙ are ∙ ap (λ x. x ++ new) was.sent_is ∙ append_assoc was.done was.left new in
+          let (mid, done, left) = longer r.done r.left was.done (was.left ++ new) ms cut took in
+          let Time : List Sent → Type 0 = λ x. AreInTime p.stops by x in
+          let in_time = time_front p.stops by mid r.left (subst Time (sym left) (time_append p.stops by was.left new was.in_time time)) in
+          let course : courses r.done oid ≡ course_from oid (courses was.done oid) mid = ap (λ x. courses x oid) done ∙ course_append oid no_course was.done mid in
+          let Stopped : Course → Type 0 = λ c. IsStopped p.stops by c.since in
+          let old = since_all p.stops by oid (courses was.done oid) mid in_time (subst Stopped course st) in
+          let same : orders_in mid ≡ ms = append_cancel_left (orders_in was.done) (orders_in mid) ms (sym (orders_append was.done mid) ∙ ap orders_in (sym done) ∙ took) in
+          let SetNot : List Meant → Type 0 = λ x. AllSetNot oid x in
+          find_next oid h s steps (subst SetNot same old.1) (f was oid old.0)
+      | inr d ↦
+          let (reason, tick, first, state, may) = d.shut in
+          absurd (not_both reason tick first (sym state ∙ sym (shut_step h s (ap is_shut state)) ∙ r.stands.running))
+    ]

@@ -16,6 +16,7 @@ use Rattle.link_work.specs.Turn.{Orders}
 use Rattle.link_work.specs.Runs.{queued_in}
 use Rattle.run_laws.specs.Events.{AreTicks, AreTurnsOf}
 use Rattle.run_laws.specs.Known.{Sent, sent_at, sent_in, orders_in, Known, unknown, knows_of, AreBelow, IsGoodTriple, IsLostFor}
+use Rattle.run_laws.specs.Finds.{StepsFindHalted}
 use Rattle.run_laws.specs.Runs.{Begins}
 use Rattle.run_laws.specs.Timely.{AllTimely}
 use Rattle.board_sim.specs.Rig.{takes_all}
@@ -170,22 +171,30 @@ abbrev pub AreInTime : (ℕ → Option ℕ) → ℕ → List Sent → Type 0
 AreInTime stops turn [] = Unit {0}
 AreInTime stops turn (s ∷ ss) = IsInTime stops turn s.turn s.order.command × AreInTime stops turn ss
 
--- As a turn begins, a board that runs has taken the first of some commands, with which each part began that is stopped by now, and all
--- steppers whose part is stopped are halted.
+-- As a turn begins, a board that runs has taken the first of some commands, with which each part began that is stopped by now, and each
+-- stepper whose part is stopped is halted, or no step of that part was taken.
 abbrev pub IsSettled : (ℕ → Option ℕ) → ℕ → List Sent → Core → Type 0
 IsSettled stops turn sent h =
     h.board.controller.state ≡ Running → (done left : List Sent) → done ++ left ≡ sent → orders_in done ≡ h.taken →
-    AreInTime stops turn left × ((oid : ℕ) → IsStopped stops turn (courses done oid).since → is_halted (stepper_at h.board.controller oid) ≡ true)
+    AreInTime stops turn left
+    × ((oid : ℕ) → IsStopped stops turn (courses done oid).since → (is_halted (stepper_at h.board.controller oid) ≡ true) ⊎ ((courses done oid).known.ends ≡ []))
 
--- so as each of some turns begins, before which some commands were queued
+-- And in some steps that follow such a stepper is halted before the board takes a step of it.
+abbrev pub FindStopped : (ℕ → Option ℕ) → ℕ → List Sent → Core → List Step → Type 0
+FindStopped stops turn sent h steps =
+    h.board.controller.state ≡ Running → (done left : List Sent) → done ++ left ≡ sent → orders_in done ≡ h.taken →
+    (oid : ℕ) → IsStopped stops turn (courses done oid).since → StepsFindHalted oid h steps
+
+-- so as each of some turns begins, before which some commands were queued, and in its steps
 abbrev pub AreSettled : (stops : ℕ → Option ℕ) (own : ℕ → ℕ) (turn : ℕ) (sent : List Sent) (os : List Orders) (steps : List Step) (h : Core) → AreTurnsOf own turn os steps → Type 0
 AreSettled stops own turn sent [] steps h t = IsSettled stops turn sent h
 AreSettled stops own turn sent (o ∷ os) steps h t =
-    IsSettled stops turn sent h × AreSettled stops own (turn + 1) (sent ++ sent_at turn (queued_in o)) os t.1 (run t.0 h) t.4
+    IsSettled stops turn sent h × FindStopped stops turn sent h t.0 × AreSettled stops own (turn + 1) (sent ++ sent_at turn (queued_in o)) os t.1 (run t.0 h) t.4
 
 -- What happens on a board and its link in some turns, where the commands that are queued are good, up to one that is queued too late, and
 -- triggers may halt steppers: no unit is taken half a round of the 32-bit clock after its first tick; where a part of a stepper's steps
--- stops, the board has begun it by then, and halted the stepper; and where it takes the late one, that one's stepper isn't halted.
+-- stops, the board has begun it by then, and halts the stepper by then or before it takes a step of it; and where it takes the late one, that
+-- one's stepper isn't halted.
 pub record IsGoodRun (b : BoardDef) (pins : List (List Level)) (own : ℕ → ℕ) (stops : ℕ → Option ℕ) (os : List Orders) (steps : List Step) : Type 0 where
   pub ticks : AreTicks own
   pub first : own 0 ≡ b.start

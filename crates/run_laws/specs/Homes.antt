@@ -19,11 +19,11 @@ use Rattle.link_work.specs.Runs.{AreTurns, queued_in}
 use Rattle.link_work.specs.Stands.{first_state}
 use Rattle.link_work.specs.Turn.{LinkState, Orders}
 use Rattle.run_laws.specs.Boards.{OnBoard}
-use Rattle.run_laws.specs.Courses.{IsFrom, IsSettled, AreSettled, AreAllGood, BeginLostOn, AreMadeFor, courses, parts_of}
+use Rattle.run_laws.specs.Courses.{IsFrom, IsSettled, AreSettled, FindStopped, AreAllGood, BeginLostOn, AreMadeFor, courses, parts_of}
 use Rattle.run_laws.specs.Courses as course
 use Rattle.run_laws.specs.Events.{AreOwn, AreTicks, AreTurnsOf}
 use Rattle.run_laws.specs.Known.{Sent, sent_at, sent_in}
-use Rattle.run_laws.specs.Links.{AreTold, steps_of, turns_told}
+use Rattle.run_laws.specs.Links.{AreTold, steps_of, steps_of_turn, turns_told}
 use Rattle.run_laws.specs.Parts.{AreTracked, MakesIn}
 use Rattle.run_laws.specs.Runs.{Begins}
 use Rattle.run_laws.specs.Timely.{AllTimely}
@@ -185,11 +185,13 @@ pub record IsHomeSpan (b : BoardDef) (pins : List (List Level)) (own : ℕ → �
   pub first_settled : AreSettled stops own 0 [] before first (start b pins) first_turns
   pub second_settled : AreSettled stops own (length before) (sent_in 0 before) during second (run first (start b pins)) second_turns
 
--- As each of some turns of a link begins, its board has begun the parts that stop by then, and halted their steppers.
+-- As each of some turns of a link begins, its board has begun the parts that stop by then, and it halts their steppers by then or before it
+-- takes a step of the part.
 abbrev pub AreSettledOn : (stops : ℕ → Option ℕ) (clock : BoardClock) (turn : ℕ) (sent : List Sent) (os : List Orders) (l m : LinkState) → AreTurns clock turn os l m → Type 0
 AreSettledOn stops clock turn sent [] l m t = IsSettled stops turn sent l.core
 AreSettledOn stops clock turn sent (o ∷ os) l m t =
-    IsSettled stops turn sent l.core × AreSettledOn stops clock (turn + 1) (sent ++ sent_at turn (queued_in o)) os t.0 m t.2
+    IsSettled stops turn sent l.core × FindStopped stops turn sent l.core (steps_of_turn clock turn o t.1.resent l)
+    × AreSettledOn stops clock (turn + 1) (sent ++ sent_at turn (queued_in o)) os t.0 m t.2
 
 -- A board of a run of so many turns in which axes home, at a place among the boards, with its sections and which of them home: its link took
 -- what it was given and told the states, its orders are those of its sections, no unit is taken half a round of the 32-bit clock after its

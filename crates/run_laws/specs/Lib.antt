@@ -9,5 +9,6 @@ pub mod Late
 pub mod Links
 pub mod Boards
 pub mod Sample
+pub mod Finds
 pub mod Courses
 pub mod Homes

@@ -111,8 +111,7 @@ pub fn homing_runs_show_their_sections<F: Files, S: Sink>()
 {}
 
 /// The law of scenes without entries: where the planner sends those units of each section of moves that are late by four turns behind its end,
-/// and none too late, no board holds anything long, and each takes the set-ups of homing sections in time. So it does where it sends all units
-/// in time.
+/// and none too late, no board holds anything long. So it does where it sends all units in time.
 pub fn clear_scenes_hold_little()
     ensures little { (m : Machine) (s : Scene) (text : List ℕ) (planned : List MotionTurn) (turns : List ReactorTurn) → s.entries ≡ [] → SendsAllOut m text planned → AllHomeLittle m s text planned turns }
     ensures out { (m : Machine) (text : List ℕ) (planned : List MotionTurn) → SendsAllInTime m text planned → SendsAllOut m text planned }

@@ -135,7 +135,7 @@ acts_off r (cmd.ConfigEndstop other pin pull) k all = endstop_off r other pin (s
 acts_off r (cmd.EndstopHome other at sample count rest value t reason) k all = home_off r (slice_index_or r.endstops other None) t (slot_at r t) _ refl all
 acts_off r c k all = same_off r (acts r c).rig refl all
 
-running_off : (o : BoardState) (r : Rig) (c : Cmd) → IsTame c → AllOff r → AllOff (acts_running o r c).rig
+pub running_off : (o : BoardState) (r : Rig) (c : Cmd) → IsTame c → AllOff r → AllOff (acts_running o r c).rig
 running_off Running r c k all = acts_off r c k all
 running_off (Shut reason at first) r c k all = same_off r (acts_running (Shut reason at first) r c).rig refl all
 

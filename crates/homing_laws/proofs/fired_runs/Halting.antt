@@ -38,21 +38,22 @@ use Rattle.clock_runs.proofs.Ordering.{may_order}
 use Rattle.run_laws.proofs.Lists.{cons_same, cuts}
 use Rattle.run_parts.proofs.Controlled.{few_on}
 use Rattle.homing_laws.specs.home_runs.Guards.{AreCalm, IsCalm}
-use Rattle.homing_laws.specs.home_runs.Sections.{HomesFrom, IsAnswered, IsMoved, IsOf, Moves, SetNoneFrom, TakesStops, queued_by}
+use Rattle.homing_laws.specs.home_runs.Sections.{HomesFrom, IsAnswered, IsMoved, IsOf, Moves, SetNoneFrom, queued_by}
 use Rattle.homing_laws.specs.home_runs.Stages.{Stage, no_stage, stage_from}
 use Rattle.homing_laws.specs.home_runs.Told.{IsMember}
 use Rattle.homing_laws.proofs.home_runs.Controlling.{first_turn, rest_turn, turn_calm}
 use Rattle.homing_laws.proofs.home_runs.Firing.{calm_both, calm_each, calm_parts}
-use Rattle.homing_laws.proofs.home_runs.Joining.{all_queued, earlier, homes_later, known_rises, late_parts, none_later, noted_rises, past_connecting, run_calm, run_whole, small_by, split_at}
+use Rattle.homing_laws.proofs.home_runs.Joining.{all_queued, known_rises, noted_rises, past_connecting, small_by, split_at}
 use Rattle.homing_laws.proofs.home_runs.Saying.{EachCalm}
 use Rattle.homing_laws.proofs.home_runs.Setting.{Binds, which}
 use Rattle.homing_laws.proofs.home_runs.Staging.{commands_both, stage_append, staged_after}
-use Rattle.homing_laws.proofs.home_runs.Whole.{OneOnly, Only, brings_calm, only_parts, queue_only, ready_on, run_only, run_ready, units_calm, whole_by, whole_on}
+use Rattle.homing_laws.proofs.home_runs.Whole.{OneOnly, Only, brings_calm, only_parts, queue_only, ready_on, run_only, run_ready, units_calm, whole_by}
 use Rattle.homing_laws.proofs.home_runs.Windows.{ordered_after}
 use Rattle.homing_laws.specs.clear_groups.Resting.{EachTame, IsTame}
 use Rattle.homing_laws.proofs.clear_groups.Known.{answered_late}
-use Rattle.homing_laws.specs.fired_runs.Since.{AreBehind, AreReadTrue, BeginsApart, IsAtRest, IsOff, IsReadSo}
-use Rattle.homing_laws.specs.fired_runs.Waiting.{AllSetNot, AllStepNot, MoveNone, MoveNoneIn, SetsNot, StepsFindHalted, StepsNot, TookNone}
+use Rattle.homing_laws.specs.fired_runs.Since.{AreBehind, AreReadTrue, BeginsApart, IsAtRest, IsOff}
+use Rattle.run_laws.specs.Finds.{AllSetNot, SetsNot, StepsFindHalted}
+use Rattle.homing_laws.specs.fired_runs.Waiting.{AllStepNot, MoveNone, MoveNoneIn, StepsNot, TookNone}
 use Rattle.homing_laws.proofs.fired_runs.Old.{tame_parts}
 use Rattle.homing_laws.proofs.fired_runs.Rested.{answered_fired, left_of, queue_later}
 use Rattle.homing_laws.proofs.fired_runs.Waiting.{Waits, steps_settle}
@@ -431,46 +432,3 @@ module _ (m : Machine) (v : IsValidMachine m) (switches : List Switch) (pins : L
       let left = left_of m v switches pins entries b turns r.turns_are in
       steps_settle Oid Trigger steps (stands_after First turns).core left.0 (ordered_after (board_at m b) pins b entries turns r.turns_are)
       (left.1 ∙ sym (all_queued (board_at m b) pins b entries turns r.turns_are)) (elim halts_or_waits [ inl y ↦ inr (inl y) | inr y ↦ inr (inr y.1) ])
-
--- where the board took the set-up by the answer, every stepper that moves is halted
-pub stops_halt : (m : Machine) (switches : List Switch) (pins : List (List Level)) (entries : List Entry) (b : ℕ) (c : Came) (before : List Came) (turns : List BoardTurn) (h : Homing) (s : ℕ) → IsValidMachine m → IsInRun m switches pins entries b before turns
-    → state_at b c.states ≡ latest_state turns → IsAnswered m switches c before h → IsMoved m b h turns s → IsReadSo m switches b c before turns → TakesStops (first_state (board_at m b) pins b entries) h.start turns
-    → (stands_after (first_state (board_at m b) pins b entries) turns).core.board.controller.state ≡ Running
-    → IsHalted (board.stepper_at (stands_after (first_state (board_at m b) pins b entries) turns).core.board.controller (stepper_at m s).oid)
-stops_halt m switches pins entries b c before turns h s v r latest a x so took runs =
-    let i = (stepper_at m s).oid in
-    let j = trigger_of m b in
-    let d = board_at m b in
-    let first = first_state d pins b entries in
-    let ms = members_of h.group in
-    let set_up = a.set_up in
-    let begin = x.begun in
-    let queued = took.queued in
-    let cut = took.are in
-    let rises : HomingRises (Some h) = subst HomingRises a.known (noted_rises m c.note (known_by m switches before) (known_rises m switches before r.goes_on)) in
-    let from : x.from ≡ a.from = omega (arith, set_up, begin) in
-    let begins : (a.from + 3) + 251 ≡ h.start = omega (arith, set_up) in
-    let late_none : SetNoneFrom i (a.from + 3) turns = none_later i a.from (a.from + 3) turns (omega arith) (subst (λ (n : ℕ). SetNoneFrom i n turns) from x.sets_none) in
-    let none : SetNoneFrom i (a.from + 3) (took.later ++ took.past) = subst (λ (l : List BoardTurn). SetNoneFrom i (a.from + 3) l) cut late_none in
-    let since = homes_later m switches a.from (a.from + 3) h.start ms before (omega arith) a.since in
-    let run : IsInRun m switches pins entries b before (took.later ++ took.past) = subst (λ (l : List BoardTurn). IsInRun m switches pins entries b before l) cut r in
-    let old = earlier m switches pins entries b before took.later took.past i (a.from + 3) h.start ms run since none in
-    let whole = run_whole m switches pins entries b old.came took.past s (a.from + 3) h.start ms v old.run old.homes old.none x.there x.on rises x.moves begins queued in
-    let parts = late_parts i j took.later took.past in
-    let calm_late = run_calm m switches pins entries b before took.later took.past i j (a.from + 3) h.start ms run since none (omega (arith, set_up, queued)) (omega (arith, queued)) in
-    let left = left_of m v switches pins entries b turns r.turns_are in
-    let taken = (stands_after first turns).core.taken in
-    let both : took.more ++ left.0 ≡ parts.0 =
-    append_cancel_left (queued_by took.past) (took.more ++ left.0) parts.0
-    (sym (append_assoc (queued_by took.past) took.more left.0) ∙ ap (λ (l : List Meant). l ++ left.0) took.took ∙ left.1 ∙ ap queued_by cut ∙ parts.1) in
-    let calm = (calm_parts i j took.more left.0 (subst (λ (l : List Meant). AreCalm i j l) (sym both) (parts.2 calm_late))).0 in
-    let stage_is : stage_from i j no_stage (commands_of taken) ≡ stage_from i j (stage_from i j no_stage (commands_of (queued_by took.past))) (commands_of took.more) =
-    ap (λ (l : List Meant). stage_from i j no_stage (commands_of l)) (sym took.took) ∙ ap (stage_from i j no_stage) (commands_both (queued_by took.past) took.more) ∙ stage_append i j no_stage (commands_of (queued_by took.past)) (commands_of took.more) in
-    let now = whole_on i j (stage_from i j no_stage (commands_of (queued_by took.past))) (commands_of took.more) (calm_each i j took.more calm) whole in
-    let late = answered_late (length before) h.start (hears_all (noted m c.note (known_by m switches before)).clocks c.states h).group a.end a.answer in
-    let long = as_long m switches b before turns r.both in
-    let small = small_by m switches pins entries b before turns s (a.from + 3) h.start ms v r since (omega (arith, late, long, set_up)) x.there x.on in
-    let few : j < 256 = let q = v.steppers_few in omega (arith, few_on b m.steppers, q) in
-    let guarded = ((staged_after d pins b entries turns i j small few r.turns_are).staged runs).bound (ap (λ (y : Stage). y.bound) stage_is ∙ now.bound) in
-    let fired = answered_fired m v switches pins entries b c before turns h a.end r latest so.apart so.reads so.behind a.known a.answer (moves_among b s ms x.moves) in
-    guarded.halted (fired.at_rest.off guarded.slot guarded.is)

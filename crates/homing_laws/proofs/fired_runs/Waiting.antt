@@ -22,7 +22,8 @@ use Rattle.homing_laws.proofs.home_runs.Guarding.{Next, fired_next, guard_halts,
 use Rattle.homing_laws.proofs.home_runs.Staging.{bound_is}
 use Rattle.homing_laws.proofs.home_runs.Staying.{takes_stay}
 use Rattle.homing_laws.proofs.clear_boards.Turned.{ran}
-use Rattle.homing_laws.specs.fired_runs.Waiting.{AllFindHalted, AllSetNot, AllStepNot, FindsHalted, SetsNot, StepsFindHalted, StepsNot}
+use Rattle.run_laws.specs.Finds.{AllFindHalted, AllSetNot, FindsHalted, SetsNot, StepsFindHalted}
+use Rattle.homing_laws.specs.fired_runs.Waiting.{AllStepNot, StepsNot}
 
 -- A trigger that can't trigger stands, and of the commands that are left one binds the stepper to it; those before it start it not, and hold no step of the
 -- stepper.

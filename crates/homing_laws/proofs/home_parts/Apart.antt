@@ -32,7 +32,8 @@ use Rattle.homing_laws.proofs.home_parts.Ends.{ends_told}
 use Rattle.homing_laws.proofs.home_parts.Held.{tick_known}
 use Rattle.homing_laws.proofs.home_parts.Told.{past_tail, row_from, tells_now, tells_tail}
 use Rattle.homing_laws.proofs.clear_groups.Over.{told_over}
-use Rattle.homing_laws.specs.fired_runs.Since.{AreBehind, BeginsApart}
+use Rattle.board_runs.specs.Turns.{BoardTurn}
+use Rattle.homing_laws.specs.fired_runs.Since.{AllReadTrue, AreBehind, AreReadSo, BeginsApart}
 
 -- what is known is of a homing section that starts by one turn, and doesn't end before another
 abbrev pub IsOpen : List Started → ℕ → ℕ → Option Homing → Type 0
@@ -156,7 +157,7 @@ module _ (m : Machine) (switches : List Switch) (ts : List MotionTurn) (p : Plan
           let after = (row_of first p.seen.begun f.0 f.1 f.2 row f.4).0 in
           (past (omega (arith, at, after, early)), omega (arith, at, start))
 
-  all_apart : (ahead behind : List Came) → came ≡ ahead ++ behind → GoesOn m switches behind → CameNotes p.seen.begun behind → ArePastConnecting m switches ready behind → BeginsApart m switches behind
+  pub all_apart : (ahead behind : List Came) → came ≡ ahead ++ behind → GoesOn m switches behind → CameNotes p.seen.begun behind → ArePastConnecting m switches ready behind → BeginsApart m switches behind
   all_apart ahead [] are on notes past = tt
   all_apart ahead (c ∷ before) are on notes past =
       let rest : came ≡ (ahead ++ c ∷ []) ++ before = are ∙ sym (append_assoc ahead (c ∷ []) before) in
@@ -170,6 +171,10 @@ module _ (m : Machine) (switches : List Switch) (ts : List MotionTurn) (p : Plan
 abbrev behind_one : List Came → List Came
 behind_one [] = []
 behind_one (c ∷ before) = before
+
+goes_front : (m : Machine) (switches : List Switch) (rest : List Came) → GoesOn m switches rest → GoesOn m switches (behind_one rest)
+goes_front m switches [] g = tt
+goes_front m switches (d ∷ rest) g = g.1
 
 -- as each of the planner's homing sections starts, a board that its clock lines track is no more than a turn ahead of those that are known
 module _ (m : Machine) (switches : List Switch) (b ready first : ℕ) (begun : List Started) (clocks : List Clocks) (early : ready + 1 ≤ first) (row : AreInARow first begun) (kept : AreKept (clocks_at clocks b)) where
@@ -195,8 +200,15 @@ module _ (m : Machine) (switches : List Switch) (b ready first : ℕ) (begun : L
   all_behind [] on notes knows past starts = tt
   all_behind (c ∷ before) on notes knows past starts =
       let low : Starts (length before) = λ xs s ys axis cut kind l. starts xs s ys axis cut kind (omega (arith, l)) in
-      (one_behind c before on notes knows past.0 low, all_behind before (goes_front before on) notes.1 knows.1 past.1 low)
-    where
-      goes_front : (rest : List Came) → GoesOn m switches rest → GoesOn m switches (behind_one rest)
-      goes_front [] g = tt
-      goes_front (d ∷ rest) g = g.1
+      (one_behind c before on notes knows past.0 low, all_behind before (goes_front m switches before on) notes.1 knows.1 past.1 low)
+
+-- so what a board tells in a planner's run is read so, where each report that counts is read true
+pub read_so : (m : Machine) (switches : List Switch) (b : ℕ) (ts : List MotionTurn) (p : Plans m (length m.boards) ts) (ready first : ℕ) (clocks : List Clocks) (came : List Came) (turns : List BoardTurn) → ready + 260 ≤ first → AreInARow first p.seen.begun
+    → IsPlannedBy m switches (length m.boards) ts p came → ArePastConnecting m switches ready came → AreKept (clocks_at clocks b) → KnowsLately m switches clocks came
+    → ((past : List Started) (s : Started) (later : List Started) (axis : ℕ) → p.seen.begun ≡ past ++ s ∷ later → s.section.kind ≡ Home axis → s.start ≤ length came
+    → board_tick (clock_of (board_at m b)) (s.start - 1) ≤ lines_tick (clocks_at clocks b) (s.start * turn_ns)) → AllReadTrue m switches b came turns → AreReadSo m switches b came turns
+read_so m switches b ts p ready first clocks came turns early row by connected kept knows starts reads = record {
+  apart = all_apart m switches ts p ready first early row came by connected [] came refl by.goes_on by.notes connected;
+  reads = reads;
+  behind = all_behind m switches b ready first p.seen.begun clocks (omega (arith, early)) row kept came (goes_front m switches came by.goes_on) by.notes knows connected starts;
+}

@@ -1,5 +1,5 @@
 -- Homing sections of a board that ended were told of.
-use Rattle.std.proofs.Common.{◌≡◌, ℕ, suc, ◌+◌, ◌-◌, ◌<◌, ◌≤◌, Bool, true, false, List, [], ◌∷◌, ◌++◌, length, map, append_assoc, Some, None, refl, ap, sym, ◌∙◌, subst, arith, inl, inr, length-append}
+use Rattle.std.proofs.Common.{◌≡◌, ◌⊎◌, ℕ, suc, ◌+◌, ◌-◌, ◌<◌, ◌≤◌, Bool, true, false, List, [], ◌∷◌, ◌++◌, length, map, append_assoc, Some, None, refl, ap, sym, ◌∙◌, subst, arith, inl, inr, length-append}
 use Rattle.std.specs.Prelude.{◌&&◌, if◌then◌else◌}
 use Rattle.std.proofs.lemmas.Bool.Decides.{leb_tells}
 use Rattle.std.proofs.lemmas.List.{length-map, map-append}
@@ -25,7 +25,9 @@ use Rattle.run_plans.specs.Homed.{is_home, is_set_in, stops_of}
 use Rattle.run_plans.specs.Planned.{Plans, put_of}
 use Rattle.run_plans.proofs.Running.{started_in}
 use Rattle.homing_laws.specs.home_runs.Sections.{TakesSetUp}
-use Rattle.homing_laws.specs.home_runs.Words.{AreToldIn, IsBegunIn, IsToldIn, TellsHomed}
+use Rattle.homing_laws.specs.home_runs.Words.{IsBegunIn, TellsHomed}
+use Rattle.homing_laws.specs.home_runs.Ended.{AreToldIn, IsToldIn}
+use Rattle.homing_laws.specs.fired_runs.Since.{AllReadTrue, AreBehind, AreReadSo, AreReadTrue, BeginsApart, IsReadSo}
 use Rattle.homing_laws.specs.home_plans.Notes.{AreInARow, CameNotes, IsSilentFrom}
 use Rattle.homing_laws.proofs.home_plans.Noting.{begun_in, begun_row, none_later}
 use Rattle.homing_laws.specs.home_parts.Answers.{ArePastConnecting, IsPlannedBy, MayHome, TakeSetUps, TellNone, TellsIn}
@@ -155,10 +157,41 @@ may_at : (m : Machine) (past : List Started) (s : Started) (later : List Started
 may_at m [] s later axis home h = h.0 axis home
 may_at m (y ∷ past) s later axis home h = may_at m past s later axis home h.1
 
-take_at : (m : Machine) (pins : List (List Level)) (entries : List Entry) (b : ℕ) (past : List Started) (s : Started) (later : List Started) (axis : ℕ) (turns : List BoardTurn) → s.section.kind ≡ Home axis → TakeSetUps m pins entries b (past ++ s ∷ later) turns
+pub take_at : (m : Machine) (pins : List (List Level)) (entries : List Entry) (b : ℕ) (past : List Started) (s : Started) (later : List Started) (axis : ℕ) (turns : List BoardTurn) → s.section.kind ≡ Home axis → TakeSetUps m pins entries b (past ++ s ∷ later) turns
     → (behind before : List BoardTurn) → turns ≡ behind ++ before → length before ≡ s.end → TakesSetUp (first_state (board_at m b) pins b entries) s.start before
 take_at m pins entries b [] s later axis turns home h = h.0 axis home
 take_at m pins entries b (y ∷ past) s later axis turns home h = take_at m pins entries b past s later axis turns home h.1
+
+-- what is read so in a whole run is so up to each of its turns
+apart_tail : (m : Machine) (switches : List Switch) (xs ys : List Came) → BeginsApart m switches (xs ++ ys) → BeginsApart m switches ys
+apart_tail m switches [] ys a = a
+apart_tail m switches (x ∷ xs) ys a = apart_tail m switches xs ys a.1
+
+behind_tail : (m : Machine) (switches : List Switch) (b : ℕ) (xs ys : List Came) → AreBehind m switches b (xs ++ ys) → AreBehind m switches b ys
+behind_tail m switches b [] ys a = a
+behind_tail m switches b (x ∷ xs) ys a = behind_tail m switches b xs ys a.1
+
+reads_tail : (m : Machine) (switches : List Switch) (b : ℕ) (xs : List Came) (c : Came) (before : List Came) (zs : List BoardTurn) (t : BoardTurn) (past : List BoardTurn) → length xs ≡ length zs → AllReadTrue m switches b (xs ++ c ∷ before) (zs ++ t ∷ past)
+    → AreReadTrue m switches b (c ∷ before) past
+reads_tail m switches b [] c before [] t past e r = r
+reads_tail m switches b [] c before (z ∷ zs) t past e r = absurd (omega (arith, e))
+reads_tail m switches b (x ∷ xs) c before [] t past e r = absurd (omega (arith, e))
+reads_tail m switches b (x ∷ []) c before (z ∷ []) t past e r = r.1
+reads_tail m switches b (x ∷ y ∷ xs) c before (z ∷ []) t past e r = absurd (omega (arith, e))
+reads_tail m switches b (x ∷ xs) c before (z ∷ w ∷ zs) t past e r = reads_tail m switches b xs c before (w ∷ zs) t past (omega (arith, e)) r.1
+
+read_at : (m : Machine) (switches : List Switch) (pins : List (List Level)) (entries : List Entry) (b : ℕ) (came : List Came) (turns : List BoardTurn) (xs : List Came) (c : Came) (before : List Came) (zs : List BoardTurn) (t : BoardTurn) (past : List BoardTurn)
+    → IsInRun m switches pins entries b came turns → IsInRun m switches pins entries b (c ∷ before) (t ∷ past) → came ≡ xs ++ c ∷ before → turns ≡ zs ++ t ∷ past → AreReadSo m switches b came turns → IsReadSo m switches b c before past
+read_at m switches pins entries b came turns xs c before zs t past run here are cut so =
+    let all = as_long m switches b came turns run.both in
+    let some = as_long m switches b (c ∷ before) (t ∷ past) here.both in
+    let x = ap length are ∙ length-append xs (c ∷ before) in
+    let z = ap length cut ∙ length-append zs (t ∷ past) in
+    record {
+      apart = apart_tail m switches xs (c ∷ before) (subst (λ (l : List Came). BeginsApart m switches l) are so.apart);
+      reads = reads_tail m switches b xs c before zs t past (omega (arith, all, some, x, z)) (subst (λ (l : List Came). AllReadTrue m switches b l (zs ++ t ∷ past)) are (subst (λ (k : List BoardTurn). AllReadTrue m switches b came k) cut so.reads));
+      behind = behind_tail m switches b xs (c ∷ before) (subst (λ (l : List Came). AreBehind m switches b l) are so.behind);
+    }
 
 module _ (m : Machine) (switches : List Switch) (pins : List (List Level)) (entries : List Entry) (b : ℕ) (ts : List MotionTurn) (p : Plans m (length m.boards) ts) (t : Told) (ready : ℕ) (came : List Came) (by : IsPlannedBy m switches (length m.boards) ts p came)
     (told : p.seen.told ≡ Some t) (early : ready + 260 ≤ t.first) (past : ArePastConnecting m switches ready came) (may : MayHome m p.seen.begun) where
@@ -182,7 +215,7 @@ module _ (m : Machine) (switches : List Switch) (pins : List (List Level)) (entr
       begun_in m switches t.first from axis xs s later behind row home (may_at m xs s later axis home (subst (MayHome m) cut may)) notes calm at (omega (arith, at, start, early)) (omega (arith, low))
 
   -- and one that ended was told of
-  told_one : (turns : List BoardTurn) → IsInRun m switches pins entries b came turns → TakeSetUps m pins entries b p.seen.begun turns → (xs : List Started) (s : Started) (later : List Started) (axis : ℕ) → p.seen.begun ≡ xs ++ s ∷ later → s.section.kind ≡ Home axis
+  told_one : (turns : List BoardTurn) → IsInRun m switches pins entries b came turns → TakeSetUps m pins entries b p.seen.begun turns ⊎ AreReadSo m switches b came turns → (xs : List Started) (s : Started) (later : List Started) (axis : ℕ) → p.seen.begun ≡ xs ++ s ∷ later → s.section.kind ≡ Home axis
       → s.end < length came → IsToldIn m switches pins entries b s.start s.end turns
   told_one turns run takes xs s later axis cut home low =
       let f = split_at m switches pins entries b s.end came turns run low in
@@ -225,11 +258,14 @@ module _ (m : Machine) (switches : List Switch) (pins : List (List Level)) (entr
         far = far;
         none = none_later t.first from (length f.before) xs s later f.c.note row notes.0 at (omega (arith, same, at, far)) (omega (arith, same));
         homed = tells_now m switches s.end f.c f.before same tells;
-        took = take_at m pins entries b xs s later axis turns home (subst Set_ups cut takes) (f.later ++ f.t ∷ []) f.past turns_are long;
+        fires = elim takes [
+          | inl x ↦ inl (take_at m pins entries b xs s later axis turns home (subst Set_ups cut x) (f.later ++ f.t ∷ []) f.past turns_are long)
+          | inr so ↦ inr (read_at m switches pins entries b came turns f.ahead f.c f.before f.later f.t f.past run f.run f.came_is f.turns_is so)
+        ];
       }
 
   -- and told of in that turn
-  pub section_told : (turns : List BoardTurn) → IsInRun m switches pins entries b came turns → TakeSetUps m pins entries b p.seen.begun turns → (xs : List Started) (s : Started) (later : List Started) (axis : ℕ) → p.seen.begun ≡ xs ++ s ∷ later
+  pub section_told : (turns : List BoardTurn) → IsInRun m switches pins entries b came turns → TakeSetUps m pins entries b p.seen.begun turns ⊎ AreReadSo m switches b came turns → (xs : List Started) (s : Started) (later : List Started) (axis : ℕ) → p.seen.begun ≡ xs ++ s ∷ later
       → s.section.kind ≡ Home axis → (ahead : List Came) (c : Came) (before : List Came) → came ≡ ahead ++ c ∷ before → length before ≡ s.end
       → (x : IsToldIn m switches pins entries b s.start s.end turns) × (x.came ≡ c) × (x.before ≡ before) × (x.members ≡ members_from m (axis_at m axis) s.moving 0 m.boards)
   unfolding told_one
@@ -243,7 +279,7 @@ module _ (m : Machine) (switches : List Switch) (pins : List (List Level)) (entr
   pub cut_split : (turn : ℕ) (xs : List Started) (s : Started) (later : List Started) (axis : ℕ) → p.seen.begun ≡ xs ++ s ∷ later → cuts_on m t.clocks turn p.seen.begun b ≡ cuts_on m t.clocks turn xs b ++ cut_on m t.clocks turn b s ∷ cuts_on m t.clocks turn later b
   cut_split turn xs s later axis cut = ap (map (cut_on m t.clocks turn b)) cut ∙ map-append (cut_on m t.clocks turn b) xs (s ∷ later)
 
-  told_in : (turns : List BoardTurn) (until : ℕ) → IsInRun m switches pins entries b came turns → TakeSetUps m pins entries b p.seen.begun turns → AreToldIn m switches pins entries b (stops_of p.seen.begun) (cuts_on m t.clocks until p.seen.begun b) turns
+  told_in : (turns : List BoardTurn) (until : ℕ) → IsInRun m switches pins entries b came turns → TakeSetUps m pins entries b p.seen.begun turns ⊎ AreReadSo m switches b came turns → AreToldIn m switches pins entries b (stops_of p.seen.begun) (cuts_on m t.clocks until p.seen.begun b) turns
   told_in turns until run takes turn end stops by_then =
       let f = stops_found p.seen.begun turn end stops in
       let size = length-map p.made put_of in
@@ -267,5 +303,5 @@ module _ (m : Machine) (switches : List Switch) (pins : List (List Level)) (entr
 
 pub all_told : (m : Machine) (switches : List Switch) (pins : List (List Level)) (entries : List Entry) (b ready until : ℕ) (ts : List MotionTurn) (p : Plans m (length m.boards) ts) (t : Told) (came : List Came) (turns : List BoardTurn)
     → IsPlannedBy m switches (length m.boards) ts p came → p.seen.told ≡ Some t → ready + 260 ≤ t.first → ArePastConnecting m switches ready came → MayHome m p.seen.begun → IsInRun m switches pins entries b came turns
-    → TakeSetUps m pins entries b p.seen.begun turns → AreToldIn m switches pins entries b (stops_of p.seen.begun) (cuts_on m t.clocks until p.seen.begun b) turns
+    → TakeSetUps m pins entries b p.seen.begun turns ⊎ AreReadSo m switches b came turns → AreToldIn m switches pins entries b (stops_of p.seen.begun) (cuts_on m t.clocks until p.seen.begun b) turns
 all_told m switches pins entries b ready until ts p t came turns by told early past may run takes = told_in m switches pins entries b ts p t ready came by told early past may turns until run takes

@@ -12,12 +12,13 @@ use Rattle.link_work.specs.Stands.{first_state, orders}
 use Rattle.link_work.specs.Turn.{IsTurn, LinkState, Orders, after_board, after_host, after_replies}
 use Rattle.board_runs.specs.Turns.{AreBoardTurns, BoardTurn, stands_after}
 use Rattle.clock_runs.specs.Runs.{orders_in}
-use Rattle.run_laws.specs.Courses.{IsSettled}
+use Rattle.run_laws.specs.Courses.{FindStopped, IsSettled}
+use Rattle.run_laws.specs.Links.{steps_of_turn}
 use Rattle.run_laws.specs.Homes.{AreSettledOn}
 use Rattle.run_laws.specs.Known.{Sent, sent_at, sent_in}
 use Rattle.run_laws.proofs.Lists.{cuts}
 use Rattle.homing_laws.specs.home_runs.Settled.{AreHomed}
-use Rattle.homing_laws.proofs.home_runs.Settled.{sent_turn, settled}
+use Rattle.homing_laws.proofs.home_runs.Settled.{finds_stopped, sent_turn, settled}
 use Rattle.homing_laws.proofs.home_runs.Windows.{begun}
 use Rattle.run_laws.proofs.Linking.{same_bool}
 
@@ -83,7 +84,7 @@ homed_before m switches pins entries b stops later turns homed = λ turn end is 
           answered = hm.answered;
           begin = hm.begin;
           sets_none = hm.sets_none;
-          took = hm.took;
+          sends_none = hm.sends_none;
           fires = hm.fires;
         }
         | inr p ↦ let e = ap length p.3 in let f = length-append p.1 turns in absurd (omega (arith, e, f, l, long))
@@ -108,11 +109,14 @@ along m switches pins entries b stops turns (x ∷ made) n sent l end t v are ho
     let before : AreHomed m switches pins entries b stops turns = homed_before m switches pins entries b stops parts.0 turns (subst (λ (k : List BoardTurn). AreHomed m switches pins entries b stops k) parts.1 homed) in
     let o = orders x.control x.batch in
     let mine : IsTurn clock n o l x.after = subst (λ (k : ℕ). IsTurn clock k o l x.after) (sym long) (subst (λ (k : LinkState). IsTurn clock (length turns) o k x.after) (sym stand) here.0.0) in
+    let steps = steps_of_turn clock n o t.1.resent l in
     let after : t.0 ≡ x.after = one_end clock n o l t.0 x.after t.1 mine in
     let sends : sent ++ sent_at n (queued_in o) ≡ sent_in 0 (orders_in (x ∷ turns)) =
     ap (λ (k : List Sent). k ++ sent_at n (queued_in o)) same ∙ ap (λ (k : ℕ). sent_in 0 (orders_in turns) ++ sent_at k (queued_in o)) long ∙ sym (sent_turn x turns) in (
       subst (λ (k : ℕ). IsSettled stops k sent l.core) (sym long) (subst (λ (k : List Sent). IsSettled stops (length turns) k l.core) (sym same)
           (subst (λ (k : LinkState). IsSettled stops (length turns) (sent_in 0 (orders_in turns)) k.core) (sym stand) (settled m switches pins entries b turns stops v here.1 before))),
+      subst (λ (k : ℕ). FindStopped stops k sent l.core steps) (sym long) (subst (λ (k : List Sent). FindStopped stops (length turns) k l.core steps) (sym same)
+          (subst (λ (k : LinkState). FindStopped stops (length turns) (sent_in 0 (orders_in turns)) k.core steps) (sym stand) (finds_stopped m switches pins entries b turns stops v here.1 before steps))),
       along m switches pins entries b stops (x ∷ turns) made (n + 1) (sent ++ sent_at n (queued_in o)) t.0 end t.2 v are homed (omega (arith, long)) sends after,
     )
 

@@ -1,6 +1,5 @@
 -- A homing section that a word tells of is one whose set-up each board took in time.
-use Rattle.std.proofs.Common.{◌≡◌, ℕ, ◌+◌, ◌-◌, ◌<◌, inl, true, List, [], ◌∷◌, ◌++◌, length, map, Option, ap, sym, ◌∙◌, subst, arith, append_assoc}
-use Rattle.plan_types.specs.declared.clock.BoardClock.{BoardClock}
+use Rattle.std.proofs.Common.{◌≡◌, ℕ, ◌+◌, ◌-◌, ◌<◌, inl, true, List, [], ◌∷◌, ◌++◌, length, map, Option, ap, sym, ◌∙◌, subst, arith}
 use Rattle.plan_types.specs.declared.levels.Level.{Level}
 use Rattle.plan_types.specs.declared.machine.Machine.{Machine}
 use Rattle.plan_types.specs.Clock.{clock_of}
@@ -9,7 +8,6 @@ use Rattle.plan_types.specs.Machines.{IsValidMachine, board_at}
 use Rattle.msg_code.specs.declared.talk.State.{State}
 use Rattle.wire_scene.specs.declared.scene.Entry.{Entry}
 use Rattle.wire_scene.specs.declared.scene.Switch.{Switch}
-use Rattle.board_sim.specs.Fair.{Meant}
 use Rattle.link_work.specs.Stands.{first_state}
 use Rattle.link_work.specs.Turn.{LinkState, Orders}
 use Rattle.board_world.specs.World.{start}
@@ -20,40 +18,22 @@ use Rattle.run_laws.specs.Timely.{AllTimely}
 use Rattle.trigger_group.specs.declared.order.End.TheVariants.{Endstop}
 use Rattle.trigger_group.specs.declared.order.Member.{Member}
 use Rattle.axis_homing.specs.Rising.{members_of}
-use Rattle.board_runs.specs.Turns.{AreBoardTurns, BoardTurn, stands_after}
+use Rattle.board_runs.specs.Turns.{AreBoardTurns, BoardTurn}
 use Rattle.clock_runs.specs.Runs.{orders_in}
 use Rattle.clock_runs.proofs.Lines.{as_long}
 use Rattle.clock_runs.proofs.Orders.{order_length}
-use Rattle.homing_laws.specs.home_runs.Sections.{HomesFrom, TakesSetUp, TakesStops, queued_by}
-use Rattle.homing_laws.specs.home_runs.Settled.{AreHomed, IsHomed, SetNoClockFrom}
-use Rattle.homing_laws.specs.home_runs.Words.{AreToldIn, IsToldIn}
+use Rattle.homing_laws.specs.home_runs.Sections.{HomesFrom}
+use Rattle.homing_laws.specs.home_runs.Settled.{AreHomed, IsHomed, SendNoneIn, SetNoClockFrom}
+use Rattle.homing_laws.specs.home_runs.Ended.{AreToldIn, IsToldIn}
 use Rattle.homing_laws.proofs.home_runs.Along.{all_settled}
 use Rattle.homing_laws.proofs.home_runs.Joining.{homes_later}
 use Rattle.homing_laws.proofs.home_runs.Knowing.{homing_known, word_answers}
 use Rattle.homing_laws.proofs.home_runs.Settled.{later_orders}
-use Rattle.homing_laws.proofs.home_runs.Staying.{taken_later}
-use Rattle.homing_laws.proofs.home_runs.Unclocked.{none_from}
-
--- a board that took the set-up in time has taken it by the answer
-stops_by : (clock : BoardClock) (first : LinkState) (start : ℕ) (turns : List BoardTurn) → AreBoardTurns clock first turns → TakesSetUp first start turns → TakesStops first start turns
-stops_by clock first start turns are took =
-    let mine : AreBoardTurns clock first (took.window ++ (took.late ++ took.past)) = subst (λ (x : List BoardTurn). AreBoardTurns clock first x) took.are are in
-    let rest = taken_later clock first took.window (took.late ++ took.past) mine in
-    record {
-      later = took.window ++ took.late;
-      past = took.past;
-      are = took.are ∙ sym (append_assoc took.window took.late took.past);
-      queued = took.queued;
-      more = took.more ++ rest.0;
-      took =
-          sym
-          (ap (λ (x : List BoardTurn). (stands_after first x).core.taken) took.are ∙ rest.1 ∙ ap (λ (x : List Meant). x ++ rest.0) (sym took.took) ∙ append_assoc (queued_by took.past) took.more rest.0);
-    }
+use Rattle.homing_laws.proofs.home_runs.Unclocked.{none_from, sends_none}
 
 pub told_homed : (m : Machine) (switches : List Switch) (pins : List (List Level)) (entries : List Entry) (b start end from : ℕ) (turns : List BoardTurn) (t : IsToldIn m switches pins entries b start end turns) → from + 254 ≡ start → SetNoClockFrom from t.past
-    → IsHomed m switches pins entries b start end turns
-told_homed m switches pins entries b start end from turns t begins none =
-    let first = first_state (board_at m b) pins b entries in
+    → SendNoneIn from (from + 4) t.past → IsHomed m switches pins entries b start end turns
+told_homed m switches pins entries b start end from turns t begins none sends =
     let run = t.run_is in
     let long = as_long m switches b t.before t.past run.both in
     let soon = t.soon in
@@ -78,8 +58,8 @@ told_homed m switches pins entries b start end from turns t begins none =
       answered = record { known = x.2; end = Endstop x.1; answer = x.5; from = from; set_up = set_up; since = known };
       begin = x.3;
       sets_none = none;
-      took = stops_by (clock_of (board_at m b)) first start t.past run.turns_are t.took;
-      fires = inl t.took;
+      sends_none = sends;
+      fires = t.fires;
     }
 
 -- the orders of earlier turns
@@ -98,6 +78,16 @@ none_set m switches pins entries b freq slots ready end own clocks stops past s 
     let all : AreOrdersIn clocks ss 0 (orders_in t.past ++ more.0) = subst (λ (os : List Orders). AreOrdersIn clocks ss 0 os) (ap orders_in t.are ∙ more.1) run.orders in
     none_from clocks freq slots run.tracked.until ready from stops past s later t.past run.row run.sections out (orders_front clocks ss 0 (orders_in t.past) more.0 all) homes begins (omega (arith, long, at))
 
+-- nor is any sent in the four turns of its set-up
+pub none_sent : (m : Machine) (switches : List Switch) (pins : List (List Level)) (entries : List Entry) (b freq slots ready end : ℕ) (own : ℕ → ℕ) (clocks : Clocks) (stops : ℕ → Option ℕ) (past : List RunSection) (s : RunSection) (later : List RunSection)
+    (turns : List BoardTurn) → IsHomeRun own clocks freq slots ready stops (past ++ s ∷ later) (orders_in turns) → AreReleasedIn (past ++ s ∷ later) → s.homes ≡ true → (t : IsToldIn m switches pins entries b s.section.start end turns)
+    → (from : ℕ) → from + 254 ≡ s.section.start → SendNoneIn from (from + 4) t.past
+none_sent m switches pins entries b freq slots ready end own clocks stops past s later turns run out homes t from begins =
+    let ss = past ++ s ∷ later in
+    let more = later_orders t.later t.past in
+    let all : AreOrdersIn clocks ss 0 (orders_in t.past ++ more.0) = subst (λ (os : List Orders). AreOrdersIn clocks ss 0 os) (ap orders_in t.are ∙ more.1) run.orders in
+    sends_none clocks freq slots run.tracked.until ready from stops past s later t.past run.row run.sections out (orders_front clocks ss 0 (orders_in t.past) more.0 all) homes begins
+
 one_homed : (m : Machine) (switches : List Switch) (pins : List (List Level)) (entries : List Entry) (b freq slots ready end : ℕ) (own : ℕ → ℕ) (clocks : Clocks) (stops : ℕ → Option ℕ) (past : List RunSection) (s : RunSection) (later : List RunSection)
     (turns : List BoardTurn) → IsHomeRun own clocks freq slots ready stops (past ++ s ∷ later) (orders_in turns) → AreReleasedIn (past ++ s ∷ later) → s.homes ≡ true → s.section.end ≡ end → IsToldIn m switches pins entries b s.section.start end turns
     → IsHomed m switches pins entries b s.section.start end turns
@@ -107,6 +97,7 @@ one_homed m switches pins entries b freq slots ready end own clocks stops past s
     let soon = t.soon in
     let begins : from + 254 ≡ start = omega (arith, soon) in
     told_homed m switches pins entries b start end from turns t begins (none_set m switches pins entries b freq slots ready end own clocks stops past s later turns run out homes at t from begins)
+    (none_sent m switches pins entries b freq slots ready end own clocks stops past s later turns run out homes t from begins)
 
 all_homed : (m : Machine) (switches : List Switch) (pins : List (List Level)) (entries : List Entry) (b freq slots ready : ℕ) (own : ℕ → ℕ) (clocks : Clocks) (stops : ℕ → Option ℕ) (ss : List RunSection) (turns : List BoardTurn)
     → IsHomeRun own clocks freq slots ready stops ss (orders_in turns) → AreReleasedIn ss → AreToldIn m switches pins entries b stops ss turns → AreHomed m switches pins entries b stops turns

@@ -20,11 +20,11 @@ use Rattle.board_sim.specs.Fair.{Meant, commands_of}
 use Rattle.board_sim.specs.Halted.{is_halted}
 use Rattle.board_sim.specs.RigRuns.{IsHalted}
 use Rattle.board_world.specs.Orders.{plain, unit_orders, unit_ticks, units_orders}
-use Rattle.board_world.specs.World.{Core}
+use Rattle.board_world.specs.World.{Core, Step, run}
 use Rattle.link_work.specs.Runs.{queued_in}
 use Rattle.link_work.specs.Stands.{first_state, orders}
 use Rattle.link_work.specs.Turn.{LinkState, Orders}
-use Rattle.link_work.proofs.Turns.{turns_are_steps}
+use Rattle.board_asking.specs.Machine.{trigger_of}
 use Rattle.trigger_group.specs.declared.order.Member.{Member}
 use Rattle.axis_homing.specs.declared.homing.Homing.{Homing}
 use Rattle.axis_homing.specs.Rising.{members_of}
@@ -34,20 +34,25 @@ use Rattle.clock_runs.specs.Runs.{IsInRun}
 use Rattle.clock_runs.specs.Runs as clock_runs
 use Rattle.clock_runs.proofs.Lines.{as_long, run_before}
 use Rattle.clock_runs.proofs.Orders.{order_length}
-use Rattle.run_laws.specs.Courses.{AreInTime, Course, IsFrom, IsInTime, IsSettled, IsStopped, course_behind, course_from, course_of, courses, next_part, no_course}
-use Rattle.run_laws.specs.Known.{Sent, orders_in, sent_at, sent_in}
-use Rattle.run_laws.proofs.Lists.{cuts, orders_append, orders_at}
-use Rattle.homing_laws.specs.home_runs.Sections.{HomesFrom, IsAnswered, IsMoved, SetNone, SetNoneFrom, TakesSetUp, TakesStops, queued_by}
-use Rattle.homing_laws.specs.home_runs.Settled.{AreHomed, IsHomed, SetNoClock, SetNoClockFrom}
-use Rattle.homing_laws.specs.fired_runs.Since.{IsReadSo}
-use Rattle.homing_laws.specs.fired_runs.Waiting.{AllSetNot, SetsNot}
-use Rattle.homing_laws.proofs.fired_runs.Halting.{stops_halt}
+use Rattle.run_laws.specs.Courses.{AreInTime, Course, IsFrom, FindStopped, IsInTime, IsSettled, IsStopped, course_behind, course_from, course_of, courses, next_part, no_course}
+use Rattle.run_laws.specs.Finds.{AllSetNot, SetsNot, StepsFindHalted}
+use Rattle.run_laws.specs.Known.{Known, Sent, more_steps, orders_in, sent_at, sent_in}
+use Rattle.run_laws.proofs.Lists.{cons_same, cuts, orders_append, orders_at, orders_long, shorter}
+use Rattle.homing_laws.specs.home_runs.Sections.{HomesFrom, IsAnswered, IsMoved, SetNone, SetNoneFrom, TakesSetUp, queued_by}
+use Rattle.homing_laws.specs.home_runs.Settled.{AreHomed, IsHomed, SendNoneIn, SetNoClock, SetNoClockFrom}
+use Rattle.homing_laws.specs.fired_runs.Since.{HasFiredSince}
+use Rattle.homing_laws.specs.fired_runs.Waiting.{AllStepNot, MoveNone, MoveNoneIn, StepsNot, TookNone}
+use Rattle.homing_laws.proofs.fired_runs.Halting.{halts_or_took_none, moves_among, steps_find_halted}
+use Rattle.homing_laws.proofs.fired_runs.Rested.{answered_fired, left_of}
+use Rattle.homing_laws.proofs.fired_runs.Waiting.{steps_settle}
 use Rattle.homing_laws.proofs.home_runs.Forming.{known_formed, moves_is, noted_formed, IsFormed}
-use Rattle.homing_laws.proofs.home_runs.Joining.{answered_halt}
+use Rattle.homing_laws.proofs.home_runs.Found.{find_behind, found_none, later_steps}
+use Rattle.homing_laws.proofs.home_runs.Joining.{all_queued, answered_halt}
 use Rattle.homing_laws.proofs.home_runs.Resetting.{AllSetOf, MovesAs, SetsOf, turn_sets}
-use Rattle.homing_laws.proofs.home_runs.Staging.{commands_both, ran_turns}
+use Rattle.homing_laws.proofs.home_runs.Staging.{commands_both, ran_steps}
 use Rattle.homing_laws.proofs.home_runs.Whole.{turn_commands}
-use Rattle.homing_laws.proofs.home_runs.Staying.{halted_stays, not_parts, steps_take, taken_later}
+use Rattle.homing_laws.proofs.home_runs.Staying.{halted_stays, not_parts, taken_later}
+use Rattle.homing_laws.proofs.home_runs.Windows.{ordered_after}
 
 -- commands that were sent from a turn on
 abbrev pub AllFrom : ℕ → List Sent → Type 0
@@ -162,24 +167,6 @@ none_begun turn e = cc
 last_set : (oid turn : ℕ) (ss : List Sent) → (courses ss oid).since ≡ Some turn → LastSet oid turn ss
 last_set oid turn ss e = elim (begun_by oid turn no_course ss e) [ inl old ↦ absurd (none_begun turn old.0) | inr last ↦ last ]
 
--- a halted stepper over turns
-turns_stay : (clock : BoardClock) (first : LinkState) (later past : List BoardTurn) (i : ℕ) (ms : List Meant) → AreBoardTurns clock first (later ++ past)
-    → (stands_after first (later ++ past)).core.taken ≡ (stands_after first past).core.taken ++ ms → AllSetNot i ms
-    → IsHalted (board.stepper_at (stands_after first past).core.board.controller i) → IsHalted (board.stepper_at (stands_after first (later ++ past)).core.board.controller i)
-turns_stay clock first [] past i ms are e n is = is
-turns_stay clock first (t ∷ later) past i ms are e n is =
-    let before = later ++ past in
-    let l = stands_after first before in
-    let steps = turns_are_steps clock (length before) (orders t.control t.batch ∷ []) l t.after (t.after, are.0.0, refl) in
-    let took = steps_take steps.0 l.core in
-    let rest = taken_later clock first later past are.1 in
-    let h = (stands_after first past).core in
-    let whole : h.taken ++ (rest.0 ++ took.0) ≡ h.taken ++ ms =
-    sym (append_assoc h.taken rest.0 took.0) ∙ ap (λ (x : List Meant). x ++ took.0) (sym rest.1) ∙ sym took.1 ∙ ap (λ (g : Core). g.taken) (sym steps.1) ∙ e in
-    let both = not_parts i rest.0 took.0 (subst (λ (x : List Meant). AllSetNot i x) (sym (append_cancel_left h.taken (rest.0 ++ took.0) ms whole)) n) in
-    let old = turns_stay clock first later past i rest.0 are.1 rest.1 both.0 is in
-    subst (λ (g : Core). IsHalted (board.stepper_at g.board.controller i)) (sym steps.1) (halted_stays i steps.0 l.core took.0 took.1 both.1 old)
-
 -- units that set no clock
 clock_none : (i : ℕ) (us : List StepUnit) → SetNoClock us → SetNone i us
 clock_none i [] n = tt
@@ -239,55 +226,38 @@ homed_sets m switches pins entries b from start ms (c ∷ before) (t ∷ turns) 
     subst (λ (x : List Sent). SentOf P from x) (sym (sent_turn t turns))
     (sent_both P from (sent_by turns) (sent_at (length turns) new) (homed_sets m switches pins entries b from start ms before turns (run_before m switches pins entries b c before t turns r) homes.1 none.1) (sent_now P from (length turns) new now))
 
--- lists that are cut
-shorter : {X : Type 0} (xs ys us vs : List X) → xs ++ ys ≡ us ++ vs → length us ≤ length xs → (mid : List X) × (xs ≡ us ++ mid) × (mid ++ ys ≡ vs)
-shorter xs ys us vs e l = elim (cuts xs ys us vs e) [
-  | inl p ↦
-      let none : length p.0 ≡ 0 = omega (arith, l, ap length p.1, length-append xs p.0) in
-      let empty : p.0 ≡ [] = no_length p.0 none in
-      ([], sym (append-nil xs) ∙ ap (λ (z : List _). xs ++ z) (sym empty) ∙ sym p.1 ∙ sym (append-nil us), p.2 ∙ ap (λ (z : List _). z ++ vs) empty)
-  | inr p ↦ (p.0 ∷ p.1, p.2, sym p.3)
-]
-  where
-    no_length : {Y : Type 0} (zs : List Y) → length zs ≡ 0 → zs ≡ []
-    no_length [] f = refl
-    no_length (z ∷ zs) f = absurd (omega (arith, f))
-
--- what a board that took the set-up of a section has taken
-record Took (m : Machine) (pins : List (List Level)) (entries : List Entry) (b start : ℕ) (turns past : List BoardTurn) : Type 0 where
-  early : List BoardTurn
+-- a board took what was queued up to 251 turns before the start of a section, the commands that set clocks for it among that
+record Takes (first : LinkState) (start : ℕ) (turns : List BoardTurn) : Type 0 where
   later : List BoardTurn
-  are : turns ≡ later ++ early
-  long : start ≤ length early + 249
+  past : List BoardTurn
+  are : turns ≡ later ++ past
+  queued : start ≤ length past + 251
   more : List Meant
-  taken : (stands_after (first_state (board_at m b) pins b entries) turns).core.taken ≡ queued_by early ++ more
-  others : List Meant
-  at_end : (stands_after (first_state (board_at m b) pins b entries) past).core.taken ≡ queued_by early ++ others
-  behind : List Meant
-  since : (stands_after (first_state (board_at m b) pins b entries) turns).core.taken ≡ (stands_after (first_state (board_at m b) pins b entries) past).core.taken ++ behind
+  took : (stands_after first turns).core.taken ≡ queued_by past ++ more
 
-took_by : (m : Machine) (pins : List (List Level)) (entries : List Entry) (b start : ℕ) (later past : List BoardTurn) → AreBoardTurns (clock_of (board_at m b)) (first_state (board_at m b) pins b entries) (later ++ past)
-    → TakesStops (first_state (board_at m b) pins b entries) start past → Took m pins entries b start (later ++ past) past
-took_by m pins entries b start later past are took =
-    let behind = taken_later (clock_of (board_at m b)) (first_state (board_at m b) pins b entries) later past are in
+-- a board that took the set-up in time
+takes_soon : (clock : BoardClock) (first : LinkState) (start : ℕ) (turns : List BoardTurn) → AreBoardTurns clock first turns → TakesSetUp first start turns → Takes first start turns
+takes_soon clock first start turns are took =
+    let mine : AreBoardTurns clock first (took.window ++ (took.late ++ took.past)) = subst (λ (x : List BoardTurn). AreBoardTurns clock first x) took.are are in
+    let rest = taken_later clock first took.window (took.late ++ took.past) mine in
+    let queued = took.queued in
     record {
-      early = took.past;
-      later = later ++ took.later;
-      are = ap (λ (x : List BoardTurn). later ++ x) took.are ∙ sym (append_assoc later took.later took.past);
-      long = took.queued;
-      more = took.more ++ behind.0;
-      taken = behind.1 ∙ ap (λ (x : List Meant). x ++ behind.0) (sym took.took) ∙ append_assoc (queued_by took.past) took.more behind.0;
-      others = took.more;
-      at_end = sym took.took;
-      behind = behind.0;
-      since = behind.1;
+      later = took.window ++ took.late;
+      past = took.past;
+      are = took.are ∙ sym (append_assoc took.window took.late took.past);
+      queued = omega (arith, queued);
+      more = took.more ++ rest.0;
+      took =
+          ap (λ (x : List BoardTurn). (stands_after first x).core.taken) took.are ∙ rest.1 ∙ ap (λ (x : List Meant). x ++ rest.0) (sym took.took) ∙ append_assoc (queued_by took.past) took.more rest.0;
     }
 
-orders_long : (ss : List Sent) → length (orders_in ss) ≡ length ss
-orders_long [] = refl
-orders_long (s ∷ ss) = let e = orders_long ss in omega (arith, e)
+-- or whose trigger has fired since
+takes_fired : (trigger start : ℕ) (first : LinkState) (turns : List BoardTurn) → HasFiredSince trigger start first turns → Takes first start turns
+takes_fired trigger start first turns f =
+    let at = f.at in
+    record { later = f.later; past = f.early; are = f.are; queued = omega (arith, at); more = f.front ++ f.begin ∷ f.more; took = f.took }
 
--- what is left was sent behind the set-up
+-- what is left was sent behind it
 left_from : (early later : List BoardTurn) (done left : List Sent) (more : List Meant) → done ++ left ≡ sent_by (later ++ early) → orders_in done ≡ queued_by early ++ more → AllFrom (length early) left
 left_from early later done left more cut took =
     let parts = sent_parts later early in
@@ -296,22 +266,16 @@ left_from early later done left more cut took =
     let cuts_so = shorter done left (sent_by early) parts.0 (cut ∙ parts.1) l in
     from_behind (length early) cuts_so.0 left (subst (λ (x : List Sent). AllFrom (length early) x) (sym cuts_so.2) parts.2)
 
-abbrev SoonLeft : (ℕ → Option ℕ) → ℕ → List Sent → Type 0
-SoonLeft stops turn left = (q e : ℕ) → stops q ≡ Some e → e ≤ turn → (n : ℕ) × (q < n) × AllFrom n left
-
-not_stopped : (stops : ℕ → Option ℕ) (turn : ℕ) (s : Sent) (ss : List Sent) (o : Option ℕ) → SoonLeft stops turn (s ∷ ss) → stops s.turn ≡ o → IsFrom turn o → ⊥
-not_stopped stops turn s ss None h is st = st
-not_stopped stops turn s ss (Some e) h is st = let x = h s.turn e is st in let a = x.2.0 in let b = x.1 in omega (arith, a, b)
-
-one_in_time : (stops : ℕ → Option ℕ) (turn at : ℕ) (c : Cmd) → (IsStopped stops turn (Some at) → ⊥) → IsInTime stops turn at c
-one_in_time stops turn at (cmd.ResetStepClock oid clock) f = f
+one_in_time : (stops : ℕ → Option ℕ) (turn at : ℕ) (c : Cmd) → ((oid : ℕ) (clock : ℕ) → c ≡ cmd.ResetStepClock oid clock → IsStopped stops turn (Some at) → ⊥) → IsInTime stops turn at c
+one_in_time stops turn at (cmd.ResetStepClock oid clock) f = f oid clock refl
 one_in_time stops turn at c f = tt
 
-all_in_time : (stops : ℕ → Option ℕ) (turn : ℕ) (left : List Sent) → SoonLeft stops turn left → AreInTime stops turn left
-all_in_time stops turn [] h = tt
-all_in_time stops turn (s ∷ ss) h = (
-  one_in_time stops turn s.turn s.order.command (λ st. not_stopped stops turn s ss (stops s.turn) h refl st),
-  all_in_time stops turn ss (λ q e is l. let x = h q e is l in (x.0, x.1, x.2.1)),
+all_in_time : (stops : ℕ → Option ℕ) (turn : ℕ) (left : List Sent) → ((front : List Sent) (s : Sent) (behind : List Sent) (oid clock : ℕ) → left ≡ front ++ s ∷ behind → s.order.command ≡ cmd.ResetStepClock oid clock → IsStopped stops turn (Some s.turn) → ⊥)
+    → AreInTime stops turn left
+all_in_time stops turn [] f = tt
+all_in_time stops turn (s ∷ ss) f = (
+  one_in_time stops turn s.turn s.order.command (λ oid clock e st. f [] s ss oid clock refl e st),
+  all_in_time stops turn ss (λ front x behind oid clock e is st. f (s ∷ front) x behind oid clock (ap (λ (l : List Sent). s ∷ l) e) is st),
 )
 
 -- where a command stands that was sent before a turn
@@ -339,102 +303,325 @@ placed front set behind a b n e all l = elim (cuts front (set ∷ behind) a b e)
 moved_by : (m : Machine) (b oid clock : ℕ) (ms : List Member) (c : Cmd) → c ≡ cmd.ResetStepClock oid clock → SetsOf (MovesAs m b ms) c → MovesAs m b ms oid
 moved_by m b oid clock ms c e s = subst (λ (x : Cmd). SetsOf (MovesAs m b ms) x) e s
 
-section_halts : (m : Machine) (switches : List Switch) (pins : List (List Level)) (entries : List Entry) (b start q oid : ℕ) (c : Came) (before : List Came) (later past : List BoardTurn) (h : Homing) (done left : List Sent) → IsValidMachine m
-    → AreBoardTurns (clock_of (board_at m b)) (first_state (board_at m b) pins b entries) (later ++ past) → IsInRun m switches pins entries b before past → state_at b c.states ≡ latest_state past → (a : IsAnswered m switches c before h)
-    → h.start ≡ start → SetNoClockFrom a.from past → TakesStops (first_state (board_at m b) pins b entries) start past → TakesSetUp (first_state (board_at m b) pins b entries) start past ⊎ IsReadSo m switches b c before past → start ≤ q + 254 → q + 252 ≤ start → start ≤ length past
-    → (stands_after (first_state (board_at m b) pins b entries) (later ++ past)).core.board.controller.state ≡ Running
-    → done ++ left ≡ sent_by (later ++ past) → orders_in done ≡ (stands_after (first_state (board_at m b) pins b entries) (later ++ past)).core.taken → LastSet oid q done
-    → IsHalted (board.stepper_at (stands_after (first_state (board_at m b) pins b entries) (later ++ past)).core.board.controller oid)
-section_halts m switches pins entries b start q oid c before later past h done left v are r at a begin none took fires soon late order runs cut taken last =
-    let d = board_at m b in
-    let first = first_state d pins b entries in
-    let ms = members_of h.group in
-    let t = took_by m pins entries b start later past are took in
-    -- the command is among those that were sent before the answer, and among those of the set-up
-    let whole : last.front ++ last.set ∷ (last.behind ++ left) ≡ sent_by (later ++ past) = sym (append_assoc last.front (last.set ∷ last.behind) left) ∙ ap (λ (x : List Sent). x ++ left) (sym last.are) ∙ cut in
-    let parts = sent_parts later past in
-    let turn_is = last.at in
-    let in_past = placed last.front last.set (last.behind ++ left) (sent_by past) parts.0 (length past) (whole ∙ parts.1) parts.2 (omega (arith, turn_is, late, order)) in
-    let early_parts = sent_parts t.later t.early in
-    let long = t.long in
-    let in_early = placed last.front last.set (last.behind ++ left) (sent_by t.early) early_parts.0 (length t.early) (whole ∙ ap sent_by t.are ∙ early_parts.1) early_parts.2 (omega (arith, turn_is, late, long)) in
-    -- so it sets the clock of a stepper that moves
-    let sets = homed_sets m switches pins entries b a.from h.start ms before past r a.since none in
-    let from_is = a.set_up in
-    let sets_it = sent_here (MovesAs m b ms) a.from last.front last.set in_past.0 (subst (λ (x : List Sent). SentOf (MovesAs m b ms) a.from x) in_past.1 sets) (omega (arith, from_is, begin, soon, turn_is)) in
-    let moved = moved_by m b oid last.clock ms last.set.order.command last.is sets_it in
-    let formed : IsFormed m (Some h) = subst (λ (o : Option Homing). IsFormed m o) a.known (noted_formed m c.note (known_by m switches before) (known_formed m switches before r.goes_on)) in
-    let is = moves_is m h b moved.0 formed moved.1 in
-    let own : IsMoved m b h past moved.0 = record { moves = moved.1; there = is.0; on = is.1; from = a.from; begun = a.set_up; sets_none = clock_from (stepper_at m moved.0).oid a.from past none } in
-    let ran = ran_turns (clock_of d) first later past are runs in
-    let halted : IsHalted (board.stepper_at (stands_after first past).core.board.controller (stepper_at m moved.0).oid) = elim fires [
-      | inl in_time ↦ answered_halt m switches pins entries b c before past h moved.0 v r at a own (subst (λ (n : ℕ). TakesSetUp first n past) (sym begin) in_time) ran
-      | inr so ↦ stops_halt m switches pins entries b c before past h moved.0 v r at a own so (subst (λ (n : ℕ). TakesStops first n past) (sym begin) took) ran
-    ] in
-    let there : IsHalted (board.stepper_at (stands_after first past).core.board.controller oid) = subst (λ (n : ℕ). IsHalted (board.stepper_at (stands_after first past).core.board.controller n)) moved.2 halted in
-    -- and what was taken since sets it no more
-    let early_is : queued_by t.early ≡ orders_in last.front ++ last.set.order ∷ orders_in in_early.0 = sym (queue_is t.early) ∙ ap orders_in in_early.1 ∙ orders_append last.front (last.set ∷ in_early.0) in
-    let took_all : (orders_in last.front ++ last.set.order ∷ []) ++ orders_in last.behind ≡ (orders_in last.front ++ last.set.order ∷ []) ++ (orders_in in_early.0 ++ (t.others ++ t.behind)) =
-    append_assoc (orders_in last.front) (last.set.order ∷ []) (orders_in last.behind) ∙ sym (orders_append last.front (last.set ∷ last.behind)) ∙ ap orders_in (sym last.are) ∙ taken ∙ t.since
-    ∙ ap (λ (x : List Meant). x ++ t.behind) (t.at_end ∙ ap (λ (x : List Meant). x ++ t.others) early_is)
-    ∙ append_assoc (orders_in last.front ++ last.set.order ∷ orders_in in_early.0) t.others t.behind ∙ append_assoc (orders_in last.front) (last.set.order ∷ orders_in in_early.0) (t.others ++ t.behind)
-    ∙ sym (append_assoc (orders_in last.front) (last.set.order ∷ []) (orders_in in_early.0 ++ (t.others ++ t.behind))) in
-    let rest : orders_in last.behind ≡ orders_in in_early.0 ++ (t.others ++ t.behind) = append_cancel_left (orders_in last.front ++ last.set.order ∷ []) (orders_in last.behind) (orders_in in_early.0 ++ (t.others ++ t.behind)) took_all in
-    let no_more = (not_parts oid t.others t.behind (not_parts oid (orders_in in_early.0) (t.others ++ t.behind) (subst (λ (x : List Meant). AllSetNot oid x) rest last.none)).1).1 in
-    turns_stay (clock_of d) first later past oid t.behind are t.since no_more there
+-- what was sent before some turns
+abbrev AllUntil : ℕ → List Sent → Type 0
+AllUntil turn [] = Unit {0}
+AllUntil turn (s ∷ ss) = (s.turn < turn) × AllUntil turn ss
+
+until_both : (turn : ℕ) (xs ys : List Sent) → AllUntil turn xs → AllUntil turn ys → AllUntil turn (xs ++ ys)
+until_both turn [] ys a b = b
+until_both turn (x ∷ xs) ys a b = (a.0, until_both turn xs ys a.1 b)
+
+until_up : (turn next : ℕ) (xs : List Sent) → turn ≤ next → AllUntil turn xs → AllUntil next xs
+until_up turn next [] l a = tt
+until_up turn next (x ∷ xs) l a = (let b = a.0 in omega (arith, b, l), until_up turn next xs l a.1)
+
+until_at : (turn : ℕ) (ms : List Meant) → AllUntil (suc turn) (sent_at turn ms)
+until_at turn [] = tt
+until_at turn (m ∷ ms) = (omega arith, until_at turn ms)
+
+until_by : (turns : List BoardTurn) → AllUntil (length turns) (sent_by turns)
+until_by [] = tt
+until_by (t ∷ before) =
+    let new = sent_at (length before) (queued_in (orders t.control t.batch)) in
+    subst (λ (x : List Sent). AllUntil (suc (length before)) x) (sym (sent_turn t before))
+    (until_both (suc (length before)) (sent_by before) new (until_up (length before) (suc (length before)) (sent_by before) (omega arith) (until_by before)) (until_at (length before) (queued_in (orders t.control t.batch))))
+
+until_in : (turn : ℕ) (xs : List Sent) (s : Sent) (ys : List Sent) → AllUntil turn (xs ++ s ∷ ys) → s.turn < turn
+until_in turn [] s ys a = a.0
+until_in turn (x ∷ xs) s ys a = until_in turn xs s ys a.1
+
+-- a command that was sent from a turn on stands behind those that were sent before it
+placed_behind : (n : ℕ) (front : List Sent) (set : Sent) (behind a b : List Sent) → front ++ set ∷ behind ≡ a ++ b → AllUntil n a → n ≤ set.turn → (mid : List Sent) × (front ≡ a ++ mid)
+placed_behind n front set behind a b e until late = elim (cuts a b front (set ∷ behind) (sym e)) [
+  | inl p ↦ (p.0, p.1)
+  | inr p ↦
+      let same : set ≡ p.0 = (cons_same set p.0 behind (p.1 ++ b) p.3).0 in
+      let k = until_in n front p.0 p.1 (subst (λ (x : List Sent). AllUntil n x) p.2 until) in
+      absurd (omega (arith, k, ap (λ (x : Sent). x.turn) same, late))
+]
+
+-- a part of which no step was taken has none
+ends_if : (t : Bool) (c : Course) (k : Known) → k.ends ≡ c.known.ends → (record c { known = cond t k c.known }).known.ends ≡ c.known.ends
+ends_if true c k e = e
+ends_if false c k e = refl
+
+if_not : (t : Bool) (oid other : ℕ) (k l : Known) → (other == oid) ≡ t → (other ≡ oid → ⊥) → (cond t k l).ends ≡ l.ends
+if_not true oid other k l e n = absurd (n (eqb-true other oid e))
+if_not false oid other k l e n = refl
+
+next_if : (t : Bool) (oid other turn clock : ℕ) (c : Course) → (other == oid) ≡ t → (other ≡ oid → ⊥) → (cond t (next_part turn clock c) c).known.ends ≡ c.known.ends
+next_if true oid other turn clock c e n = absurd (n (eqb-true other oid e))
+next_if false oid other turn clock c e n = refl
+
+one_ends : (oid turn : ℕ) (c : Course) (m : Cmd) (ticks : List ℕ) → SetsNot oid m → StepsNot oid m → (course_of oid turn c m ticks).known.ends ≡ c.known.ends
+one_ends oid turn c (cmd.ResetStepClock other clock) ticks sets steps = next_if (other == oid) oid other turn clock c refl sets
+one_ends oid turn c (cmd.QueueStep other interval count add) ticks sets steps = if_not (other == oid) oid other (more_steps oid c.known ticks) c.known refl steps
+one_ends oid turn c (cmd.ConfigStepper other step dir invert width) ticks sets steps = ends_if (other == oid) c (record c.known { made = true }) refl
+one_ends oid turn c (cmd.SetNextStepDir other dir) ticks sets steps = ends_if (other == oid) c (record c.known { up = dir == 1 }) refl
+one_ends oid turn c m ticks sets steps = refl
+
+all_ends : (oid : ℕ) (c : Course) (ss : List Sent) → AllSetNot oid (orders_in ss) → AllStepNot oid (orders_in ss) → (course_from oid c ss).known.ends ≡ c.known.ends
+all_ends oid c [] sets steps = refl
+all_ends oid c (s ∷ ss) sets steps = all_ends oid (course_behind oid c s) ss sets.1 steps.1 ∙ one_ends oid s.turn c s.order.command s.order.ticks sets.0 steps.0
+
+set_own : (t : Bool) (oid turn clock : ℕ) (c : Course) → (oid == oid) ≡ t → (cond t (next_part turn clock c) c).known.ends ≡ []
+set_own true oid turn clock c e = refl
+set_own false oid turn clock c e = absurd (clash (oid == oid) (eq-eqb oid oid refl) e)
+  where
+    clash : (b : Bool) → b ≡ true → b ≡ false → ⊥
+    clash b x y = cc
+
+set_ends : (oid turn clock : ℕ) (c : Course) (m : Cmd) (ticks : List ℕ) → m ≡ cmd.ResetStepClock oid clock → (course_of oid turn c m ticks).known.ends ≡ []
+set_ends oid turn clock c m ticks e = subst (λ (x : Cmd). (course_of oid turn c x ticks).known.ends ≡ []) (sym e) (set_own (oid == oid) oid turn clock c refl)
+
+course_both : (oid : ℕ) (c : Course) (ss ts : List Sent) → course_from oid c (ss ++ ts) ≡ course_from oid (course_from oid c ss) ts
+course_both oid c [] ts = refl
+course_both oid c (s ∷ ss) ts = course_both oid (course_behind oid c s) ss ts
+
+none_ends : (oid clock : ℕ) (front : List Sent) (set : Sent) (behind : List Sent) → set.order.command ≡ cmd.ResetStepClock oid clock → AllSetNot oid (orders_in behind) → AllStepNot oid (orders_in behind)
+    → (courses (front ++ set ∷ behind) oid).known.ends ≡ []
+none_ends oid clock front set behind is sets steps =
+    let c = courses front oid in
+    ap (λ (x : Course). x.known.ends) (course_both oid no_course front (set ∷ behind)) ∙ all_ends oid (course_behind oid c set) behind sets steps ∙ set_ends oid set.turn clock c set.order.command set.order.ticks is
+
+step_parts : (i : ℕ) (xs ys : List Meant) → AllStepNot i (xs ++ ys) → AllStepNot i ys
+step_parts i [] ys a = a
+step_parts i (x ∷ xs) ys a = step_parts i xs ys a.1
+
+step_both : (i : ℕ) (xs ys : List Meant) → AllStepNot i xs → AllStepNot i ys → AllStepNot i (xs ++ ys)
+step_both i [] ys a b = b
+step_both i (x ∷ xs) ys a b = (a.0, step_both i xs ys a.1 b)
+
+-- where nothing is sent, no unit is of a stepper
+move_none : (oid : ℕ) (us : List StepUnit) → us ≡ [] → MoveNone oid us
+move_none oid us e = subst (λ (x : List StepUnit). MoveNone oid x) (sym e) tt
+
+moves_none : (oid from to : ℕ) (turns : List BoardTurn) → SendNoneIn from to turns → MoveNoneIn oid from to turns
+moves_none oid from to [] n = tt
+moves_none oid from to (t ∷ before) n = (λ l h. move_none oid t.batch.units (n.0 l h), moves_none oid from to before n.1)
 
 halted_so : (o : Option Pending) → IsHalted o → is_halted o ≡ true
 halted_so None h = absurd h
 halted_so (Some q) h = h.0
 
--- as a turn begins
-homed_halts : (m : Machine) (switches : List Switch) (pins : List (List Level)) (entries : List Entry) (b start end q oid : ℕ) (turns : List BoardTurn) (done left : List Sent) → IsValidMachine m
-    → AreBoardTurns (clock_of (board_at m b)) (first_state (board_at m b) pins b entries) turns → IsHomed m switches pins entries b start end turns → start ≤ q + 254 → q + 252 ≤ start → start ≤ end
-    → (stands_after (first_state (board_at m b) pins b entries) turns).core.board.controller.state ≡ Running → done ++ left ≡ sent_by turns
-    → orders_in done ≡ (stands_after (first_state (board_at m b) pins b entries) turns).core.taken → LastSet oid q done
-    → IsHalted (board.stepper_at (stands_after (first_state (board_at m b) pins b entries) turns).core.board.controller oid)
-homed_halts m switches pins entries b start end q oid turns done left v are hm soon late order runs cut taken last =
-    let d = board_at m b in
-    let first = first_state d pins b entries in
-    let same = hm.are in
-    let long = hm.long in
-    subst (λ (x : List BoardTurn). IsHalted (board.stepper_at (stands_after first x).core.board.controller oid)) (sym same)
-    (section_halts m switches pins entries b start q oid hm.came hm.before hm.later hm.past hm.homing done left v (subst (λ (x : List BoardTurn). AreBoardTurns (clock_of d) first x) same are) hm.run_is hm.states hm.answered hm.begin
-    hm.sets_none hm.took hm.fires soon late (omega (arith, order, long)) (subst (λ (x : List BoardTurn). (stands_after first x).core.board.controller.state ≡ Running) same runs) (cut ∙ ap sent_by same)
-    (taken ∙ ap (λ (x : List BoardTurn). (stands_after first x).core.taken) same) last)
+-- a homing section that has ended, over a board's turns
+module _ (m : Machine) (switches : List Switch) (pins : List (List Level)) (entries : List Entry) (b start end : ℕ) (turns : List BoardTurn) (v : IsValidMachine m)
+    (are : AreBoardTurns (clock_of (board_at m b)) (first_state (board_at m b) pins b entries) turns) (hm : IsHomed m switches pins entries b start end turns) (order : start ≤ end) where
+  abbrev First : LinkState
+  First = first_state (board_at m b) pins b entries
 
-stopped_halts : (m : Machine) (switches : List Switch) (pins : List (List Level)) (entries : List Entry) (b oid : ℕ) (turns : List BoardTurn) (stops : ℕ → Option ℕ) (done left : List Sent) (since : Option ℕ) → IsValidMachine m
-    → AreBoardTurns (clock_of (board_at m b)) (first_state (board_at m b) pins b entries) turns → AreHomed m switches pins entries b stops turns
-    → (stands_after (first_state (board_at m b) pins b entries) turns).core.board.controller.state ≡ Running → done ++ left ≡ sent_by turns
-    → orders_in done ≡ (stands_after (first_state (board_at m b) pins b entries) turns).core.taken → (courses done oid).since ≡ since → IsStopped stops (length turns) since
-    → is_halted (board.stepper_at (stands_after (first_state (board_at m b) pins b entries) turns).core.board.controller oid) ≡ true
-stopped_halts m switches pins entries b oid turns stops done left None v are homed runs cut taken e st = absurd st
-stopped_halts m switches pins entries b oid turns stops done left (Some q) v are homed runs cut taken e st = by_stop (stops q) refl st
-  where
-    by_stop : (o : Option ℕ) → stops q ≡ o → IsFrom (length turns) o → is_halted (board.stepper_at (stands_after (first_state (board_at m b) pins b entries) turns).core.board.controller oid) ≡ true
-    by_stop None is f = absurd f
-    by_stop (Some end) is f =
-        let x = homed q end is f in
-        halted_so (board.stepper_at (stands_after (first_state (board_at m b) pins b entries) turns).core.board.controller oid)
-        (homed_halts m switches pins entries b x.0 end q oid turns done left v are x.4 x.1 x.2 x.3 runs cut taken (last_set oid q done e))
+  abbrev Now : Core
+  Now = (stands_after First turns).core
 
-soon_left : (m : Machine) (switches : List Switch) (pins : List (List Level)) (entries : List Entry) (b start end q : ℕ) (turns : List BoardTurn) (done left : List Sent)
-    → AreBoardTurns (clock_of (board_at m b)) (first_state (board_at m b) pins b entries) turns → IsHomed m switches pins entries b start end turns → q + 252 ≤ start → done ++ left ≡ sent_by turns
-    → orders_in done ≡ (stands_after (first_state (board_at m b) pins b entries) turns).core.taken → (n : ℕ) × (q < n) × AllFrom n left
-soon_left m switches pins entries b start end q turns done left are hm late cut taken =
-    let d = board_at m b in
-    let first = first_state d pins b entries in
-    let t = took_by m pins entries b start hm.later hm.past (subst (λ (x : List BoardTurn). AreBoardTurns (clock_of d) first x) hm.are are) hm.took in
-    let long = t.long in (
-      length t.early,
-      omega (arith, late, long),
-      left_from t.early t.later done left t.more (cut ∙ ap sent_by (hm.are ∙ t.are)) (taken ∙ ap (λ (x : List BoardTurn). (stands_after first x).core.taken) hm.are ∙ t.taken),
-    )
+  abbrev Then : Core
+  Then = (stands_after First hm.past).core
 
-pub settled : (m : Machine) (switches : List Switch) (pins : List (List Level)) (entries : List Entry) (b : ℕ) (turns : List BoardTurn) (stops : ℕ → Option ℕ) → IsValidMachine m
-    → AreBoardTurns (clock_of (board_at m b)) (first_state (board_at m b) pins b entries) turns → AreHomed m switches pins entries b stops turns
-    → IsSettled stops (length turns) (sent_in 0 (clock_runs.orders_in turns)) (stands_after (first_state (board_at m b) pins b entries) turns).core
-settled m switches pins entries b turns stops v are homed = λ runs done left cut taken. (
-  all_in_time stops (length turns) left (λ q e is l. let x = homed q e is l in soon_left m switches pins entries b x.0 e q turns done left are x.4 x.2 cut taken),
-  λ oid st. stopped_halts m switches pins entries b oid turns stops done left (courses done oid).since v are homed runs cut taken refl st,
-)
+  -- a stepper whose clock is set for it moves in it
+  record Mover (oid : ℕ) : Type 0 where
+    stepper : ℕ
+    own : IsMoved m b hm.homing hm.past stepper
+    same : (stepper_at m stepper).oid ≡ oid
+
+  mover_of : (front : List Sent) (set : Sent) (behind : List Sent) (oid clock : ℕ) → front ++ set ∷ behind ≡ sent_by turns → set.order.command ≡ cmd.ResetStepClock oid clock → start ≤ set.turn + 254 → set.turn + 252 ≤ start → Mover oid
+  mover_of front set behind oid clock whole is soon late =
+      let c = hm.came in
+      let before = hm.before in
+      let past = hm.past in
+      let h = hm.homing in
+      let a = hm.answered in
+      let ms = members_of h.group in
+      let long = hm.long in
+      let parts = sent_parts hm.later past in
+      let in_past = placed front set behind (sent_by past) parts.0 (length past) (whole ∙ ap sent_by hm.are ∙ parts.1) parts.2 (omega (arith, late, order, long)) in
+      let sets = homed_sets m switches pins entries b a.from h.start ms before past hm.run_is a.since hm.sets_none in
+      let from_is = a.set_up in
+      let begin = hm.begin in
+      let sets_it = sent_here (MovesAs m b ms) a.from front set in_past.0 (subst (λ (x : List Sent). SentOf (MovesAs m b ms) a.from x) in_past.1 sets) (omega (arith, from_is, begin, soon)) in
+      let moved = moved_by m b oid clock ms set.order.command is sets_it in
+      let formed : IsFormed m (Some h) = subst (λ (o : Option Homing). IsFormed m o) a.known (noted_formed m c.note (known_by m switches before) (known_formed m switches before hm.run_is.goes_on)) in
+      let there = moves_is m h b moved.0 formed moved.1 in
+      record {
+        stepper = moved.0;
+        own = record { moves = moved.1; there = there.0; on = there.1; from = a.from; begun = a.set_up; sets_none = clock_from (stepper_at m moved.0).oid a.from past hm.sets_none };
+        same = moved.2;
+      }
+
+  -- so the board took the command
+  takes_by : (oid : ℕ) → Mover oid → Takes First start hm.past
+  takes_by oid x = elim hm.fires [
+    | inl soon ↦ takes_soon (clock_of (board_at m b)) First start hm.past hm.run_is.turns_are soon
+    | inr so ↦
+        let h = hm.homing in
+        let a = hm.answered in
+        let fired = answered_fired m v switches pins entries b hm.came hm.before hm.past h a.end hm.run_is hm.states so.apart so.reads so.behind a.known a.answer (moves_among b x.stepper (members_of h.group) x.own.moves) in
+        subst (λ (n : ℕ). Takes First n hm.past) hm.begin (takes_fired (trigger_of m b) h.start First hm.past fired)
+  ]
+
+  -- and as the group answers the stepper is halted, or the board took no step of it; and each step finds it halted from then on
+  ended_finds : (oid : ℕ) → Mover oid → Then.board.controller.state ≡ Running → (IsHalted (board.stepper_at Then.board.controller oid) ⊎ TookNone oid hm.answered.from First hm.past) × ((steps : List Step) → StepsFindHalted oid Then steps)
+  ended_finds oid x ran =
+      let c = hm.came in
+      let before = hm.before in
+      let past = hm.past in
+      let h = hm.homing in
+      let a = hm.answered in
+      let r = hm.run_is in
+      let i = (stepper_at m x.stepper).oid in
+      let left = left_of m v switches pins entries b past r.turns_are in
+      let Ends : ℕ → Type 0 = λ n. (IsHalted (board.stepper_at Then.board.controller n) ⊎ TookNone n a.from First past) × ((steps : List Step) → StepsFindHalted n Then steps) in
+      subst Ends x.same (elim hm.fires [
+        | inl soon ↦
+            let halted = answered_halt m switches pins entries b c before past h x.stepper v r hm.states a x.own (subst (λ (n : ℕ). TakesSetUp First n past) (sym hm.begin) soon) ran in (
+              inl halted,
+              λ steps. steps_settle i (trigger_of m b) steps Then left.0 (ordered_after (board_at m b) pins b entries past r.turns_are) (left.1 ∙ sym (all_queued (board_at m b) pins b entries past r.turns_are)) (inr (inl halted)),
+            )
+        | inr so ↦
+            let none = moves_none i a.from (a.from + 4) past hm.sends_none in (
+              halts_or_took_none m v switches pins entries b c before past h x.stepper r hm.states a x.own so.apart so.reads so.behind none ran,
+              λ steps. steps_find_halted m v switches pins entries b c before past h x.stepper r hm.states a x.own so.apart so.reads so.behind none ran steps,
+            )
+      ])
+
+  -- what was taken since sets the clock no more
+  record Since (oid q : ℕ) (done : List Sent) : Type 0 where
+    last : LastSet oid q done
+    mover : Mover oid
+    steps : List Step
+    are_steps : Now ≡ run steps Then
+    since : List Meant
+    took : (run steps Then).taken ≡ Then.taken ++ since
+    sets : AllSetNot oid since
+    behind : (mid : List Meant) × (orders_in last.behind ≡ mid ++ since)
+
+  since_of : (q oid : ℕ) (done left : List Sent) → start ≤ q + 254 → q + 252 ≤ start → done ++ left ≡ sent_by turns → orders_in done ≡ Now.taken → LastSet oid q done → Since oid q done
+  since_of q oid done left soon late cut taken last =
+      let clock = clock_of (board_at m b) in
+      let mine : AreBoardTurns clock First (hm.later ++ hm.past) = subst (λ (x : List BoardTurn). AreBoardTurns clock First x) hm.are are in
+      let steps = later_steps clock First hm.later hm.past mine in
+      let now_is : Now ≡ run steps.0 Then = ap (λ (x : List BoardTurn). (stands_after First x).core) hm.are ∙ steps.1 in
+      let later = taken_later clock First hm.later hm.past mine in
+      let took : (run steps.0 Then).taken ≡ Then.taken ++ later.0 = ap (λ (x : Core). x.taken) (sym steps.1) ∙ later.1 in
+      let turn_is = last.at in
+      let whole : last.front ++ last.set ∷ (last.behind ++ left) ≡ sent_by turns = sym (append_assoc last.front (last.set ∷ last.behind) left) ∙ ap (λ (x : List Sent). x ++ left) (sym last.are) ∙ cut in
+      let mover = mover_of last.front last.set (last.behind ++ left) oid last.clock whole last.is (omega (arith, soon, turn_is)) (omega (arith, late, turn_is)) in
+      let t = takes_by oid mover in
+      let queued = t.queued in
+      let flat : turns ≡ (hm.later ++ t.later) ++ t.past = hm.are ∙ ap (λ (x : List BoardTurn). hm.later ++ x) t.are ∙ sym (append_assoc hm.later t.later t.past) in
+      let parts = sent_parts (hm.later ++ t.later) t.past in
+      let in_early = placed last.front last.set (last.behind ++ left) (sent_by t.past) parts.0 (length t.past) (whole ∙ ap sent_by flat ∙ parts.1) parts.2 (omega (arith, turn_is, late, queued)) in
+      let set = last.front ++ last.set ∷ [] in
+      let set_taken = orders_in last.front ++ last.set.order ∷ [] in
+      let early_is : queued_by t.past ≡ orders_in last.front ++ last.set.order ∷ orders_in in_early.0 = sym (queue_is t.past) ∙ ap orders_in in_early.1 ∙ orders_append last.front (last.set ∷ in_early.0) in
+      let ended : Then.taken ≡ set_taken ++ (orders_in in_early.0 ++ t.more) =
+      t.took ∙ ap (λ (x : List Meant). x ++ t.more) early_is ∙ append_assoc (orders_in last.front) (last.set.order ∷ orders_in in_early.0) t.more ∙ sym (append_assoc (orders_in last.front) (last.set.order ∷ []) (orders_in in_early.0 ++ t.more)) in
+      let took_all : set_taken ++ orders_in last.behind ≡ set_taken ++ ((orders_in in_early.0 ++ t.more) ++ later.0) =
+      append_assoc (orders_in last.front) (last.set.order ∷ []) (orders_in last.behind) ∙ sym (orders_append last.front (last.set ∷ last.behind)) ∙ ap orders_in (sym last.are) ∙ taken ∙ ap (λ (x : Core). x.taken) now_is ∙ took
+      ∙ ap (λ (x : List Meant). x ++ later.0) ended ∙ append_assoc set_taken (orders_in in_early.0 ++ t.more) later.0 in
+      let rest : orders_in last.behind ≡ (orders_in in_early.0 ++ t.more) ++ later.0 = append_cancel_left set_taken (orders_in last.behind) ((orders_in in_early.0 ++ t.more) ++ later.0) took_all in
+      record {
+        last = last;
+        mover = mover;
+        steps = steps.0;
+        are_steps = now_is;
+        since = later.0;
+        took = took;
+        sets = (not_parts oid (orders_in in_early.0 ++ t.more) later.0 (subst (λ (x : List Meant). AllSetNot oid x) rest last.none)).1;
+        behind = (orders_in in_early.0 ++ t.more, rest);
+      }
+
+  running_then : (steps : List Step) → Now ≡ run steps Then → Now.board.controller.state ≡ Running → (run steps Then).board.controller.state ≡ Running
+  running_then steps e runs = subst (λ (h : Core). h.board.controller.state ≡ Running) e runs
+
+  -- of a board that took no step of the stepper by then no step of its part is taken, where it takes none since
+  part_none : (q oid : ℕ) (done left : List Sent) → start ≤ q + 254 → done ++ left ≡ sent_by turns → orders_in done ≡ Now.taken → (x : Since oid q done) → (n : TookNone oid hm.answered.from First hm.past) → AllStepNot oid x.since → (courses done oid).known.ends ≡ []
+  part_none q oid done left soon cut taken x n none =
+      let last = x.last in
+      let turn_is = last.at in
+      let from_is = hm.answered.set_up in
+      let begin = hm.begin in
+      let long = n.long in
+      let flat : turns ≡ (hm.later ++ n.later) ++ n.early = hm.are ∙ ap (λ (y : List BoardTurn). hm.later ++ y) n.are ∙ sym (append_assoc hm.later n.later n.early) in
+      let parts = sent_parts (hm.later ++ n.later) n.early in
+      let whole : last.front ++ last.set ∷ (last.behind ++ left) ≡ sent_by n.early ++ parts.0 =
+      sym (append_assoc last.front (last.set ∷ last.behind) left) ∙ ap (λ (y : List Sent). y ++ left) (sym last.are) ∙ cut ∙ ap sent_by flat ∙ parts.1 in
+      let mid = placed_behind (length n.early) last.front last.set (last.behind ++ left) (sent_by n.early) parts.0 whole (until_by n.early) (omega (arith, turn_is, from_is, begin, long, soon)) in
+      let front_is : orders_in last.front ≡ queued_by n.early ++ orders_in mid.0 = ap orders_in mid.1 ∙ orders_append (sent_by n.early) mid.0 ∙ ap (λ (y : List Meant). y ++ orders_in mid.0) (queue_is n.early) in
+      let all : queued_by n.early ++ (orders_in mid.0 ++ last.set.order ∷ orders_in last.behind) ≡ queued_by n.early ++ (n.more ++ x.since) =
+      sym (append_assoc (queued_by n.early) (orders_in mid.0) (last.set.order ∷ orders_in last.behind)) ∙ ap (λ (y : List Meant). y ++ last.set.order ∷ orders_in last.behind) (sym front_is) ∙ sym (orders_append last.front (last.set ∷ last.behind))
+      ∙ ap orders_in (sym last.are) ∙ taken ∙ ap (λ (y : Core). y.taken) x.are_steps ∙ x.took ∙ ap (λ (y : List Meant). y ++ x.since) n.took ∙ append_assoc (queued_by n.early) n.more x.since in
+      let rest : orders_in mid.0 ++ last.set.order ∷ orders_in last.behind ≡ n.more ++ x.since = append_cancel_left (queued_by n.early) (orders_in mid.0 ++ last.set.order ∷ orders_in last.behind) (n.more ++ x.since) all in
+      let steps = step_parts oid (orders_in mid.0) (last.set.order ∷ orders_in last.behind) (subst (λ (y : List Meant). AllStepNot oid y) (sym rest) (step_both oid n.more x.since n.none none)) in
+      ap (λ (y : List Sent). (courses y oid).known.ends) last.are ∙ none_ends oid last.clock last.front last.set last.behind last.is last.none steps.1
+
+  section_settles : (q oid : ℕ) (done left : List Sent) → start ≤ q + 254 → q + 252 ≤ start → Now.board.controller.state ≡ Running → done ++ left ≡ sent_by turns → orders_in done ≡ Now.taken → LastSet oid q done
+      → ((is_halted (board.stepper_at Now.board.controller oid) ≡ true) ⊎ ((courses done oid).known.ends ≡ [])) × ((steps : List Step) → StepsFindHalted oid Now steps)
+  section_settles q oid done left soon late runs cut taken last =
+      let x = since_of q oid done left soon late cut taken last in
+      let now_is = x.are_steps in
+      let on = running_then x.steps now_is runs in
+      let ended = ended_finds oid x.mover (ran_steps x.steps Then on) in
+      let Halts : Core → Type 0 = λ h. IsHalted (board.stepper_at h.board.controller oid) in
+      let Finds : Core → Type 0 = λ h. (steps : List Step) → StepsFindHalted oid h steps in
+      let halted : IsHalted (board.stepper_at (run x.steps Then).board.controller oid) → is_halted (board.stepper_at Now.board.controller oid) ≡ true = λ is. halted_so (board.stepper_at Now.board.controller oid) (subst Halts (sym now_is) is) in (
+        elim ended.0 [
+          | inl is ↦ inl (halted (halted_stays oid x.steps Then x.since x.took x.sets is))
+          | inr n ↦ elim (found_none oid x.steps Then x.since x.took x.sets (ended.1 x.steps) on) [
+            | inl is ↦ inl (halted is)
+            | inr none ↦ inr (part_none q oid done left soon cut taken x n none)
+          ]
+        ],
+        subst Finds (sym now_is) (λ steps. find_behind oid x.steps steps Then x.since x.took x.sets (ended.1 (x.steps ++ steps))),
+      )
+
+  -- a command that is left is not of its set-up
+  none_left : (done front : List Sent) (s : Sent) (behind : List Sent) (oid clock : ℕ) → start ≤ s.turn + 254 → s.turn + 252 ≤ start → done ++ (front ++ s ∷ behind) ≡ sent_by turns → orders_in done ≡ Now.taken
+      → s.order.command ≡ cmd.ResetStepClock oid clock → ⊥
+  none_left done front s behind oid clock soon late cut taken is =
+      let t = takes_by oid (mover_of (done ++ front) s behind oid clock (append_assoc done front (s ∷ behind) ∙ cut) is soon late) in
+      let mine : AreBoardTurns (clock_of (board_at m b)) First (hm.later ++ hm.past) = subst (λ (x : List BoardTurn). AreBoardTurns (clock_of (board_at m b)) First x) hm.are are in
+      let later = taken_later (clock_of (board_at m b)) First hm.later hm.past mine in
+      let flat : turns ≡ (hm.later ++ t.later) ++ t.past = hm.are ∙ ap (λ (x : List BoardTurn). hm.later ++ x) t.are ∙ sym (append_assoc hm.later t.later t.past) in
+      let took : orders_in done ≡ queued_by t.past ++ (t.more ++ later.0) =
+      taken ∙ ap (λ (x : List BoardTurn). (stands_after First x).core.taken) hm.are ∙ later.1 ∙ ap (λ (x : List Meant). x ++ later.0) t.took ∙ append_assoc (queued_by t.past) t.more later.0 in
+      let from = left_from t.past (hm.later ++ t.later) done (front ++ s ∷ behind) (t.more ++ later.0) (cut ∙ ap sent_by flat) took in
+      let low = none_from (length t.past) s front behind from in
+      let queued = t.queued in
+      omega (arith, low, late, queued)
+
+module _ (m : Machine) (switches : List Switch) (pins : List (List Level)) (entries : List Entry) (b : ℕ) (turns : List BoardTurn) (stops : ℕ → Option ℕ) (v : IsValidMachine m)
+    (are : AreBoardTurns (clock_of (board_at m b)) (first_state (board_at m b) pins b entries) turns) (homed : AreHomed m switches pins entries b stops turns) where
+  abbrev Here : Core
+  Here = (stands_after (first_state (board_at m b) pins b entries) turns).core
+
+  abbrev Stands : ℕ → List Sent → Type 0
+  Stands oid done = ((is_halted (board.stepper_at Here.board.controller oid) ≡ true) ⊎ ((courses done oid).known.ends ≡ [])) × ((steps : List Step) → StepsFindHalted oid Here steps)
+
+  stopped_stands : (oid : ℕ) (done left : List Sent) (since : Option ℕ) → Here.board.controller.state ≡ Running → done ++ left ≡ sent_by turns → orders_in done ≡ Here.taken → (courses done oid).since ≡ since → IsStopped stops (length turns) since
+      → Stands oid done
+  stopped_stands oid done left None runs cut taken e st = absurd st
+  stopped_stands oid done left (Some q) runs cut taken e st = by_stop (stops q) refl st
+    where
+      by_stop : (o : Option ℕ) → stops q ≡ o → IsFrom (length turns) o → Stands oid done
+      by_stop None is f = absurd f
+      by_stop (Some end) is f =
+          let x = homed q end is f in
+          section_settles m switches pins entries b x.0 end turns v are x.4 x.3 q oid done left x.1 x.2 runs cut taken (last_set oid q done e)
+
+  left_stops : (done front : List Sent) (s : Sent) (behind : List Sent) (oid clock : ℕ) (o : Option ℕ) → done ++ (front ++ s ∷ behind) ≡ sent_by turns → orders_in done ≡ Here.taken → s.order.command ≡ cmd.ResetStepClock oid clock → stops s.turn ≡ o
+      → IsFrom (length turns) o → ⊥
+  left_stops done front s behind oid clock None cut taken is e st = st
+  left_stops done front s behind oid clock (Some end) cut taken is e st =
+      let x = homed s.turn end e st in
+      none_left m switches pins entries b x.0 end turns v are x.4 x.3 done front s behind oid clock x.1 x.2 cut taken is
+
+  pub settled : IsSettled stops (length turns) (sent_in 0 (clock_runs.orders_in turns)) Here
+  settled = λ runs done left cut taken. (
+    all_in_time stops (length turns) left (λ front s behind oid clock e is st.
+        left_stops done front s behind oid clock (stops s.turn) (subst (λ (x : List Sent). done ++ x ≡ sent_by turns) e cut) taken is refl st),
+    λ oid st. (stopped_stands oid done left (courses done oid).since runs cut taken refl st).0,
+  )
+
+  -- and in whatever follows
+  pub finds_stopped : (steps : List Step) → FindStopped stops (length turns) (sent_in 0 (clock_runs.orders_in turns)) Here steps
+  finds_stopped steps = λ runs done left cut taken oid st. (stopped_stands oid done left (courses done oid).since runs cut taken refl st).1 steps

@@ -383,7 +383,7 @@ ran_by : (o : BoardState) (r : Rig) (c : Cmd) → r.controller.state ≡ o → (
 ran_by Running r c e runs = e
 ran_by (Shut reason tick first) r c e runs = let shut = still_shut r c reason tick first e in let x : Shut reason tick first ≡ Running = sym shut ∙ runs in absurd (cc)
 
-ran_before : (r : Rig) (cs : List Cmd) → (takes_all r cs).rig.controller.state ≡ Running → r.controller.state ≡ Running
+pub ran_before : (r : Rig) (cs : List Cmd) → (takes_all r cs).rig.controller.state ≡ Running → r.controller.state ≡ Running
 ran_before r [] runs = runs
 ran_before r (c ∷ cs) runs = ran_by r.controller.state r c refl (ran_before (takes r c).rig cs runs)
 
@@ -490,7 +490,7 @@ ran_event h event.Garble runs = runs
 ran_event h event.Reply runs = runs
 ran_event h event.LoseReply runs = runs
 
-ran_steps : (steps : List Step) (h : Core) → (run steps h).board.controller.state ≡ Running → h.board.controller.state ≡ Running
+pub ran_steps : (steps : List Step) (h : Core) → (run steps h).board.controller.state ≡ Running → h.board.controller.state ≡ Running
 ran_steps [] h runs = runs
 ran_steps (Do e ∷ steps) h runs = ran_event h e (ran_steps steps (happens h e) runs)
 ran_steps (Turn turn ∷ steps) h runs = ran_steps steps (in_turn h turn) runs

@@ -18,7 +18,7 @@ use Rattle.link_work.specs.Turn.{LinkState}
 use Rattle.link_work.proofs.Turns.{turns_are_steps}
 use Rattle.board_runs.specs.Turns.{AreBoardTurns, BoardTurn, stands_after}
 use Rattle.homing_laws.specs.home_runs.Guards.{IsCalm}
-use Rattle.homing_laws.specs.fired_runs.Waiting.{AllSetNot, SetsNot}
+use Rattle.run_laws.specs.Finds.{AllSetNot, SetsNot}
 use Rattle.homing_laws.proofs.home_runs.Guarding.{passes_next, takes_next}
 
 pub not_parts : (i : ℕ) (xs ys : List Meant) → AllSetNot i (xs ++ ys) → AllSetNot i xs × AllSetNot i ys
@@ -34,7 +34,7 @@ calm_for i c n = (0, tt)
 pub takes_stay : (i : ℕ) (r : Rig) (c : Cmd) → SetsNot i c → IsIn true i r.controller → IsIn true i (takes r c).rig.controller
 takes_stay i r c n is = let x = calm_for i c n in (takes_next i x.0 r c x.1).keep true is
 
-all_stay : (i : ℕ) (r : Rig) (ms : List Meant) → AllSetNot i ms → IsIn true i r.controller → IsIn true i (takes_all r (commands_of ms)).rig.controller
+pub all_stay : (i : ℕ) (r : Rig) (ms : List Meant) → AllSetNot i ms → IsIn true i r.controller → IsIn true i (takes_all r (commands_of ms)).rig.controller
 all_stay i r [] n is = is
 all_stay i r (m ∷ ms) n is = all_stay i (takes r m.command).rig ms n.1 (takes_stay i r m.command n.0 is)
 
@@ -52,12 +52,12 @@ stay_by i h event.Reply n is = is
 stay_by i h event.LoseReply n is = is
 
 -- what steps take
-pub steps_take : (steps : List Step) (h : Core) → (ms : List Meant) × ((run steps h).taken ≡ h.taken ++ ms)
+unfoldable pub steps_take : (steps : List Step) (h : Core) → (ms : List Meant) × ((run steps h).taken ≡ h.taken ++ ms)
 steps_take [] h = ([], sym (append-nil h.taken))
 steps_take (Do e ∷ steps) h = let rest = steps_take steps (happens h e) in (takes_in h e ++ rest.0, rest.1 ∙ append_assoc h.taken (takes_in h e) rest.0)
 steps_take (Turn turn ∷ steps) h = steps_take steps (in_turn h turn)
 
-steps_stay : (i : ℕ) (steps : List Step) (h : Core) → AllSetNot i (steps_take steps h).0 → IsIn true i h.board.controller → IsIn true i (run steps h).board.controller
+pub steps_stay : (i : ℕ) (steps : List Step) (h : Core) → AllSetNot i (steps_take steps h).0 → IsIn true i h.board.controller → IsIn true i (run steps h).board.controller
 unfolding steps_take
 steps_stay i [] h n is = is
 steps_stay i (Do e ∷ steps) h n is = let both = not_parts i (takes_in h e) (steps_take steps (happens h e)).0 n in steps_stay i steps (happens h e) both.1 (stay_by i h e both.0 is)

@@ -15,7 +15,7 @@ use Rattle.clock_runs.specs.Runs.{orders_in}
 use Rattle.clock_runs.proofs.Orders.{order_length}
 use Rattle.run_laws.specs.Homes.{AreInTurn, AreOrdersIn, IsHomingIn, IsSectionBy, RunSection, AreReleasedIn}
 use Rattle.run_laws.proofs.Releasing.{AreFrom, from_down, none_at, paced_from}
-use Rattle.homing_laws.specs.home_runs.Settled.{SetNoClock, SetNoClockFrom}
+use Rattle.homing_laws.specs.home_runs.Settled.{SendNoneIn, SetNoClock, SetNoClockFrom}
 
 none_both : (xs ys : List StepUnit) → SetNoClock xs → SetNoClock ys → SetNoClock (xs ++ ys)
 none_both [] ys a b = b
@@ -128,4 +128,50 @@ none_from clocks freq slots until ready from stops past s later (t ∷ before) r
     let at : 0 + length (orders_in before) ≡ length before = omega (arith, n) in (
       λ far. subst SetNoClock (sym (both.1 ∙ ap (λ (k : ℕ). Units k ss) at)) (turn_none clocks freq slots until (length before) ready stops past s later row all out homes (omega (arith, far, e)) (omega (arith, l))),
       none_from clocks freq slots until ready from stops past s later before row all out both.0 homes e (omega (arith, l)),
+    )
+
+-- In the turns of its set-up no unit is sent.
+empty_both : (xs ys : List StepUnit) → xs ≡ [] → ys ≡ [] → xs ++ ys ≡ []
+empty_both xs ys a b = ap (λ (l : List StepUnit). l ++ ys) a ∙ b
+
+past_empty : (homes : Bool) (clocks : Clocks) (freq slots until k : ℕ) (stops : ℕ → Option ℕ) (x : RunSection) → x.homes ≡ homes → IsSectionBy homes clocks freq slots until stops x.section → (x.homes ≡ false → AreBefore (x.section.end + 5) x.section.releases)
+    → x.section.end + 6 ≤ k → batch_at k x.section.releases ≡ []
+past_empty true clocks freq slots until k stops x e i soon l = early_none x.section.end k x.section.releases i.released (omega (arith, l))
+past_empty false clocks freq slots until k stops x e i soon l = early_none (x.section.end + 5) k x.section.releases (soon e) (omega (arith, l))
+
+next_empty : (homes : Bool) (clocks : Clocks) (freq slots until k : ℕ) (stops : ℕ → Option ℕ) (x : RunSection) → x.homes ≡ homes → IsSectionBy homes clocks freq slots until stops x.section → k + 251 ≤ x.section.start → batch_at k x.section.releases ≡ []
+next_empty true clocks freq slots until k stops x e i l = late_none clocks slots i.from x.section.start k x.section.releases (paced_from clocks slots i.from [] x.section.releases i.paced) i.exact l
+next_empty false clocks freq slots until k stops x e i l = late_none clocks slots i.is.from x.section.start k x.section.releases (paced_from clocks slots i.is.from [] x.section.releases i.is.paced) i.is.exact l
+
+later_empty : (clocks : Clocks) (freq slots until k turn : ℕ) (stops : ℕ → Option ℕ) (ss : List RunSection) → AreInTurn turn ss → All (λ x. By clocks freq slots until stops x) ss → k < turn → Units k ss ≡ []
+later_empty clocks freq slots until k turn stops [] row all l = refl
+later_empty clocks freq slots until k turn stops (x ∷ ss) row all l =
+    let a = row.0 in
+    let b = row.1 in
+    empty_both (batch_at k x.section.releases) (Units k ss) (next_empty x.homes clocks freq slots until k stops x refl (All-head (λ y. By clocks freq slots until stops y) x ss all) (omega (arith, a, l)))
+    (later_empty clocks freq slots until k x.section.end stops ss row.2 (All-tail (λ y. By clocks freq slots until stops y) x ss all) (omega (arith, a, b, l)))
+
+turn_empty : (clocks : Clocks) (freq slots until k turn : ℕ) (stops : ℕ → Option ℕ) (past : List RunSection) (s : RunSection) (later : List RunSection) → AreInTurn turn (past ++ s ∷ later)
+    → All (λ x. By clocks freq slots until stops x) (past ++ s ∷ later) → AreReleasedIn (past ++ s ∷ later) → s.section.start ≤ k + 254 → k + 251 ≤ s.section.start → Units k (past ++ s ∷ later) ≡ []
+turn_empty clocks freq slots until k turn stops [] s later row all out soon early =
+    let b = row.1 in
+    empty_both (batch_at k s.section.releases) (Units k later) (next_empty s.homes clocks freq slots until k stops s refl (All-head (λ y. By clocks freq slots until stops y) s later all) early)
+    (later_empty clocks freq slots until k s.section.end stops later row.2 (All-tail (λ y. By clocks freq slots until stops y) s later all) (omega (arith, early, b)))
+turn_empty clocks freq slots until k turn stops (x ∷ past) s later row all out soon early =
+    let rest = past ++ s ∷ later in
+    let a = start_behind x.section.end past s later row.2 in
+    empty_both (batch_at k x.section.releases) (Units k rest) (past_empty x.homes clocks freq slots until k stops x refl (All-head (λ y. By clocks freq slots until stops y) x rest all) out.0 (omega (arith, a, soon)))
+    (turn_empty clocks freq slots until k x.section.end stops past s later row.2 (All-tail (λ y. By clocks freq slots until stops y) x rest all) out.1 soon early)
+
+pub sends_none : (clocks : Clocks) (freq slots until ready from : ℕ) (stops : ℕ → Option ℕ) (past : List RunSection) (s : RunSection) (later : List RunSection) (turns : List BoardTurn) → AreInTurn ready (past ++ s ∷ later)
+    → All (λ x. IsSectionBy x.homes clocks freq slots until stops x.section) (past ++ s ∷ later) → AreReleasedIn (past ++ s ∷ later) → AreOrdersIn clocks (past ++ s ∷ later) 0 (orders_in turns) → s.homes ≡ true → from + 254 ≡ s.section.start
+    → SendNoneIn from (from + 4) turns
+sends_none clocks freq slots until ready from stops past s later [] row all out a homes e = tt
+sends_none clocks freq slots until ready from stops past s later (t ∷ before) row all out a homes e =
+    let ss = past ++ s ∷ later in
+    let both = orders_last clocks ss 0 (orders_in before) (orders t.control t.batch) a in
+    let n = order_length before in
+    let at : 0 + length (orders_in before) ≡ length before = omega (arith, n) in (
+      λ far near. both.1 ∙ ap (λ (k : ℕ). Units k ss) at ∙ turn_empty clocks freq slots until (length before) ready stops past s later row all out (omega (arith, far, e)) (omega (arith, near, e)),
+      sends_none clocks freq slots until ready from stops past s later before row all out both.0 homes e,
     )

@@ -104,3 +104,14 @@ pub record IsReadSo (m : Machine) (switches : List Switch) (b : ℕ) (c : Came) 
   pub apart : BeginsApart m switches (c ∷ before)
   pub reads : AreReadTrue m switches b (c ∷ before) turns
   pub behind : AreBehind m switches b (c ∷ before)
+
+-- so all that a board tells in a run: what comes in each turn of the reactor is of the board's turns before it, of which there are as many
+abbrev pub AllReadTrue : Machine → List Switch → ℕ → List Came → List BoardTurn → Type 0
+AllReadTrue m switches b came [] = Unit {0}
+AllReadTrue m switches b came (t ∷ earlier) = AreReadTrue m switches b came earlier
+
+-- What a board tells in a whole run is read so (`IsReadSo`), up to each of its turns.
+pub record AreReadSo (m : Machine) (switches : List Switch) (b : ℕ) (came : List Came) (turns : List BoardTurn) : Type 0 where
+  pub apart : BeginsApart m switches came
+  pub reads : AllReadTrue m switches b came turns
+  pub behind : AreBehind m switches b came

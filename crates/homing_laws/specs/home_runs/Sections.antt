@@ -68,15 +68,6 @@ pub record TakesSetUp (first : LinkState) (start : ℕ) (turns : List BoardTurn)
   pub took : queued_by past ++ more ≡ (stands_after first (late ++ past)).core.taken
   pub heard : (stands_after first (late ++ past)).core.link.up ≡ []
 
--- By the end of some turns a board took all that was queued up to 250 turns before a homing section's start, the last command of the set-up among it.
-pub record TakesStops (first : LinkState) (start : ℕ) (turns : List BoardTurn) : Type 0 where
-  pub later : List BoardTurn
-  pub past : List BoardTurn
-  pub are : turns ≡ later ++ past
-  pub queued : start ≤ length past + 249
-  pub more : List Meant
-  pub took : queued_by past ++ more ≡ (stands_after first turns).core.taken
-
 -- the group of the homing section that is known answers in a turn, by what came to the reactor in it and before; and the section was
 -- known from 254 turns before its start on
 pub record IsAnswered (m : Machine) (switches : List Switch) (c : Came) (before : List Came) (h : Homing) : Type 0 where

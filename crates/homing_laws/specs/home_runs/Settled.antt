@@ -1,5 +1,5 @@
 -- The homing sections of a board in a run, whose parts of steps stop.
-use Rattle.std.specs.Prelude.{◌≡◌, ◌⊎◌, ◌≤◌, ◌+◌, ℕ, List, [], ◌∷◌, ◌++◌, length, Option, Some, None}
+use Rattle.std.specs.Prelude.{◌≡◌, ◌⊎◌, ◌<◌, ◌≤◌, ◌+◌, ℕ, List, [], ◌∷◌, ◌++◌, length, Option, Some, None}
 use Rattle.plan_types.specs.declared.levels.Level.{Level}
 use Rattle.plan_types.specs.declared.machine.Machine.{Machine}
 use Rattle.plan_types.specs.Machines.{board_at}
@@ -11,7 +11,7 @@ use Rattle.axis_homing.specs.declared.homing.Homing.{Homing}
 use Rattle.host_reactor.specs.Runs.{Came, state_at}
 use Rattle.board_runs.specs.Turns.{BoardTurn, latest_state}
 use Rattle.clock_runs.specs.Runs.{IsInRun}
-use Rattle.homing_laws.specs.home_runs.Sections.{IsAnswered, TakesSetUp, TakesStops}
+use Rattle.homing_laws.specs.home_runs.Sections.{IsAnswered, TakesSetUp}
 use Rattle.homing_laws.specs.fired_runs.Since.{IsReadSo}
 
 -- no unit sets a clock
@@ -24,9 +24,14 @@ abbrev pub SetNoClockFrom : ℕ → List BoardTurn → Type 0
 SetNoClockFrom from [] = Unit {0}
 SetNoClockFrom from (t ∷ before) = (from ≤ length before → SetNoClock t.batch.units) × SetNoClockFrom from before
 
+-- no unit is sent in some turns from a number on and before another one
+abbrev pub SendNoneIn : ℕ → ℕ → List BoardTurn → Type 0
+SendNoneIn from to [] = Unit {0}
+SendNoneIn from to (t ∷ before) = (from ≤ length before → length before < to → t.batch.units ≡ []) × SendNoneIn from to before
+
 -- A homing section of a board in a run, which starts in a turn and whose group answers in another: the section was known, and no unit set a
--- clock, from 254 turns before its start on; the board took the set-up by the answer; and it did so in time, or what it told is read as the ticks
--- since which its trigger can't trigger.
+-- clock, from 254 turns before its start on, and none was sent in the four turns of the set-up; and the board took the set-up in time, or what it
+-- told is read as the ticks since which its trigger can't trigger.
 pub record IsHomed (m : Machine) (switches : List Switch) (pins : List (List Level)) (entries : List Entry) (b start end : ℕ) (turns : List BoardTurn) : Type 0 where
   pub came : Came
   pub before : List Came
@@ -40,7 +45,7 @@ pub record IsHomed (m : Machine) (switches : List Switch) (pins : List (List Lev
   pub answered : IsAnswered m switches came before homing
   pub begin : homing.start ≡ start
   pub sets_none : SetNoClockFrom answered.from past
-  pub took : TakesStops (first_state (board_at m b) pins b entries) start past
+  pub sends_none : SendNoneIn answered.from (answered.from + 4) past
   pub fires : TakesSetUp (first_state (board_at m b) pins b entries) start past ⊎ IsReadSo m switches b came before past
 
 -- The parts of a board's steps that are begun in some turns stop with homing sections that have ended by a turn: each such part is begun

@@ -1,23 +1,16 @@
--- A homing section from the note that begins it up to the word that tells of its answer.
-use Rattle.std.specs.Prelude.{◌≡◌, ◌<◌, ◌≤◌, ◌+◌, ◌++◌, ℕ, List, [], ◌∷◌, Option, None, Some, length, true}
-use Rattle.plan_types.specs.declared.levels.Level.{Level}
+-- A homing section from the note that begins it on.
+use Rattle.std.specs.Prelude.{◌≡◌, ◌<◌, ◌≤◌, ℕ, List, [], ◌∷◌, length}
 use Rattle.plan_types.specs.declared.machine.Machine.{Machine}
-use Rattle.plan_types.specs.Machines.{board_at}
 use Rattle.msg_code.specs.declared.talk.NoteNews.{NoteNews}
 use Rattle.msg_code.specs.declared.talk.NoteNews.TheVariants as news
 use Rattle.msg_code.specs.declared.talk.WordNews.{WordNews}
 use Rattle.msg_code.specs.declared.talk.WordNews.TheVariants as word
-use Rattle.wire_scene.specs.declared.scene.Entry.{Entry}
 use Rattle.wire_scene.specs.declared.scene.Switch.{Switch}
-use Rattle.link_work.specs.Stands.{first_state}
 use Rattle.trigger_group.specs.declared.order.Member.{Member}
 use Rattle.host_reactor.specs.declared.ordered.Phase.TheVariants.{Connecting}
 use Rattle.host_reactor.specs.Notes.{noted, news_of}
-use Rattle.host_reactor.specs.Runs.{Came, known_by, last_turn, state_at}
-use Rattle.board_runs.specs.Turns.{BoardTurn, latest_state}
-use Rattle.clock_runs.specs.Runs.{IsInRun}
-use Rattle.run_laws.specs.Homes.{RunSection}
-use Rattle.homing_laws.specs.home_runs.Sections.{IsOf, TakesSetUp}
+use Rattle.host_reactor.specs.Runs.{Came, known_by, last_turn}
+use Rattle.homing_laws.specs.home_runs.Sections.{IsOf}
 
 -- a note begins no section
 abbrev pub BeginsNone : List NoteNews → Type 0
@@ -40,32 +33,3 @@ IsBegunIn m switches from start members (c ∷ before) =
     × (from < length before → BeginsNone (news_of c.note))
     × (from ≤ length before → TellsHomed (last_turn m switches c before).ordered.word.news → ⊥)
     × IsBegunIn m switches from start members before
-
--- A homing section of a board in a run, by what the reactor took and told: a note began it, which was taken 254 turns before its start or
--- earlier; in the turn in which it ends, and the run goes on, the first word since told of its answer; and the board took its set-up in time.
-pub record IsToldIn (m : Machine) (switches : List Switch) (pins : List (List Level)) (entries : List Entry) (b start end : ℕ) (turns : List BoardTurn) : Type 0 where
-  pub came : Came
-  pub before : List Came
-  pub later : List BoardTurn
-  pub past : List BoardTurn
-  pub are : turns ≡ later ++ past
-  pub long : length past ≡ end
-  pub run_is : IsInRun m switches pins entries b before past
-  pub states : state_at b came.states ≡ latest_state past
-  pub goes_on : (last_turn m switches came before).ordered.end ≡ None
-  pub begin : ℕ
-  pub members : List Member
-  pub begun : IsBegunIn m switches begin start members before
-  pub soon : begin + 254 ≤ start
-  pub far : start ≤ end
-  pub none : BeginsNone (news_of came.note)
-  pub homed : TellsHomed (last_turn m switches came before).ordered.word.news
-  pub took : TakesSetUp (first_state (board_at m b) pins b entries) start past
-
--- The parts of a board's steps that are begun in some turns stop with homing sections of the board that were told of by the end of these turns:
--- each such part is begun 254 to 252 turns before the start of one.
-abbrev pub AreToldIn : Machine → List Switch → List (List Level) → List Entry → ℕ → (ℕ → Option ℕ) → List RunSection → List BoardTurn → Type 0
-AreToldIn m switches pins entries b stops ss turns =
-    (turn end : ℕ) → stops turn ≡ Some end → end ≤ length turns →
-    (past : List RunSection) × (s : RunSection) × (later : List RunSection) × (ss ≡ past ++ s ∷ later) × (s.homes ≡ true) × (s.section.end ≡ end) × (s.section.start ≤ turn + 254) × (turn + 252 ≤ s.section.start)
-    × IsToldIn m switches pins entries b s.section.start end turns

@@ -506,7 +506,7 @@ module _ (m : Machine) (v : IsValidMachine m) (short : HaveShortDictionaries m) 
           = λ low later turns made long_so. (
           subst (λ (n : ℕ). HearSoon m s.switches (axis_at m h.axis).board n (y ∷ before) turns) (sym was.6)
           (soon p (axis_at m h.axis).board refl low (f.boards (axis_at m h.axis).board first rest low refl) was.0 was.1 was.2 was.3 was.4 was.5 (ap (λ (n : ℕ). (axis_at m n).board) (sym was.9))
-          (came_in end ∷ ahead) y before later turns (came_snoc (came_in first ∷ []) rest end ∙ at_end) made (sym ends) (long_so ∙ sym ends))) in
+          (came_in end ∷ ahead) y before later turns (came_snoc (came_in first ∷ []) rest end ∙ at_end) made (sym ends) (long_so ∙ sym ends)).1) in
           let closes = closes_first m v s ts p t first rest end c told f long short (little t told) clear not_stopping (have 0 v.boards_some) (λ b low. in_time b low) notes (came_in end ∷ ahead) y before at_end h x.known hear x.tick x.answer in
           let At : ℕ → ℕ → Type 0 = λ axis start. IsSwitchTick m (pins_of (board_at m (axis_at m axis).board) (axis_at m axis).board s.switches) (axis_at m axis).board (axis_at m axis)
           (lines_tick (clocks_at t.clocks (axis_at m axis).board) (start * turn_ns)) x.tick in

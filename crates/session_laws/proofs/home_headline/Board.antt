@@ -1,10 +1,10 @@
 -- Each board of a whole run in which axes home, as the law of its lines asks for it.
-use Rattle.std.proofs.Common.{◌≡◌, ℕ, ◌+◌, ◌-◌, ◌<◌, ◌≤◌, ◌⊎◌, List, [], ◌∷◌, ◌++◌, All, map, take, length, Some, ap, sym, ◌∙◌, subst, arith, inl, inr, length-append}
+use Rattle.std.proofs.Common.{◌≡◌, ℕ, ◌+◌, ◌-◌, ◌*◌, ◌<◌, ◌≤◌, ◌⊎◌, List, [], ◌∷◌, ◌++◌, All, map, take, length, Some, ap, sym, ◌∙◌, subst, arith, inl, inr, length-append}
 use Rattle.std.proofs.lemmas.List.Elements.{All-cons, All-nil}
 use Rattle.plan_types.specs.declared.clock.BoardClock.{BoardClock}
 use Rattle.plan_types.specs.declared.machine.Machine.{Machine}
-use Rattle.plan_types.specs.Clock.{clock_of}
-use Rattle.plan_types.specs.Lines.{Clocks}
+use Rattle.plan_types.specs.Clock.{board_tick, clock_of, turn_ns}
+use Rattle.plan_types.specs.Lines.{Clocks, lines_tick}
 use Rattle.plan_types.specs.Machines.{IsValidMachine, board_at, stepper_at}
 use Rattle.plan_types.specs.Sections.{clocks_at}
 use Rattle.msg_code.specs.declared.talk.State.{State}
@@ -48,10 +48,10 @@ use Rattle.run_plans.specs.Lines.{TookNotes}
 use Rattle.run_plans.specs.Planned.{Plans}
 use Rattle.run_plans.proofs.Running.{started_in}
 use Rattle.session_laws.specs.run_headline.Timely.{AreSound, link_of}
-use Rattle.session_laws.proofs.run_headline.Boarded.{Ready, lines_renewed, ready, run_of, valid_at}
+use Rattle.session_laws.proofs.run_headline.Boarded.{Ready, came_cut, lines_renewed, ready, run_of, valid_at}
 use Rattle.session_laws.proofs.run_headline.Fronts.{controls_limited, front_of, limited, one_less, stepper_made}
 use Rattle.session_laws.proofs.run_headline.Showing.{came_long}
-use Rattle.homing_laws.specs.home_runs.Words.{AreToldIn}
+use Rattle.homing_laws.specs.home_runs.Ended.{AreToldIn}
 use Rattle.homing_laws.proofs.home_runs.Homed.{home_board}
 use Rattle.homing_laws.specs.home_plans.Notes.{AreInARow}
 use Rattle.homing_laws.proofs.home_plans.Noting.{begun_row}
@@ -59,11 +59,13 @@ use Rattle.homing_laws.specs.home_parts.Answers.{ArePastConnecting, IsPlannedBy,
 use Rattle.homing_laws.specs.home_parts.Cuts.{AreOverBefore, cut_on, cuts_on, over_in}
 use Rattle.homing_laws.specs.home_parts.Known.{KnowsLately, StartInRange}
 use Rattle.homing_laws.proofs.home_parts.Controls.{hold_all, took_all}
-use Rattle.homing_laws.proofs.home_parts.Cut.{cuts_spilled, home_run, cuts_soon}
+use Rattle.homing_laws.proofs.home_parts.Cut.{cuts_spilled, home_run, cuts_soon, over_late}
 use Rattle.homing_laws.proofs.home_parts.Limits.{turns_fit}
 use Rattle.homing_laws.proofs.home_parts.Movers.{all_movers}
 use Rattle.homing_laws.proofs.home_parts.Set.{all_set}
-use Rattle.homing_laws.proofs.home_parts.Told.{all_told}
+use Rattle.homing_laws.specs.fired_runs.Since.{AllReadTrue, AreReadSo}
+use Rattle.homing_laws.proofs.home_parts.Apart.{read_so}
+use Rattle.homing_laws.proofs.home_parts.Told.{all_told, row_from}
 use Rattle.session_laws.specs.clock_ages.Renewed.{StayYoung}
 use Rattle.session_laws.proofs.clock_ages.Own.{AreRenewed, Own, follow_on}
 use Rattle.session_laws.specs.home_headline.Little.{HomesLittle}
@@ -150,6 +152,38 @@ module _ (m : Machine) (v : IsValidMachine m) (s : Scene) (b ready until lasts :
       let At : List Orders → Type 0 = λ z. (x : AreTold Clock 0 z states (link_of m s b) end) → Near z x → Result in
       subst At same home_here told near
 
+pub end_at : (m : Machine) (clocks : List Clocks) (until : ℕ) (xs : List Started) (x : Started) (later : List Started) → AreOverBefore m clocks until (xs ++ x ∷ later) → over_in x.section.kind m clocks x < until
+end_at m clocks until [] x later h = h.0
+end_at m clocks until (y ∷ xs) x later h = end_at m clocks until xs x later h.1
+
+-- as a homing section starts the board is no more than a turn ahead of its lines
+pub starts_behind : (m : Machine) (v : IsValidMachine m) (b turns ready first : ℕ) (clocks : List Clocks) (begun : List Started) → b < length m.boards → Followed m b turns clocks ready begun → AreInARow first begun → ready + 260 ≤ first
+    → (past : List Started) (x : Started) (later : List Started) → begun ≡ past ++ x ∷ later → x.start ≤ turns + 1 → board_tick (clock_of (board_at m b)) (x.start - 1) ≤ lines_tick (clocks_at clocks b) (x.start * turn_ns)
+starts_behind m v b turns ready first clocks begun there l row early past x later cut within =
+    let Row : List Started → Type 0 = λ z. AreInARow first z in
+    let Ends : List Started → Type 0 = λ z. AreOverBefore m clocks l.tracked.until z in
+    let at = row_from first past x later (subst Row cut row) in
+    let start = at.0 in
+    let over = end_at m clocks l.tracked.until past x later (subst Ends cut l.over) in
+    let after = over_late x.section.kind m clocks x at.1 in
+    let next : x.start - 1 + 1 ≡ x.start = omega (arith, early, start) in
+    let upto = own_on (board_at m b) (turns + 349) (turns + 349) (valid_at m.boards b there v.boards) (omega arith) in
+    let same = upto.same (x.start - 1) (omega (arith, within)) in
+    let behind_so = l.tracked.behind (x.start - 1) (omega (arith, early, start)) (omega (arith, over, after)) in
+    subst (λ (n : ℕ). board_tick (clock_of (board_at m b)) (x.start - 1) ≤ lines_tick (clocks_at clocks b) (n * turn_ns)) next (omega (arith, same, behind_so))
+
+-- Homing sections are told of: in a scene without entries, or where the board takes the set-ups in time, or where its reports are read true.
+pub told_by : (m : Machine) (v : IsValidMachine m) (s : Scene) (ts : List MotionTurn) (p : Plans m (length m.boards) ts) (t : Told) (b turns ready : ℕ) (whole : List Came) (made : List BoardTurn) → b < length m.boards → Followed m b turns t.clocks ready p.seen.begun
+    → ready + 260 ≤ t.first → AreInARow t.first p.seen.begun → IsPlannedBy m s.switches (length m.boards) ts p whole → KnowsLately m s.switches t.clocks whole → ArePastConnecting m s.switches ready whole → length whole ≤ turns + 1
+    → AreBoardTurns (clock_of (board_at m b)) (link_of m s b) made → ((done : List Orders) (o : Orders) (more : List Orders) → orders_in made ≡ done ++ (o ∷ more) → AllKeepLimits done)
+    → (s.entries ≡ []) ⊎ (TakeSetUps m (pins_of (board_at m b) b s.switches) s.entries b p.seen.begun made ⊎ AllReadTrue m s.switches b whole made)
+    → TakeSetUps m (pins_of (board_at m b) b s.switches) s.entries b p.seen.begun made ⊎ AreReadSo m s.switches b whole made
+told_by m v s ts p t b turns ready whole made there l early row by knows connected long are limits (inl none) = inl (clear_set_ups m (pins_of (board_at m b) b s.switches) s.entries b made none are limits t.first p.seen.begun (omega (arith, early)) row)
+told_by m v s ts p t b turns ready whole made there l early row by knows connected long are limits (inr (inl takes)) = inl takes
+told_by m v s ts p t b turns ready whole made there l early row by knows connected long are limits (inr (inr reads)) =
+    inr (read_so m s.switches b ts p ready t.first t.clocks whole made early row by connected l.tracked.kept knows
+    (λ past x later axis cut home low. starts_behind m v b turns ready t.first t.clocks p.seen.begun there l row early past x later cut (omega (arith, low, long))) reads)
+
 module _ (m : Machine) (v : IsValidMachine m) (s : Scene) (ts : List MotionTurn) (p : Plans m (length m.boards) ts) (t : Told) (first : ReactorTurn) (rest : List ReactorTurn) (end : ReactorTurn) (told : p.seen.told ≡ Some t) where
   -- what came to a board, and what it told, with its sections as far as their units are released before a turn
   abbrev pub here_by : (until b : ℕ) → IsInWhole m s.switches b (clock_of (board_at m b)) (link_of m s b) ts first (rest ++ end ∷ []) → OnBoard
@@ -172,7 +206,7 @@ module _ (m : Machine) (v : IsValidMachine m) (s : Scene) (ts : List MotionTurn)
   lines_of b w r h renewed = followed m b (length rest) (length (came_from [] r.past)) t.clocks p.seen.begun (lines_renewed m v s ts p t first rest end told b r w h renewed)
 
   -- what a board was sent in a run in which axes home, of the sections as far as their units are released before a turn, and that it took the
-  -- set-ups of those that home in time
+  -- set-ups of those that home in time, or that its reports are read true
   pub record Homing (until b : ℕ) (r : Ready m v s ts p t first rest end told) (turns : List BoardTurn) : Type 0 where
     pub by : IsPlannedBy m s.switches (length m.boards) ts p (came_from [] (first ∷ rest))
     pub known : KnowsLately m s.switches t.clocks (came_from [] (first ∷ rest)) × ArePastConnecting m s.switches (length (came_from [] r.past)) (came_from [] (first ∷ rest))
@@ -183,7 +217,7 @@ module _ (m : Machine) (v : IsValidMachine m) (s : Scene) (ts : List MotionTurn)
     pub released : AreReleasedIn (cuts_on m t.clocks until p.seen.begun b)
     pub controls : (done : List Orders) (o : Orders) (more : List Orders) → orders_in turns ≡ done ++ (o ∷ more) → ControlsKeep done
     pub limits : (done : List Orders) (o : Orders) (more : List Orders) → orders_in turns ≡ done ++ (o ∷ more) → AllKeepLimits done
-    pub set_ups : TakeSetUps m (pins_of (board_at m b) b s.switches) s.entries b p.seen.begun turns
+    pub set_ups : TakeSetUps m (pins_of (board_at m b) b s.switches) s.entries b p.seen.begun turns ⊎ AreReadSo m s.switches b (came_from [] (first ∷ rest)) turns
 
   -- a turn up to which the planner made all turns of the run, and behind it none
   module _ (until n b : ℕ) (left : List WordMsg) (w : IsInWhole m s.switches b (clock_of (board_at m b)) (link_of m s b) ts first (rest ++ end ∷ [])) (r : Ready m v s ts p t first rest end told) (h : b < length m.boards) (turns_are : AreReactorTurns m s.switches [] (first ∷ rest))
@@ -232,11 +266,8 @@ module _ (m : Machine) (v : IsValidMachine m) (s : Scene) (ts : List MotionTurn)
         let soon = cuts_soon m (Own m b (length rest)) t.clocks b (length before) t.first until until p.seen.begun (own_on (board_at m b) 0 (length rest + 349) valid (omega arith)).ticks lines.tracked r.early (started_in m ts p t told) h lines.over outs (omega arith) in
         let units = turns_fit (Own m b (length rest)) (clocks_at t.clocks b) (board_at m b).freq (board_at m b).slots (length before) (stops_of p.seen.begun) (cuts_on m t.clocks until p.seen.begun b) turns home soon in
         let limits = limited m v s.switches pins s.entries b whole turns run units in
-        let first_low = r.early in
-        let set_ups : TakeSetUps m pins s.entries b p.seen.begun turns = elim little.set_up [
-          | inl none ↦ clear_set_ups m pins s.entries b turns none w.turns_are limits t.first p.seen.begun (omega (arith, first_low)) row
-          | inr takes ↦ takes
-        ] in
+        let Reads : List Came → Type 0 = λ z. (s.entries ≡ []) ⊎ (TakeSetUps m pins s.entries b p.seen.begun turns ⊎ AllReadTrue m s.switches b z turns) in
+        let set_ups = told_by m v s ts p t b (length rest) (length before) whole turns h lines r.early row by known.0 known.1 (let d = came_long [] (first ∷ rest) in omega (arith, d)) w.turns_are limits (subst Reads (came_cut [] first rest end) little.set_up) in
         record { by = by; known = known; run = run; count = count; home = home; released = soon; controls = controls_limited m v s.switches pins s.entries b whole turns run; limits = limits; set_ups = set_ups }
 
     -- so it is a board of such a run

@@ -1,5 +1,5 @@
 -- The cut lines of a whole run in which axes home are of the sections' own readings.
-use Rattle.std.proofs.Common.{◌≡◌, ℕ, ◌+◌, ◌-◌, ◌*◌, ◌<◌, ◌≤◌, List, [], ◌∷◌, ◌++◌, length, map, Option, Some, None, zero, suc, All, get_or, refl, ap, sym, ◌∙◌, subst, arith, inl, inr, length-append}
+use Rattle.std.proofs.Common.{◌≡◌, ◌⊎◌, ℕ, ◌+◌, ◌-◌, ◌*◌, ◌<◌, ◌≤◌, List, [], ◌∷◌, ◌++◌, length, map, Option, Some, None, zero, suc, All, get_or, refl, ap, sym, ◌∙◌, subst, arith, inl, inr, length-append}
 use Rattle.std.proofs.Math.Logic.{∥∥₁_map}
 use Rattle.std.proofs.lemmas.List.{map-append}
 use Rattle.std.proofs.lemmas.List.Elements.{All-head, All-tail}
@@ -43,21 +43,23 @@ use Rattle.run_boards.specs.Boards.{IsInWhole}
 use Rattle.run_plans.specs.Homed.{is_home}
 use Rattle.run_plans.specs.Planned.{Plans}
 use Rattle.session_laws.specs.run_headline.Timely.{link_of}
-use Rattle.run_parts.proofs.Going.{own_on}
-use Rattle.session_laws.proofs.run_headline.Boarded.{came_long, valid_at}
+use Rattle.session_laws.proofs.run_headline.Boarded.{came_long}
 use Rattle.session_laws.proofs.run_headline.Joining.{of_sections}
 use Rattle.session_laws.proofs.run_headline.Making.{run_made}
 use Rattle.session_laws.proofs.run_headline.Runs.{run_ended}
 use Rattle.session_laws.proofs.run_headline.Showing.{Ended, Facts, in_none, not_told}
 use Rattle.homing_laws.specs.home_runs.Settled.{SetNoClockFrom}
-use Rattle.homing_laws.specs.home_runs.Words.{IsToldIn}
+use Rattle.homing_laws.specs.home_runs.Ended.{IsToldIn}
 use Rattle.homing_laws.proofs.home_runs.Homed.{none_set}
 use Rattle.homing_laws.specs.home_plans.Notes.{AreInARow, CameNotes, WasBegun}
 use Rattle.homing_laws.proofs.home_plans.Knowing.{now_was}
-use Rattle.homing_laws.proofs.home_parts.Cut.{over_late}
-use Rattle.homing_laws.specs.home_parts.Cuts.{AreOverBefore, cut_on, cuts_on}
+use Rattle.homing_laws.specs.home_parts.Cuts.{cut_on, cuts_on}
 use Rattle.homing_laws.specs.home_parts.Known.{KnowsLately}
-use Rattle.homing_laws.proofs.home_parts.Told.{row_from, section_told}
+use Rattle.homing_laws.specs.home_parts.Answers.{TakeSetUps}
+use Rattle.homing_laws.specs.home_runs.Sections.{TakesSetUp}
+use Rattle.homing_laws.proofs.home_parts.Told.{row_from, section_told, take_at}
+use Rattle.session_laws.proofs.home_headline.Board.{starts_behind}
+use Rattle.session_laws.proofs.home_headline.Clear.{clear_set_ups}
 use Rattle.homing_laws.specs.switch_runs.Reports.{HearSoon, WasReported}
 use Rattle.homing_laws.specs.switch_runs.Runs.{IsReadIn}
 use Rattle.session_laws.specs.home_headline.Cuts.{EndsIn, TellEnds, TellsAnswer}
@@ -68,7 +70,7 @@ use Rattle.session_laws.proofs.home_headline.Switches.{all_ends, came_ahead, cam
 use Rattle.session_laws.specs.home_wholes.Own.{AllHearSoon, IsOwnReading, TellOwn}
 use Rattle.session_laws.proofs.home_wholes.Going.{goes_running, may_front}
 use Rattle.session_laws.proofs.home_wholes.Axes.{axis_low}
-use Rattle.session_laws.proofs.home_wholes.Lines.{By, Came_all, Made, Turns_of, by, connected, end_at, formed, knows, lines, may_end, on, row, run_of, set_ups, turn, whole}
+use Rattle.session_laws.proofs.home_wholes.Lines.{By, Came_all, Made, Turns_of, by, connected, formed, knows, limits_of, lines, may_end, on, row, run_of, set_ups, turn, whole}
 use Rattle.session_laws.proofs.home_wholes.Own.{one_axis, own_told}
 use Rattle.run_laws.proofs.Lists.{one_place}
 
@@ -148,32 +150,38 @@ module _ (m : Machine) (v : IsValidMachine m) (s : Scene) (ts : List MotionTurn)
         goes_running m s.switches Pins s.entries Board x.came x.before x.past x.run_is x.states x.goes_on
         (may_front clock link x.later x.past (subst Are x.are w.turns_are) (subst May x.are (may_end m v s ts p t first rest end c told f short little Board there)))
 
-    hears : HearSoon m s.switches Board st.start (y ∷ before) section.0.past
+    hears : ((s.entries ≡ []) ⊎ TakesSetUp (link_of m s Board) st.start section.0.past) × HearSoon m s.switches Board st.start (y ∷ before) section.0.past
     hears =
         let x = section.0 in
         soon p Board refl there (whole m v s ts p t first rest end c told f short little Board there) past st later axis cut home refl (came_in end ∷ ahead) y before x.later x.past
         (came_snoc (came_in first ∷ []) rest end ∙ ap (λ z. came_in end ∷ z) are) x.are (sym ends) x.long
 
+    -- it takes the set-up in time
+    in_time : TakesSetUp (link_of m s Board) st.start section.0.past
+    in_time =
+        let x = section.0 in
+        let early = (turn m v s ts p t first rest end c told f short little).early in
+        let Set_ups : List Started → Type 0 = λ ss. TakeSetUps m Pins s.entries Board ss Turns in
+        elim hears.0 [
+          | inl none ↦
+              let all = clear_set_ups m Pins s.entries Board Turns none (whole m v s ts p t first rest end c told f short little Board there).turns_are (limits_of m v s ts p t first rest end c told f short little Board there) t.first p.seen.begun (omega (arith, early))
+              (row m v s ts p t first rest end c told f short little) in
+              take_at m Pins s.entries Board past st later axis Turns home (subst Set_ups cut all) x.later x.past x.are x.long
+          | inr took ↦ took
+        ]
+
     -- as the section starts the board is no more than a turn ahead of its lines
     order : board_tick (clock_of (board_at m Board)) (st.start - 1) ≤ lines_tick (clocks_at t.clocks Board) (st.start * turn_ns)
     order =
         let r = turn m v s ts p t first rest end c told f short little in
-        let l = lines m v s ts p t first rest end c told f short little Board there in
-        let early = r.early in
+        let in_row = row m v s ts p t first rest end c told f short little in
         let Row : List Started → Type 0 = λ z. AreInARow t.first z in
-        let Ends : List Started → Type 0 = λ z. AreOverBefore m t.clocks l.tracked.until z in
-        let at = row_from t.first past st later (subst Row cut (row m v s ts p t first rest end c told f short little)) in
-        let start = at.0 in
-        let over = end_at m t.clocks l.tracked.until past st later (subst Ends cut l.over) in
-        let after = over_late st.section.kind m t.clocks st at.1 in
-        let next : st.start - 1 + 1 ≡ st.start = omega (arith, early, start) in
+        let at = row_from t.first past st later (subst Row cut in_row) in
         let size = ap length are ∙ length-append ahead (y ∷ before) in
         let long_so = came_long [] (first ∷ rest) in
         let ordered = at.1 in
-        let upto = own_on (board_at m Board) (length rest + 349) (length rest + 349) (valid_at m.boards Board there v.boards) (omega arith) in
-        let same = upto.same (st.start - 1) (omega (arith, ordered, ends, size, long_so)) in
-        let behind_so = l.tracked.behind (st.start - 1) (omega (arith, early, start)) (omega (arith, over, after)) in
-        subst (λ (n : ℕ). board_tick (clock_of (board_at m Board)) (st.start - 1) ≤ lines_tick (clocks_at t.clocks Board) (n * turn_ns)) next (omega (arith, same, behind_so))
+        starts_behind m v Board (length rest) (By m v s ts p t first rest end c told f short little) t.first t.clocks p.seen.begun there (lines m v s ts p t first rest end c told f short little Board there) in_row r.early past st later cut
+        (omega (arith, ordered, ends, size, long_so))
 
     known_so : KnowsLately m s.switches t.clocks (y ∷ before)
     known_so = let Knows : List Came → Type 0 = λ z. KnowsLately m s.switches t.clocks z in knows_tail m s.switches t.clocks ahead (y ∷ before) (subst Knows are (knows m v s ts p t first rest end c told f short little))
@@ -191,10 +199,10 @@ module _ (m : Machine) (v : IsValidMachine m) (s : Scene) (ts : List MotionTurn)
         let Notes : List Started → Type 0 = λ z. CameNotes z x.before in
         let kept = (lines m v s ts p t first rest end c told f short little Board there).tracked.kept in
         let here : Says x.came x.before = λ is says was came hear clocks.
-        own_told m s.switches Pins s.entries Board st.end axis t.first Turns past st later h tick turn v (subst Row cut (row m v s ts p t first rest end c told f short little)) home small refl x (subst Notes cut came) unset runs is says begin was hear t.clocks kept order clocks in
+        own_told m s.switches Pins s.entries Board st.end axis t.first Turns past st later h tick turn v (subst Row cut (row m v s ts p t first rest end c told f short little)) home small refl x (subst Notes cut came) unset runs is says begin was in_time hear t.clocks kept order clocks in
         let now : Says y x.before = subst (λ (z : Came). Says z x.before) section.1 here in
         let both : Says y before = subst (λ (z : List Came). Says y z) section.2 now in
-        both known answer reported notes hears known_so
+        both known answer reported notes hears.1 known_so
 
   own_cut : (ahead : List Came) (y : Came) (before : List Came) (lines : List ReportLine) (x : TellsAnswer m s.switches y before lines) → Came_by ≡ ahead ++ y ∷ before → (number axis : ℕ) (e : EndsIn p.seen.begun (length before) number axis) → number ≡ x.homing.section
       → IsOwnReading m s.switches x.homing.start x.homing.axis before x.tick

@@ -1,5 +1,5 @@
 -- What the lines of a whole run tell of a section of moves, where the board of the stepper ran on behind it.
-use Rattle.std.proofs.Common.{◌≡◌, ◌≢◌, ℕ, true, ◌+◌, ◌<◌, ◌≤◌, List, [], ◌∷◌, ◌++◌, length, map, take, None, Some, refl, ap, sym, ◌∙◌, subst, arith, inl, inr, length-append}
+use Rattle.std.proofs.Common.{◌≡◌, ◌⊎◌, ◌≢◌, ℕ, true, ◌+◌, ◌<◌, ◌≤◌, List, [], ◌∷◌, ◌++◌, length, map, take, None, Some, refl, ap, sym, ◌∙◌, subst, arith, inl, inr, length-append}
 use Rattle.std.proofs.lemmas.List.{length-map, map-append}
 use Rattle.plan_types.specs.declared.cause.Cause.{Cause}
 use Rattle.plan_types.specs.declared.machine.Machine.{Machine}
@@ -8,7 +8,6 @@ use Rattle.plan_types.specs.declared.plan.Pulse.{Pulse}
 use Rattle.plan_types.specs.declared.plan.SectionKind.{SectionKind}
 use Rattle.plan_types.specs.declared.plan.SectionKind.TheVariants.{Home, Moves}
 use Rattle.plan_types.specs.Clock.{clock_of}
-use Rattle.plan_types.specs.Lines.{Clocks}
 use Rattle.plan_types.specs.Machines.{IsValidMachine, board_at, stepper_at}
 use Rattle.plan_types.specs.Sections.{clocks_at, stepper_plan}
 use Rattle.msg_code.specs.declared.talk.ShutNews.{ShutNews}
@@ -30,6 +29,8 @@ use Rattle.session_work.specs.declared.table.ReactorTurn.{ReactorTurn}
 use Rattle.session_run.specs.Boards.{came_from}
 use Rattle.run_laws.specs.Boards.{IsWindow, OnBoard, told_in}
 use Rattle.run_laws.specs.Ends.{MayBe}
+use Rattle.link_work.specs.Limits.{AllKeepLimits}
+use Rattle.link_work.specs.Turn.{Orders}
 use Rattle.run_laws.specs.Homes.{AreOut, IsHomeBoard, RunSection}
 use Rattle.run_laws.specs.Stops.{NeverStop}
 use Rattle.run_parts.proofs.Going.{own_on}
@@ -42,23 +43,23 @@ use Rattle.run_plans.specs.Planned.{Plans}
 use Rattle.run_plans.proofs.Fitting.{between, plan_is}
 use Rattle.run_plans.proofs.Running.{started_in}
 use Rattle.session_laws.specs.run_headline.Timely.{AreSound, link_of}
-use Rattle.session_laws.proofs.run_headline.Boarded.{Ready, came_cut, ready, sound_of, took, valid_at}
+use Rattle.session_laws.proofs.run_headline.Boarded.{Ready, came_cut, came_long, ready, sound_of, took, valid_at}
 use Rattle.session_laws.proofs.run_headline.Showing.{Facts, all_lines, few, long_or, notes_before}
 use Rattle.homing_laws.specs.home_runs.Settled.{AreHomed}
 use Rattle.homing_laws.specs.home_plans.Notes.{AreInARow}
 use Rattle.homing_laws.proofs.home_plans.Noting.{begun_row}
+use Rattle.homing_laws.specs.fired_runs.Since.{AllReadTrue, AreReadSo}
 use Rattle.homing_laws.specs.home_parts.Answers.{ArePastConnecting, IsPlannedBy, MayHome, TakeSetUps}
 use Rattle.homing_laws.specs.home_parts.Cuts.{AreOverBefore, cut_on, cuts_on, over_in}
 use Rattle.homing_laws.specs.home_parts.Known.{KnowsLately, StartInRange}
 use Rattle.homing_laws.proofs.home_parts.Told.{all_told, row_from}
 use Rattle.homing_laws.proofs.home_parts.Limits.{turns_fit}
 use Rattle.session_laws.proofs.run_headline.Fronts.{limited}
-use Rattle.session_laws.proofs.home_headline.Clear.{clear_set_ups}
 use Rattle.cause_runs.specs.Short.{HaveShortDictionaries}
 use Rattle.session_laws.proofs.clock_ages.Own.{Own}
 use Rattle.session_laws.proofs.clock_ages.Renews.{renews}
 use Rattle.session_laws.specs.home_headline.Little.{HomesLittle}
-use Rattle.session_laws.proofs.home_headline.Board.{Followed, boarded_by, here_by, lines_of, may_by}
+use Rattle.session_laws.proofs.home_headline.Board.{Followed, boarded_by, end_at, here_by, lines_of, may_by, told_by}
 use Rattle.session_laws.proofs.home_headline.Clocks.{run_knows}
 use Rattle.session_laws.proofs.home_headline.Planned.{planned_by}
 use Rattle.session_laws.proofs.home_headline.Ranges.{may_all, on_small, range_all, starts_soon}
@@ -80,10 +81,6 @@ before_last ready past x later before y axis are moves home row =
       | inl a ↦ (row_past ready x before y [] row a).1
       | inr a ↦ elim a [ inl e ↦ absurd (let f : Moves ≡ Home axis = sym moves ∙ ap (λ (z : Started). z.section.kind) e ∙ home in cc) | inr a ↦ absurd a ]
     ]
-
-pub end_at : (m : Machine) (clocks : List Clocks) (until : ℕ) (xs : List Started) (x : Started) (later : List Started) → AreOverBefore m clocks until (xs ++ x ∷ later) → over_in x.section.kind m clocks x < until
-end_at m clocks until [] x later h = h.0
-end_at m clocks until (y ∷ xs) x later h = end_at m clocks until xs x later h.1
 
 module _ (m : Machine) (v : IsValidMachine m) (s : Scene) (ts : List MotionTurn) (p : Plans m (length m.boards) ts) (t : Told) (first : ReactorTurn) (rest : List ReactorTurn) (end : ReactorTurn) (c : Cause) (told : p.seen.told ≡ Some t) (f : Facts m s ts (first ∷ rest) end c)
     (short : HaveShortDictionaries m)
@@ -168,18 +165,20 @@ module _ (m : Machine) (v : IsValidMachine m) (s : Scene) (ts : List MotionTurn)
   pub count : (b : ℕ) (h : b < length m.boards) → length (Turns_of b h) ≡ length (rest ++ end ∷ [])
   count b h = let a = order_length (Turns_of b h) in let d = (on b h).count in omega (arith, a, d)
 
-  -- it takes the set-ups of sections that home in time
-  pub set_ups : (b : ℕ) (h : b < length m.boards) → TakeSetUps m (pins_of (board_at m b) b s.switches) s.entries b p.seen.begun (Turns_of b h)
-  set_ups b h =
+  pub limits_of : (b : ℕ) (h : b < length m.boards) → (done : List Orders) (o : Orders) (more : List Orders) → orders_in (Turns_of b h) ≡ done ++ (o ∷ more) → AllKeepLimits done
+  limits_of b h =
       let k = on b h in
       let pins = pins_of (board_at m b) b s.switches in
       let units = turns_fit k.own (clocks_at t.clocks b) (board_at m b).freq (board_at m b).slots By k.stops (cuts_on m t.clocks Made p.seen.begun b) (Turns_of b h) k.run_is k.released in
-      let limits = limited m v s.switches pins s.entries b Came_all (Turns_of b h) (run_of b h) units in
-      let early = turn.early in
-      elim (little b h (whole b h)).set_up [
-        | inl none ↦ clear_set_ups m pins s.entries b (Turns_of b h) none (whole b h).turns_are limits t.first p.seen.begun (omega (arith, early)) row
-        | inr takes ↦ takes
-      ]
+      limited m v s.switches pins s.entries b Came_all (Turns_of b h) (run_of b h) units
+
+  -- the sections that home are told of
+  pub set_ups : (b : ℕ) (h : b < length m.boards) → TakeSetUps m (pins_of (board_at m b) b s.switches) s.entries b p.seen.begun (Turns_of b h) ⊎ AreReadSo m s.switches b Came_all (Turns_of b h)
+  set_ups b h =
+      let pins = pins_of (board_at m b) b s.switches in
+      let Reads : List Came → Type 0 = λ z. (s.entries ≡ []) ⊎ (TakeSetUps m pins s.entries b p.seen.begun (Turns_of b h) ⊎ AllReadTrue m s.switches b z (Turns_of b h)) in
+      told_by m v s ts p t b (length rest) By Came_all (Turns_of b h) h (lines b h) turn.early row by knows connected (let d = came_long [] (first ∷ rest) in omega (arith, d)) (whole b h).turns_are (limits_of b h)
+      (subst Reads (came_cut [] first rest end) (little b h (whole b h)).set_up)
 
   homed : (b : ℕ) (h : b < length m.boards) → AreHomed m s.switches (pins_of (board_at m b) b s.switches) s.entries b (stops_of p.seen.begun) (Turns_of b h)
   homed b h =

@@ -25,7 +25,7 @@ use Rattle.clock_line.specs.Kept.{AreKept}
 use Rattle.motion_work.specs.Seen.{Started}
 use Rattle.homing_laws.specs.home_runs.Sections.{HomesFrom, IsOf, TakesSetUp}
 use Rattle.homing_laws.specs.home_runs.Settled.{SetNoClockFrom}
-use Rattle.homing_laws.specs.home_runs.Words.{IsToldIn}
+use Rattle.homing_laws.specs.home_runs.Ended.{IsToldIn}
 use Rattle.homing_laws.proofs.home_runs.Joining.{homes_later}
 use Rattle.homing_laws.proofs.home_runs.Knowing.{homing_known, past_known, word_answers}
 use Rattle.homing_laws.specs.home_plans.Notes.{AreInARow, CameNotes, WasBegun}
@@ -89,9 +89,9 @@ pub own_told : (m : Machine) (switches : List Switch) (pins : List (List Level))
     → AreInARow ready (past ++ s ∷ later) → s.section.kind ≡ Home axis → axis < length m.axes → (axis_at m axis).board ≡ b → (t : IsToldIn m switches pins entries b s.start end turns) → CameNotes (past ++ s ∷ later) t.before
     → ((from : ℕ) → from + 254 ≡ s.start → SetNoClockFrom from t.past) → (stands_after (first_state (board_at m b) pins b entries) t.past).core.board.controller.state ≡ Running
     → (noted m t.came.note (known_by m switches t.before)).homing ≡ Some h → answer_in (length t.before) h.start (hears_all (noted m t.came.note (known_by m switches t.before)).clocks t.came.states h).group ≡ Some (Endstop tick) → h.start ≡ s.start
-    → WasReported m switches b h.start (record { reason = 1; tick = tick; turn = turn }) (t.came ∷ t.before) → HearSoon m switches b s.start (t.came ∷ t.before) t.past
+    → WasReported m switches b h.start (record { reason = 1; tick = tick; turn = turn }) (t.came ∷ t.before) → TakesSetUp (first_state (board_at m b) pins b entries) s.start t.past → HearSoon m switches b s.start (t.came ∷ t.before) t.past
     → (clocks : List Clocks) → AreKept (clocks_at clocks b) → board_tick (clock_of (board_at m b)) (s.start - 1) ≤ lines_tick (clocks_at clocks b) (s.start * turn_ns) → KnowsLately m switches clocks (t.came ∷ t.before) → IsReadIn m switches pins b h.start axis t.before tick
-own_told m switches pins entries b end axis ready turns past s later h tick turn v row home small on t notes none runs known answer begin reported soon_heard clocks kept order knows =
+own_told m switches pins entries b end axis ready turns past s later h tick turn v row home small on t notes none runs known answer begin reported took soon_heard clocks kept order knows =
     let run = t.run_is in
     let long = as_long m switches b t.before t.past run.both in
     let soon = t.soon in
@@ -113,6 +113,6 @@ own_told m switches pins entries b end axis ready turns past s later h tick turn
     (record { known = known; end = Endstop tick; answer = answer; from = from; set_up = begins ∙ sym begin; since = own_since })
     (none from begins)
     (subst (λ (n : ℕ). ReadsFrom m switches from n axis t.before) (sym begin) reads) small on
-    (subst (λ (n : ℕ). TakesSetUp (first_state (board_at m b) pins b entries) n t.past) (sym begin) t.took) runs reported
+    (subst (λ (n : ℕ). TakesSetUp (first_state (board_at m b) pins b entries) n t.past) (sym begin) took) runs reported
     (subst (λ (n : ℕ). HearSoon m switches b n (t.came ∷ t.before) t.past) (sym begin) soon_heard)
     (subst (λ (n : ℕ). IsBehind m switches b n (t.came ∷ t.before)) (sym begin) behind)

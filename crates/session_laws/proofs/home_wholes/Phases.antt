@@ -1,5 +1,5 @@
 -- What a running board makes of some commands that halt no stepper: all their steps.
-use Rattle.std.proofs.Common.{◌≡◌, ℕ, ◌≤◌, ◌⊎◌, List, [], ◌∷◌, ◌++◌, Option, Some, None, ap, sym, ◌∙◌, subst, arith, inl, inr, append_assoc, append-nil}
+use Rattle.std.proofs.Common.{◌≡◌, ℕ, ◌<◌, ◌≤◌, ◌⊎◌, List, [], ◌∷◌, ◌++◌, Option, Some, None, ap, sym, ◌∙◌, subst, arith, inl, inr, append_assoc, append-nil}
 use Rattle.std.proofs.lemmas.Bool.Decides.{eqb_tells}
 use Rattle.std.proofs.lemmas.List.{append_cancel_left}
 use Rattle.plan_types.specs.declared.plan.BoardState.TheVariants.{Running, Shut}
@@ -13,15 +13,17 @@ use Rattle.board_sim.specs.Rig.{Rig, takes, takes_all}
 use Rattle.board_sim.proofs.RigShut.{all_left_by}
 use Rattle.run_laws.specs.Known.{Sent, orders_in}
 use Rattle.run_laws.specs.Timely.{AreTimely}
-use Rattle.run_laws.specs.Courses.{Course, course_behind, course_of, courses, no_course, AreGoodOn, AreInTime, IsMadeBy}
-use Rattle.run_laws.proofs.Commanding.{AreQueued, all_stand, stands_same}
+use Rattle.run_laws.specs.Courses.{Course, IsStopped, course_behind, course_from, course_of, courses, no_course, AreGoodOn, AreInTime, IsMadeBy}
+use Rattle.run_laws.proofs.Commanding.{AreQueued, all_stand, finds_on, stands_same}
 use Rattle.run_laws.proofs.Entering.{AreEarly, early_behind}
 use Rattle.run_laws.proofs.Spans.{AreLate, early_up}
 use Rattle.run_laws.proofs.Standing.{BoardStands, SlotStands}
-use Rattle.run_laws.proofs.Stepping.{Script, course_append}
+use Rattle.run_laws.proofs.Stepping.{Script, TakesFind, course_append}
 use Rattle.session_laws.specs.home_wholes.Still.{IsOff, IsStill}
 use Rattle.session_laws.proofs.home_wholes.Still.{IsFree, resets_free, takes_free, takes_off}
 use Rattle.run_laws.proofs.Wholes.{no_time, rise_late}
+use Rattle.homing_laws.specs.clear_groups.Resting.{EachTame, IsTame}
+use Rattle.homing_laws.proofs.clear_groups.Off.{running_off}
 use Rattle.homing_laws.proofs.home_runs.Settled.{AllFrom}
 
 -- the commands of some start no trigger and bind no stepper
@@ -33,6 +35,28 @@ AllStill (s ∷ ss) = IsStill s.order.command × AllStill ss
 abbrev pub IsSince : ℕ → Option ℕ → Type 0
 IsSince low None = ⊥
 IsSince low (Some turn) = low ≤ turn
+
+-- commands that were queued before a turn
+abbrev pub AllBefore : ℕ → List Sent → Type 0
+AllBefore turn [] = Unit {0}
+AllBefore turn (s ∷ ss) = (s.turn < turn) × AllBefore turn ss
+
+pub before_front : (turn : ℕ) (xs ys : List Sent) → AllBefore turn (xs ++ ys) → AllBefore turn xs
+before_front turn [] ys a = tt
+before_front turn (x ∷ xs) ys a = (a.0, before_front turn xs ys a.1)
+
+-- no part was begun yet from that turn on
+one_since : (oid low turn : ℕ) (c : Course) (m : Cmd) (ticks : List ℕ) → turn < low → (IsSince low c.since → ⊥) → IsSince low (course_of oid turn c m ticks).since → ⊥
+one_since oid low turn c (cmd.ResetStepClock other clock) ticks l old since =
+    elim (eqb_tells other oid) [ inl p ↦ (let x : low ≤ turn = rw p.0 at since in omega (arith, x, l)) | inr p ↦ old (rw p.0 at since) ]
+one_since oid low turn c m ticks l old since = old since
+
+pub none_since : (oid low : ℕ) (c : Course) (ss : List Sent) → AllBefore low ss → (IsSince low c.since → ⊥) → IsSince low (course_from oid c ss).since → ⊥
+none_since oid low c [] b old since = old since
+none_since oid low c (s ∷ ss) b old since = none_since oid low (course_behind oid c s) ss b.1 (one_since oid low s.turn c s.order.command s.order.ticks b.0 old) since
+
+pub no_since : (low : ℕ) → IsSince low no_course.since → ⊥
+no_since low x = x
 
 -- steppers whose part was begun in a turn or later are not halted
 abbrev pub AreFree : ℕ → (ℕ → Course) → Controller → Type 0
@@ -58,9 +82,15 @@ pub record Aim (p : Script) : Type 0 where
   pub mean : (oid : ℕ) → (steps oid ≡ []) ⊎ (IsSince low (courses upto oid).since × ((courses upto oid).known.steps ≡ steps oid))
   pub early : (oid : ℕ) → AreEarly (p.own over) (steps oid)
 
+-- The commands that are still to come, behind some that were taken, bind no stepper; or those do that were queued before a turn, as were all that were
+-- taken; and none starts a trigger.
+abbrev pub MayCome : ℕ → List Sent → List Sent → Type 0
+MayCome low done to_come =
+    AllStill to_come ⊎ ((old : List Sent) × (new : List Sent) × (to_come ≡ old ++ new) × EachTame (commands_of (orders_in old)) × AllBefore low (done ++ old) × AllStill new)
+
 -- a board that took the first of these commands, of which the others are still to come, while no trigger of it can trigger; or it made all steps
 abbrev pub Ahead : (p : Script) → Aim p → List Sent → Rig → Type 0
-Ahead p a done r = (to_come : List Sent) × (done ++ to_come ≡ a.upto) × AllStill to_come × IsOff r × AreFree a.low (courses done) r.controller
+Ahead p a done r = (to_come : List Sent) × (done ++ to_come ≡ a.upto) × MayCome a.low done to_come × IsOff r × AreFree a.low (courses done) r.controller
 
 abbrev pub AllMade : (p : Script) → Aim p → List Pulse → Type 0
 AllMade p a made = (oid : ℕ) → Holds (a.steps oid) (only oid made)
@@ -111,6 +141,28 @@ cons_same s t ss ts e = cc
 one_course : (done : List Sent) (s : Sent) (oid : ℕ) → courses (done ++ s ∷ []) oid ≡ course_behind oid (courses done oid) s
 one_course done s oid = course_append oid no_course done (s ∷ [])
 
+-- one of the old commands is taken, or all that are still to come bind no stepper
+old_ahead : (p : Script) (a : Aim p) (done to_come : List Sent) (s t : Sent) (r : Rig) (made : List Pulse) → s ≡ t → (done ++ s ∷ []) ++ to_come ≡ a.upto → IsOff r
+    → (AllStill (t ∷ to_come) → Phase p a (done ++ s ∷ []) (takes r s.order.command).rig made) → (old new : List Sent) → t ∷ to_come ≡ old ++ new → EachTame (commands_of (orders_in old)) → AllBefore a.low (done ++ old) → AllStill new
+    → Phase p a (done ++ s ∷ []) (takes r s.order.command).rig made
+old_ahead p a done to_come s t r made same split off still [] new e tame before fine = still (subst AllStill (sym e) fine)
+old_ahead p a done to_come s t r made same split off still (y ∷ old) new e tame before fine =
+    let c = s.order.command in
+    let first : t ≡ y = cons_same t y to_come (old ++ new) e in
+    let mine : IsTame c = subst (λ (x : Sent). IsTame x.order.command) (sym (same ∙ first)) tame.0 in
+    let moved : AllBefore a.low ((done ++ s ∷ []) ++ old) = subst (λ (x : List Sent). AllBefore a.low x) (ap (λ (x : Sent). done ++ x ∷ old) (sym (same ∙ first)) ∙ sym (append_assoc done (s ∷ []) old)) before in
+    let fresh = before_front a.low (done ++ s ∷ []) old moved in
+    inl (
+      to_come,
+      split,
+      inr (old, new, cons_rest t y to_come (old ++ new) e, tame.1, moved, fine),
+      running_off r.controller.state r c mine off,
+      λ oid since. absurd (none_since oid a.low no_course (done ++ s ∷ []) fresh (no_since a.low) since),
+    )
+  where
+    cons_rest : (x y : Sent) (xs ys : List Sent) → x ∷ xs ≡ y ∷ ys → xs ≡ ys
+    cons_rest x y xs ys e = cc
+
 -- a command that is taken
 one_ahead : (p : Script) (a : Aim p) (by turn : ℕ) (done others : List Sent) (s : Sent) (r : Rig) (made : List Pulse) → done ++ (s ∷ others) ≡ p.all → ((j k : ℕ) → j ≤ k → p.own j ≤ p.own k) → s.turn ≤ turn
     → BoardStands p.own p.stops p.slots by turn (courses done) r.controller → ((oid : ℕ) → IsMadeBy p.own p.stops oid (stepper_at r.controller oid) (courses done oid) (only oid made))
@@ -126,20 +178,25 @@ one_ahead p a by turn done others s r made all up now stands is on (inl ([], cut
     let Made : List Sent → Type 0 = λ x. (oid : ℕ) → IsMadeBy p.own p.stops oid (stepper_at r.controller oid) (courses x oid) (only oid made) in
     let Free : List Sent → Type 0 = λ x. AreFree a.low (courses x) r.controller in
     inr (finish p a by turn r.controller made (omega (arith, soon, from, now)) up (subst Stands same stands) (subst Made same is) (subst Free same free))
-one_ahead p a by turn done others s r made all up now stands is on (inl (t ∷ to_come, cut, still, off, free)) =
+one_ahead p a by turn done others s r made all up now stands is on (inl (t ∷ to_come, cut, may, off, free)) =
     let c = s.order.command in
     let both : s ∷ others ≡ t ∷ (to_come ++ a.rest) =
     append_cancel_left done (s ∷ others) (t ∷ (to_come ++ a.rest)) (all ∙ sym a.all_is ∙ ap (λ x. x ++ a.rest) (sym cut) ∙ append_assoc done (t ∷ to_come) a.rest) in
     let same : s ≡ t = cons_same s t others (to_come ++ a.rest) both in
-    let mine : IsStill c = subst (λ (x : Sent). IsStill x.order.command) (sym same) still.0 in
     let split : (done ++ s ∷ []) ++ to_come ≡ a.upto = append_assoc done (s ∷ []) to_come ∙ ap (λ (x : Sent). done ++ (x ∷ to_come)) same ∙ cut in
+    let still : AllStill (t ∷ to_come) → Phase p a (done ++ s ∷ []) (takes r c).rig made = λ fine.
+    (let mine : IsStill c = subst (λ (x : Sent). IsStill x.order.command) (sym same) fine.0 in
     inl (
       to_come,
       split,
-      still.1,
+      inl fine.1,
       takes_off r c mine off,
       λ oid since. next_free a.low oid s.turn (courses done oid) r c s.order.ticks stands.running mine off on (free oid) (subst (λ (x : Course). IsSince a.low x.since) (one_course done s oid) since),
-    )
+    )) in
+    elim may [
+      | inl fine ↦ still fine
+      | inr x ↦ old_ahead p a done to_come s t r made same split off still x.0 x.1 x.2 x.3 x.4 x.5
+    ]
 
 clash : (r t f : ℕ) → Running ≡ Shut r t f → ⊥
 clash r t f e = cc
@@ -152,13 +209,13 @@ shut_on r ms reason t first is on =
 pub take_ahead : (p : Script) (a : Aim p) (by turn : ℕ) (first done others : List Sent) (r : Rig) (made : List Pulse) → done ++ (first ++ others) ≡ p.all → ((j k : ℕ) → j ≤ k → p.own j ≤ p.own k) → by ≤ turn
     → BoardStands p.own p.stops p.slots by turn (courses done) r.controller → ((oid : ℕ) → IsMadeBy p.own p.stops oid (stepper_at r.controller oid) (courses done oid) (only oid made))
     → AreQueued by first → ((oid : ℕ) → AreGoodOn p.own p.stops p.slots oid (courses done oid) first) → AreTimely (p.own turn) (orders_in first) → AreInTime p.stops by first
-    → (takes_all r (commands_of (orders_in first))).rig.controller.state ≡ Running → Phase p a done r made → Phase p a (done ++ first) (takes_all r (commands_of (orders_in first))).rig made
-take_ahead p a by turn [] done others r made all up le stands is old good timely time on ph =
+    → TakesFind p by (courses done) r (orders_in first) → (takes_all r (commands_of (orders_in first))).rig.controller.state ≡ Running → Phase p a done r made → Phase p a (done ++ first) (takes_all r (commands_of (orders_in first))).rig made
+take_ahead p a by turn [] done others r made all up le stands is old good timely time finds on ph =
     subst (λ (x : List Sent). Phase p a x r made) (sym (append-nil done)) ph
-take_ahead p a by turn (s ∷ ss) done others r made all up le stands is old good timely time on ph =
+take_ahead p a by turn (s ∷ ss) done others r made all up le stands is old good timely time finds on ph =
     let c = s.order.command in
     let after = (takes r c).rig in
-    let one = all_stand p.own up p.stops p.slots by turn (s ∷ []) (courses done) r stands le (old.0, tt) (λ oid. ((good oid).0, tt)) (timely.0, tt) (time.0, tt) in
+    let one = all_stand p.own up p.stops p.slots by turn (s ∷ []) (courses done) r stands le (old.0, tt) (λ oid. ((good oid).0, tt)) (timely.0, tt) (time.0, tt) (λ oid st. ((finds oid st).0, λ none. tt)) in
     let end = (takes_all after (commands_of (orders_in ss))).rig in
     let e : (oid : ℕ) → courses (done ++ s ∷ []) oid ≡ course_behind oid (courses done oid) s = one_course done s in
     let cut : (done ++ s ∷ []) ++ (ss ++ others) ≡ p.all = append_assoc done (s ∷ []) (ss ++ others) ∙ all in
@@ -167,7 +224,8 @@ take_ahead p a by turn (s ∷ ss) done others r made all up le stands is old goo
           let stand = stands_same p.own p.stops p.slots by turn (λ oid. course_behind oid (courses done oid) s) (courses (done ++ s ∷ [])) after.controller e g.0 in
           let now = one_ahead p a by turn done (ss ++ others) s r made all up (omega (arith, old.0, le)) stands is g.0.running ph in
           let rest = take_ahead p a by turn ss (done ++ s ∷ []) others after made cut up le stand (λ oid. rw (e oid) (g.1 oid (only oid made) (is oid))) old.1
-          (λ oid. rw (e oid) (good oid).1) timely.1 time.1 on now in
+          (λ oid. rw (e oid) (good oid).1) timely.1 time.1
+          (λ oid st. finds_on p.stops by s (courses done) r (orders_in ss) time.0 finds oid (subst (λ (x : Course). IsStopped p.stops by x.since) (e oid) st)) on now in
           subst (λ (x : List Sent). Phase p a x end made) (append_assoc done (s ∷ []) ss) rest
       | inr g ↦
           let (reason, t, first, state, may) = g.0 in

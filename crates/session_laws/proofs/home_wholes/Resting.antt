@@ -1,4 +1,4 @@
--- A board between homing sections: no trigger of it can trigger, and no command is left that starts one or binds a stepper.
+-- A board between homing sections: no trigger of it can trigger, and no command is left that starts one.
 use Rattle.std.proofs.Common.{◌≡◌, ℕ, ◌+◌, ◌≤◌, ◌⊎◌, inl, inr, false, List, [], ◌∷◌, ◌++◌, length, drop, Option, Some, None, refl, ap, sym, ◌∙◌, subst, arith, append_assoc, append-nil, length-append}
 use Rattle.std.specs.List.{flat_map}
 use Rattle.std.proofs.lemmas.List.{append_cancel_left, take-append-drop}
@@ -36,7 +36,9 @@ use Rattle.clock_runs.specs.Runs.{IsInRun}
 use Rattle.clock_runs.proofs.Lines.{as_long, run_before}
 use Rattle.run_laws.proofs.Lists.{cuts}
 use Rattle.homing_laws.specs.home_runs.Guards.{AreCalm}
+use Rattle.homing_laws.specs.clear_groups.Resting.{EachTame}
 use Rattle.homing_laws.specs.fired_runs.Since.{IsReadSo}
+use Rattle.homing_laws.proofs.clear_groups.Off.{running_off}
 use Rattle.homing_laws.specs.home_runs.Sections.{HomesFrom, IsAnswered, IsOf, TakesSetUp, queued_by}
 use Rattle.homing_laws.specs.home_runs.Settled.{AreHomed, IsHomed, SetNoClockFrom}
 use Rattle.homing_laws.specs.home_runs.Told.{IsMember}
@@ -50,39 +52,43 @@ use Rattle.homing_laws.proofs.home_runs.Settled.{clock_from}
 use Rattle.homing_laws.proofs.home_runs.Sole.{sole_after}
 use Rattle.homing_laws.proofs.home_runs.Watching.{Watch, watched}
 use Rattle.homing_laws.proofs.home_runs.Windows.{ordered_after}
-use Rattle.session_laws.specs.home_wholes.Still.{EachStill, IsOff, IsStillAt, MeanStill}
-use Rattle.session_laws.proofs.home_wholes.Section.{queued_still}
+use Rattle.session_laws.specs.home_wholes.Still.{EachStill, IsOff, IsStillAt}
+use Rattle.session_laws.proofs.home_wholes.Section.{queued_tame}
 use Rattle.session_laws.proofs.home_wholes.Starting.{IsSettingUp, control_either}
-use Rattle.session_laws.proofs.home_wholes.Still.{takes_off, time_passes}
+use Rattle.session_laws.proofs.home_wholes.Still.{time_passes}
 
--- what is queued and not taken starts no trigger and binds no stepper
+-- some commands start no trigger
+abbrev MeanTame : List Meant → Type 0
+MeanTame ms = EachTame (commands_of ms)
+
+-- what is queued and not taken starts no trigger
 pub record IsCalmQueue (h : Core) : Type 0 where
   pub ordered : IsOrdered h
   pub left : List Meant
   pub rest : h.taken ++ left ≡ h.queued
-  pub still : MeanStill left
+  pub still : EachTame (commands_of left)
 
-mean_both : (xs ys : List Meant) → MeanStill xs → MeanStill ys → MeanStill (xs ++ ys)
+mean_both : (xs ys : List Meant) → MeanTame xs → MeanTame ys → MeanTame (xs ++ ys)
 mean_both [] ys a b = b
 mean_both (x ∷ xs) ys a b = (a.0, mean_both xs ys a.1 b)
 
-mean_parts : (xs ys : List Meant) → MeanStill (xs ++ ys) → MeanStill xs × MeanStill ys
+mean_parts : (xs ys : List Meant) → MeanTame (xs ++ ys) → MeanTame xs × MeanTame ys
 mean_parts [] ys a = (tt, a)
 mean_parts (x ∷ xs) ys a = let p = mean_parts xs ys a.1 in ((a.0, p.0), p.1)
 
 -- what is taken in an event, and what is left
-takes_still : (h : Core) (e : Event) → MeanStill (orders_of e) → (q : IsCalmQueue h) → MeanStill (takes_in h e) × IsCalmQueue (happens h e)
+takes_still : (h : Core) (e : Event) → MeanTame (orders_of e) → (q : IsCalmQueue h) → MeanTame (takes_in h e) × IsCalmQueue (happens h e)
 takes_still h e brings q =
     let o = ordered_by h e q.ordered in
     let l = left_by h e q.left o q.rest in
-    let both = mean_parts (takes_in h e) l.0 (subst MeanStill (sym l.1) (mean_both q.left (orders_of e) q.still brings)) in
+    let both = mean_parts (takes_in h e) l.0 (subst MeanTame (sym l.1) (mean_both q.left (orders_of e) q.still brings)) in
     (both.0, record { ordered = o; left = l.0; rest = l.2; still = both.1 })
 
-all_off : (r : Rig) (ms : List Meant) → MeanStill ms → IsOff r → IsOff (takes_all r (commands_of ms)).rig
+all_off : (r : Rig) (ms : List Meant) → MeanTame ms → IsOff r → IsOff (takes_all r (commands_of ms)).rig
 all_off r [] a off = off
-all_off r (m ∷ ms) a off = all_off (takes r m.command).rig ms a.1 (takes_off r m.command a.0 off)
+all_off r (m ∷ ms) a off = all_off (takes r m.command).rig ms a.1 (running_off r.controller.state r m.command a.0 off)
 
-does_off : (h : Core) (e : Event) → MeanStill (takes_in h e) → IsOff h.board → IsOff (does h e).board
+does_off : (h : Core) (e : Event) → MeanTame (takes_in h e) → IsOff h.board → IsOff (does h e).board
 does_off h (event.Pass t) a off = (time_passes h.board t off).off
 does_off h event.Arrive a off = all_off h.board (takes_in h event.Arrive) a off
 does_off h event.Repeat a off = all_off h.board (takes_in h event.Repeat) a off
@@ -98,7 +104,7 @@ does_off h event.LoseReply a off = off
 abbrev Rests : Core → Core → Type 0
 Rests h g = IsCalmQueue g × (IsOff h.board → IsOff g.board)
 
-steps_rest : (steps : List Step) (h : Core) → MeanStill (flat_map step_queues steps) → IsCalmQueue h → Rests h (run steps h)
+steps_rest : (steps : List Step) (h : Core) → MeanTame (flat_map step_queues steps) → IsCalmQueue h → Rests h (run steps h)
 steps_rest [] h brings q = (q, λ off. off)
 steps_rest (Do e ∷ steps) h brings q =
     let both = mean_parts (orders_of e) (flat_map step_queues steps) brings in
@@ -124,7 +130,7 @@ turns_rest clock first (t ∷ later) past are still q =
     let o = orders t.control t.batch in
     let old = turns_rest clock first later past are.1 still.1 q in
     let steps = turns_are_steps clock (length before) (o ∷ []) l t.after (t.after, are.0.0, refl) in
-    let brings : MeanStill (flat_map step_queues steps.0) = subst MeanStill (sym (steps.2 ∙ append-nil (queued_in o))) (queued_still o still.0) in
+    let brings : MeanTame (flat_map step_queues steps.0) = subst MeanTame (sym (steps.2 ∙ append-nil (queued_in o))) (queued_tame o still.0) in
     let new = steps_rest steps.0 l.core brings old.0 in
     let At : Core → Type 0 = λ g. Rests l.core g in
     let now : Rests l.core t.after.core = subst At (sym steps.1) new in
@@ -142,7 +148,7 @@ record Behind (j : ℕ) (late past : List BoardTurn) : Type 0 where
   queue : List Meant
   are : queued_by (late ++ past) ≡ queued_by past ++ queue
   calm : BringCalm 0 j late → AreCalm 0 j queue
-  still : TurnsStill late → MeanStill queue
+  still : TurnsStill late → MeanTame queue
 
 late_queue : (j : ℕ) (late past : List BoardTurn) → Behind j late past
 late_queue j [] past = record { queue = []; are = sym (append-nil (queued_by past)); calm = λ b. tt; still = λ s. tt }
@@ -153,7 +159,7 @@ late_queue j (t ∷ late) past =
       queue = rest.queue ++ new;
       are = ap (λ (l : List Meant). l ++ new) rest.are ∙ append_assoc (queued_by past) rest.queue new;
       calm = λ b. calm_both 0 j rest.queue new (rest.calm b.1) b.0;
-      still = λ s. mean_both rest.queue new (rest.still s.1) (queued_still (orders t.control t.batch) s.0);
+      still = λ s. mean_both rest.queue new (rest.still s.1) (queued_tame (orders t.control t.batch) s.0);
     }
 
 still_front : (xs ys : List BoardTurn) → TurnsStill (xs ++ ys) → TurnsStill xs
@@ -198,7 +204,7 @@ homed_rests m switches pins entries b c before window late past h from more v r 
     (sym (append_assoc (queued_by past) more left) ∙ ap (λ (x : List Meant). x ++ left) took ∙ rest ∙ all_queued d pins b entries mid old.run.turns_are ∙ parts.are) in
     let calm_late = run_calm m switches pins entries b old.came late past 0 j from h.start ms old.run old.homes old.none (omega (arith, begins, soon)) (omega (arith, soon)) in
     let calm = (calm_parts 0 j more left (subst (λ (x : List Meant). AreCalm 0 j x) (sym both) (parts.calm calm_late))).1 in
-    let left_still = (mean_parts more left (subst MeanStill (sym both) (parts.still (still_behind window late still)))).1 in
+    let left_still = (mean_parts more left (subst MeanTame (sym both) (parts.still (still_behind window late still)))).1 in
     let watch : Watch 0 j core = record {
       ordered = o;
       sole = sole.0;
@@ -268,55 +274,46 @@ timely_rests m switches pins entries b start end total hm took v are member rece
     empty (x ∷ xs) e = absurd (omega (arith, e))
 
 -- or of which what the board tells is read as the ticks since which its trigger can't trigger
-read_rests : (m : Machine) (switches : List Switch) (pins : List (List Level)) (entries : List Entry) (b start end : ℕ) (total : List BoardTurn) (hm : IsHomed m switches pins entries b start end total) → IsReadSo m switches b hm.came hm.before hm.past → IsValidMachine m
+read_rests : (m : Machine) (switches : List Switch) (pins : List (List Level)) (entries : List Entry) (b start end : ℕ) (total : List BoardTurn) (hm : IsHomed m switches pins entries b start end total) → start ≤ end → IsReadSo m switches b hm.came hm.before hm.past → IsValidMachine m
     → AreBoardTurns (clock_of (board_at m b)) (first_state (board_at m b) pins b entries) total → IsMember b (members_of hm.homing.group) → (recent old : List BoardTurn) → total ≡ recent ++ old → TurnsStill recent → length old + 249 ≤ start
     → (stands_after (first_state (board_at m b) pins b entries) total).core.board.controller.state ≡ Running
     → IsCalmQueue (stands_after (first_state (board_at m b) pins b entries) total).core × IsOff (stands_after (first_state (board_at m b) pins b entries) total).core.board
-read_rests m switches pins entries b start end total hm so v are member recent old cut still soon runs =
-    let j = trigger_of m b in
+read_rests m switches pins entries b start end total hm order so v are member recent old cut still soon runs =
     let d = board_at m b in
     let first = first_state d pins b entries in
-    let took = hm.took in
-    let queued = took.queued in
-    let flat : total ≡ (hm.later ++ took.later) ++ took.past = hm.are ∙ ap (λ (x : List BoardTurn). hm.later ++ x) took.are ∙ sym (append_assoc hm.later took.later took.past) in
-    let recent_still : TurnsStill (hm.later ++ took.later) = elim (cuts recent old (hm.later ++ took.later) took.past (sym cut ∙ flat)) [
+    let at_end = hm.long in
+    let recent_still : TurnsStill hm.later = elim (cuts recent old hm.later hm.past (sym cut ∙ hm.are)) [
       | inl p ↦
           let e = ap length p.2 in
-          let f = length-append p.0 took.past in
-          let none : p.0 ≡ [] = empty p.0 (omega (arith, e, f, soon, queued)) in
+          let f = length-append p.0 hm.past in
+          let none : p.0 ≡ [] = empty p.0 (omega (arith, e, f, soon, order, at_end)) in
           subst TurnsStill (sym (p.1 ∙ ap (λ x. recent ++ x) none ∙ append-nil recent)) still
-      | inr p ↦ still_front (hm.later ++ took.later) (p.0 ∷ p.1) (subst TurnsStill p.2 still)
+      | inr p ↦ still_front hm.later (p.0 ∷ p.1) (subst TurnsStill p.2 still)
     ] in
     let now = subst (λ (x : List BoardTurn). AreBoardTurns (clock_of d) first x) hm.are are in
     let ran = ran_turns (clock_of d) first hm.later hm.past now (subst (λ (x : List BoardTurn). (stands_after first x).core.board.controller.state ≡ Running) hm.are runs) in
     let core = (stands_after first hm.past).core in
     let o = ordered_after d pins b entries hm.past hm.run_is.turns_are in
-    let left = drop (length core.link.taken) core.queued in
-    let rest : core.taken ++ left ≡ core.queued = ap (λ (x : List Meant). x ++ left) o.first ∙ take-append-drop (length core.link.taken) core.queued in
-    let parts = late_queue j took.later took.past in
-    let both : took.more ++ left ≡ parts.queue =
-    append_cancel_left (queued_by took.past) (took.more ++ left) parts.queue
-    (sym (append_assoc (queued_by took.past) took.more left) ∙ ap (λ (x : List Meant). x ++ left) took.took ∙ rest ∙ all_queued d pins b entries hm.past hm.run_is.turns_are ∙ ap queued_by took.are ∙ parts.are) in
-    let left_still = (mean_parts took.more left (subst MeanStill (sym both) (parts.still (still_behind hm.later took.later recent_still)))).1 in
-    let queue : IsCalmQueue core = record { ordered = o; left = left; rest = rest; still = left_still } in
     let a = hm.answered in
     let fired = answered_fired m v switches pins entries b hm.came hm.before hm.past hm.homing a.end hm.run_is hm.states so.apart so.reads so.behind a.known a.answer member in
+    let rest = fired.at_rest in
+    let queue : IsCalmQueue core = record { ordered = o; left = rest.left; rest = rest.rest; still = rest.tame } in
     let sole = (sole_after m switches pins entries b hm.before hm.past v hm.run_is ran).0 in
     let off : IsOff core.board = λ oid s is. fired.at_rest.off s (subst (λ (n : ℕ). slot_at core.board n ≡ Some s) (sole oid s is) is) in
-    let last = turns_rest (clock_of d) first hm.later hm.past now (still_front hm.later took.later recent_still) queue in
+    let last = turns_rest (clock_of d) first hm.later hm.past now recent_still queue in
     subst (λ (x : List BoardTurn). IsCalmQueue (stands_after first x).core × IsOff (stands_after first x).core.board) (sym hm.are) (last.0, last.1 off)
   where
     empty : (xs : List BoardTurn) → length xs ≡ 0 → xs ≡ []
     empty [] e = refl
     empty (x ∷ xs) e = absurd (omega (arith, e))
 
-section_rests : (m : Machine) (switches : List Switch) (pins : List (List Level)) (entries : List Entry) (b start end : ℕ) (total : List BoardTurn) (hm : IsHomed m switches pins entries b start end total) → IsValidMachine m
+section_rests : (m : Machine) (switches : List Switch) (pins : List (List Level)) (entries : List Entry) (b start end : ℕ) (total : List BoardTurn) (hm : IsHomed m switches pins entries b start end total) → start ≤ end → IsValidMachine m
     → AreBoardTurns (clock_of (board_at m b)) (first_state (board_at m b) pins b entries) total → IsMember b (members_of hm.homing.group) → (recent old : List BoardTurn) → total ≡ recent ++ old → TurnsStill recent → length old + 249 ≤ start
     → (stands_after (first_state (board_at m b) pins b entries) total).core.board.controller.state ≡ Running
     → IsCalmQueue (stands_after (first_state (board_at m b) pins b entries) total).core × IsOff (stands_after (first_state (board_at m b) pins b entries) total).core.board
-section_rests m switches pins entries b start end total hm v are member recent old cut still soon runs = elim hm.fires [
+section_rests m switches pins entries b start end total hm order v are member recent old cut still soon runs = elim hm.fires [
   | inl took ↦ timely_rests m switches pins entries b start end total hm took v are member recent old cut still soon runs
-  | inr so ↦ read_rests m switches pins entries b start end total hm so v are member recent old cut still soon runs
+  | inr so ↦ read_rests m switches pins entries b start end total hm order so v are member recent old cut still soon runs
 ]
 
 later_past : (xs ys us vs : List BoardTurn) → xs ++ ys ≡ us ++ vs → length ys ≤ length vs → (mid : List BoardTurn) × (vs ≡ mid ++ ys)
@@ -378,7 +375,7 @@ scan m switches pins entries b stops total v are homed runs (c ∷ before) (t �
           let way = at_turn m switches pins entries b t turns hm.answered.from hm.homing.start (members_of hm.homing.group) old.came old.run old.homes (omega (arith, set_up, begin, soon, set, u_soon, long)) in
           elim way [
             | inl s ↦ go s
-            | inr member ↦ section_rests m switches pins entries b start end total hm v are member later (t ∷ turns) cut still (omega (arith, late, set, u_late, long)) runs
+            | inr member ↦ section_rests m switches pins entries b start end total hm order v are member later (t ∷ turns) cut still (omega (arith, late, set, u_late, long)) runs
           ]
     ]
   where
@@ -394,4 +391,4 @@ rests_at m switches pins entries b stops came turns v r homed all runs left cut 
     let q = rest.0 in
     let h = (stands_after (first_state (board_at m b) pins b entries) turns).core in
     let same : q.left ≡ left = append_cancel_left h.taken q.left left (q.rest ∙ sym cut) in
-    (rest.1, subst MeanStill same q.still)
+    (rest.1, subst MeanTame same q.still)

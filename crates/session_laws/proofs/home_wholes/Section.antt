@@ -12,7 +12,7 @@ use Rattle.msg_code.specs.Units.{dir_commands, reset_commands, step_command}
 use Rattle.msg_code.specs.declared.cmd.Cmd.{Cmd}
 use Rattle.msg_code.specs.declared.cmd.Cmd.TheVariants as cmd
 use Rattle.board_sim.specs.Board.{stepper_at}
-use Rattle.board_sim.specs.Fair.{Meant, only}
+use Rattle.board_sim.specs.Fair.{Meant, commands_of, only}
 use Rattle.board_world.specs.Orders.{plain, unit_orders, unit_ticks, units_orders}
 use Rattle.board_world.specs.World.{Core, Step, run, start}
 use Rattle.step_feed.specs.Units.{StepUnit}
@@ -38,12 +38,18 @@ use Rattle.run_laws.proofs.Stepping.{Going, Keeps, Script, course_append, none_h
 use Rattle.run_laws.proofs.Turning.{timely_behind, timely_front}
 use Rattle.session_laws.proofs.home_wholes.Front.{over_front, row_later, run_front, released_front}
 use Rattle.session_laws.proofs.home_wholes.Meaning.{all_mean, orders_behind, section_from, turns_mean, window_brings}
-use Rattle.session_laws.proofs.home_wholes.Phases.{Aim, AllStill, AreFree, Holds, IsSince, finish}
+use Rattle.session_laws.proofs.home_wholes.Phases.{Aim, AllBefore, AllStill, AreFree, Holds, IsSince, before_front, finish, no_since, none_since}
 use Rattle.session_laws.proofs.home_wholes.Stages.{Stage, done_same, turns_stage}
-use Rattle.session_laws.specs.home_wholes.Still.{BringStill, EachStill, IsStillAt, MeanStill}
+use Rattle.session_laws.specs.home_wholes.Still.{BringStill, EachStill, IsStill, IsStillAt}
 use Rattle.session_laws.proofs.home_headline.Stop.{never_shut}
 use Rattle.run_laws.proofs.Wholes.{none_long}
+use Rattle.homing_laws.specs.clear_groups.Resting.{EachTame, IsTame}
 use Rattle.homing_laws.proofs.home_runs.Settled.{from_in}
+
+-- the commands of some that are queued start no trigger and bind no stepper
+abbrev MeanStill : List Meant → Type 0
+MeanStill [] = Unit {0}
+MeanStill (m ∷ ms) = IsStill m.command × MeanStill ms
 
 mean_both : (xs ys : List Meant) → MeanStill xs → MeanStill ys → MeanStill (xs ++ ys)
 mean_both [] ys a b = b
@@ -56,10 +62,6 @@ still_both (x ∷ xs) ys a b = (a.0, still_both xs ys a.1 b)
 still_at : (turn : ℕ) (ms : List Meant) → MeanStill ms → AllStill (sent_at turn ms)
 still_at turn [] a = tt
 still_at turn (m ∷ ms) a = (a.0, still_at turn ms a.1)
-
-still_sent : (ss : List Sent) → MeanStill (orders_in ss) → AllStill ss
-still_sent [] a = tt
-still_sent (s ∷ ss) a = (a.0, still_sent ss a.1)
 
 plain_still : (cs : List Cmd) → EachStill cs → MeanStill (map plain cs)
 plain_still [] a = tt
@@ -78,16 +80,23 @@ units_still : (us : List StepUnit) → MeanStill (units_orders us)
 units_still [] = tt
 units_still (u ∷ us) = mean_both (unit_orders u) (units_orders us) (unit_still u) (units_still us)
 
-pub queued_still : (o : Orders) → EachStill o.control.commands → MeanStill (queued_in o)
+queued_still : (o : Orders) → EachStill o.control.commands → MeanStill (queued_in o)
 queued_still o a = mean_both (map plain o.control.commands) (units_orders o.batch.units) (plain_still o.control.commands a) (units_still o.batch.units)
+
+still_tame : (ms : List Meant) → MeanStill ms → EachTame (commands_of ms)
+still_tame [] a = tt
+still_tame (m ∷ ms) a = (one m.command a.0, still_tame ms a.1)
+  where
+    one : (c : Cmd) → IsStill c → IsTame c
+    one (cmd.TrsyncStart oid clock every reason) i = i
+    one c i = tt
+
+pub queued_tame : (o : Orders) → EachStill o.control.commands → EachTame (commands_of (queued_in o))
+queued_tame o a = still_tame (queued_in o) (queued_still o a)
 
 orders_still : (turn : ℕ) (os : List Orders) → BringStill os → AllStill (sent_in turn os)
 orders_still turn [] a = tt
 orders_still turn (o ∷ os) a = still_both (sent_at turn (queued_in o)) (sent_in (turn + 1) os) (still_at turn (queued_in o) (queued_still o a.0)) (orders_still (turn + 1) os a.1)
-
-abbrev AllBefore : ℕ → List Sent → Type 0
-AllBefore turn [] = Unit {0}
-AllBefore turn (s ∷ ss) = (s.turn < turn) × AllBefore turn ss
 
 before_at : (turn to : ℕ) (ms : List Meant) → turn < to → AllBefore to (sent_at turn ms)
 before_at turn to [] l = tt
@@ -100,23 +109,6 @@ before_both turn (x ∷ xs) ys a b = (a.0, before_both turn xs ys a.1 b)
 before_in : (turn to : ℕ) (os : List Orders) → turn + length os ≤ to → AllBefore to (sent_in turn os)
 before_in turn to [] l = tt
 before_in turn to (o ∷ os) l = before_both to (sent_at turn (queued_in o)) (sent_in (turn + 1) os) (before_at turn to (queued_in o) (omega (arith, l))) (before_in (turn + 1) to os (omega (arith, l)))
-
-before_front : (turn : ℕ) (xs ys : List Sent) → AllBefore turn (xs ++ ys) → AllBefore turn xs
-before_front turn [] ys a = tt
-before_front turn (x ∷ xs) ys a = (a.0, before_front turn xs ys a.1)
-
--- no part was begun yet from that turn on
-one_since : (oid low turn : ℕ) (c : Course) (m : Cmd) (ticks : List ℕ) → turn < low → (IsSince low c.since → ⊥) → IsSince low (course_of oid turn c m ticks).since → ⊥
-one_since oid low turn c (cmd.ResetStepClock other clock) ticks l old since =
-    elim (eqb_tells other oid) [ inl p ↦ (let x : low ≤ turn = rw p.0 at since in omega (arith, x, l)) | inr p ↦ old (rw p.0 at since) ]
-one_since oid low turn c m ticks l old since = old since
-
-none_since : (oid low : ℕ) (c : Course) (ss : List Sent) → AllBefore low ss → (IsSince low c.since → ⊥) → IsSince low (course_from oid c ss).since → ⊥
-none_since oid low c [] b old since = old since
-none_since oid low c (s ∷ ss) b old since = none_since oid low (course_behind oid c s) ss b.1 (one_since oid low s.turn c s.order.command s.order.ticks b.0 old) since
-
-no_since : (low : ℕ) → IsSince low no_course.since → ⊥
-no_since low x = x
 
 clash : (r t f : ℕ) → Running ≡ Shut r t f → ⊥
 clash r t f e = cc
@@ -247,7 +239,8 @@ module _ (b : BoardDef) (pins : List (List Level)) (own : ℕ → ℕ) (clocks :
             let upto : done ++ to_come ≡ Upto = ap (λ x. x ++ to_come) same ∙ sym (append_assoc g.done g.left (sent_in a mine)) ∙ ap (λ x. x ++ sent_in a mine) (sym g.sent_is) in
             let old : AllBefore a (g.done ++ g.left) = subst (λ (x : List Sent). AllBefore a x) g.sent_is (before_in 0 a before (omega arith)) in
             let fresh : AllBefore a done = subst (λ (x : List Sent). AllBefore a x) (sym same) (before_front a g.done g.left old) in
-            inl (to_come, upto, still_both g.left (sent_in a mine) (still_sent g.left off.1) (orders_still a mine brings), off.0, λ oid since. absurd (none_since oid a no_course done fresh (no_since a) since))
+            let held : AllBefore a (done ++ g.left) = subst (λ (x : List Sent). AllBefore a (x ++ g.left)) (sym same) old in
+            inl (to_come, upto, inr (g.left, sent_in a mine, refl, off.1, held, orders_still a mine brings), off.0, λ oid since. absurd (none_since oid a no_course done fresh (no_since a) since))
         | inr d ↦
             let (reason, t, first_tick, state, may) = d.shut in
             absurd (clash reason t first_tick (sym running ∙ state))

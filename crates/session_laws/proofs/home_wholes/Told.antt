@@ -10,8 +10,8 @@ use Rattle.run_laws.specs.Homes.{AreOrdersIn, IsHomeRun, RunSection, AreReleased
 use Rattle.board_runs.specs.Turns.{BoardTurn}
 use Rattle.clock_runs.specs.Runs.{orders_in}
 use Rattle.homing_laws.specs.home_runs.Settled.{AreHomed, IsHomed}
-use Rattle.homing_laws.specs.home_runs.Words.{AreToldIn, IsToldIn}
-use Rattle.homing_laws.proofs.home_runs.Homed.{orders_front, told_homed}
+use Rattle.homing_laws.specs.home_runs.Ended.{AreToldIn, IsToldIn}
+use Rattle.homing_laws.proofs.home_runs.Homed.{none_sent, orders_front, told_homed}
 use Rattle.homing_laws.proofs.home_runs.Settled.{later_orders}
 use Rattle.homing_laws.proofs.home_runs.Unclocked.{none_from}
 
@@ -29,6 +29,7 @@ one_homed m switches pins entries b freq slots ready end own clocks stops past s
     let all : AreOrdersIn clocks ss 0 (orders_in t.past ++ more.0) = subst (λ (os : List Orders). AreOrdersIn clocks ss 0 os) (ap orders_in t.are ∙ more.1) run.orders in
     told_homed m switches pins entries b start end from turns t begins
     (none_from clocks freq slots run.tracked.until ready from stops past s later t.past run.row run.sections out (orders_front clocks ss 0 (orders_in t.past) more.0 all) homes begins (omega (arith, long, at)))
+    (none_sent m switches pins entries b freq slots ready end own clocks stops past s later turns run out homes t from begins)
 
 pub all_homed : (m : Machine) (switches : List Switch) (pins : List (List Level)) (entries : List Entry) (b freq slots ready : ℕ) (own : ℕ → ℕ) (clocks : Clocks) (others stops : ℕ → Option ℕ) (ss : List RunSection) (turns : List BoardTurn)
     → IsHomeRun own clocks freq slots ready others ss (orders_in turns) → AreReleasedIn ss → AreToldIn m switches pins entries b stops ss turns → AreHomed m switches pins entries b stops turns

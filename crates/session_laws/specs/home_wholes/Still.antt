@@ -5,7 +5,7 @@ use Rattle.plan_types.specs.Clock.{clock_of}
 use Rattle.msg_code.specs.declared.cmd.Cmd.{Cmd}
 use Rattle.msg_code.specs.declared.cmd.Cmd.TheVariants as cmd
 use Rattle.wire_scene.specs.declared.scene.Entry.{Entry}
-use Rattle.board_sim.specs.Fair.{Meant}
+use Rattle.board_sim.specs.Fair.{Meant, commands_of}
 use Rattle.board_sim.specs.Rig.{Rig, Slot, slot_at}
 use Rattle.board_world.specs.World.{Core}
 use Rattle.section_units.specs.Sections.{BoardSection}
@@ -13,6 +13,7 @@ use Rattle.link_work.specs.Runs.{AreTurns}
 use Rattle.link_work.specs.Stands.{first_state}
 use Rattle.link_work.specs.Turn.{LinkState, Orders}
 use Rattle.run_laws.specs.Boards.{OnBoard}
+use Rattle.homing_laws.specs.clear_groups.Resting.{EachTame}
 
 -- no trigger of a board can trigger
 abbrev pub IsOff : Rig → Type 0
@@ -29,19 +30,14 @@ abbrev pub EachStill : List Cmd → Type 0
 EachStill [] = Unit {0}
 EachStill (c ∷ cs) = IsStill c × EachStill cs
 
--- and some that are queued
-abbrev pub MeanStill : List Meant → Type 0
-MeanStill [] = Unit {0}
-MeanStill (m ∷ ms) = IsStill m.command × MeanStill ms
-
 -- and the controls of some turns
 abbrev pub BringStill : List Orders → Type 0
 BringStill [] = Unit {0}
 BringStill (o ∷ os) = EachStill o.control.commands × BringStill os
 
--- As a turn begins, no trigger of a board that runs can trigger, and what is left in the queue starts none and binds no stepper.
+-- As a turn begins, no trigger of a board that runs can trigger, and what is left in the queue starts none.
 abbrev pub IsStillAt : Core → Type 0
-IsStillAt h = h.board.controller.state ≡ Running → (left : List Meant) → h.taken ++ left ≡ h.queued → IsOff h.board × MeanStill left
+IsStillAt h = h.board.controller.state ≡ Running → (left : List Meant) → h.taken ++ left ≡ h.queued → IsOff h.board × EachTame (commands_of left)
 
 -- A board is still in a section's turns: as the first turn begins in which units of the section may be released, and up to six turns
 -- behind its end no control starts a trigger or binds a stepper.

@@ -28,8 +28,8 @@ use Rattle.board_asking.specs.Machine.{trigger_of}
 use Rattle.trigger_group.specs.declared.order.Member.{Member}
 use Rattle.axis_homing.specs.declared.homing.Homing.{Homing}
 use Rattle.axis_homing.specs.Rising.{members_of}
-use Rattle.host_reactor.specs.Runs.{Came, known_by, state_at}
-use Rattle.board_runs.specs.Turns.{AreBoardTurns, BoardTurn, latest_state, stands_after}
+use Rattle.host_reactor.specs.Runs.{Came, known_by}
+use Rattle.board_runs.specs.Turns.{AreBoardTurns, BoardTurn, stands_after}
 use Rattle.clock_runs.specs.Runs.{IsInRun}
 use Rattle.clock_runs.specs.Runs as clock_runs
 use Rattle.clock_runs.proofs.Lines.{as_long, run_before}
@@ -38,7 +38,7 @@ use Rattle.run_laws.specs.Courses.{AreInTime, Course, IsFrom, FindStopped, IsInT
 use Rattle.run_laws.specs.Finds.{AllSetNot, SetsNot, StepsFindHalted}
 use Rattle.run_laws.specs.Known.{Known, Sent, more_steps, orders_in, sent_at, sent_in}
 use Rattle.run_laws.proofs.Lists.{cons_same, cuts, orders_append, orders_at, orders_long, shorter}
-use Rattle.homing_laws.specs.home_runs.Sections.{HomesFrom, IsAnswered, IsMoved, SetNone, SetNoneFrom, TakesSetUp, queued_by}
+use Rattle.homing_laws.specs.home_runs.Sections.{HomesFrom, IsMoved, SetNone, SetNoneFrom, TakesSetUp, queued_by}
 use Rattle.homing_laws.specs.home_runs.Settled.{AreHomed, IsHomed, SendNoneIn, SetNoClock, SetNoClockFrom}
 use Rattle.homing_laws.specs.fired_runs.Since.{HasFiredSince}
 use Rattle.homing_laws.specs.fired_runs.Waiting.{AllStepNot, MoveNone, MoveNoneIn, StepsNot, TookNone}

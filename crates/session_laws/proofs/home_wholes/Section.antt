@@ -1,6 +1,5 @@
 -- A section of moves on a board in a run in which axes home: its steps are all made once its commands are taken.
 use Rattle.std.proofs.Common.{◌≡◌, ℕ, suc, false, ◌+◌, ◌-◌, ◌<◌, ◌≤◌, ◌⊎◌, List, [], ◌∷◌, ◌++◌, length, map, Bool, Option, Some, None, refl, ap, sym, ◌∙◌, subst, arith, inl, inr, append_assoc, append-nil, length-append}
-use Rattle.std.proofs.lemmas.Bool.Decides.{eqb_tells}
 use Rattle.std.proofs.lemmas.List.Elements.{All-head}
 use Rattle.std.specs.List.{flat_map}
 use Rattle.plan_types.specs.declared.levels.Level.{Level}
@@ -20,7 +19,7 @@ use Rattle.section_units.specs.Sections.{AreBefore, base_of, section_steps}
 use Rattle.link_work.specs.Runs.{queued_in}
 use Rattle.link_work.specs.Turn.{Orders}
 use Rattle.link_work.proofs.Sending.{run_append}
-use Rattle.run_laws.specs.Courses.{AreMadeFor, Course, IsMadeBy, courses, course_behind, course_from, course_of, no_course, parts_of}
+use Rattle.run_laws.specs.Courses.{AreMadeFor, Course, IsMadeBy, courses, course_from, no_course, parts_of}
 use Rattle.run_laws.specs.Homes.{AreInTurn, AreOrdersIn, IsHomeRun, IsHomeSpan, IsMovesIn, IsSectionBy, RunSection}
 use Rattle.run_laws.specs.Ends.{MayBe}
 use Rattle.run_laws.specs.Stops.{NeverStop}

@@ -97,7 +97,7 @@ use Rattle.session_laws.proofs.clear_runs.Clear.{run_through}
 use Rattle.session_laws.proofs.clear_runs.Stopped.{run_is_for}
 use Rattle.session_laws.proofs.clear_runs.Through.{sends_hold}
 use Rattle.report_laws.specs.Promises.{FollowsPlanBy, IsCauseOf, IsCompleteBefore, IsCompleteBy, IsCompleteOfMovesBefore, IsCompleteOfMovesBy, lines_line, sections_over}
-use Rattle.report_laws.specs.Homes.{ShowsBegun, ShowsFront, ShowsHomes}
+use Rattle.report_laws.specs.Homes.{ShowsBegun, ShowsHomes}
 use Rattle.report_laws.specs.Linked.{IsLinkReport, ShowsText}
 use Rattle.report_laws.specs.Shown.{lines_behind, pulses_before, pulses_in, section_turn, sections_shown}
 use Rattle.report_laws.proofs.Behind.{AreNumbered, behind, behind_front, in_stays, next_begun, numbered_due, numbered_front}
@@ -718,40 +718,38 @@ module _ (m : Machine) (seen : Seen) (clocks : List Clocks) (ready : ℕ) (own c
       whole : GoesThrough c → gather (λ t. t.lines) (first ∷ later) ≡ said
       whole g = shown_all ∙ ap (λ z. said ++ z) (begun_through g).0 ∙ append-nil said
 
--- and what is of pulses too, whatever ended the run
-module _ (m : Machine) (seen : Seen) (clocks : List Clocks) (ready : ℕ) (own c : Cause) (text : List ℕ) (said rest : List ReportLine) (spread : Spread 260 seen.begun) (same : seen.text ≡ text) (complete : ShowsAll c → (rest ≡ []) × (c ≡ own)) where
-  front_shown : (turns : List ReactorTurn) → (x : ReactorTurn) × (xs : List ReactorTurn) × (turns ≡ x ∷ xs) → AllShowBegun m seen clocks ready own turns → AllShowHomes m seen clocks ready own turns → gather (λ t. t.lines) turns ≡ said ++ rest → ShowsFront m text c said
+-- and what is of pulses too, where this may be said of the turns
+module _ (m : Machine) (seen : Seen) (clocks : List Clocks) (ready : ℕ) (own c : Cause) (text : List ℕ) (said rest : List ReportLine) (spread : Spread 260 seen.begun) (same : seen.text ≡ text) (complete : ShowsAll c → (rest ≡ []) × (c ≡ own)) (Little : Type 0) where
+  front_shown : (turns : List ReactorTurn) → (x : ReactorTurn) × (xs : List ReactorTurn) × (turns ≡ x ∷ xs) → AllShowBegun m seen clocks ready own turns → (Little → AllShowHomes m seen clocks ready own turns) → gather (λ t. t.lines) turns ≡ said ++ rest
+      → (begun : ShowsBegun m text c said) × (Little → FollowsPlanBy begun.clocks m (sections_over m text) said)
   unfolding begun_shown
   front_shown [] some b h shown_all = absurd (let e : [] ≡ some.0 ∷ some.1 = some.2 in cc)
-  front_shown (first ∷ later) some b h shown_all = record {
-    begun = begun_shown m seen clocks ready own c text said rest same complete (first ∷ later) some b shown_all;
-    prefix = let At : List ReportLine → Type 0 = λ z. FollowsPlanBy clocks m (sections_over m text) z in follow_front clocks m text said rest (subst At shown_all (homes_follow m seen clocks ready own text first later spread h same));
-  }
+  front_shown (first ∷ later) some b h shown_all = (
+    begun_shown m seen clocks ready own c text said rest same complete (first ∷ later) some b shown_all,
+    λ little. let At : List ReportLine → Type 0 = λ z. FollowsPlanBy clocks m (sections_over m text) z in follow_front clocks m text said rest (subst At shown_all (homes_follow m seen clocks ready own text first later spread (h little) same)),
+  )
 
 no_turn : (turn : ℕ) → None ≡ Some turn → ⊥
 no_turn turn e = cc
 
 -- where nothing was written
-nothing_shown : (m : Machine) (text : List ℕ) (c : Cause) → (GoesThrough c → ⊥) → ShowsFront m text c []
+nothing_shown : (m : Machine) (text : List ℕ) (c : Cause) → (GoesThrough c → ⊥) → ShowsBegun m text c []
 nothing_shown m text c not = record {
-  begun = record {
-    clocks = [];
-    ready = 260;
-    begun = [];
-    of_text = refl;
-    started = tt;
-    sections = ([], refl);
-    all = λ g. absurd (not g);
-    boards = λ i turn e. absurd (no_turn turn e);
-    sound = λ i turn e. absurd (no_turn turn e);
-    counts = λ g. absurd (not g);
-    cause = λ g. absurd (not g);
-    last = 0;
-    further = λ i turn e b h. absurd (no_turn turn e);
-    first = λ i turn e. absurd (no_turn turn e);
-    named = λ i turn e. absurd (no_turn turn e);
-  };
-  prefix = λ i turn s e h. absurd (no_turn turn e);
+  clocks = [];
+  ready = 260;
+  begun = [];
+  of_text = refl;
+  started = tt;
+  sections = ([], refl);
+  all = λ g. absurd (not g);
+  boards = λ i turn e. absurd (no_turn turn e);
+  sound = λ i turn e. absurd (no_turn turn e);
+  counts = λ g. absurd (not g);
+  cause = λ g. absurd (not g);
+  last = 0;
+  further = λ i turn e b h. absurd (no_turn turn e);
+  first = λ i turn e. absurd (no_turn turn e);
+  named = λ i turn e. absurd (no_turn turn e);
 }
 
 nothing_written : (said rest : List ReportLine) → [] ≡ said ++ rest → said ≡ []
@@ -850,14 +848,6 @@ module _ {F S : Type 0} (f : Files F) (o : Sink S) (m : Machine) (s : Scene) (gc
             w.2 ∙ is ∙ ends_as (program_end m text).stop;
       })
 
-  -- whatever its links hold
-  begun_texts : (r : IsReported f o m s gcode files files' out out' c lines counts links) (text : List ℕ) → f.told files gcode ≡ Some text → (r.told.cause ≡ cause.Memory → ⊥) → ∥ ShowsBegun m text c r.said ∥₁
-  begun_texts r text told other =
-      ∥∥₁_map (run_made f o m s gcode files files' out r.behind r.kept r.kept' r.told r.runs text told r.fresh.at) (λ w.
-      let seen = w.0.plans.seen in
-      begun_shown m seen (clocks_heard seen.told) (ready_heard seen.told) r.told.cause c text r.said r.rest w.1 (shows_all r) (r.runs.runs.1 ++ r.runs.runs.2 ∷ []) (some_turns r.runs.runs.1 r.runs.runs.2)
-      (all_begun m v s r.runs.runs.0 w.0.plans r.runs.runs.2 r.told.cause r.runs.runs.1 (facts f o m s gcode files files' out r.behind r.kept r.kept' r.told r.runs other)) r.shown)
-
   -- and of any text
   home_texts : (r : IsReported f o m s gcode files files' out out' c lines counts links) (text : List ℕ) → f.told files gcode ≡ Some text → (r.told.cause ≡ cause.Memory → ⊥)
       → AllHomeLittle m s text r.runs.runs.0 (r.runs.runs.1 ++ r.runs.runs.2 ∷ []) → ∥ ShowsHomes m s.switches text c r.said ∥₁
@@ -874,23 +864,26 @@ module _ {F S : Type 0} (f : Files F) (o : Sink S) (m : Machine) (s : Scene) (gc
       (all_ends m v s r.runs.runs.0 made.plans r.runs.runs.2 r.told.cause r.runs.runs.1 (run_ended f o m s gcode files files' out r.behind r.kept r.kept' r.told r.runs other))
       (all_wholes m v s r.runs.runs.0 made.plans r.runs.runs.2 r.told.cause r.runs.runs.1 all short held) r.shown)
 
-  -- and of any text, whatever ended the run
-  front_texts : (r : IsReported f o m s gcode files files' out out' c lines counts links) (text : List ℕ) → f.told files gcode ≡ Some text → ShownHoldLittle m s text r.runs.runs.0 r.runs.runs.1 r.runs.runs.2 r.told.cause → ∥ ShowsFront m text c r.said ∥₁
-  front_texts r text told little = elim (memory_or r.told.cause) [
+  -- whatever its links hold, and whatever ended it
+  abbrev HoldLittle : IsReported f o m s gcode files files' out out' c lines counts links → List ℕ → Type 0
+  HoldLittle r text = ShownHoldLittle m s text r.runs.runs.0 r.runs.runs.1 r.runs.runs.2 r.told.cause
+
+  begun_texts : (r : IsReported f o m s gcode files files' out out' c lines counts links) (text : List ℕ) → f.told files gcode ≡ Some text → ∥ ((begun : ShowsBegun m text c r.said) × (HoldLittle r text → FollowsPlanBy begun.clocks m (sections_over m text) r.said)) ∥₁
+  begun_texts r text told = elim (memory_or r.told.cause) [
     | inr other ↦ ∥∥₁_map (run_made f o m s gcode files files' out r.behind r.kept r.kept' r.told r.runs text told r.fresh.at) (λ w.
         let made = w.0 in
         let seen = made.plans.seen in
         let turns = r.runs.runs.1 ++ r.runs.runs.2 ∷ [] in
         let Little : List ℕ → Type 0 = λ z. AllHomeLittle m s z r.runs.runs.0 turns in
-        let held = subst Little (sym w.1) (little.0 other) in
         let all = facts f o m s gcode files files' out r.behind r.kept r.kept' r.told r.runs other in
-        front_shown m seen (clocks_heard seen.told) (ready_heard seen.told) r.told.cause c text r.said r.rest (plans_spread m (length m.boards) r.runs.runs.0 made.plans) w.1 (shows_all r) turns (some_turns r.runs.runs.1 r.runs.runs.2)
-        (all_begun m v s r.runs.runs.0 made.plans r.runs.runs.2 r.told.cause r.runs.runs.1 all) (all_shows m v s r.runs.runs.0 made.plans r.runs.runs.2 r.told.cause r.runs.runs.1 all short held) r.shown)
+        front_shown m seen (clocks_heard seen.told) (ready_heard seen.told) r.told.cause c text r.said r.rest (plans_spread m (length m.boards) r.runs.runs.0 made.plans) w.1 (shows_all r) (HoldLittle r text) turns (some_turns r.runs.runs.1 r.runs.runs.2)
+        (all_begun m v s r.runs.runs.0 made.plans r.runs.runs.2 r.told.cause r.runs.runs.1 all)
+        (λ little. all_shows m v s r.runs.runs.0 made.plans r.runs.runs.2 r.told.cause r.runs.runs.1 all short (subst Little (sym w.1) (little.0 other))) r.shown)
     | inl memory ↦ elim (cut_last r.runs.runs.1) [
       | inl none ↦
           let lines_are : [] ≡ r.said ++ r.rest = sym (ap lines_of none) ∙ sym (written memory) ∙ r.shown in
-          let At : List ReportLine → Type 0 = λ z. ShowsFront m text c z in
-          ∣ subst At (sym (nothing_written r.said r.rest lines_are)) (nothing_shown m text c (λ g. none_through memory (through_shows c g))) ∣₁
+          let At : List ReportLine → Type 0 = λ z. (begun : ShowsBegun m text c z) × (HoldLittle r text → FollowsPlanBy begun.clocks m (sections_over m text) z) in
+          ∣ subst At (sym (nothing_written r.said r.rest lines_are)) (nothing_shown m text c (λ g. none_through memory (through_shows c g)), λ little i turn s e h. absurd (no_turn turn e)) ∣₁
       | inr x ↦
           let turns = x.0 ++ x.1 ∷ [] in
           let lines_are : lines_of turns ≡ r.said ++ r.rest = sym (ap lines_of x.2) ∙ sym (written memory) ∙ r.shown in
@@ -899,8 +892,8 @@ module _ {F S : Type 0} (f : Files F) (o : Sink S) (m : Machine) (s : Scene) (gc
           let seen = w.4.seen in
           let long = w.3 in
           let Little : List ReactorTurn → Type 0 = λ z. AllHomeLittle m s text w.0 z in
-          let held = subst Little x.2 (little.1 memory w.0 w.1 w.2 (omega (arith, long, size))) in
-          front_shown m seen (clocks_heard seen.told) (ready_heard seen.told) cause.ReadFault c text r.said r.rest (plans_spread m (length m.boards) w.0 w.4) w.5 (λ g. absurd (none_through memory g)) turns (some_turns x.0 x.1) w.6 (w.7 short held) lines_are)
+          front_shown m seen (clocks_heard seen.told) (ready_heard seen.told) cause.ReadFault c text r.said r.rest (plans_spread m (length m.boards) w.0 w.4) w.5 (λ g. absurd (none_through memory g)) (HoldLittle r text) turns (some_turns x.0 x.1) w.6
+          (λ little. w.7 short (subst Little x.2 (little.1 memory w.0 w.1 w.2 (omega (arith, long, size))))) lines_are)
     ]
   ]
     where
@@ -995,7 +988,6 @@ module _ {F S : Type 0} (f : Files F) (o : Sink S) (m : Machine) (s : Scene) (gc
         (run_links f o m s gcode files files' out r.behind r.kept r.kept' r.told r.runs text told r.fresh.at);
     shows = texts r;
     begun = begun_texts r;
-    fronts = front_texts r;
     homes = home_texts r;
     own = λ text told other little soon. run_own f o m s gcode files files' out r.behind r.kept r.kept' r.told r.runs v short text told r.fresh.at other little soon;
     complete = completes r;

@@ -91,9 +91,3 @@ pub record ShowsBegun (m : Machine) (text : List ℕ) (c : Cause) (said : List R
   pub further : (i turn : ℕ) → section_turn i said ≡ Some turn → (b : ℕ) → b < length m.boards → TellsFurther b (clocks_at clocks b).held last c said
   pub first : (i turn : ℕ) → section_turn i said ≡ Some turn → BoardsFirst said
   pub named : (i turn : ℕ) → section_turn i said ≡ Some turn → AreNamed m said
-
--- What the lines of any run over links show of a text, whatever ended it: all of that, and Prefix: the pulses of a stepper in a section fit the
--- first steps of its plan, by the clock lines of the boards.
-pub record ShowsFront (m : Machine) (text : List ℕ) (c : Cause) (said : List ReportLine) : Type 0 where
-  pub begun : ShowsBegun m text c said
-  pub prefix : FollowsPlanBy begun.clocks m (sections_over m text) said

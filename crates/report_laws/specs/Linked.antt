@@ -37,7 +37,7 @@ use Rattle.session_laws.specs.run_causes.Unanswered.{GaveNoAnswer, IsStaleSince}
 use Rattle.session_laws.specs.clear_runs.Clear.{SendsAllSoon}
 use Rattle.report_laws.specs.Body.{cause_of}
 use Rattle.report_laws.specs.Headline.{moves_of}
-use Rattle.report_laws.specs.Homes.{ShowsBegun, ShowsFront, ShowsHomes}
+use Rattle.report_laws.specs.Homes.{ShowsBegun, ShowsHomes}
 use Rattle.report_laws.specs.Promises.{FollowsPlanBy, IsCauseOf, IsCompleteBefore, IsCompleteBy, lines_line, sections_by, sections_over}
 use Rattle.report_laws.specs.Shown.{section_turn, sections_shown}
 use Rattle.report_laws.specs.Times.{AreTimed}
@@ -85,9 +85,9 @@ pub record ShowsText (m : Machine) (text : List ℕ) (c : Cause) (said : List Re
 -- no earlier turn was any. Whatever ended it, each turn before the last tells of a switch exactly where the group of the homing section that is
 -- known then answers that it closed, at the tick of the answer; and whatever tells that readings triggered a board's trigger tells of a tick at
 -- which its readings of the endstop of an axis that homes were complete. Whatever ended it, each board's lists in `links` hold the units
--- of the text's sections, each in its turn, in order and with longest triples, the controls that the reactor orders, and the states of the board's turns, whose pulses its lines show (`AreLinksIn`). Its lines, as they were written, with those of pulses, show the sections that were begun, whatever its links hold, where it does not end for want of memory (`ShowsBegun`). Prefix and Sections hold of every run, whatever
--- ended it, want of memory too, where no line holds a command for half a round of the 32-bit clock and each board takes the set-up of a homing
--- section in time or its reports are read true (`ShowsFront`). And they show the file's text; of a run of moves that does not end for want of memory, where no line holds a
+-- of the text's sections, each in its turn, in order and with longest triples, the controls that the reactor orders, and the states of the board's turns, whose pulses its lines show (`AreLinksIn`). Its lines,
+-- as they were written, with those of pulses, show the sections that were begun, whatever ended it and whatever its links hold (`ShowsBegun`). They show Prefix too where no line
+-- holds a command for half a round of the 32-bit clock and each board takes the set-up of a homing section in time or its reports are read true. And they show the file's text; of a run of moves that does not end for want of memory, where no line holds a
 -- command for half a round of the 32-bit clock; and of one of any text, where besides each board takes the set-up of a homing section in time or its
 -- reports are read true. Where moreover the set-up is taken in time, and what a board's trigger does in a homing section is heard of within half a round (`AllHearSoon`), the tick that a turn tells of a switch is one at which this very section's readings are
 -- complete (`TellOwn`). What suffices for these
@@ -110,9 +110,10 @@ pub record IsLinkReport {F S : Type 0} (f : Files F) (o : Sink S) (m : Machine) 
   pub boards : (text : List ℕ) → f.told files gcode ≡ Some text → ∥ AreLinksIn m s text reported.told.cause reported.runs.runs.0 reported.runs.runs.1 reported.runs.runs.2 links ∥₁
   pub shows : (text : List ℕ) → f.told files gcode ≡ Some text → AreOfMoves (sections_over m text) → (reported.told.cause ≡ cause.Memory → ⊥) →
       HoldsNothingLong m s text reported.runs.runs.0 (reported.runs.runs.1 ++ reported.runs.runs.2 ∷ []) → ∥ ShowsText m text c reported.said ∥₁
-  pub begun : (text : List ℕ) → f.told files gcode ≡ Some text → (reported.told.cause ≡ cause.Memory → ⊥) → ∥ ShowsBegun m text c reported.said ∥₁
-  pub fronts : (text : List ℕ) → f.told files gcode ≡ Some text → ShownHoldLittle m s text reported.runs.runs.0 reported.runs.runs.1 reported.runs.runs.2 reported.told.cause →
-      ∥ ShowsFront m text c reported.said ∥₁
+  pub begun : (text : List ℕ) → f.told files gcode ≡ Some text →
+      ∥ ((begun : ShowsBegun m text c reported.said)
+      × (ShownHoldLittle m s text reported.runs.runs.0 reported.runs.runs.1 reported.runs.runs.2 reported.told.cause →
+      FollowsPlanBy begun.clocks m (sections_over m text) reported.said)) ∥₁
   pub homes : (text : List ℕ) → f.told files gcode ≡ Some text → (reported.told.cause ≡ cause.Memory → ⊥) →
       AllHomeLittle m s text reported.runs.runs.0 (reported.runs.runs.1 ++ reported.runs.runs.2 ∷ []) → ∥ ShowsHomes m s.switches text c reported.said ∥₁
   pub own : (text : List ℕ) → f.told files gcode ≡ Some text → (reported.told.cause ≡ cause.Memory → ⊥) →

@@ -1,11 +1,9 @@
-use Rattle.std.proofs.Common.{◌≡◌, ◌∙◌}
+use Rattle.std.proofs.Common.{◌≡◌}
 use Rattle.std.proofs.Math.Logic.{∥∥₁_elim}
 use Rattle.std.proofs.Props.{props}
 use Rattle.gcode_program.specs.Programs.{program_end}
 use Rattle.report_laws.specs.Body.{cause_of}
-use Rattle.report_laws.specs.Homes.{ShowsBegun}
 use Rattle.report_laws.specs.Promises.{sections_over}
-use Rattle.report_laws.proofs.Linking.{written-whole}
 use Rattle.report_laws.proofs.Any.{any-homes}
 use Rattle.report_laws.proofs.page.Through.{checked-follows, ends-so}
 use Rattle.report_laws.proofs.page.runs_that_went_through_follow_the_plan.Goals as goal
@@ -24,13 +22,9 @@ returns-clause-printed g c = λ m s gcode files files' out out' cause lines coun
 
 pub returns-clause-read : goal.returns-clause-read
 returns-clause-read g c = λ m s gcode files files' out out' cause lines counts links r text told through.
-    let not = written-whole cause through in
-    let w = r.reported.cause_is not.0 not.1 in
-    ∥∥₁_elim (r.begun text told (λ e. not.0 (w.2 ∙ e))) (hlevel props) (λ (shows : ShowsBegun m text cause r.reported.said). shows.counts through)
+    ∥∥₁_elim (r.begun text told) (hlevel props) (λ begun. begun.0.counts through)
 
 pub returns-clause-ends : goal.returns-clause-ends
 returns-clause-ends g c = λ m s gcode files files' out out' cause lines counts links r text told through log.
-    let not = written-whole cause through in
-    let w = r.reported.cause_is not.0 not.1 in
-    let is : cause ≡ cause_of (program_end m text).stop = ∥∥₁_elim (r.begun text told (λ e. not.0 (w.2 ∙ e))) (hlevel props) (λ (shows : ShowsBegun m text cause r.reported.said). shows.cause through) in
+    let is : cause ≡ cause_of (program_end m text).stop = ∥∥₁_elim (r.begun text told) (hlevel props) (λ begun. begun.0.cause through) in
     ends-so m text links log cause through is

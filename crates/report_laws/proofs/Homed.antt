@@ -3,6 +3,7 @@ use Rattle.std.proofs.Common.{◌≡◌, ◌≢◌, ◌∙◌, ◌⊎◌, inl, i
 use Rattle.std.specs.Prelude.{if◌then◌else◌, Ok}
 use Rattle.std.proofs.Math.Seq.{get_or-append_seam}
 use Rattle.std.proofs.lemmas.Bool.Decides.{eqb_tells}
+use Rattle.std.proofs.lemmas.Grind.{flat_map-append}
 use Rattle.std.proofs.lemmas.List.{length-map, take-append-drop}
 use Rattle.plan_types.specs.declared.cause.Cause.{Cause}
 use Rattle.plan_types.specs.declared.cause.Cause.TheVariants as cause
@@ -43,9 +44,9 @@ use Rattle.report_laws.proofs.Reading.{lines-read, words-said}
 use Rattle.report_laws.proofs.Retelling.{alike}
 use Rattle.report_laws.proofs.Running.{map-append, onto-append, onto-in-order}
 use Rattle.report_laws.proofs.Shortening.{AreShownShort, short-lines}
-use Rattle.run_plans.specs.Lines.{pulse_in, pulses_of}
+use Rattle.run_laws.proofs.Lists.{cuts}
+use Rattle.run_plans.specs.Lines.{head_in, heads_of, pulse_in, pulses_of}
 use Rattle.session_laws.specs.run_ends.Ends.{GoesThrough}
-use Rattle.session_laws.specs.run_headline.Further.{ShowsAll}
 use Rattle.session_laws.specs.run_headline.Told.{AreTold}
 use Rattle.session_laws.specs.run_lines.Due.{begun_lines}
 use Rattle.session_laws.specs.run_limits.Limits.{AreLow}
@@ -67,6 +68,7 @@ use Rattle.report_laws.proofs.Ends.{section_end-after}
 use Rattle.report_laws.proofs.Limits.{AreSmall, HaveLongCuts, KeepLimits}
 use Rattle.report_laws.proofs.Low.{AreNumbered, Facts, IsDue, keep_by, numbered_begun, shorts_of, shown_turn, turn_low}
 use Rattle.report_laws.proofs.Shorts.{told_timed}
+use Rattle.report_laws.proofs.Unbegun.{ShowsNone}
 use Rattle.report_laws.proofs.Standing.{AreAllKinds, apart_heads, are_behind, first_shown, of_run, shown_kinds, some_pulse, stands, told_behind, told_parts}
 use Rattle.report_laws.specs.page.Log.{Follows, SaysLog, TellsPulseOf}
 use Rattle.report_laws.proofs.page.Front.{AreFronted, all-follows, lines-follow}
@@ -307,6 +309,26 @@ run_behind : (m : Machine) (xs ys : List ReportLine) → AreOfRun m (xs ++ ys) �
 run_behind m [] ys of = of
 run_behind m (x ∷ xs) ys of = run_behind m xs ys of.1
 
+run_first : (m : Machine) (xs ys : List ReportLine) → AreOfRun m (xs ++ ys) → AreOfRun m xs
+run_first m [] ys of = tt
+run_first m (x ∷ xs) ys of = (of.0, run_first m xs ys of.1)
+
+heads_first : (b : ℕ) (xs ys : List ReportLine) → AreHeads b (xs ++ ys) → AreHeads b xs
+heads_first b [] ys heads = tt
+heads_first b (report.Board board freq turn tick ∷ xs) ys heads = (heads.0, heads_first (b + 1) xs ys heads.1)
+heads_first b (report.Machine corexy boards steppers ∷ xs) ys heads = heads_first b xs ys heads
+heads_first b (report.Drift board sent clock from ∷ xs) ys heads = heads_first b xs ys heads
+heads_first b (report.Lines accepted passed ∷ xs) ys heads = heads_first b xs ys heads
+heads_first b (x ∷ xs) ys heads = absurd heads
+
+-- the first lines of a report that has no line of a section have none
+pub none_first : (m : Machine) (xs ys : List ReportLine) → ShowsNone m (xs ++ ys) → ShowsNone m xs
+none_first m xs ys shows = record {
+  of_run = run_first m xs ys shows.of_run;
+  may = (stand_first m [] (map logged xs) (map logged ys) (subst (λ (l : List LogLine). AllMayStand m [] l) (map-append xs ys) shows.may)).0;
+  heads = heads_first 0 xs ys shows.heads;
+}
+
 -- lines of a run that follow the plan are read back as a log that does
 pub read-back : (through : Type 0) (m : Machine) (sections : List Section) (said : List ReportLine) → IsValidMachine m → HasNames m → AreOfRun m said → AreFronted through m sections (further_told (map logged said)) (onto (map logged said) [])
     → (log : List LogLine) × SaysLog m (report_text m said) log × Follows through m sections log
@@ -324,7 +346,7 @@ read-back through m sections said valid names of front =
     )
 
 -- A run that shows all its lines, and the line of a section among them.
-module _ (m : Machine) (switches : List Switch) (text : List ℕ) (c : Cause) (said : List ReportLine) (valid : IsValidMachine m) (some : sections_shown said ≢ []) (shows : ShowsHomes m switches text c said) (full : ShowsAll c) (low : AreLow said) (told : AreTold true m said) (long : HaveLongCuts said) where
+module _ (m : Machine) (switches : List Switch) (text : List ℕ) (c : Cause) (said : List ReportLine) (valid : IsValidMachine m) (some : sections_shown said ≢ []) (shows : ShowsHomes m switches text c said) (low : AreLow said) (told : AreTold true m said) (long : HaveLongCuts said) where
   abbrev Text : List Section
   Text = sections_over m text
 
@@ -436,7 +458,7 @@ module _ (m : Machine) (switches : List Switch) (text : List ℕ) (c : Cause) (s
   heads : AreHeads 0 (shows.apart 0 first.0 first.1).head
   heads = apart_heads true m shows.clocks shows.ready said (shows.apart 0 first.0 first.1) shows.cuts.before told
 
-  facts : Facts true m Text shows.clocks shows.ready c said
+  facts : Facts true m Text shows.clocks shows.ready said
   facts = record {
     due = due_at;
     numbered = let Numbered : List ReportLine → Type 0 = λ z. AreNumbered 0 z in first_numbered 0 (sections_shown said) shows.sections.0 (subst Numbered shown (numbered_begun 0 shows.begun));
@@ -452,13 +474,12 @@ module _ (m : Machine) (switches : List Switch) (text : List ℕ) (c : Cause) (s
     names = shows.named 0 first.0 first.1;
     timed = λ b h. (told_timed m shows.clocks shows.ready said (shows.sound 0 first.0 first.1).clocks_are.count (shows.boards 0 first.0 first.1) low b h).low;
     soon = let early = (told_timed m shows.clocks shows.ready said (shows.sound 0 first.0 first.1).clocks_are.count (shows.boards 0 first.0 first.1) low 0 valid.boards_some).early in omega (arith, early);
-    full = full;
     further = shows.further 0 first.0 first.1;
   }
 
   short : AreShownShort m shows.clocks shows.ready shows.last (shows.apart 0 first.0 first.1).head said
   unfolding facts
-  short = shorts_of true m Text shows.clocks shows.ready c said facts
+  short = shorts_of true m Text shows.clocks shows.ready said facts
 
   -- the pulses of each section fit its plan by what is told
   follows : FollowsPlanBy short.short m Text said
@@ -475,7 +496,7 @@ module _ (m : Machine) (switches : List Switch) (text : List ℕ) (c : Cause) (s
 
   limits : KeepLimits m short.short shows.ready Text said
   unfolding facts short
-  limits = keep_by true m text shows.clocks shows.ready c said valid facts low follows
+  limits = keep_by true m text shows.clocks shows.ready said valid facts low follows
 
   kinds_are : AreAllKinds said
   kinds_are =
@@ -564,6 +585,32 @@ module _ (m : Machine) (switches : List Switch) (text : List ℕ) (c : Cause) (s
       (goes-on (GoesThrough c) m Text shows.clocks Told_lines a.turn shows.ready a.kind a.body behind ahead) stands.1.1 of.1 in
       let whole : onto (map logged said) [] ≡ onto (map logged a.body) (line.Section 0 a.turn a.kind ∷ onto head []) = ap (λ (l : List LogLine). onto l []) parted ∙ onto-append head (map logged From) [] in
       subst (λ (l : List LogLine). AreFronted (GoesThrough c) m Text fs l) (sym whole) rest
+
+  -- what stands before the first section's line, or is the first of that, shows no section
+  pub home-none : (xs ys : List ReportLine) → said ≡ xs ++ ys → heads_of xs ≡ [] → ShowsNone m xs
+  unfolding facts short
+  home-none xs ys cut none =
+      let a = facts.apart in
+      let parted = ap (map logged) cut ∙ map-append xs ys in
+      record {
+        of_run = run_first m xs ys (subst (λ (z : List ReportLine). AreOfRun m z) cut of_said);
+        may = (stand_first m [] (map logged xs) (map logged ys) (subst (λ (l : List LogLine). AllMayStand m [] l) parted short.may)).0;
+        heads = elim (cuts a.head From xs ys (sym a.are ∙ cut)) [
+          | inl p ↦ behind a.head p.0 xs ys p.1 p.2 facts.heads none
+          | inr p ↦ heads_first 0 xs (p.0 ∷ p.1) (subst (λ (z : List ReportLine). AreHeads 0 z) p.2 facts.heads)
+        ];
+      }
+    where
+      not_empty : (xs : List ReportLine) (x : ReportLine) (ys : List ReportLine) → xs ++ x ∷ ys ≡ [] → ⊥
+      not_empty [] x ys e = cc
+      not_empty (z ∷ xs) x ys e = cc
+
+      behind : (head more xs ys : List ReportLine) → xs ≡ head ++ more → From ≡ more ++ ys → AreHeads 0 head → heads_of xs ≡ [] → AreHeads 0 xs
+      behind head [] xs ys e from heads none = subst (λ (z : List ReportLine). AreHeads 0 z) (sym (e ∙ append-nil head)) heads
+      behind head (l ∷ more) xs ys e from heads none =
+          let same : l ≡ report.Section 0 facts.apart.turn facts.apart.kind = cc in
+          let at : heads_of xs ≡ heads_of head ++ (report.Section 0 facts.apart.turn facts.apart.kind ∷ heads_of more) = ap heads_of e ∙ flat_map-append head_in head (l ∷ more) ∙ ap (λ (x : ReportLine). heads_of head ++ (head_in x ++ heads_of more)) same in
+          absurd (not_empty (heads_of head) (report.Section 0 facts.apart.turn facts.apart.kind) (heads_of more) (sym at ∙ none))
 
   pub home-front : HasNames m → (log : List LogLine) × SaysLog m (report_text m said) log × Follows (GoesThrough c) m Text log
   home-front names = read-back (GoesThrough c) m Text said valid names of_said front

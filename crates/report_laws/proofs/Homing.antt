@@ -36,17 +36,19 @@ use Rattle.session_work.specs.declared.table.ReactorTurn.{ReactorTurn}
 use Rattle.session_work.specs.Rows.{gather}
 use Rattle.session_desk.specs.declared.tell.Kept.{Kept}
 use Rattle.session_run.specs.Boards.{AreReactorTurns, came_from, came_in}
+use Rattle.session_run.specs.Reported.{IsReported}
 use Rattle.session_run.specs.Runs.{RunsOver}
 use Rattle.wire_scene.specs.declared.scene.Scene.{Scene}
 use Rattle.wire_scene.specs.declared.scene.Switch.{Switch}
-use Rattle.run_plans.specs.Lines.{heads_of}
+use Rattle.run_plans.specs.Lines.{head_in, heads_of}
 use Rattle.run_plans.specs.Planned.{AreToldBy, Plans, Seen, put_of}
 use Rattle.run_plans.proofs.Spreading.{plans_spread}
 use Rattle.session_laws.specs.run_ends.Boards.{board_in, boards_of}
 use Rattle.session_laws.specs.run_ends.Ends.{GoesThrough}
-use Rattle.session_laws.specs.run_headline.Further.{ShowsAll, TellFurther}
+use Rattle.session_laws.specs.run_headline.Further.{TellFurther}
 use Rattle.session_laws.specs.run_headline.Timely.{clocks_heard, ready_heard}
 use Rattle.session_laws.specs.run_headline.Told.{AreTold}
+use Rattle.session_laws.proofs.run_causes.Answering.{run_silent}
 use Rattle.session_laws.proofs.run_headline.Boarded.{ready}
 use Rattle.session_laws.proofs.run_headline.Runs.{facts, run_ended}
 use Rattle.session_laws.proofs.run_headline.Showing.{Ended, Facts, few, untold_alone}
@@ -73,13 +75,14 @@ use Rattle.report_laws.specs.Shown.{section_turn, sections_shown}
 use Rattle.report_laws.proofs.Inside.{some_behind}
 use Rattle.report_laws.specs.page.Log.{Follows, SaysLog}
 use Rattle.report_laws.proofs.Faulted.{last_lines}
-use Rattle.report_laws.proofs.Homed.{home-checks, home-front, read-back}
+use Rattle.report_laws.proofs.Homed.{home-checks, home-front, home-none, none_first, read-back}
 use Rattle.report_laws.proofs.Unbegun.{ShowsNone, counts_low}
-use Rattle.report_laws.proofs.Unshown.{alone_own, alone_plain, shown_heads, shown_none, whole_before}
+use Rattle.report_laws.proofs.Unshown.{alone_own, alone_plain, both_none, shown_heads, shown_none, whole_before}
 use Rattle.report_laws.proofs.page.Front.{heads-follow}
 use Rattle.report_laws.proofs.Linking.{text-cause, written-whole}
 use Rattle.report_laws.proofs.Low.{shown_turn}
-use Rattle.report_laws.proofs.Standing.{first_shown}
+use Rattle.report_laws.proofs.Linked.{home_lines}
+use Rattle.report_laws.proofs.Standing.{first_shown, told_parts}
 use Rattle.report_laws.proofs.Wide.{long_uncut, turn_long, turns_long}
 use Rattle.report_laws.proofs.Limits.{HaveLongCuts}
 
@@ -124,13 +127,24 @@ module _ (m : Machine) (v : IsValidMachine m) (s : Scene) (ts : List MotionTurn)
             let small = p.small in
             let many = length-append rest (end ∷ []) in
             let own = few m v s ts p end c first rest f in
-            let Tell : Option Told → Type 0 = λ o. TellFurther m (clocks_heard o) (length (rest ++ end ∷ []) + 271) c (gather (λ t. t.lines) (first ∷ (rest ++ end ∷ []))) in
-            drifts_low m v s ts p t first rest end e (ready m v s ts p t first rest end e f.ahead f.words_left f.turns f.words) (λ b h. f.boards b first rest h refl) (omega (arith, made, small, many, own)) (length (rest ++ end ∷ []) + 271) c (gather (λ t. t.lines) (first ∷ (rest ++ end ∷ []))) (subst Tell e (shows.further some))
+            let turns = first ∷ (rest ++ end ∷ []) in
+            let Tell : Option Told → Type 0 = λ o. TellFurther m (clocks_heard o) (length turns + 271) (gather (λ t. t.lines) turns) in
+            drifts_low m v s ts p t first rest end e (ready m v s ts p t first rest end e f.ahead f.words_left f.turns f.words) (λ b h. f.boards b first rest h refl) (omega (arith, made, small, many, own)) (length turns + 271) (gather (λ t. t.lines) turns) (subst Tell e (shows.further some turns [] (sym (append-nil turns))))
 
     home_low : AreLow (gather (λ t. t.lines) (first ∷ (rest ++ end ∷ [])))
     home_low =
         low_of (gather (λ t. t.lines) (first ∷ (rest ++ end ∷ []))) (heads_low m p.seen.begun 0 (first ∷ (rest ++ end ∷ [])) (plans_spread m (length m.boards) ts p) early shows.lines) boards_low (counts_low m v s ts p end c first rest f why)
         further_low
+
+-- the first of some lines
+low_first : (xs ys : List ReportLine) → AreLow (xs ++ ys) → AreLow xs
+low_first [] ys low = tt
+low_first (x ∷ xs) ys low = (low.0, low_first xs ys low.1)
+
+long_first : (xs ys : List ReportLine) → HaveLongCuts (xs ++ ys) → HaveLongCuts xs
+long_first [] ys long = tt
+long_first (report.Cut i board pin tick from ∷ xs) ys long = (long.0, long.1, long_first xs ys long.2)
+long_first (x ∷ xs) ys long = long_first xs ys long
 
 -- and each is one that a reactor may tell
 told_both : (m : Machine) (xs ys : List ReportLine) → AreTold true m xs → AreTold true m ys → AreTold true m (xs ++ ys)
@@ -146,12 +160,6 @@ all_told m switches before [] end known k turns last = told_both m end.lines [] 
 all_told m switches before (r ∷ rs) end known k turns last =
     told_both m r.lines (gather (λ (t : ReactorTurn). t.lines) (rs ++ end ∷ [])) (turn_told m switches (known_by m switches before) (length before) r turns.0.lines_are) (all_told m switches (came_in r ∷ before) rs end known k turns.1 last)
 
--- a run that ended neither for want of memory nor for a write that failed shows all its lines
-pub all_shown : (c : Cause) → (c ≡ cause.Memory → ⊥) → (c ≡ cause.WriteFault → ⊥) → ShowsAll c
-all_shown cause.Memory other wrote = absurd (other refl)
-all_shown cause.WriteFault other wrote = absurd (wrote refl)
-all_shown c other wrote = tt
-
 module _ {F S : Type 0} (f : Files F) (o : Sink S) (m : Machine) (s : Scene) (name : List ℕ) (files files' : F) (out out' : S) (kept kept' : Kept) (t : near.Told Run) (r : RunsOver f o m s name files out kept t files' out' kept') where
   limits : (v : IsValidMachine m) (rs : List ReactorTurn) (p : Plans m (length m.boards) r.runs.0) → rs ≡ r.runs.1 → AllShowHomes m p.seen (clocks_heard p.seen.told) (ready_heard p.seen.told) t.cause (rs ++ r.runs.2 ∷ [])
       → heads_of (gather (λ t. t.lines) (rs ++ r.runs.2 ∷ [])) ≢ [] → (t.cause ≡ cause.Memory → ⊥) → AreLow (gather (λ t. t.lines) (rs ++ r.runs.2 ∷ []))
@@ -165,25 +173,25 @@ module _ {F S : Type 0} (f : Files F) (o : Sink S) (m : Machine) (s : Scene) (na
 
   -- and where no section has its line they are those of boards and notes
   nones : (v : IsValidMachine m) (rs : List ReactorTurn) (p : Plans m (length m.boards) r.runs.0) → rs ≡ r.runs.1 → AllShowHomes m p.seen (clocks_heard p.seen.told) (ready_heard p.seen.told) t.cause (rs ++ r.runs.2 ∷ [])
-      → AreTold true m (gather (λ t. t.lines) (rs ++ r.runs.2 ∷ [])) → cuts_of (gather (λ t. t.lines) (rs ++ r.runs.2 ∷ [])) ≡ [] → heads_of (gather (λ t. t.lines) (rs ++ r.runs.2 ∷ [])) ≡ [] → (t.cause ≡ cause.Memory → ⊥) → (t.cause ≡ cause.WriteFault → ⊥)
+      → AreTold true m (gather (λ t. t.lines) (rs ++ r.runs.2 ∷ [])) → cuts_of (gather (λ t. t.lines) (rs ++ r.runs.2 ∷ [])) ≡ [] → heads_of (gather (λ t. t.lines) (rs ++ r.runs.2 ∷ [])) ≡ [] → (t.cause ≡ cause.Memory → ⊥)
       → ((board turn : ℕ) → t.cause ≡ cause.Connect board turn → r.runs.1 ≡ [] → ⊥) → ShowsNone m (gather (λ t. t.lines) (rs ++ r.runs.2 ∷ []))
-  nones v [] p e shows told uncut none other wrote answers =
+  nones v [] p e shows told uncut none other answers =
       let End : List ReactorTurn → Type 0 = λ z. Ended m s r.runs.0 z r.runs.2 t.cause in
       let ended = subst End (sym e) (run_ended f o m s name files files' out out' kept kept' t r other) in
       elim (last_lines m s r.runs.0 [] r.runs.2 t.cause ended.facts ended.end_is) [
         | inl own ↦ absurd (alone_own m s r.runs.0 r.runs.2 t.cause ended.facts own other (λ board turn is. answers board turn is (sym e)))
         | inr plain ↦ alone_plain m s r.runs.0 r.runs.2 t.cause ended.facts plain
       ]
-  nones v (first ∷ rest) p e shows told uncut none other wrote answers =
+  nones v (first ∷ rest) p e shows told uncut none other answers =
       let End : List ReactorTurn → Type 0 = λ z. Ended m s r.runs.0 z r.runs.2 t.cause in
       let ended = subst End (sym e) (run_ended f o m s name files files' out out' kept kept' t r other) in
-      shown_none m v s r.runs.0 p r.runs.2 t.cause first rest ended.facts ended.end_is shows told uncut none (all_shown t.cause other wrote)
+      shown_none m v s r.runs.0 p r.runs.2 t.cause first rest ended.facts ended.end_is shows told uncut none
 
   home_nones : IsValidMachine m → HaveShortDictionaries m → (text : List ℕ) → f.told files name ≡ Some text → kept.at ≡ 0 → AllHomeLittle m s text r.runs.0 (r.runs.1 ++ r.runs.2 ∷ []) → AreTold true m (gather (λ t. t.lines) (r.runs.1 ++ r.runs.2 ∷ []))
-      → cuts_of (gather (λ t. t.lines) (r.runs.1 ++ r.runs.2 ∷ [])) ≡ [] → heads_of (gather (λ t. t.lines) (r.runs.1 ++ r.runs.2 ∷ [])) ≡ [] → (t.cause ≡ cause.Memory → ⊥) → (t.cause ≡ cause.WriteFault → ⊥)
+      → cuts_of (gather (λ t. t.lines) (r.runs.1 ++ r.runs.2 ∷ [])) ≡ [] → heads_of (gather (λ t. t.lines) (r.runs.1 ++ r.runs.2 ∷ [])) ≡ [] → (t.cause ≡ cause.Memory → ⊥)
       → ((board turn : ℕ) → t.cause ≡ cause.Connect board turn → r.runs.1 ≡ [] → ⊥) → ∥ ShowsNone m (gather (λ t. t.lines) (r.runs.1 ++ r.runs.2 ∷ [])) ∥₁
-  home_nones v short text told at little lines uncut none other wrote answers =
-      ∥∥₁_map (run_shows f o m s name files files' out out' kept kept' t r v short text told at) (λ w. nones v r.runs.1 w.0.plans refl (w.2 other little) lines uncut none other wrote answers)
+  home_nones v short text told at little lines uncut none other answers =
+      ∥∥₁_map (run_shows f o m s name files files' out out' kept kept' t r v short text told at) (λ w. nones v r.runs.1 w.0.plans refl (w.2 other little) lines uncut none other answers)
 
   home_limits : IsValidMachine m → HaveShortDictionaries m → (text : List ℕ) → f.told files name ≡ Some text → kept.at ≡ 0 → AllHomeLittle m s text r.runs.0 (r.runs.1 ++ r.runs.2 ∷ []) → heads_of (gather (λ t. t.lines) (r.runs.1 ++ r.runs.2 ∷ [])) ≢ []
       → (t.cause ≡ cause.Memory → ⊥) → ∥ AreLow (gather (λ t. t.lines) (r.runs.1 ++ r.runs.2 ∷ [])) ∥₁
@@ -212,7 +220,7 @@ module _ {F S : Type 0} (f : Files F) (o : Sink S) (printer : List ℕ) (m : Mac
   home_valid : IsValidMachine m
   home_valid = subst (λ (x : Machine). IsValidMachine x) r.reported.runs.printer r.reported.runs.fresh.machine
 
-  -- what the lines of such a run show that were all printed
+  -- what the lines of such a run show that were printed
   record Showing : Type 0 where
     shows : ShowsHomes m s.switches text c r.reported.said
     told_all : AreTold true m r.reported.said
@@ -220,36 +228,50 @@ module _ {F S : Type 0} (f : Files F) (o : Sink S) (printer : List ℕ) (m : Mac
     low : heads_of r.reported.said ≢ [] → ∥ AreLow r.reported.said ∥₁
     none : heads_of r.reported.said ≡ [] → ∥ ShowsNone m r.reported.said ∥₁
 
-  -- a run of one turn doesn't end for a board that gave no answer
-  unanswered : (board turn : ℕ) → c ≡ cause.Connect board turn → r.reported.runs.runs.1 ≡ [] → ⊥
-  unanswered board turn is alone =
-      let Gave : List ReactorTurn → Type 0 = λ z. GaveNoAnswer m s board turn r.reported.runs.runs.0 z r.reported.runs.runs.2 in
-      ∥∥₁_elim (r.connect text told board turn is) (hlevel props) (λ gave. subst Gave alone gave)
+  abbrev own : IsReported f o m s gcode files files' out out' c lines counts links
+  own = r.reported
 
-  showing : (c ≡ cause.Memory → ⊥) → (c ≡ cause.WriteFault → ⊥) → ∥ Showing ∥₁
-  showing other wrote =
-      let own = r.reported in
-      let w = own.cause_is other wrote in
-      let said : gather (λ (t : ReactorTurn). t.lines) (own.runs.runs.1 ++ own.runs.runs.2 ∷ []) ≡ own.said = own.shown ∙ ap (λ (z : List ReportLine). own.said ++ z) w.0 ∙ append-nil own.said in
-      let not = λ (e : own.told.cause ≡ cause.Memory). other (w.2 ∙ e) in
-      let Some_in : List ReportLine → Type 0 = λ z. heads_of z ≢ [] in
-      let Low : List ReportLine → Type 0 = λ z. ∥ AreLow z ∥₁ in
+  abbrev whole : List ReportLine
+  whole = gather (λ t. t.lines) (r.reported.runs.runs.1 ++ r.reported.runs.runs.2 ∷ [])
+
+  showing : (r.reported.told.cause ≡ cause.Memory → ⊥) → ∥ Showing ∥₁
+  showing not =
       ∥∥₁_map (r.homes text told not little) (λ shows. record {
         shows = shows;
-        told_all = subst (λ (z : List ReportLine). AreTold true m z) said (home_told f o m s gcode files files' out own.behind own.kept own.kept' own.told own.runs not);
-        long = subst (λ (z : List ReportLine). HaveLongCuts z) said (home_long f o m s gcode files files' out own.behind own.kept own.kept' own.told own.runs scene not);
-        low = λ some. subst Low said
-            (home_limits f o m s gcode files files' out own.behind own.kept own.kept' own.told own.runs home_valid (short_dictionaries printer m configured) text told own.fresh.at little (subst Some_in (sym said) some) not);
-        none = λ none.
-            let Told : List ReportLine → Type 0 = λ z. AreTold true m z in
-            let Uncut : List ReportLine → Type 0 = λ z. cuts_of z ≡ [] in
-            let Unshown : List ReportLine → Type 0 = λ z. heads_of z ≡ [] in
-            let None_in : List ReportLine → Type 0 = λ z. ∥ ShowsNone m z ∥₁ in
-            let uncut : cuts_of own.said ≡ [] = ap cuts_of (sym (whole_before own.said none)) ∙ shows.cuts.before in
-            subst None_in said
-            (home_nones f o m s gcode files files' out own.behind own.kept own.kept' own.told own.runs home_valid (short_dictionaries printer m configured) text told own.fresh.at little
-            (home_told f o m s gcode files files' out own.behind own.kept own.kept' own.told own.runs not) (subst Uncut (sym said) uncut) (subst Unshown (sym said) none) not (λ e. wrote (w.2 ∙ e)) (λ board turn is. unanswered board turn (w.2 ∙ is)));
+        told_all = (told_parts true m own.said own.rest (subst (AreTold true m) own.shown told_whole)).0;
+        long = long_first own.said own.rest (subst HaveLongCuts own.shown (home_long f o m s gcode files files' out own.behind own.kept own.kept' own.told own.runs scene not));
+        low = λ some. ∥∥₁_map (low_whole (λ none. some (both_none (heads_of own.said) (heads_of own.rest) (sym parts ∙ none)).0)) (λ low. low_first own.said own.rest (subst AreLow own.shown low));
+        none = λ none. ∥∥₁_elim (home_lines f o m s gcode files files' out out' c lines counts links home_valid short own text told not little whole [] own.told.cause (λ g. (refl, refl)) (sym (append-nil whole))) ∥∥₁_prop
+            (λ all. none_of all none (heads_of whole) refl);
       })
+    where
+      short : HaveShortDictionaries m
+      short = short_dictionaries printer m configured
+
+      parts : heads_of whole ≡ heads_of own.said ++ heads_of own.rest
+      parts = ap heads_of own.shown ∙ flat_map-append head_in own.said own.rest
+
+      told_whole : AreTold true m whole
+      told_whole = home_told f o m s gcode files files' out own.behind own.kept own.kept' own.told own.runs not
+
+      low_whole : heads_of whole ≢ [] → ∥ AreLow whole ∥₁
+      low_whole some = home_limits f o m s gcode files files' out own.behind own.kept own.kept' own.told own.runs home_valid short text told own.fresh.at little some not
+
+      -- a run of one turn doesn't end for a board that gave no answer
+      unanswered : (board turn : ℕ) → own.told.cause ≡ cause.Connect board turn → own.runs.runs.1 ≡ [] → ⊥
+      unanswered board turn is alone =
+          let Gave : List ReactorTurn → Type 0 = λ z. GaveNoAnswer m s board turn own.runs.runs.0 z own.runs.runs.2 in
+          ∥∥₁_elim (run_silent f o m s gcode files files' out own.behind own.kept own.kept' own.told own.runs home_valid text told own.fresh.at board turn is) (hlevel props) (λ gave. subst Gave alone gave)
+
+      none_of : ShowsHomes m s.switches text own.told.cause whole → heads_of own.said ≡ [] → (heads : List ReportLine) → heads_of whole ≡ heads → ∥ ShowsNone m own.said ∥₁
+      none_of all none [] e =
+          let uncut : cuts_of whole ≡ [] = ap cuts_of (sym (whole_before whole e)) ∙ all.cuts.before in
+          ∥∥₁_map (home_nones f o m s gcode files files' out own.behind own.kept own.kept' own.told own.runs home_valid short text told own.fresh.at little told_whole uncut e not unanswered)
+          (λ shows. none_first m own.said own.rest (subst (ShowsNone m) own.shown shows))
+      none_of all none (h ∷ hs) e =
+          let some : heads_of whole ≢ [] = λ none. (let g : h ∷ hs ≡ [] = sym e ∙ none in cc) in
+          ∥∥₁_map (low_whole some) (λ low.
+          home-none m s.switches text own.told.cause whole home_valid (λ none. some (sym (shown_heads whole) ∙ none)) all low told_whole (home_long f o m s gcode files files' out own.behind own.kept own.kept' own.told own.runs scene not) own.said own.rest own.shown none)
 
   -- a section is shown
   shown_some : (i turn : ℕ) → section_turn i r.reported.said ≡ Some turn → sections_shown r.reported.said ≢ []
@@ -257,19 +279,19 @@ module _ {F S : Type 0} (f : Files F) (o : Sink S) (printer : List ℕ) (m : Mac
 
   pub home-links : sections_over m text ≢ [] → GoesThrough c → check_cause m text (report_text m (r.reported.said ++ report.End c ∷ [])) ≡ cause.Done
   home-links some through =
-      let whole = written-whole c through in
-      ∥∥₁_elim (showing whole.0 whole.1) (hlevel props) (λ (z : Showing).
+      let not = written-whole c through in
+      ∥∥₁_elim (showing (λ e. not.0 ((r.reported.cause_is not.0 not.1).2 ∙ e))) (hlevel props) (λ (z : Showing).
       let first = begun_first z.shows.begun ((z.shows.all through).1) (λ none. some (sym (z.shows.all through).0 ∙ ap (map (λ (x : Started). x.section)) none)) in
       ∥∥₁_elim (z.low (some_behind 0 first.0 r.reported.said first.1)) (hlevel props) (λ low.
-      home-checks m s.switches text c r.reported.said home_valid (shown_some 0 first.0 first.1) z.shows (all_shown c whole.0 whole.1) low z.told_all z.long through (names-of-reading printer m configured) (z.shows.whole through) (text-cause m text c (z.shows.cause through))))
+      home-checks m s.switches text c r.reported.said home_valid (shown_some 0 first.0 first.1) z.shows low z.told_all z.long through (names-of-reading printer m configured) (z.shows.whole through) (text-cause m text c (z.shows.cause through))))
     where
       begun_first : (begun : List Started) → sections_shown r.reported.said ≡ begun_lines 0 begun → begun ≢ [] → (turn : ℕ) × (section_turn 0 r.reported.said ≡ Some turn)
       begun_first [] e never = absurd (never refl)
       begun_first (x ∷ begun) e never = (x.start, first_shown 0 x.start x.section.kind (begun_lines 1 begun) r.reported.said e)
 
   -- what was printed before the end line follows the plan, as far as the run came
-  pub printed-front : (c ≡ cause.Memory → ⊥) → (c ≡ cause.WriteFault → ⊥) → ∥ ((log : List LogLine) × SaysLog m (report_text m r.reported.said) log × Follows (GoesThrough c) m (sections_over m text) log) ∥₁
-  printed-front other wrote = ∥∥₁_elim (showing other wrote) ∥∥₁_prop (λ (z : Showing). by z (heads_of r.reported.said) refl)
+  pub printed-front : (r.reported.told.cause ≡ cause.Memory → ⊥) → ∥ ((log : List LogLine) × SaysLog m (report_text m r.reported.said) log × Follows (GoesThrough c) m (sections_over m text) log) ∥₁
+  printed-front other = ∥∥₁_elim (showing other) ∥∥₁_prop (λ (z : Showing). by z (heads_of r.reported.said) refl)
     where
       by : (z : Showing) (heads : List ReportLine) → heads_of r.reported.said ≡ heads → ∥ ((log : List LogLine) × SaysLog m (report_text m r.reported.said) log × Follows (GoesThrough c) m (sections_over m text) log) ∥₁
       by z [] e = ∥∥₁_map (z.none e) (λ shows.
@@ -277,4 +299,4 @@ module _ {F S : Type 0} (f : Files F) (o : Sink S) (printer : List ℕ) (m : Mac
       by z (h ∷ hs) e =
           let some : heads_of r.reported.said ≢ [] = λ none. (let g : h ∷ hs ≡ [] = sym e ∙ none in cc) in
           ∥∥₁_map (z.low some) (λ low.
-          home-front m s.switches text c r.reported.said home_valid (λ none. some (sym (shown_heads r.reported.said) ∙ none)) z.shows (all_shown c other wrote) low z.told_all z.long (names-of-reading printer m configured))
+          home-front m s.switches text c r.reported.said home_valid (λ none. some (sym (shown_heads r.reported.said) ∙ none)) z.shows low z.told_all z.long (names-of-reading printer m configured))

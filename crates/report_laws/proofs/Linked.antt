@@ -3,7 +3,7 @@ use Rattle.std.proofs.Common.{◌≡◌, ◌≢◌, ℕ, zero, suc, ◌+◌, ◌
 use Rattle.std.proofs.Math.Logic.{∥∥₁_elim, ∥∥₁_map}
 use Rattle.std.proofs.Props.{props}
 use Rattle.std.specs.Prelude.{◌-◌, ◌==◌, if◌then◌else◌}
-use Rattle.std.proofs.lemmas.List.{length-drop, length-map, take_all}
+use Rattle.std.proofs.lemmas.List.{length-drop, length-map, length-take-le, take-take, take_all}
 use Rattle.std.proofs.lemmas.List.Elements.{All-head, All-tail}
 use Rattle.plan_types.specs.declared.cause.Cause.{Cause}
 use Rattle.plan_types.specs.declared.cause.Cause.TheVariants as cause
@@ -29,6 +29,7 @@ use Rattle.wire_scene.specs.declared.scene.Switch.{Switch}
 use Rattle.host_reactor.specs.Running.{text_end}
 use Rattle.motion_work.specs.Seen.{AreStarted, IsPlanned, Started}
 use Rattle.session_lanes.specs.declared.near.LinkLog.{LinkLog}
+use Rattle.section_feed.specs.Fewer.{AreFirstLines}
 use Rattle.session_work.specs.declared.table.ReactorTurn.{ReactorTurn}
 use Rattle.session_work.specs.Rows.{gather}
 use Rattle.session_work.proofs.Goes.{gather_on}
@@ -65,10 +66,10 @@ use Rattle.session_laws.proofs.home_headline.Read.{run_reads}
 use Rattle.std.proofs.lemmas.Grind.{flat_map-append}
 use Rattle.plan_types.specs.Sections.{section_end, section_starts}
 use Rattle.run_plans.specs.Lines.{head_in, heads_of}
-use Rattle.session_laws.specs.run_headline.Further.{ShowsAll, TellFurther}
+use Rattle.session_laws.specs.run_headline.Further.{TellFurther}
 use Rattle.run_plans.specs.Planned.{Seen}
 use Rattle.session_laws.specs.run_lines.Due.{AreFirst, BoardsHave, HaveTheirLines, StandApart, begun_lines, due_lines}
-use Rattle.session_laws.proofs.run_lines.Further.{through_shows}
+use Rattle.session_laws.proofs.run_lines.Further.{Reach, reach}
 use Rattle.session_laws.proofs.run_lines.Heads.{ShowStarts, first_heads, shown_boards, shown_further, shown_heads, shown_sound, stand_apart, whole_heads}
 use Rattle.session_laws.specs.run_ends.Boards.{counts_of}
 use Rattle.report_laws.specs.Body.{cause_of, no_section, section_lines}
@@ -477,14 +478,14 @@ all_apart m seen clocks ready c [] [] more h are some = absurd (some refl)
 all_apart m seen clocks ready c [] (s ∷ said) more h are some = absurd (let e : [] ≡ s ∷ (said ++ more) = are in cc)
 all_apart m seen clocks ready c (first ∷ rest) said more h are some = (stand_apart m seen clocks ready c first rest h said more are some, shown_sound m seen clocks ready c first rest said more h are some)
 
-all_further : (m : Machine) (seen : Seen) (clocks : List Clocks) (ready : ℕ) (own c : Cause) (all : List ReactorTurn) (said more : List ReportLine) → AllShowPlans m seen clocks ready own all → gather (λ t. t.lines) all ≡ said ++ more
-    → (ShowsAll c → (more ≡ []) × ShowsAll own) → (heads_of said ≡ [] → ⊥) → TellFurther m clocks (length all - 1) c said
-all_further m seen clocks ready own c [] [] more h are whole some = absurd (some refl)
-all_further m seen clocks ready own c [] (s ∷ said) more h are whole some = absurd (let e : [] ≡ s ∷ (said ++ more) = are in cc)
-all_further m seen clocks ready own c (first ∷ rest) said more h are whole some =
-    let Further : ℕ → Type 0 = λ n. TellFurther m clocks n c said in
-    let one : suc (length rest) - 1 ≡ length rest = omega (arith) in
-    subst Further (sym one) (shown_further m seen clocks ready own c first rest said more h are whole some)
+reach_all : (all : List ReactorTurn) → (x : ReactorTurn) × (xs : List ReactorTurn) × (all ≡ x ∷ xs) → (said more : List ReportLine) → gather (λ t. t.lines) all ≡ said ++ more → Reach all said more
+reach_all [] some said more are = absurd (let e : [] ≡ some.0 ∷ some.1 = some.2 in cc)
+reach_all (first ∷ rest) some said more are = reach first rest said more are
+
+all_further : (m : Machine) (seen : Seen) (clocks : List Clocks) (ready : ℕ) (c : Cause) (all : List ReactorTurn) (said more : List ReportLine) → AllShowPlans m seen clocks ready c all → gather (λ t. t.lines) all ≡ said ++ more
+    → (r : Reach all said more) → (heads_of said ≡ [] → ⊥) → TellFurther m clocks (r.n + 271) said
+all_further m seen clocks ready c [] said more h are r some = absurd (let within = r.within in omega (arith, within))
+all_further m seen clocks ready c (first ∷ rest) said more h are r some = shown_further m seen clocks ready c first rest said more h are r some
 
 all_own : (m : Machine) (seen : Seen) (clocks : List Clocks) (ready : ℕ) (c : Cause) (all : List ReactorTurn) → AllShowPlans m seen clocks ready c all → GoesThrough c → AreTold false m (gather (λ t. t.lines) all)
 all_own m seen clocks ready c [] h g = tt
@@ -584,11 +585,20 @@ module _ (m : Machine) (seen : Seen) (clocks : List Clocks) (ready : ℕ) (c : C
       starts (z ∷ later) y more to e n (inl a) w = let same : z ≡ y = cc in let is = ap (λ (q : Started). q.start) same in absurd (omega (arith, n, a, w, is))
       starts (z ∷ later) y more to e n (inr a) w = let same : z ≡ y = cc in ap (λ (q : Started). q.start) (sym same) ∙ a
 
--- those that were written show it
-module _ (m : Machine) (switches : List Switch) (seen : Seen) (clocks : List Clocks) (ready : ℕ) (own c : Cause) (text : List ℕ) (said rest : List ReportLine) (spread : Spread 260 seen.begun) (same : seen.text ≡ text) (complete : ShowsAll c → (rest ≡ []) × (c ≡ own)) where
-  through : GoesThrough c → (rest ≡ []) × (c ≡ own)
-  through g = complete (through_shows c g)
+-- turns up to one
+tell_take : (m : Machine) (begun : List Started) (k n : ℕ) (ts : List ReactorTurn) → TellTurns m begun k ts → TellTurns m begun k (take n ts)
+tell_take m begun k zero ts h = tt
+tell_take m begun k (suc n) [] h = tt
+tell_take m begun k (suc n) (t ∷ ts) h = (h.0, tell_take m begun (k + 1) n ts h.1)
 
+take_in : {A : Type 0} (k from n : ℕ) (xs : List A) → from + k ≤ n → take k (drop from (take n xs)) ≡ take k (drop from xs)
+take_in k zero n xs h = take-take k n xs (omega (arith, h))
+take_in k (suc from) zero xs h = absurd (omega (arith, h))
+take_in k (suc from) (suc n) [] h = refl
+take_in k (suc from) (suc n) (x ∷ xs) h = take_in k from n xs (omega (arith, h))
+
+-- those that were written show it
+module _ (m : Machine) (switches : List Switch) (seen : Seen) (clocks : List Clocks) (ready : ℕ) (own c : Cause) (text : List ℕ) (said rest : List ReportLine) (spread : Spread 260 seen.begun) (same : seen.text ≡ text) (through : GoesThrough c → (rest ≡ []) × (c ≡ own)) where
   homes_shown : (turns : List ReactorTurn) → (x : ReactorTurn) × (xs : List ReactorTurn) × (turns ≡ x ∷ xs) → AllShowHomes m seen clocks ready own turns → TellEnds m switches seen.begun 0 turns → AllWholeHomes m seen clocks own turns → gather (λ t. t.lines) turns ≡ said ++ rest → ShowsHomes m switches text c said
   homes_shown [] some all ends wholes shown_all = absurd (let e : [] ≡ some.0 ∷ some.1 = some.2 in cc)
   homes_shown (first ∷ later) some h ends wholes shown_all = record {
@@ -627,21 +637,50 @@ module _ (m : Machine) (switches : List Switch) (seen : Seen) (clocks : List Clo
         (through g).1 ∙ is ∙ ends_as (program_end m text).stop;
     apart = λ i turn e. homes_apart m seen clocks ready own first later h said rest shown_all (some_behind i turn said e);
     sound = λ i turn e. homes_sound m seen clocks ready own first later said rest (show_begun m seen clocks ready own first later h) shown_all (some_behind i turn said e);
-    last = length later + 271;
+    last = reached.n + 271;
     further = λ i turn e. (told_further i turn e).further;
     first = λ i turn e. (told_further i turn e).first;
     named = λ i turn e. (told_further i turn e).named;
     over = λ i turn e kind why.
-        let soon : section_end m clocks (moves_of (sections_over m text) i) turn < length later = elim why [
-          | inl next ↦ part_next m seen text first later spread h.of_text h.lines same clocks ready h.started i turn next.0 (in_all i turn e) (in_all (i + 1) next.0 next.1) kind
-          | inr g ↦ part_over m seen text first later spread h.of_text h.lines same clocks ready h.started (h.through (went g)).over i turn (in_all i turn e) kind
+        let soon : section_end m clocks (moves_of (sections_over m text) i) turn < reached.n = elim why [
+          | inl next ↦
+              let over = part_next m seen text first (take reached.n later) spread h.of_text upto_lines same clocks ready h.started i turn next.0 (in_upto i turn e) (in_upto (i + 1) next.0 next.1) kind in
+              omega (arith, over, size)
+          | inr g ↦
+              let over = part_over m seen text first later spread h.of_text h.lines same clocks ready h.started (h.through (went g)).over i turn (in_all i turn e) kind in
+              let all = reached.whole (through g).0 in
+              omega (arith, over, all)
         ] in
         omega (arith, soon);
     told = λ short firsts.
         let Follows : List ReportLine → Type 0 = λ z. FollowsPlanBy short m (sections_over m text) z in
-        follow_front short m text said rest (subst Follows shown_all (fits_follow m seen text first later spread h.of_text h.lines same short (h.told short firsts)));
+        follow_front short m text said reached.more (subst Follows reached.upto (fits_follow m seen text first (take reached.n later) spread h.of_text upto_lines same short (fits short firsts)));
   }
     where
+      -- the last turn of which lines were written
+      reached : Reach (first ∷ later) said rest
+      reached = reach first later said rest shown_all
+
+      size : length (take reached.n later) ≡ reached.n
+      size = length-take-le reached.n later (let within = reached.within in omega (arith, within))
+
+      upto_lines : TellTurns m seen.begun 0 (first ∷ take reached.n later)
+      upto_lines = tell_take m seen.begun 0 (suc reached.n) (first ∷ later) h.lines
+
+      in_upto : (i turn : ℕ) → section_turn i said ≡ Some turn → section_turn i (gather (λ t. t.lines) (first ∷ take reached.n later)) ≡ Some turn
+      in_upto i turn e = ap (section_turn i) reached.upto ∙ turn_front i turn said reached.more e
+
+      fits : (short : List Clocks) → ((b : ℕ) → b < length m.boards → AreFirstLines (clocks_at short b) (clocks_at clocks b) (reached.n + 271)) → AllFit m seen text first (take reached.n later) spread h.of_text upto_lines same short
+      fits short firsts past s more from to place cut low w =
+          let within = reached.within in
+          let Window : ℕ → Type 0 = λ n. IsWindow n from to (record { start = s.start; end = s.end }) (times_of more) in
+          let own = subst Window size w in
+          let order = own.order in
+          let inside = own.within in
+          let fit = h.told (reached.n + 271) reached.n (omega arith) (omega (arith, within)) short firsts past s more from to place cut low own in
+          let At : List ReportLine → Type 0 = λ z. Fits (clocks_at short (stepper_at m place).board).first.freq (base_tick m short s.start place) (pulses_of place z) (stepper_plan m short s.section.moves s.start place) in
+          subst At (ap (λ z. gather (λ (t : ReactorTurn). t.lines) z) (sym (take_in (to - from) from reached.n later (omega (arith, order, inside))))) fit
+
       both : heads_of (gather (λ t. t.lines) (first ∷ later)) ≡ heads_of said ++ heads_of rest
       both = ap heads_of shown_all ∙ flat_map-append head_in said rest
 
@@ -663,17 +702,14 @@ module _ (m : Machine) (switches : List Switch) (seen : Seen) (clocks : List Clo
       went : GoesThrough c → GoesThrough own
       went g = subst (λ (z : Cause). GoesThrough z) (through g).1 g
 
-      told_further : (i turn : ℕ) → section_turn i said ≡ Some turn → TellFurther m clocks (length later + 271) c said
-      told_further i turn e = homes_further m seen clocks ready own c first later said rest (show_begun m seen clocks ready own first later h) shown_all (λ g. (let w = complete g in let Shows : Cause → Type 0 = λ z. ShowsAll z in let both : (rest ≡ []) × ShowsAll own = (w.0, subst Shows w.1 g) in both)) (some_behind i turn said e)
+      told_further : (i turn : ℕ) → section_turn i said ≡ Some turn → TellFurther m clocks (reached.n + 271) said
+      told_further i turn e = homes_further m seen clocks ready own first later said rest (show_begun m seen clocks ready own first later h) shown_all reached (some_behind i turn said e)
 
       whole : GoesThrough c → gather (λ t. t.lines) (first ∷ later) ≡ said
       whole g = shown_all ∙ ap (λ z. said ++ z) (through g).0 ∙ append-nil said
 
 -- and what is not of pulses
-module _ (m : Machine) (seen : Seen) (clocks : List Clocks) (ready : ℕ) (own c : Cause) (text : List ℕ) (said rest : List ReportLine) (same : seen.text ≡ text) (complete : ShowsAll c → (rest ≡ []) × (c ≡ own)) where
-  begun_through : GoesThrough c → (rest ≡ []) × (c ≡ own)
-  begun_through g = complete (through_shows c g)
-
+module _ (m : Machine) (seen : Seen) (clocks : List Clocks) (ready : ℕ) (own c : Cause) (text : List ℕ) (said rest : List ReportLine) (same : seen.text ≡ text) (through : GoesThrough c → (rest ≡ []) × (c ≡ own)) where
   begun_shown : (turns : List ReactorTurn) → (x : ReactorTurn) × (xs : List ReactorTurn) × (turns ≡ x ∷ xs) → AllShowBegun m seen clocks ready own turns → gather (λ t. t.lines) turns ≡ said ++ rest → ShowsBegun m text c said
   begun_shown [] some h shown_all = absurd (let e : [] ≡ some.0 ∷ some.1 = some.2 in cc)
   begun_shown (first ∷ later) some h shown_all = record {
@@ -696,13 +732,16 @@ module _ (m : Machine) (seen : Seen) (clocks : List Clocks) (ready : ℕ) (own c
         first_counts (program_end m text).lines (program_end m text).passed [] said (ap counts_of (sym (whole g)) ∙ is);
     cause = λ g.
         let is = (h.through (went g)).cause_is ∙ ap (λ z. text_end (program_end m z).stop) same in
-        (begun_through g).1 ∙ is ∙ ends_as (program_end m text).stop;
-    last = length later + 271;
+        (through g).1 ∙ is ∙ ends_as (program_end m text).stop;
+    last = reached.n + 271;
     further = λ i turn e. (told_further i turn e).further;
     first = λ i turn e. (told_further i turn e).first;
     named = λ i turn e. (told_further i turn e).named;
   }
     where
+      reached : Reach (first ∷ later) said rest
+      reached = reach first later said rest shown_all
+
       own_lines : HaveBegunLines m seen.text clocks ready own (gather (λ t. t.lines) (first ∷ later))
       own_lines = begun_heads m seen clocks ready own first later h
 
@@ -710,22 +749,22 @@ module _ (m : Machine) (seen : Seen) (clocks : List Clocks) (ready : ℕ) (own c
       both = ap heads_of shown_all ∙ flat_map-append head_in said rest
 
       went : GoesThrough c → GoesThrough own
-      went g = subst (λ (z : Cause). GoesThrough z) (begun_through g).1 g
+      went g = subst (λ (z : Cause). GoesThrough z) (through g).1 g
 
-      told_further : (i turn : ℕ) → section_turn i said ≡ Some turn → TellFurther m clocks (length later + 271) c said
-      told_further i turn e = homes_further m seen clocks ready own c first later said rest h shown_all (λ g. (let w = complete g in let Shows : Cause → Type 0 = λ z. ShowsAll z in let both : (rest ≡ []) × ShowsAll own = (w.0, subst Shows w.1 g) in both)) (some_behind i turn said e)
+      told_further : (i turn : ℕ) → section_turn i said ≡ Some turn → TellFurther m clocks (reached.n + 271) said
+      told_further i turn e = homes_further m seen clocks ready own first later said rest h shown_all reached (some_behind i turn said e)
 
       whole : GoesThrough c → gather (λ t. t.lines) (first ∷ later) ≡ said
-      whole g = shown_all ∙ ap (λ z. said ++ z) (begun_through g).0 ∙ append-nil said
+      whole g = shown_all ∙ ap (λ z. said ++ z) (through g).0 ∙ append-nil said
 
 -- and what is of pulses too, where this may be said of the turns
-module _ (m : Machine) (seen : Seen) (clocks : List Clocks) (ready : ℕ) (own c : Cause) (text : List ℕ) (said rest : List ReportLine) (spread : Spread 260 seen.begun) (same : seen.text ≡ text) (complete : ShowsAll c → (rest ≡ []) × (c ≡ own)) (Little : Type 0) where
+module _ (m : Machine) (seen : Seen) (clocks : List Clocks) (ready : ℕ) (own c : Cause) (text : List ℕ) (said rest : List ReportLine) (spread : Spread 260 seen.begun) (same : seen.text ≡ text) (through : GoesThrough c → (rest ≡ []) × (c ≡ own)) (Little : Type 0) where
   front_shown : (turns : List ReactorTurn) → (x : ReactorTurn) × (xs : List ReactorTurn) × (turns ≡ x ∷ xs) → AllShowBegun m seen clocks ready own turns → (Little → AllShowHomes m seen clocks ready own turns) → gather (λ t. t.lines) turns ≡ said ++ rest
       → (begun : ShowsBegun m text c said) × (Little → FollowsPlanBy begun.clocks m (sections_over m text) said)
   unfolding begun_shown
   front_shown [] some b h shown_all = absurd (let e : [] ≡ some.0 ∷ some.1 = some.2 in cc)
   front_shown (first ∷ later) some b h shown_all = (
-    begun_shown m seen clocks ready own c text said rest same complete (first ∷ later) some b shown_all,
+    begun_shown m seen clocks ready own c text said rest same through (first ∷ later) some b shown_all,
     λ little. let At : List ReportLine → Type 0 = λ z. FollowsPlanBy clocks m (sections_over m text) z in follow_front clocks m text said rest (subst At shown_all (homes_follow m seen clocks ready own text first later spread (h little) same)),
   )
 
@@ -768,11 +807,11 @@ memory_or c = elim (cause_either c) [
 ]
 
 module _ {F S : Type 0} (f : Files F) (o : Sink S) (m : Machine) (s : Scene) (gcode : List ℕ) (files files' : F) (out out' : S) (c : Cause) (lines : List ReportLine) (counts : List ℕ) (links : List LinkLog) (v : IsValidMachine m) (short : HaveShortDictionaries m) where
-  -- a run that shows all its lines was written whole, and ends for its own cause
-  shows_all : (r : IsReported f o m s gcode files files' out out' c lines counts links) → ShowsAll c → (r.rest ≡ []) × (c ≡ r.told.cause)
-  shows_all r g =
-      let Shows : Cause → Type 0 = λ z. ShowsAll z in
-      let w = r.cause_is (λ e. subst Shows e g) (λ e. subst Shows e g) in
+  -- a run that went through was written whole, and ends for its own cause
+  whole_of : (r : IsReported f o m s gcode files files' out out' c lines counts links) → GoesThrough c → (r.rest ≡ []) × (c ≡ r.told.cause)
+  whole_of r g =
+      let not = through_whole c g in
+      let w = r.cause_is not.0 not.1 in
       (w.0, w.2)
 
   texts : (r : IsReported f o m s gcode files files' out out' c lines counts links) (text : List ℕ) → f.told files gcode ≡ Some text → AreOfMoves (sections_over m text) → (r.told.cause ≡ cause.Memory → ⊥)
@@ -797,8 +836,8 @@ module _ {F S : Type 0} (f : Files F) (o : Sink S) (m : Machine) (s : Scene) (gc
       let Before : List ReportLine → Type 0 = λ z. IsCompleteBefore clocks m (sections_over m text) z in
       let Numbered : List ReportLine → Type 0 = λ z. AreNumbered 0 z in
       let numbered = numbered_front 0 (heads_of r.said) (heads_of r.rest) (subst Numbered both (numbered_front 0 (heads_of (gather (λ t. t.lines) turns)) heads.front.0 (subst Numbered heads.front.1 (numbered_due m clocks ready 0 (sections_over m text))))) in
-      let went = λ (g : ShowsAll c). (let w = shows_all r g in let Shows : Cause → Type 0 = λ z. ShowsAll z in let both : (r.rest ≡ []) × ShowsAll own = (w.0, subst Shows w.1 g) in both) in
-      let told_further = λ (i turn : ℕ) (e : section_turn i r.said ≡ Some turn). all_further m seen clocks ready own c turns r.said r.rest all r.shown went (some_behind i turn r.said e) in
+      let reached = reach_all turns (some_turns r.runs.runs.1 r.runs.runs.2) r.said r.rest r.shown in
+      let told_further = λ (i turn : ℕ) (e : section_turn i r.said ≡ Some turn). all_further m seen clocks ready own turns r.said r.rest all r.shown reached (some_behind i turn r.said e) in
       record {
         clocks = clocks;
         ready = ready;
@@ -820,7 +859,7 @@ module _ {F S : Type 0} (f : Files F) (o : Sink S) (m : Machine) (s : Scene) (gc
         boards = λ i turn e. all_boards m seen clocks ready own turns r.said r.rest all r.shown (some_behind i turn r.said e);
         apart = λ i turn e. (all_apart m seen clocks ready own turns r.said r.rest all r.shown (some_behind i turn r.said e)).0;
         sound = λ i turn e. (all_apart m seen clocks ready own turns r.said r.rest all r.shown (some_behind i turn r.said e)).1;
-        last = length turns - 1;
+        last = reached.n + 271;
         further = λ i turn e. (told_further i turn e).further;
         first = λ i turn e. (told_further i turn e).first;
         named = λ i turn e. (told_further i turn e).named;
@@ -828,7 +867,9 @@ module _ {F S : Type 0} (f : Files F) (o : Sink S) (m : Machine) (s : Scene) (gc
             let not = through_whole c g in
             let w = r.cause_is not.0 not.1 in
             let said : gather (λ t. t.lines) turns ≡ r.said = r.shown ∙ ap (λ z. r.said ++ z) w.0 ∙ append-nil r.said in
-            all_over m seen clocks ready own text turns spread all same moves (subst Through w.2 g) i turn (ap (section_turn i) said ∙ e);
+            let over = all_over m seen clocks ready own text turns spread all same moves (subst Through w.2 g) i turn (ap (section_turn i) said ∙ e) in
+            let all_turns = reached.whole w.0 in
+            omega (arith, over, all_turns);
         own = λ g.
             let not = through_whole c g in
             let w = r.cause_is not.0 not.1 in
@@ -848,10 +889,11 @@ module _ {F S : Type 0} (f : Files F) (o : Sink S) (m : Machine) (s : Scene) (gc
             w.2 ∙ is ∙ ends_as (program_end m text).stop;
       })
 
-  -- and of any text
-  home_texts : (r : IsReported f o m s gcode files files' out out' c lines counts links) (text : List ℕ) → f.told files gcode ≡ Some text → (r.told.cause ≡ cause.Memory → ⊥)
-      → AllHomeLittle m s text r.runs.runs.0 (r.runs.runs.1 ++ r.runs.runs.2 ∷ []) → ∥ ShowsHomes m s.switches text c r.said ∥₁
-  home_texts r text told other little =
+  -- and of any text, all lines or the first ones
+  pub home_lines : (r : IsReported f o m s gcode files files' out out' c lines counts links) (text : List ℕ) → f.told files gcode ≡ Some text → (r.told.cause ≡ cause.Memory → ⊥)
+      → AllHomeLittle m s text r.runs.runs.0 (r.runs.runs.1 ++ r.runs.runs.2 ∷ []) → (said rest : List ReportLine) (d : Cause) → (GoesThrough d → (rest ≡ []) × (d ≡ r.told.cause))
+      → gather (λ t. t.lines) (r.runs.runs.1 ++ r.runs.runs.2 ∷ []) ≡ said ++ rest → ∥ ShowsHomes m s.switches text d said ∥₁
+  home_lines r text told other little said rest d through shown =
       ∥∥₁_map (run_made f o m s gcode files files' out r.behind r.kept r.kept' r.told r.runs text told r.fresh.at) (λ w.
       let made = w.0 in
       let seen = made.plans.seen in
@@ -859,10 +901,14 @@ module _ {F S : Type 0} (f : Files F) (o : Sink S) (m : Machine) (s : Scene) (gc
       let Little : List ℕ → Type 0 = λ z. AllHomeLittle m s z r.runs.runs.0 turns in
       let held = subst Little (sym w.1) little in
       let all = facts f o m s gcode files files' out r.behind r.kept r.kept' r.told r.runs other in
-      homes_shown m s.switches seen (clocks_heard seen.told) (ready_heard seen.told) r.told.cause c text r.said r.rest (plans_spread m (length m.boards) r.runs.runs.0 made.plans) w.1 (shows_all r) turns (some_turns r.runs.runs.1 r.runs.runs.2)
+      homes_shown m s.switches seen (clocks_heard seen.told) (ready_heard seen.told) r.told.cause d text said rest (plans_spread m (length m.boards) r.runs.runs.0 made.plans) w.1 through turns (some_turns r.runs.runs.1 r.runs.runs.2)
       (all_shows m v s r.runs.runs.0 made.plans r.runs.runs.2 r.told.cause r.runs.runs.1 all short held)
       (all_ends m v s r.runs.runs.0 made.plans r.runs.runs.2 r.told.cause r.runs.runs.1 (run_ended f o m s gcode files files' out r.behind r.kept r.kept' r.told r.runs other))
-      (all_wholes m v s r.runs.runs.0 made.plans r.runs.runs.2 r.told.cause r.runs.runs.1 all short held) r.shown)
+      (all_wholes m v s r.runs.runs.0 made.plans r.runs.runs.2 r.told.cause r.runs.runs.1 all short held) shown)
+
+  home_texts : (r : IsReported f o m s gcode files files' out out' c lines counts links) (text : List ℕ) → f.told files gcode ≡ Some text → (r.told.cause ≡ cause.Memory → ⊥)
+      → AllHomeLittle m s text r.runs.runs.0 (r.runs.runs.1 ++ r.runs.runs.2 ∷ []) → ∥ ShowsHomes m s.switches text c r.said ∥₁
+  home_texts r text told other little = home_lines r text told other little r.said r.rest c (whole_of r) r.shown
 
   -- whatever its links hold, and whatever ended it
   abbrev HoldLittle : IsReported f o m s gcode files files' out out' c lines counts links → List ℕ → Type 0
@@ -876,14 +922,14 @@ module _ {F S : Type 0} (f : Files F) (o : Sink S) (m : Machine) (s : Scene) (gc
         let turns = r.runs.runs.1 ++ r.runs.runs.2 ∷ [] in
         let Little : List ℕ → Type 0 = λ z. AllHomeLittle m s z r.runs.runs.0 turns in
         let all = facts f o m s gcode files files' out r.behind r.kept r.kept' r.told r.runs other in
-        front_shown m seen (clocks_heard seen.told) (ready_heard seen.told) r.told.cause c text r.said r.rest (plans_spread m (length m.boards) r.runs.runs.0 made.plans) w.1 (shows_all r) (HoldLittle r text) turns (some_turns r.runs.runs.1 r.runs.runs.2)
+        front_shown m seen (clocks_heard seen.told) (ready_heard seen.told) r.told.cause c text r.said r.rest (plans_spread m (length m.boards) r.runs.runs.0 made.plans) w.1 (whole_of r) (HoldLittle r text) turns (some_turns r.runs.runs.1 r.runs.runs.2)
         (all_begun m v s r.runs.runs.0 made.plans r.runs.runs.2 r.told.cause r.runs.runs.1 all)
         (λ little. all_shows m v s r.runs.runs.0 made.plans r.runs.runs.2 r.told.cause r.runs.runs.1 all short (subst Little (sym w.1) (little.0 other))) r.shown)
     | inl memory ↦ elim (cut_last r.runs.runs.1) [
       | inl none ↦
           let lines_are : [] ≡ r.said ++ r.rest = sym (ap lines_of none) ∙ sym (written memory) ∙ r.shown in
           let At : List ReportLine → Type 0 = λ z. (begun : ShowsBegun m text c z) × (HoldLittle r text → FollowsPlanBy begun.clocks m (sections_over m text) z) in
-          ∣ subst At (sym (nothing_written r.said r.rest lines_are)) (nothing_shown m text c (λ g. none_through memory (through_shows c g)), λ little i turn s e h. absurd (no_turn turn e)) ∣₁
+          ∣ subst At (sym (nothing_written r.said r.rest lines_are)) (nothing_shown m text c (none_through memory), λ little i turn s e h. absurd (no_turn turn e)) ∣₁
       | inr x ↦
           let turns = x.0 ++ x.1 ∷ [] in
           let lines_are : lines_of turns ≡ r.said ++ r.rest = sym (ap lines_of x.2) ∙ sym (written memory) ∙ r.shown in
@@ -897,8 +943,8 @@ module _ {F S : Type 0} (f : Files F) (o : Sink S) (m : Machine) (s : Scene) (gc
     ]
   ]
     where
-      none_through : r.told.cause ≡ cause.Memory → ShowsAll c → ⊥
-      none_through memory g = (let Shows : Cause → Type 0 = λ z. ShowsAll z in subst Shows ((shows_all r g).1 ∙ memory) g)
+      none_through : r.told.cause ≡ cause.Memory → GoesThrough c → ⊥
+      none_through memory g = (through_whole c g).0 ((whole_of r g).1 ∙ memory)
 
       written : r.told.cause ≡ cause.Memory → lines_of (r.runs.runs.1 ++ r.runs.runs.2 ∷ []) ≡ lines_of r.runs.runs.1
       written memory =

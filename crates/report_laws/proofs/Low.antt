@@ -30,11 +30,10 @@ use Rattle.report_laws.proofs.Retelling.{alike}
 use Rattle.report_laws.proofs.Shortening.{AreShownShort, short-lines}
 use Rattle.run_plans.specs.Lines.{pulses_of}
 use Rattle.session_laws.specs.run_ends.Ends.{GoesThrough}
-use Rattle.session_laws.specs.run_headline.Further.{AreNamed, BoardsFirst, ShowsAll, TellsFurther}
+use Rattle.session_laws.specs.run_headline.Further.{AreNamed, BoardsFirst, TellsFurther}
 use Rattle.session_laws.specs.run_headline.Told.{AreTold}
 use Rattle.session_laws.specs.run_headline.Timely.{AreOfMoves, AreSound}
 use Rattle.session_laws.specs.run_lines.Due.{BoardsHave, StandApart, begun_lines}
-use Rattle.session_laws.proofs.run_lines.Further.{through_shows}
 use Rattle.session_laws.specs.run_limits.Limits.{AreLow, greatest_tick, start_limit}
 use Rattle.report_laws.specs.Body.{no_section, section_lines}
 use Rattle.report_laws.specs.Headline.{moves_of, plan_by}
@@ -232,8 +231,8 @@ small homes m n (report.Count stepper pulses ∷ lines) shown told low long name
 small homes m n (report.Fit section stepper pulses planned early late ∷ lines) shown told low long names timed = absurd told.0
 small homes m n (report.End c ∷ lines) shown told low long names timed = absurd told.0
 
--- what the lines of a run show that shows all of them
-pub record Facts (homes : Bool) (m : Machine) (sections : List Section) (clocks : List Clocks) (ready : ℕ) (c : Cause) (said : List ReportLine) : Type 0 where
+-- what the lines of a run show
+pub record Facts (homes : Bool) (m : Machine) (sections : List Section) (clocks : List Clocks) (ready : ℕ) (said : List ReportLine) : Type 0 where
   pub due : (j turn : ℕ) → section_turn j said ≡ Some turn → IsDue ready 0 j (length sections) turn
   pub numbered : AreNumbered 0 (sections_shown said)
   pub apart : StandApart m clocks ready said
@@ -248,33 +247,32 @@ pub record Facts (homes : Bool) (m : Machine) (sections : List Section) (clocks 
   pub names : AreNamed m said
   pub timed : (b : ℕ) → b < length m.boards → tick (clocks_at clocks b).first (ready * turn_ns) ≤ greatest_tick ready
   pub soon : ready < 2 ^ 43
-  pub full : ShowsAll c
-  pub further : (b : ℕ) → b < length m.boards → TellsFurther b (clocks_at clocks b).held last c said
+  pub further : (b : ℕ) → b < length m.boards → TellsFurther b (clocks_at clocks b).held last said
 
 -- what it tells of the boards' clock lines
-abbrev pub shorts_of : (homes : Bool) (m : Machine) (sections : List Section) (clocks : List Clocks) (ready : ℕ) (c : Cause) (said : List ReportLine) (f : Facts homes m sections clocks ready c said) → AreShownShort m clocks ready f.last f.apart.head said
-shorts_of homes m sections clocks ready c said f = shorts m clocks ready f.last c f.apart.head (report.Section 0 f.apart.turn f.apart.kind ∷ f.apart.body) said f.apart.are f.heads f.apart.told f.apart.rest f.sound f.names f.timed f.soon f.first f.full f.further
+abbrev pub shorts_of : (homes : Bool) (m : Machine) (sections : List Section) (clocks : List Clocks) (ready : ℕ) (said : List ReportLine) (f : Facts homes m sections clocks ready said) → AreShownShort m clocks ready f.last f.apart.head said
+shorts_of homes m sections clocks ready said f = shorts m clocks ready f.last f.apart.head (report.Section 0 f.apart.turn f.apart.kind ∷ f.apart.body) said f.apart.are f.heads f.apart.told f.apart.rest f.sound f.names f.timed f.soon f.first f.further
 
 -- the planned steps of a section have ticks of 64 bits
 less_than : (top : ℕ) (xs : List Planned) → All (λ q. q.tick ≤ top - 1) xs → 0 < top → All (λ q. q.tick < top) xs
 less_than top xs all some = λ k d lt. let h = all k d lt in omega (arith, h, some)
 
-pub keep_by : (homes : Bool) (m : Machine) (text : List ℕ) (clocks : List Clocks) (ready : ℕ) (c : Cause) (said : List ReportLine) → IsValidMachine m → (f : Facts homes m (sections_over m text) clocks ready c said) → (low : AreLow said)
-    → FollowsPlanBy (shorts_of homes m (sections_over m text) clocks ready c said f).short m (sections_over m text) said
-    → KeepLimits m (shorts_of homes m (sections_over m text) clocks ready c said f).short ready (sections_over m text) said
-keep_by homes m text clocks ready c said valid shows low follows =
-    record { small = small homes m 0 said shows.numbered shows.own low (longs m clocks ready shows.last c shows.apart.head (report.Section 0 shows.apart.turn shows.apart.kind ∷ shows.apart.body) said shows.apart.are shows.heads shows.apart.told shows.apart.rest shows.sound shows.names shows.timed shows.soon shows.first shows.full shows.further) shows.names timed; rooms = rooms }
+pub keep_by : (homes : Bool) (m : Machine) (text : List ℕ) (clocks : List Clocks) (ready : ℕ) (said : List ReportLine) → IsValidMachine m → (f : Facts homes m (sections_over m text) clocks ready said) → (low : AreLow said)
+    → FollowsPlanBy (shorts_of homes m (sections_over m text) clocks ready said f).short m (sections_over m text) said
+    → KeepLimits m (shorts_of homes m (sections_over m text) clocks ready said f).short ready (sections_over m text) said
+keep_by homes m text clocks ready said valid shows low follows =
+    record { small = small homes m 0 said shows.numbered shows.own low (longs m clocks ready shows.last shows.apart.head (report.Section 0 shows.apart.turn shows.apart.kind ∷ shows.apart.body) said shows.apart.are shows.heads shows.apart.told shows.apart.rest shows.sound shows.names shows.timed shows.soon shows.first shows.further) shows.names timed; rooms = rooms }
   where
     can : ArePlannable (sections_over m text)
     can = sections_plannable m text valid
 
     short : AreShownShort m clocks ready shows.last shows.apart.head said
-    short = shorts_of homes m (sections_over m text) clocks ready c said shows
+    short = shorts_of homes m (sections_over m text) clocks ready said shows
 
     rooms : (j turn : ℕ) → section_turn j said ≡ Some turn → have_room (all_retold ready short.short) (length (moves_of (sections_over m text) j)) turn ≡ true
     rooms j turn e =
         let d = shows.due j turn e in
-        rooms_at m clocks ready shows.last c shows.apart.head (report.Section 0 shows.apart.turn shows.apart.kind ∷ shows.apart.body) said shows.apart.are shows.heads shows.apart.told shows.apart.rest shows.sound shows.names shows.timed shows.soon shows.first shows.full shows.further low (length (moves_of (sections_over m text) j)) turn d.late (turn_low j turn said low e) (few_of (sections_over m text) j can.few)
+        rooms_at m clocks ready shows.last shows.apart.head (report.Section 0 shows.apart.turn shows.apart.kind ∷ shows.apart.body) said shows.apart.are shows.heads shows.apart.told shows.apart.rest shows.sound shows.names shows.timed shows.soon shows.first shows.further low (length (moves_of (sections_over m text) j)) turn d.late (turn_low j turn said low e) (few_of (sections_over m text) j can.few)
 
     steps : (j turn s : ℕ) → section_turn j said ≡ Some turn → s < length m.steppers → All (λ q. q.tick < 2 ^ 64) (stepper_plan m short.short (moves_of (sections_over m text) j) turn s)
     steps j turn s e lt =
@@ -282,7 +280,7 @@ keep_by homes m text clocks ready c said valid shows low follows =
         let there : j < length (sections_over m text) = (let h = d.inside in omega (arith, h)) in
         let moves = moves_of (sections_over m text) j in
         let late = d.late in
-        let made = steps_at m clocks ready shows.last c shows.apart.head (report.Section 0 shows.apart.turn shows.apart.kind ∷ shows.apart.body) said shows.apart.are shows.heads shows.apart.told shows.apart.rest shows.sound shows.names shows.timed shows.soon shows.first shows.full shows.further low moves turn s valid late (turn_low j turn said low e)
+        let made = steps_at m clocks ready shows.last shows.apart.head (report.Section 0 shows.apart.turn shows.apart.kind ∷ shows.apart.body) said shows.apart.are shows.heads shows.apart.told shows.apart.rest shows.sound shows.names shows.timed shows.soon shows.first shows.further low moves turn s valid late (turn_low j turn said low e)
         (near_short moves (can.valid j no_section there) (can.near j no_section there)) (few_of (sections_over m text) j can.few) lt in
         let is : stepper_plan m (all_retold ready short.short) moves turn s ≡ stepper_plan m short.short moves turn s = (alike m short.short moves ready turn valid short.have late).steps s in
         less_than (2 ^ 64) (stepper_plan m short.short moves turn s) (subst (λ (xs : List Planned). All (λ q. q.tick ≤ 2 ^ 64 - 1) xs) is made) (omega arith)
@@ -314,7 +312,7 @@ shown_stands m text c said valid moves some shows through low =
     let heads = apart_heads false m shows.clocks shows.ready said apart uncut told in
     let Numbered : List ReportLine → Type 0 = λ z. AreNumbered 0 z in
     let Small : List ReportLine → Type 0 = λ z. AreSmall m z in
-    let facts : Facts false m sections shows.clocks shows.ready c said = record {
+    let facts : Facts false m sections shows.clocks shows.ready said = record {
       due = λ j turn e. due m shows.clocks shows.ready 0 shows.ready sections j turn (omega arith) (sym (ap (section_turn j) shown) ∙ shown_turn j said ∙ e);
       numbered = subst Numbered (sym shown) (numbered_lines 0 (section_starts m shows.clocks shows.ready sections) sections);
       apart = apart;
@@ -329,14 +327,13 @@ shown_stands m text c said valid moves some shows through low =
       names = shows.named 0 found.0 at;
       timed = λ b h. (told_timed m shows.clocks shows.ready said sound.clocks_are.count boards low b h).low;
       soon = let early = (told_timed m shows.clocks shows.ready said sound.clocks_are.count boards low 0 valid.boards_some).early in omega (arith, early);
-      full = through_shows c through;
       further = shows.further 0 found.0 at;
     } in
-    let short = shorts_of false m sections shows.clocks shows.ready c said facts in
+    let short = shorts_of false m sections shows.clocks shows.ready said facts in
     let same_plan : (j turn : ℕ) → section_turn j said ≡ Some turn → PlansAlike m short.short shows.clocks (moves_of sections j) turn = λ j turn e.
     let over = shows.over through j turn e in
     let after = section_end-after m shows.clocks (moves_of sections j) turn in
     fewer m short.short shows.clocks (moves_of sections j) turn shows.last valid sound.kept (λ b h. short-lines m shows.clocks short.short (further_told (map logged said)) shows.last b (short.each b h)) (omega (arith, over, after)) (omega (arith, over)) in
     let follows : FollowsPlanBy short.short m sections said = λ j turn s e lt. let same = same_plan j turn e in fits-same (pulses_in j s said) (same.freq s lt) (same.base s lt) (same.steps s lt) (shows.prefix j turn s e lt) in
     let kinds = shown_kinds said (subst AreAllKinds (sym shown) (due_moves 0 (section_starts m shows.clocks shows.ready sections) sections moves)) in
-    stands false m shows.clocks shows.ready shows.last sections said valid kinds apart heads sound boards told short (keep_by false m text shows.clocks shows.ready c said valid facts low follows) (λ j turn e. inl (same_plan j turn e))
+    stands false m shows.clocks shows.ready shows.last sections said valid kinds apart heads sound boards told short (keep_by false m text shows.clocks shows.ready said valid facts low follows) (λ j turn e. inl (same_plan j turn e))

@@ -4,7 +4,6 @@ use Rattle.std.specs.Prelude.{min}
 use Rattle.std.proofs.Math.Nat.{mul-mod_left}
 use Rattle.std.proofs.Math.Seq.{get_or-append_seam}
 use Rattle.std.proofs.lemmas.List.{length-map}
-use Rattle.plan_types.specs.declared.cause.Cause.{Cause}
 use Rattle.plan_types.specs.declared.machine.Machine.{Machine}
 use Rattle.plan_types.specs.declared.plan.Held.{Held}
 use Rattle.plan_types.specs.declared.plan.Line.{Line}
@@ -40,7 +39,7 @@ use Rattle.report_laws.proofs.Shortening.{AreShownShort, IsShown, shown-short}
 use Rattle.report_laws.proofs.Telling.{AllSmall, alone, held_told, keeps-low}
 use Rattle.run_parts.specs.Renewed.{NoneBefore}
 use Rattle.session_laws.specs.run_ends.Boards.{boards_of, lines_at}
-use Rattle.session_laws.specs.run_headline.Further.{AreNamed, BoardsFirst, ShowsAll, TellsFurther}
+use Rattle.session_laws.specs.run_headline.Further.{AreNamed, BoardsFirst, TellsFurther}
 use Rattle.session_laws.specs.run_headline.Timely.{AreSound}
 use Rattle.session_laws.specs.run_lines.Due.{BoardsHave}
 use Rattle.session_laws.specs.run_limits.Limits.{AreLow, greatest_tick, start_limit}
@@ -228,8 +227,8 @@ record IsSlowAt (lines : List Clocks) (ready b : ℕ) : Type 0 where
   held_slow : AllSlow (clocks_at lines b).held
   begun : (clocks_at lines b).first.at ≤ ready * turn_ns
 
-module _ (m : Machine) (all : List Clocks) (ready last : ℕ) (c : Cause) (head body said : List ReportLine) (are : said ≡ head ++ body) (heads : AreHeads 0 head) (head_told : BoardsHave all ready head) (body_none : boards_of body ≡ []) (sound : AreSound m all ready)
-    (names : AreNamed m said) (timed : (b : ℕ) → b < length m.boards → tick (clocks_at all b).first (ready * turn_ns) ≤ greatest_tick ready) (soon : ready < 2 ^ 43) (first : BoardsFirst said) (full : ShowsAll c) (further : (b : ℕ) → b < length m.boards → TellsFurther b (clocks_at all b).held last c said) where
+module _ (m : Machine) (all : List Clocks) (ready last : ℕ) (head body said : List ReportLine) (are : said ≡ head ++ body) (heads : AreHeads 0 head) (head_told : BoardsHave all ready head) (body_none : boards_of body ≡ []) (sound : AreSound m all ready)
+    (names : AreNamed m said) (timed : (b : ℕ) → b < length m.boards → tick (clocks_at all b).first (ready * turn_ns) ≤ greatest_tick ready) (soon : ready < 2 ^ 43) (first : BoardsFirst said) (further : (b : ℕ) → b < length m.boards → TellsFurther b (clocks_at all b).held last said) where
   clock_small : (b : ℕ) → b < length m.boards → (clocks_at all b).first.clock < 2 ^ 62
   clock_small b h = let most = timed b h in omega (arith, most, soon)
 
@@ -250,7 +249,7 @@ module _ (m : Machine) (all : List Clocks) (ready last : ℕ) (c : Cause) (head 
         rest = f.rest;
         are = f.are;
         told_is = told_furthers b f.told said (early_turns (clocks_at all b).first f.told (early b h)) f.lines_are;
-        behind = f.later full;
+        behind = f.later;
       }
 
   have : HaveLines m all ready

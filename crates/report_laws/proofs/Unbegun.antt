@@ -64,7 +64,7 @@ use Rattle.session_laws.proofs.run_lates.Unbegun.{unbegun}
 use Rattle.session_laws.proofs.clear_runs.Punctual.{NoUnits}
 use Rattle.session_laws.proofs.run_ends.Ending.{own_cause}
 use Rattle.session_laws.specs.run_headline.Timely.{AreSound}
-use Rattle.session_laws.specs.run_headline.Further.{AreNamed, BoardsFirst, ShowsAll, TellsFurther}
+use Rattle.session_laws.specs.run_headline.Further.{AreNamed, BoardsFirst, TellsFurther}
 use Rattle.session_laws.specs.run_lines.Due.{BoardsHave}
 use Rattle.session_laws.specs.run_limits.Limits.{AreLow, greatest_tick}
 use Rattle.session_laws.proofs.run_limits.Few.{read_few, stop_line}
@@ -309,7 +309,7 @@ none_long (report.Fit section stepper pulses planned early late ∷ lines) none 
 none_long (report.End c ∷ lines) none = none_long lines none
 
 -- The clock lines of the boards that a report without sections tells.
-pub record ShowsLines (m : Machine) (c : Cause) (lines : List ReportLine) : Type 0 where
+pub record ShowsLines (m : Machine) (lines : List ReportLine) : Type 0 where
   pub clocks : List Clocks
   pub ready : ℕ
   pub last : ℕ
@@ -317,7 +317,7 @@ pub record ShowsLines (m : Machine) (c : Cause) (lines : List ReportLine) : Type
   pub sound : AreSound m clocks ready
   pub first : BoardsFirst lines
   pub names : AreNamed m lines
-  pub further : (b : ℕ) → b < length m.boards → TellsFurther b (clocks_at clocks b).held last c lines
+  pub further : (b : ℕ) → b < length m.boards → TellsFurther b (clocks_at clocks b).held last lines
   pub timed : (b : ℕ) → b < length m.boards → tick (clocks_at clocks b).first (ready * turn_ns) ≤ greatest_tick ready
   pub soon : ready < 2 ^ 43
 
@@ -407,12 +407,12 @@ module _ (m : Machine) (v : IsValidMachine m) (s : Scene) (ts : List MotionTurn)
         let many = length-append rest (end ∷ []) in
         bare_run m each.ready 0 each.clocks All_lines (omega (arith, soon, made, small, many, most)) told_all bare counts_low long names boards_are each.freqs
 
-    pub shows_none : ShowsAll c → ShowsLines m c All_lines ⊎ NoneDrifts All_lines → ShowsNone m All_lines
-    shows_none full (inr plain) = record { of_run = of_lines (none_long All_lines plain) (none_named m All_lines plain); may = none_stand m All_lines [] plain; heads = heads }
-    shows_none full (inl shows) =
+    pub shows_none : ShowsLines m All_lines ⊎ NoneDrifts All_lines → ShowsNone m All_lines
+    shows_none (inr plain) = record { of_run = of_lines (none_long All_lines plain) (none_named m All_lines plain); may = none_stand m All_lines [] plain; heads = heads }
+    shows_none (inl shows) =
         let whole = sym (append-nil All_lines) in
-        let long = longs m shows.clocks shows.ready shows.last c All_lines [] All_lines whole heads shows.boards refl shows.sound shows.names shows.timed shows.soon shows.first full shows.further in
-        let short = shorts m shows.clocks shows.ready shows.last c All_lines [] All_lines whole heads shows.boards refl shows.sound shows.names shows.timed shows.soon shows.first full shows.further in
+        let long = longs m shows.clocks shows.ready shows.last All_lines [] All_lines whole heads shows.boards refl shows.sound shows.names shows.timed shows.soon shows.first shows.further in
+        let short = shorts m shows.clocks shows.ready shows.last All_lines [] All_lines whole heads shows.boards refl shows.sound shows.names shows.timed shows.soon shows.first shows.further in
         record { of_run = of_lines long shows.names; may = short.may; heads = heads }
 
   -- where no section was begun

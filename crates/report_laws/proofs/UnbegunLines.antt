@@ -1,5 +1,5 @@
 -- The clock lines that a run tells which begins no section.
-use Rattle.std.proofs.Common.{◌≡◌, ◌⊎◌, ◌∙◌, List, [], ◌∷◌, ◌++◌, length, Option, None, Some, ap, refl, arith, inl, inr, append-nil, length-append}
+use Rattle.std.proofs.Common.{◌≡◌, ◌⊎◌, ◌∙◌, List, [], ◌∷◌, ◌++◌, length, Option, None, Some, ap, refl, sym, arith, inl, inr, append-nil, length-append}
 use Rattle.std.proofs.lemmas.Grind.{flat_map-append}
 use Rattle.std.proofs.lemmas.List.{length-map}
 use Rattle.plan_types.specs.declared.cause.Cause.{Cause}
@@ -25,11 +25,12 @@ use Rattle.session_laws.proofs.run_headline.Drifts.{NoneDrifts}
 
 module _ (m : Machine) (v : IsValidMachine m) (s : Scene) (ts : List MotionTurn) (p : Plans m (length m.boards) ts) (end : ReactorTurn) (c : Cause) (first : ReactorTurn) (rest : List ReactorTurn) (f : Facts m s ts (first ∷ rest) end c) where
   -- those of the boards that the planner heard
-  told_lines : (t : Told) → p.seen.told ≡ Some t → ShowsLines m c (gather (λ x. x.lines) (first ∷ (rest ++ end ∷ [])))
+  told_lines : (t : Told) → p.seen.told ≡ Some t → ShowsLines m (gather (λ x. x.lines) (first ∷ (rest ++ end ∷ [])))
   told_lines t e =
       let r = ready m v s ts p t first rest end e f.ahead f.words_left f.turns f.words in
       let told = told_boards m v s ts p end c first rest f t e in
-      let tells = told_further m v s ts p end c first rest f t e (length (rest ++ end ∷ [])) (omega arith) in
+      let turns = first ∷ (rest ++ end ∷ []) in
+      let tells = told_further m v s ts p end c first rest f t e turns [] (sym (append-nil turns)) (length turns) (omega arith) in
       let lines = λ (z : List ReactorTurn). gather (λ (x : ReactorTurn). x.lines) z in
       let cut = ap boards_of (ap lines told.are ∙ gather_both told.past told.later) ∙ flat_map-append board_in (lines told.past) (lines told.later) ∙ ap (λ z. boards_of (lines told.past) ++ z) told.rest ∙ append-nil (boards_of (lines told.past)) ∙ told.lines in
       let start : t.first ≡ first_start (length (came_from [] r.past)) = r.first_is in
@@ -42,7 +43,7 @@ module _ (m : Machine) (v : IsValidMachine m) (s : Scene) (ts : List MotionTurn)
       record {
         clocks = t.clocks;
         ready = t.first;
-        last = length (rest ++ end ∷ []);
+        last = length turns;
         boards = cut;
         sound = sound_of m v s ts p t first rest end e r (λ b h. f.boards b first rest h refl);
         first = tells.first;
@@ -52,9 +53,9 @@ module _ (m : Machine) (v : IsValidMachine m) (s : Scene) (ts : List MotionTurn)
         soon = omega (arith, start, number, place, made, small, many, own);
       }
 
-  pub unbegun_lines : ShowsLines m c (gather (λ x. x.lines) (first ∷ (rest ++ end ∷ []))) ⊎ NoneDrifts (gather (λ x. x.lines) (first ∷ (rest ++ end ∷ [])))
+  pub unbegun_lines : ShowsLines m (gather (λ x. x.lines) (first ∷ (rest ++ end ∷ []))) ⊎ NoneDrifts (gather (λ x. x.lines) (first ∷ (rest ++ end ∷ [])))
   unbegun_lines = by p.seen.told refl
     where
-      by : (o : Option Told) → p.seen.told ≡ o → ShowsLines m c (gather (λ x. x.lines) (first ∷ (rest ++ end ∷ []))) ⊎ NoneDrifts (gather (λ x. x.lines) (first ∷ (rest ++ end ∷ [])))
+      by : (o : Option Told) → p.seen.told ≡ o → ShowsLines m (gather (λ x. x.lines) (first ∷ (rest ++ end ∷ []))) ⊎ NoneDrifts (gather (λ x. x.lines) (first ∷ (rest ++ end ∷ [])))
       by None e = inr (untold_none m v s ts p end c first rest f e)
       by (Some t) e = inl (told_lines t e)

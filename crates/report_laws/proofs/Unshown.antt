@@ -33,7 +33,6 @@ use Rattle.run_plans.specs.Lines.{TellTurns, head_in, heads_of, starts_at}
 use Rattle.run_plans.specs.Planned.{Plans}
 use Rattle.session_laws.specs.run_ends.Ends.{EndsSo}
 use Rattle.session_laws.proofs.run_ends.Ending.{ends_so}
-use Rattle.session_laws.specs.run_headline.Further.{ShowsAll}
 use Rattle.session_laws.specs.run_headline.Timely.{clocks_heard, ready_heard}
 use Rattle.session_laws.specs.run_headline.Told.{AreTold}
 use Rattle.session_laws.proofs.run_headline.Facts.{Facts, ends_own}
@@ -64,7 +63,7 @@ told_uncut m (report.Cut i board pin tick from ∷ lines) told uncut = absurd (l
 told_uncut m (x ∷ lines) told uncut = (told.0, told_uncut m lines told.1 uncut)
 
 -- lists of which both parts are empty
-both_none : {A : Type 0} (xs ys : List A) → xs ++ ys ≡ [] → (xs ≡ []) × (ys ≡ [])
+pub both_none : {A : Type 0} (xs ys : List A) → xs ++ ys ≡ [] → (xs ≡ []) × (ys ≡ [])
 both_none [] ys e = (refl, e)
 both_none (x ∷ xs) ys e = absurd (let f : x ∷ (xs ++ ys) ≡ [] = e in cc)
 
@@ -137,7 +136,7 @@ alone_plain m s ts end c f plain =
 module _ (m : Machine) (v : IsValidMachine m) (s : Scene) (ts : List MotionTurn) (p : Plans m (length m.boards) ts) (end : ReactorTurn) (c : Cause) (first : ReactorTurn) (rest : List ReactorTurn) (f : Facts m s ts (first ∷ rest) end c)
     (why : Some c ≡ (reacts m s.switches f.known (length (came_from [] (first ∷ rest))) end.states end.note).ordered.end)
     (shows : ShowHomes m p.seen (clocks_heard p.seen.told) (ready_heard p.seen.told) c first (rest ++ end ∷ [])) (told : AreTold true m (gather (λ t. t.lines) (first ∷ (rest ++ end ∷ [])))) (uncut : cuts_of (gather (λ t. t.lines) (first ∷ (rest ++ end ∷ []))) ≡ [])
-    (none : heads_of (gather (λ t. t.lines) (first ∷ (rest ++ end ∷ []))) ≡ []) (full : ShowsAll c) where
+    (none : heads_of (gather (λ t. t.lines) (first ∷ (rest ++ end ∷ []))) ≡ []) where
   -- no pulse comes before the first section starts
   still : (x : Started) (later : List Started) → p.seen.begun ≡ x ∷ later → AreBare m (gather (λ t. t.lines) (first ∷ (rest ++ end ∷ [])))
   still x later cut =
@@ -151,5 +150,5 @@ module _ (m : Machine) (v : IsValidMachine m) (s : Scene) (ts : List MotionTurn)
   shown_none = by p.seen.begun refl
     where
       by : (begun : List Started) → p.seen.begun ≡ begun → ShowsNone m (gather (λ t. t.lines) (first ∷ (rest ++ end ∷ [])))
-      by [] e = shows_none m v s ts p end c first rest f why (told_uncut m (gather (λ t. t.lines) (first ∷ (rest ++ end ∷ []))) told uncut) (bare_none m v s ts p end c first rest f why e) full (unbegun_lines m v s ts p end c first rest f)
-      by (x ∷ later) e = shows_none m v s ts p end c first rest f why (told_uncut m (gather (λ t. t.lines) (first ∷ (rest ++ end ∷ []))) told uncut) (still x later e) full (unbegun_lines m v s ts p end c first rest f)
+      by [] e = shows_none m v s ts p end c first rest f why (told_uncut m (gather (λ t. t.lines) (first ∷ (rest ++ end ∷ []))) told uncut) (bare_none m v s ts p end c first rest f why e) (unbegun_lines m v s ts p end c first rest f)
+      by (x ∷ later) e = shows_none m v s ts p end c first rest f why (told_uncut m (gather (λ t. t.lines) (first ∷ (rest ++ end ∷ []))) told uncut) (still x later e) (unbegun_lines m v s ts p end c first rest f)

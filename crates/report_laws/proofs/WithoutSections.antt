@@ -37,7 +37,6 @@ use Rattle.motion_work.specs.Seen.{Started}
 use Rattle.run_plans.specs.Planned.{Plans}
 use Rattle.session_laws.specs.run_ends.Ends.{GoesThrough}
 use Rattle.session_laws.proofs.run_ends.Ending.{own_cause}
-use Rattle.session_laws.proofs.run_lines.Further.{through_shows}
 use Rattle.session_laws.proofs.run_headline.Making.{run_made}
 use Rattle.session_laws.proofs.run_headline.Runs.{facts, run_ended}
 use Rattle.session_laws.proofs.run_headline.Showing.{Ended, Facts, alone_ends}
@@ -86,7 +85,7 @@ module _ {F S : Type 0} (f : Files F) (o : Sink S) (m : Machine) (s : Scene) (na
       let one = own_cause t.cause through in (
         cause_on m v s r.runs.0 p r.runs.2 t.cause first rest own why through,
         shows_none m v s r.runs.0 p r.runs.2 t.cause first rest own why (told_none m v s r.runs.0 p r.runs.2 t.cause first rest own why begun one) (bare_none m v s r.runs.0 p r.runs.2 t.cause first rest own why begun)
-            (through_shows t.cause through) (unbegun_lines m v s r.runs.0 p r.runs.2 t.cause first rest own),
+            (unbegun_lines m v s r.runs.0 p r.runs.2 t.cause first rest own),
       )
 
   pub none_shown : IsValidMachine m → (text : List ℕ) → f.told files name ≡ Some text → kept.at ≡ 0 → program_sections m text ≡ [] → GoesThrough t.cause → ∥ (IsCauseOn m t.cause × ShowsNone m (gather (λ t. t.lines) (r.runs.1 ++ r.runs.2 ∷ []))) ∥₁

@@ -54,11 +54,11 @@ pub record ShowsHomes (m : Machine) (switches : List Switch) (text : List ℕ) (
   pub apart : (i turn : ℕ) → section_turn i said ≡ Some turn → StandApart m clocks ready said
   pub sound : (i turn : ℕ) → section_turn i said ≡ Some turn → AreSound m clocks ready
   -- Further lines: where a section has its line, the further clock lines of each board that are told are the first ones of these, in
-  -- order, and no board has its line behind one; where the run shows all its lines the others hold from behind a turn. By this turn the plan of a
+  -- order, and no board has its line behind one; the others hold from behind a turn. By this turn the plan of a
   -- section of moves ended where the next section has its line or the run went through; and the pulses of each section fit its plan without lines
   -- that hold from behind it on
   pub last : ℕ
-  pub further : (i turn : ℕ) → section_turn i said ≡ Some turn → (b : ℕ) → b < length m.boards → TellsFurther b (clocks_at clocks b).held last c said
+  pub further : (i turn : ℕ) → section_turn i said ≡ Some turn → (b : ℕ) → b < length m.boards → TellsFurther b (clocks_at clocks b).held last said
   pub first : (i turn : ℕ) → section_turn i said ≡ Some turn → BoardsFirst said
   pub named : (i turn : ℕ) → section_turn i said ≡ Some turn → AreNamed m said
   pub over : (i turn : ℕ) → section_turn i said ≡ Some turn → kind_of (sections_over m text) i ≡ Moves → ((next : ℕ) × (section_turn (i + 1) said ≡ Some next)) ⊎ GoesThrough c → section_end m clocks (moves_of (sections_over m text) i) turn < last
@@ -86,8 +86,8 @@ pub record ShowsBegun (m : Machine) (text : List ℕ) (c : Cause) (said : List R
   pub counts : GoesThrough c → lines_line said ≡ Some ((program_end m text).lines, (program_end m text).passed)
   pub cause : GoesThrough c → c ≡ cause_of (program_end m text).stop
   -- Further lines: where a section has its line, those of each board that are told are the first ones of these, in order, and no board has
-  -- its line behind one
+  -- its line behind one; the others hold from behind a turn
   pub last : ℕ
-  pub further : (i turn : ℕ) → section_turn i said ≡ Some turn → (b : ℕ) → b < length m.boards → TellsFurther b (clocks_at clocks b).held last c said
+  pub further : (i turn : ℕ) → section_turn i said ≡ Some turn → (b : ℕ) → b < length m.boards → TellsFurther b (clocks_at clocks b).held last said
   pub first : (i turn : ℕ) → section_turn i said ≡ Some turn → BoardsFirst said
   pub named : (i turn : ℕ) → section_turn i said ≡ Some turn → AreNamed m said

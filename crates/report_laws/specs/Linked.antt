@@ -70,10 +70,9 @@ pub record ShowsText (m : Machine) (text : List ℕ) (c : Cause) (said : List Re
   pub apart : (i turn : ℕ) → section_turn i said ≡ Some turn → StandApart m clocks ready said
   pub sound : (i turn : ℕ) → section_turn i said ≡ Some turn → AreSound m clocks ready
   -- Further lines: where a section has its line, the further clock lines of each board that are told are the first ones of these, in
-  -- order, and no board has its line behind one; where the run shows all its lines the others hold from behind a turn, by which all sections ended
-  -- where it went through
+  -- order, and no board has its line behind one; the others hold from behind a turn, by which all sections ended where the run went through
   pub last : ℕ
-  pub further : (i turn : ℕ) → section_turn i said ≡ Some turn → (b : ℕ) → b < length m.boards → TellsFurther b (clocks_at clocks b).held last c said
+  pub further : (i turn : ℕ) → section_turn i said ≡ Some turn → (b : ℕ) → b < length m.boards → TellsFurther b (clocks_at clocks b).held last said
   pub first : (i turn : ℕ) → section_turn i said ≡ Some turn → BoardsFirst said
   pub named : (i turn : ℕ) → section_turn i said ≡ Some turn → AreNamed m said
   pub over : GoesThrough c → (i turn : ℕ) → section_turn i said ≡ Some turn → section_end m clocks (moves_of (sections_over m text) i) turn < last

@@ -40,7 +40,7 @@ module _ (m : Machine) (v : IsValidMachine m) (s : Scene) (ts : List MotionTurn)
           through = λ g. through_long m v s ts p end c first rest f g (long_own m v s ts p end c first rest f (own_cause c g));
           counts = λ g. counts_so m v s ts p end c first rest f g (long_own m v s ts p end c first rest f (own_cause c g));
           sound = sound_by m v s ts p end c first rest f p.seen.told refl;
-          further = further_by m v s ts p end c first rest f (length (rest ++ end ∷ []) + 271) (omega arith) p.seen.told refl;
+          further = further_by m v s ts p end c first rest f p.seen.told refl;
         }
 
   -- a run of one turn

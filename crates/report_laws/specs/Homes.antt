@@ -58,7 +58,8 @@ pub record ShowsHomes (m : Machine) (switches : List Switch) (text : List ℕ) (
   -- section of moves ended where the next section has its line or the run went through; and the pulses of each section fit its plan without lines
   -- that hold from behind it on
   pub last : ℕ
-  pub further : (i turn : ℕ) → section_turn i said ≡ Some turn → (b : ℕ) → b < length m.boards → TellsFurther b (clocks_at clocks b).held last said
+  pub further : (i turn : ℕ) → section_turn i said ≡ Some turn → (b : ℕ) → b < length m.boards →
+      TellsFurther b (clocks_at clocks b).held last said
   pub first : (i turn : ℕ) → section_turn i said ≡ Some turn → BoardsFirst said
   pub named : (i turn : ℕ) → section_turn i said ≡ Some turn → AreNamed m said
   pub over : (i turn : ℕ) → section_turn i said ≡ Some turn → kind_of (sections_over m text) i ≡ Moves → ((next : ℕ) × (section_turn (i + 1) said ≡ Some next)) ⊎ GoesThrough c → section_end m clocks (moves_of (sections_over m text) i) turn < last
@@ -88,6 +89,7 @@ pub record ShowsBegun (m : Machine) (text : List ℕ) (c : Cause) (said : List R
   -- Further lines: where a section has its line, those of each board that are told are the first ones of these, in order, and no board has
   -- its line behind one; the others hold from behind a turn
   pub last : ℕ
-  pub further : (i turn : ℕ) → section_turn i said ≡ Some turn → (b : ℕ) → b < length m.boards → TellsFurther b (clocks_at clocks b).held last said
+  pub further : (i turn : ℕ) → section_turn i said ≡ Some turn → (b : ℕ) → b < length m.boards →
+      TellsFurther b (clocks_at clocks b).held last said
   pub first : (i turn : ℕ) → section_turn i said ≡ Some turn → BoardsFirst said
   pub named : (i turn : ℕ) → section_turn i said ≡ Some turn → AreNamed m said

@@ -70,9 +70,11 @@ pub record ShowsText (m : Machine) (text : List ℕ) (c : Cause) (said : List Re
   pub apart : (i turn : ℕ) → section_turn i said ≡ Some turn → StandApart m clocks ready said
   pub sound : (i turn : ℕ) → section_turn i said ≡ Some turn → AreSound m clocks ready
   -- Further lines: where a section has its line, the further clock lines of each board that are told are the first ones of these, in
-  -- order, and no board has its line behind one; the others hold from behind a turn, by which all sections ended where the run went through
+  -- order, and no board has its line behind one; the others hold from behind a turn, by which all sections ended where
+  -- the run went through
   pub last : ℕ
-  pub further : (i turn : ℕ) → section_turn i said ≡ Some turn → (b : ℕ) → b < length m.boards → TellsFurther b (clocks_at clocks b).held last said
+  pub further : (i turn : ℕ) → section_turn i said ≡ Some turn → (b : ℕ) → b < length m.boards →
+      TellsFurther b (clocks_at clocks b).held last said
   pub first : (i turn : ℕ) → section_turn i said ≡ Some turn → BoardsFirst said
   pub named : (i turn : ℕ) → section_turn i said ≡ Some turn → AreNamed m said
   pub over : GoesThrough c → (i turn : ℕ) → section_turn i said ≡ Some turn → section_end m clocks (moves_of (sections_over m text) i) turn < last
@@ -80,25 +82,33 @@ pub record ShowsText (m : Machine) (text : List ℕ) (c : Cause) (said : List Re
   -- of what was read, and pulses of steppers that are there, on their own boards
   pub own : GoesThrough c → AreTold false m said
 
--- The report of a run over links. Its cause, where it is one of the run's own, is so in the reactor's last turn, and the first one that is; and in
--- no earlier turn was any. Whatever ended it, each turn before the last tells of a switch exactly where the group of the homing section that is
--- known then answers that it closed, at the tick of the answer; and whatever tells that readings triggered a board's trigger tells of a tick at
--- which its readings of the endstop of an axis that homes were complete. Whatever ended it, each board's lists in `links` hold the units
--- of the text's sections, each in its turn, in order and with longest triples, the controls that the reactor orders, and the states of the board's turns, whose pulses its lines show (`AreLinksIn`). Its lines,
--- as they were written, with those of pulses, show the sections that were begun, whatever ended it and whatever its links hold (`ShowsBegun`). They show Prefix too where no line
--- holds a command for half a round of the 32-bit clock and each board takes the set-up of a homing section in time or its reports are read true. And they show the file's text; of a run of moves that does not end for want of memory, where no line holds a
--- command for half a round of the 32-bit clock; and of one of any text, where besides each board takes the set-up of a homing section in time or its
--- reports are read true. Where moreover the set-up is taken in time, and what a board's trigger does in a homing section is heard of within half a round (`AllHearSoon`), the tick that a turn tells of a switch is one at which this very section's readings are
--- complete (`TellOwn`). What suffices for these
--- premises in a scene without entries is said by laws (`clear_links_hold_nothing_long`, `clear_scenes_hold_little`). Completeness: in a scene without entries, and where no line asks for a stop, a run of moves whose units are all sent soon (`SendsAllSoon`) ends as the reading
--- of its text does, but for want of memory and for faults of files and output; and so does one of any text whose units are sent so, or a switch
--- never closed; where each section's switch closes in time (`AllClose`) there is no such exception, each line of a switch is of the first tick at which
--- it closes (`TellFirst`), and where a run ends since no switch closed, none did in time (`MissesSwitch`). Causes: a run ends for a board that gives no
--- answer, or whose clock line is too old, only where its askings in a row were hindered on its link (`GaveNoAnswer`, `IsStaleSince`), and for a board
--- that expired only where, by what the members of the homing section's group told, it is the first of them (`IsFirstExpired`). It ends for steps that came too late only
--- where the board took them so in its link's last turn (`ComesLateIn`), and they are a unit's of its plan, with its spoiled turns and its spill
--- (`HasLateUnitIn`); no state tells of any other shutdown but the order to stop (`AllMayTell`). Sections start and end in their turns (`AreTimed`), and the
--- `board` lines are of clock lines that follow the boards' clocks (`TellKnownLines`). The turn that ends a run
+-- The report of a run over links. Its cause, where it is one of the run's own, is so in the reactor's last turn, and
+-- the first one that is; and in no earlier turn was any. Whatever ended it, each turn before the last tells of a switch
+-- exactly where the group of the homing section that is known then answers that it closed, at the tick of the answer;
+-- and whatever tells that readings triggered a board's trigger tells of a tick at which its readings of the endstop of
+-- an axis that homes were complete. Whatever ended it, each board's lists in `links` hold the units of the text's
+-- sections, each in its turn, in order and with longest triples, the controls that the reactor orders, and the states
+-- of the board's turns, whose pulses its lines show (`AreLinksIn`). Its lines, as they were written, with those of
+-- pulses, show the sections that were begun, whatever ended it and whatever its links hold (`ShowsBegun`). They show
+-- Prefix too where no line holds a command for half a round of the 32-bit clock and each board takes the set-up of a
+-- homing section in time or its reports are read true. And they show the file's text; of a run of moves that does not
+-- end for want of memory, where no line holds a command for half a round of the 32-bit clock; and of one of any text,
+-- where besides each board takes the set-up of a homing section in time or its reports are read true. Where moreover
+-- the set-up is taken in time, and what a board's trigger does in a homing section is heard of within half a round
+-- (`AllHearSoon`), the tick that a turn tells of a switch is one at which this very section's readings are complete
+-- (`TellOwn`). What suffices for these premises in a scene without entries is said by laws
+-- (`clear_links_hold_nothing_long`, `clear_scenes_hold_little`). Completeness: in a scene without entries, and where no
+-- line asks for a stop, a run of moves whose units are all sent soon (`SendsAllSoon`) ends as the reading of its text
+-- does, but for want of memory and for faults of files and output; and so does one of any text whose units are sent so,
+-- or a switch never closed; where each section's switch closes in time (`AllClose`) there is no such exception, each
+-- line of a switch is of the first tick at which it closes (`TellFirst`), and where a run ends since no switch closed,
+-- none did in time (`MissesSwitch`). Causes: a run ends for a board that gives no answer, or whose clock line is too
+-- old, only where its askings in a row were hindered on its link (`GaveNoAnswer`, `IsStaleSince`), and for a board that
+-- expired only where, by what the members of the homing section's group told, it is the first of them
+-- (`IsFirstExpired`). It ends for steps that came too late only where the board took them so in its link's last turn
+-- (`ComesLateIn`), and they are a unit's of its plan, with its spoiled turns and its spill (`HasLateUnitIn`); no state
+-- tells of any other shutdown but the order to stop (`AllMayTell`). Sections start and end in their turns (`AreTimed`),
+-- and the `board` lines are of clock lines that follow the boards' clocks (`TellKnownLines`). The turn that ends a run
 -- tells of no switch.
 pub record IsLinkReport {F S : Type 0} (f : Files F) (o : Sink S) (m : Machine) (s : Scene) (gcode : List ℕ) (files files' : F) (out out' : S) (c : Cause) (lines : List ReportLine) (counts : List ℕ) (links : List LinkLog) : Type 0 where
   pub reported : IsReported f o m s gcode files files' out out' c lines counts links

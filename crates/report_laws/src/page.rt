@@ -39,13 +39,15 @@ pub fn runs_that_went_through_follow_the_plan<F: Files, S: Sink>()
         (r : IsLinkReport F.Files S.Sink m s gcode files files' out out' c lines counts links) → IsPrinted m (S.written out) (S.written out') c r.reported.own r.reported.said lines counts }
 {}
 
-/// The law of printed lines: whatever ended a run over links, of moves or homing, but want of memory, the lines that were printed before
-/// the end line say a log that follows the plan of its text as far as the run came. By the clock lines that it tells the pulses of every stepper
-/// in each section fit the first of its planned steps; a section that was not cut, and behind whose next one's line a pulse of the same board
-/// stands, has them all; and where the run went through so has every section that was not cut.
+/// The law of printed lines: whatever ended a run over links, of moves or homing, but want of memory, the lines that
+/// were printed before the end line say a log that follows the plan of its text as far as the run came. By the clock
+/// lines that it tells the pulses of every stepper in each section fit the first of its planned steps; a section that
+/// was not cut, and behind whose next one's line a pulse of the same board stands, has them all; and where the run went
+/// through so has every section that was not cut.
 pub fn printed_lines_follow_the_plan<F: Files, S: Sink>()
     ensures { (printer : List ℕ) (m : Machine) (s : Scene) (gcode : List ℕ) (files files' : F) (out out' : S) (c : Cause) (lines : List ReportLine) (counts : List ℕ) (links : List LinkLog) →
         reading printer ≡ Ok m → (r : IsLinkReport F.Files S.Sink m s gcode files files' out out' c lines counts links) → (text : List ℕ) → F.told files gcode ≡ Some text →
-        AllHomeLittle m s text r.reported.runs.runs.0 (r.reported.runs.runs.1 ++ r.reported.runs.runs.2 ∷ []) → IsSceneFor m s → r.reported.told.cause ≢ Cause.Memory →
+        AllHomeLittle m s text r.reported.runs.runs.0 (r.reported.runs.runs.1 ++ r.reported.runs.runs.2 ∷ []) →
+        IsSceneFor m s → r.reported.told.cause ≢ Cause.Memory →
         ∥ ((log : List LogLine) × SaysLog m (report_text m r.reported.said) log × Follows (GoesThrough c) m (sections_over m text) log) ∥₁ }
 {}

@@ -22,7 +22,8 @@ AreNamed m [] = Unit {0}
 AreNamed m (report.Drift board sent clock from ∷ lines) = (board < length m.boards) × AreNamed m lines
 AreNamed m (other ∷ lines) = AreNamed m lines
 
--- The further clock lines of a board in a report: its lines tell the first ones of those that hold, in order; the others hold from behind a turn on.
+-- The further clock lines of a board in a report: its lines tell the first ones of those that hold, in order; the others
+-- hold from behind a turn on.
 pub record TellsFurther (b : ℕ) (held : List Held) (turn : ℕ) (lines : List ReportLine) : Type 0 where
   pub told : List Held
   pub rest : List Held

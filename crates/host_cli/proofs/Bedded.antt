@@ -19,7 +19,7 @@ use Rattle.session_run.specs.Ends.{IsBare}
 use Rattle.host_cli.specs.Meshes.{IsMeshIn, IsTableFault, ShowsMarked, WritesMarked, marked}
 use Rattle.mesh_text.specs.Files.{mesh_code, mesh_end}
 use Rattle.plan_types.specs.declared.plan.ReadEnd.{ReadEnd}
-use Rattle.host_cli.specs.Body.{cause_of}
+use Rattle.report_laws.specs.Body.{cause_of}
 use Rattle.host_cli.proofs.Scened.{NoMachine}
 
 -- a table that is too long is told by one byte more

@@ -2,10 +2,7 @@ pub mod Reading
 pub mod Cuts
 pub mod Whole
 pub mod Scened
-mod Followed
-mod Behind
-pub mod Inside
-pub mod Linked
+mod Runs
 pub mod Captured
 pub mod Fanned
 pub mod Checked

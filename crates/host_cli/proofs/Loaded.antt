@@ -18,10 +18,11 @@ use Rattle.session_run.specs.declared.ended.Report.{Report}
 use Rattle.session_run.specs.Reported.{EndsOver}
 use Rattle.wire_scene.specs.declared.scene.Scene.{Scene}
 use Rattle.host_cli.specs.declared.answer.Answer.{Answer}
-use Rattle.host_cli.specs.Jobs.{no_scene}
-use Rattle.host_cli.specs.Promises.{EndsAs, WritesText}
-use Rattle.host_cli.specs.Scenes.{IsLinkReport}
-use Rattle.host_cli.proofs.Linked.{planned}
+use Rattle.report_laws.specs.Read.{no_scene}
+use Rattle.report_laws.specs.Promises.{WritesText}
+use Rattle.host_cli.specs.Promises.{EndsAs}
+use Rattle.report_laws.specs.Linked.{IsLinkReport}
+use Rattle.report_laws.proofs.Linked.{planned}
 use Rattle.host_cli.proofs.Whole.{end-shown, given-for}
 use Rattle.host_cli.specs.Counts.{summary}
 use Rattle.host_cli.specs.Loads.{AreCounts, IsLoadAnswer, ShowsLoad}

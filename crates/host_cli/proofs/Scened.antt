@@ -16,8 +16,9 @@ use Rattle.wire_scene.specs.declared.scene.Scene.{Scene}
 use Rattle.wire_scene.specs.Reading as scenes
 use Rattle.wire_scene.specs.Valid.{IsValidEntry, IsValidScene, IsValidSwitch}
 use Rattle.host_cli.specs.Answers.{IsMachineFault}
-use Rattle.host_cli.specs.Jobs.{no_scene}
-use Rattle.host_cli.specs.Promises.{EndsAlone, EndsFor, IsCauseOf, IsCut, IsRefused}
+use Rattle.report_laws.specs.Read.{no_scene}
+use Rattle.report_laws.specs.Promises.{IsCauseOf}
+use Rattle.host_cli.specs.Promises.{EndsAlone, EndsFor, IsCut, IsRefused}
 use Rattle.host_cli.specs.Scenes.{IsSceneFault, ShowsRun}
 
 -- memory was wanted, or a file can't be read

@@ -1,21 +1,12 @@
 -- What `check` shows: whether a log of pulses follows the plan of a text.
 use Rattle.std.specs.Prelude.{ℕ, List, Option}
-use Rattle.log_check.specs.Verdicts.{log_lines, log_verdict}
 use Rattle.plan_types.specs.declared.cause.Cause.{Cause}
 use Rattle.plan_types.specs.declared.machine.Machine.{Machine}
-use Rattle.report_text.specs.declared.line.ReportLine.{ReportLine}
 use Rattle.session_run.specs.declared.ended.Report.{Report}
 use Rattle.host_cli.specs.declared.answer.Answer.{Answer}
 use Rattle.host_cli.specs.Answers.{IsAnswer}
-use Rattle.host_cli.specs.Promises.{ShowsAnswer, sections_over}
-
--- the cause with which the check of a log ends: all is done, or its first misfit
-abbrev pub check_cause : Machine → List ℕ → List ℕ → Cause
-check_cause m text log = (log_verdict m (sections_over m text) log).cause
-
--- the lines of the check of a log against the sections of a text, those that home among them
-abbrev pub check_lines : Machine → List ℕ → List ℕ → List ReportLine
-check_lines m text log = log_lines m (sections_over m text) log
+use Rattle.host_cli.specs.Promises.{ShowsAnswer}
+use Rattle.report_laws.specs.Checks.{check_cause, check_lines}
 
 -- the answer of a check, before it is written
 abbrev pub IsCheckAnswer : Machine → List ℕ → List ℕ → Answer → Type 0

@@ -1,13 +1,6 @@
 pub mod Outside
-pub mod Shown
-pub mod Body
-pub mod Headline
-pub mod Jobs
 pub mod Promises
 pub mod Answers
-pub mod Cuts
-pub mod Homes
-pub mod Times
 pub mod Scenes
 pub mod Traffic
 pub mod Fans

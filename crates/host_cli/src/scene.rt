@@ -6,7 +6,7 @@ ghost use Rattle.cfg_lines.specs.declared.fault.CfgFault.TheVariants.{At};
 ghost use Rattle.cfg_text.specs.Reading.{reading};
 ghost use Rattle.cause_runs.specs.Short.{HaveShortDictionaries};
 ghost use Rattle.host_cli.specs.Answers.{IsRunCause};
-ghost use Rattle.host_cli.specs.Jobs.{no_scene};
+ghost use Rattle.report_laws.specs.Read.{no_scene};
 ghost use Rattle.host_cli.specs.Promises.{EndsFor, IsRefused};
 ghost use Rattle.host_cli.specs.Scenes.{IsSceneFault, IsSceneIn, ShowsRun};
 ghost use Rattle.io_core.specs.Faults.{Rose};

@@ -1,5 +1,5 @@
 -- The plan of a section does not depend on the turn at which a clock line is told.
-use Rattle.std.proofs.Common.{◌≡◌, ◌∙◌, ℕ, zero, suc, ◌+◌, ◌-◌, ◌*◌, ◌/◌, ◌<◌, ◌≤◌, ◌^◌, Bool, true, false, List, [], ◌∷◌, ◌++◌, length, map, max, get_or, All, ap, sym, refl, subst, arith, inl, inr}
+use Rattle.std.proofs.Common.{◌≡◌, ◌∙◌, ℕ, zero, suc, ◌+◌, ◌-◌, ◌*◌, ◌/◌, ◌<◌, ◌≤◌, ◌^◌, Bool, true, false, List, [], ◌∷◌, ◌++◌, length, map, max, get_or, All, ap, sym, refl, arith, inl, inr}
 use Rattle.std.specs.Prelude.{◌==◌, if◌then◌else◌, nat_le}
 use Rattle.std.specs.List.{range_with_len}
 use Rattle.std.proofs.Math.Nat.{div-add-mod, mul-mod_left}
@@ -25,7 +25,7 @@ use Rattle.plan_types.specs.Speeds.{greatest_speeds}
 use Rattle.plan_types.specs.Steps.{counts_passed, raw_steps, segment_steps}
 use Rattle.plan_types.specs.Valid.{IsValidLine}
 use Rattle.clock_line.specs.Kept.{AreKept}
-use Rattle.clock_line.proofs.Holding.{above-all, advanced, come-first, tick-mono, tick-none}
+use Rattle.clock_line.proofs.Holding.{advanced, come-first, tick-mono, tick-none}
 use Rattle.clock_line.proofs.Turns.{turn-after, turn-below}
 use Rattle.step_ticks.proofs.Lists.{filtered-All}
 use Rattle.step_ticks.proofs.Within.{steps-within}

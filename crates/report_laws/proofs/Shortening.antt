@@ -1,5 +1,5 @@
 -- A report that tells the first ones of the boards' further clock lines.
-use Rattle.std.proofs.Common.{◌≡◌, ◌∙◌, ℕ, zero, suc, ◌+◌, ◌*◌, ◌^◌, ◌<◌, ◌≤◌, Bool, true, false, List, [], ◌∷◌, ◌++◌, length, map, ap, sym, refl, subst, arith, inl, inr, append-nil, length-append}
+use Rattle.std.proofs.Common.{◌≡◌, ◌∙◌, ℕ, ◌+◌, ◌*◌, ◌<◌, ◌≤◌, List, [], ◌∷◌, ◌++◌, length, map, ap, sym, refl, subst, arith, inl, inr, append-nil, length-append}
 use Rattle.std.specs.List.{range_with_len}
 use Rattle.std.proofs.Math.ListN.{get_or-append}
 use Rattle.std.proofs.Math.Seq.{get_or-append_seam}
@@ -11,7 +11,6 @@ use Rattle.plan_types.specs.declared.plan.Held.{Held}
 use Rattle.plan_types.specs.declared.plan.Line.{Line}
 use Rattle.plan_types.specs.Clock.{turn_ns}
 use Rattle.plan_types.specs.Lines.{Clocks, one_line}
-use Rattle.plan_types.specs.Machines.{board_at}
 use Rattle.plan_types.specs.Sections.{clocks_at}
 use Rattle.clock_line.specs.Kept.{AreKept, clocks_of}
 use Rattle.report_text.specs.declared.line.ReportLine.{ReportLine}
@@ -28,9 +27,9 @@ use Rattle.section_feed.specs.Fewer.{AreFirstLines, HoldBehind}
 use Rattle.report_laws.specs.Retold.{HaveLines, HoldFrom, all_retold, retold}
 use Rattle.report_laws.specs.Through.{AreHeads}
 use Rattle.report_laws.proofs.Fewer.{kept-first}
-use Rattle.report_laws.proofs.Retelling.{AreTold, one-of, retold-at, retold-kept, tick-retold}
+use Rattle.report_laws.proofs.Retelling.{one-of, retold-at, retold-kept}
 use Rattle.report_laws.proofs.Running.{map-append, onto-append, onto-in-order}
-use Rattle.report_laws.proofs.Telling.{AllSmall, AreAmong, BoardsBefore, HoldWell, NoneBoards, TellLines, all-stand, alone, held_told, of_board, with-held}
+use Rattle.report_laws.proofs.Telling.{AllSmall, AreAmong, BoardsBefore, HoldWell, NoneBoards, all-stand, alone, held_told, of_board, with-held}
 
 -- a board's line stands where as many boards have told theirs
 abbrev Placed : Machine → List LogLine → Type 0

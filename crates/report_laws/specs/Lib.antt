@@ -5,3 +5,16 @@ pub mod Through
 pub mod Within
 pub mod Retold
 pub mod Further
+pub mod Body
+pub mod Shown
+pub mod Headline
+pub mod Promises
+pub mod Cuts
+pub mod Homes
+pub mod Times
+pub mod Checks
+pub mod Linked
+pub mod Stands
+pub mod Read
+pub mod page
+pub mod Replayed

@@ -37,7 +37,7 @@ pub fn told_clock_lines_are_sound<F: Files, S: Sink>()
         (r : RunsOver F.Files S.Sink m s name files out kept t files' out' kept') → IsValidMachine m → (t.cause ≡ Cause.Memory → ⊥) →
         (made : IsMade m s r.runs.0 r.runs.1) → (heard : Heard) → made.plans.seen.told ≡ Some heard →
         AreSound m heard.clocks heard.first × TellBoards heard.clocks heard.first (r.runs.1 ++ r.runs.2 ∷ []) ×
-        TellFurther m heard.clocks (length r.runs.1 + 271) t.cause (gather (λ t. t.lines) (r.runs.1 ++ r.runs.2 ∷ [])) }
+        TellFurther m heard.clocks (length r.runs.1 + 271) (gather (λ t. t.lines) (r.runs.1 ++ r.runs.2 ∷ [])) }
 {}
 
 /// The law of board lines: in whatever threads a run went that does not end for want of memory, and whether or not its planner heard of it, the `board`

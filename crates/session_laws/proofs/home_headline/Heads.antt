@@ -1,5 +1,5 @@
 -- Which lines stand in the report of a whole run in which axes home.
-use Rattle.std.proofs.Common.{◌≡◌, ◌≢◌, ℕ, ◌+◌, List, [], ◌∷◌, ◌++◌, length, subst}
+use Rattle.std.proofs.Common.{◌≡◌, ◌≢◌, ℕ, ◌+◌, List, [], ◌∷◌, ◌++◌}
 use Rattle.plan_types.specs.declared.cause.Cause.{Cause}
 use Rattle.plan_types.specs.declared.machine.Machine.{Machine}
 use Rattle.plan_types.specs.Lines.{Clocks}
@@ -8,9 +8,9 @@ use Rattle.session_work.specs.declared.table.ReactorTurn.{ReactorTurn}
 use Rattle.session_work.specs.Rows.{gather}
 use Rattle.run_plans.specs.Lines.{heads_of}
 use Rattle.run_plans.specs.Planned.{Seen}
-use Rattle.session_laws.specs.run_headline.Further.{ShowsAll, TellFurther}
+use Rattle.session_laws.specs.run_headline.Further.{TellFurther}
 use Rattle.session_laws.specs.run_headline.Timely.{AreSound}
-use Rattle.session_laws.proofs.run_lines.Further.{further_front}
+use Rattle.session_laws.proofs.run_lines.Further.{Reach, further_front}
 use Rattle.session_laws.specs.run_lines.Due.{BoardsHave, StandApart}
 use Rattle.session_laws.proofs.run_lines.Heads.{ShowStarts, boards_first, heads_first, heads_whole, some_first, starts_apart}
 use Rattle.session_laws.specs.home_headline.Follow.{HaveBegunLines, ShowBegun, ShowHomes}
@@ -44,8 +44,7 @@ pub homes_sound : (m : Machine) (seen : Seen) (clocks : List Clocks) (ready : �
     → gather (λ t. t.lines) (first ∷ rest) ≡ said ++ more → heads_of said ≢ [] → AreSound m clocks ready
 homes_sound m seen clocks ready c first rest said more h are some = h.sound (some_first m clocks ready seen.begun (first ∷ rest) said more h.late h.started h.lines are some)
 
-pub homes_further : (m : Machine) (seen : Seen) (clocks : List Clocks) (ready : ℕ) (own c : Cause) (first : ReactorTurn) (rest : List ReactorTurn) (said more : List ReportLine) → ShowBegun m seen clocks ready own first rest
-    → gather (λ t. t.lines) (first ∷ rest) ≡ said ++ more → (ShowsAll c → (more ≡ []) × ShowsAll own) → heads_of said ≢ [] → TellFurther m clocks (length rest + 271) c said
-homes_further m seen clocks ready own c first rest said more h are whole some =
-    further_front m clocks (length rest + 271) own c said more whole
-    (subst (TellFurther m clocks (length rest + 271) own) are (h.further (some_first m clocks ready seen.begun (first ∷ rest) said more h.late h.started h.lines are some)))
+pub homes_further : (m : Machine) (seen : Seen) (clocks : List Clocks) (ready : ℕ) (c : Cause) (first : ReactorTurn) (rest : List ReactorTurn) (said more : List ReportLine) → ShowBegun m seen clocks ready c first rest
+    → gather (λ t. t.lines) (first ∷ rest) ≡ said ++ more → (r : Reach (first ∷ rest) said more) → heads_of said ≢ [] → TellFurther m clocks (r.n + 271) said
+homes_further m seen clocks ready c first rest said more h are r some =
+    further_front m clocks (first ∷ rest) said more r are (h.further (some_first m clocks ready seen.begun (first ∷ rest) said more h.late h.started h.lines are some))

@@ -1,5 +1,5 @@
 -- Which sections have their line in a whole run, whatever its links hold.
-use Rattle.std.proofs.Common.{◌≡◌, ℕ, ◌+◌, List, [], ◌∷◌, ◌++◌, length, Some, refl, arith}
+use Rattle.std.proofs.Common.{◌≡◌, ℕ, List, [], ◌∷◌, ◌++◌, length, Some, refl, arith}
 use Rattle.std.proofs.Math.Logic.{∥∥₁_map}
 use Rattle.plan_types.specs.declared.cause.Cause.{Cause}
 use Rattle.plan_types.specs.declared.cause.Cause.TheVariants as cause
@@ -40,7 +40,7 @@ module _ (m : Machine) (v : IsValidMachine m) (s : Scene) (ts : List MotionTurn)
           through = λ g. through_long m v s ts p end c first rest f g (long_own m v s ts p end c first rest f (own_cause c g));
           counts = λ g. counts_so m v s ts p end c first rest f g (long_own m v s ts p end c first rest f (own_cause c g));
           sound = sound_by m v s ts p end c first rest f p.seen.told refl;
-          further = further_by m v s ts p end c first rest f (length (rest ++ end ∷ []) + 271) (omega arith) p.seen.told refl;
+          further = further_by m v s ts p end c first rest f p.seen.told refl;
         }
 
   -- a run of one turn

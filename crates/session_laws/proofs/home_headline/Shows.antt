@@ -92,13 +92,13 @@ module _ (m : Machine) (v : IsValidMachine m) (s : Scene) (ts : List MotionTurn)
         let front : lines_between 0 n (rest ++ end ∷ []) ≡ all past = ap (λ z. lines_between 0 n z) then ∙ ap (λ (k : ℕ). all (take k (past ++ behind))) whole ∙ ap all (take-append_seam past behind) in
         pulses_append place y.lines (all past) ∙ ap (λ z. z ++ pulses_of place (all past)) now ∙ ap (pulses_of place) (sym front) ∙ none
 
-    -- by the lines of the boards without those that hold behind its end
-    told_all : (o : Option Told) → p.seen.told ≡ o → (short : List Clocks) → ((b : ℕ) → b < length m.boards → AreFirstLines (clocks_at short b) (clocks_at (clocks_heard p.seen.told) b) (length (rest ++ end ∷ []) + 271))
-        → (past : List Started) (x : Started) (later : List Started) (from to place : ℕ) → p.seen.begun ≡ past ++ x ∷ later → place < length m.steppers → IsWindow (length (rest ++ end ∷ [])) from to (record { start = x.start; end = x.end }) (times_of later)
+    -- by the lines of the boards without those that hold behind a turn
+    told_all : (o : Option Told) → p.seen.told ≡ o → (turn n : ℕ) → n + 7 ≤ turn → n ≤ length (rest ++ end ∷ []) → (short : List Clocks)
+        → ((b : ℕ) → b < length m.boards → AreFirstLines (clocks_at short b) (clocks_at (clocks_heard p.seen.told) b) turn)
+        → (past : List Started) (x : Started) (later : List Started) (from to place : ℕ) → p.seen.begun ≡ past ++ x ∷ later → place < length m.steppers → IsWindow n from to (record { start = x.start; end = x.end }) (times_of later)
         → Fits (clocks_at short (stepper_at m place).board).first.freq (base_tick m short x.start place) (pulses_of place (lines_between from to (rest ++ end ∷ []))) (stepper_plan m short x.section.moves x.start place)
-    told_all None e short firsts past x later from to place cut h w = absurd (in_none past x later p.seen.begun (not_told m v s ts p end c e) cut)
-    told_all (Some t) e short firsts past x later from to place cut h w =
-        let n = length (rest ++ end ∷ []) in
+    told_all None e turn n soon in_run short firsts past x later from to place cut h w = absurd (in_none past x later p.seen.begun (not_told m v s ts p end c e) cut)
+    told_all (Some t) e turn n after in_run short firsts past x later from to place cut h w =
         let b = (stepper_at m place).board in
         let small = (v.steppers place h).board in
         let clocks = clocks_heard p.seen.told in
@@ -108,14 +108,15 @@ module _ (m : Machine) (v : IsValidMachine m) (s : Scene) (ts : List MotionTurn)
         let begins = w.begins in
         let order = w.order in
         let within = w.within in
+        let wide : IsWindow (length (rest ++ end ∷ [])) from to (record { start = x.start; end = x.end }) (times_of later) = record { begins = begins; order = order; within = omega (arith, within, in_run); next = w.next } in
         let sound = sound_by m v s ts p end c first rest f p.seen.told refl (λ none. in_none past x later p.seen.begun none cut) in
-        let agree = plans-agree m short clocks x.section.moves x.start (n + 271) place (sound.kept b small) (firsts b small) (omega (arith, begins, order, within)) in
+        let agree = plans-agree m short clocks x.section.moves x.start turn place (sound.kept b small) (firsts b small) (omega (arith, begins, order, within, after)) in
         let Lines : List Clocks → Type 0 = λ cs. All (λ (q : Pulse). q.tick + max_error (board_at m b).freq < lines_tick (clocks_at cs b) ((to + 7) * turn_ns)) ps in
-        let early = subst Lines heard_is ((by_told t e).soon past x later from to place cut h w) in
-        let Freq : ℕ → Type 0 = λ f. All (λ (q : Pulse). q.tick + max_error f < lines_tick line ((n + 271) * turn_ns)) ps in
-        let up = tick_over-mono line.first 0 line.held ((to + 7) * turn_ns) ((n + 271) * turn_ns) (omega (arith, within)) in
-        let soon : All (λ (q : Pulse). q.tick + max_error (board_at m b).freq < lines_tick line ((n + 271) * turn_ns)) ps = λ k d low. (let own = early k d low in omega (arith, own, up)) in
-        fits-agree m short clocks x.section.moves x.start place (lines_tick line ((n + 271) * turn_ns)) ps agree (subst Freq (sym (sound.clocks_are.freq b small)) soon) (fits p.seen.told refl past x later from to place cut h w)
+        let early = subst Lines heard_is ((by_told t e).soon past x later from to place cut h wide) in
+        let Freq : ℕ → Type 0 = λ f. All (λ (q : Pulse). q.tick + max_error f < lines_tick line (turn * turn_ns)) ps in
+        let up = tick_over-mono line.first 0 line.held ((to + 7) * turn_ns) (turn * turn_ns) (omega (arith, within, after)) in
+        let soon : All (λ (q : Pulse). q.tick + max_error (board_at m b).freq < lines_tick line (turn * turn_ns)) ps = λ k d low. (let own = early k d low in omega (arith, own, up)) in
+        fits-agree m short clocks x.section.moves x.start place (lines_tick line (turn * turn_ns)) ps agree (subst Freq (sym (sound.clocks_are.freq b small)) soon) (fits p.seen.told refl past x later from to place cut h wide)
 
     pub shows : ShowHomes m p.seen (clocks_heard p.seen.told) (ready_heard p.seen.told) c first (rest ++ end ∷ [])
     shows = record {
@@ -131,7 +132,7 @@ module _ (m : Machine) (v : IsValidMachine m) (s : Scene) (ts : List MotionTurn)
       through = λ g. through_long m v s ts p end c first rest f g (long g);
       counts = λ g. counts_so m v s ts p end c first rest f g (long g);
       sound = sound_by m v s ts p end c first rest f p.seen.told refl;
-      further = further_by m v s ts p end c first rest f (length (rest ++ end ∷ []) + 271) (omega arith) p.seen.told refl;
+      further = further_by m v s ts p end c first rest f p.seen.told refl;
       told = told_all p.seen.told refl;
     }
 
@@ -149,26 +150,26 @@ module _ (m : Machine) (v : IsValidMachine m) (s : Scene) (ts : List MotionTurn)
     started = (started m v s ts p end c p.seen.told refl).1;
     boards = λ some. absurd (untold_alone m v s ts p end c p.seen.told refl f some);
     lines = all_tell m s.switches p.seen.text p.seen.begun 260 p.made (end ∷ []) spread (omega arith) p.put (row_none (length m.boards) end f.row, tt) (lines_all m s.switches [] [] end tt (f.known, f.begun, f.lines_are));
-    fit = λ past x later from to place cut h w. absurd (no_window past x later from to cut w);
+    fit = λ past x later from to place cut h w. absurd (no_window 0 (omega arith) past x later from to cut w);
     behind = λ past x later from to place cut h order within ended next. none_of place from to order within;
     early = λ x later past behind place cut are soon h. absurd (untold_alone m v s ts p end c p.seen.told refl f (λ e. in_none [] x later p.seen.begun e cut));
     through = λ g. absurd (alone_ends m v s ts p end c f g);
     counts = λ g. absurd (alone_ends m v s ts p end c f g);
     sound = λ some. absurd (untold_alone m v s ts p end c p.seen.told refl f some);
     further = λ some. absurd (untold_alone m v s ts p end c p.seen.told refl f some);
-    told = λ short firsts past x later from to place cut h w. absurd (no_window past x later from to cut w);
+    told = λ turn n after in_run short firsts past x later from to place cut h w. absurd (no_window n in_run past x later from to cut w);
   }
     where
       spread : Spread 260 p.seen.begun
       spread = plans_spread m (length m.boards) ts p
 
-      no_window : (past : List Started) (x : Started) (later : List Started) (from to : ℕ) → p.seen.begun ≡ past ++ x ∷ later → IsWindow 0 from to (record { start = x.start; end = x.end }) (times_of later) → ⊥
-      no_window past x later from to cut w =
+      no_window : (n : ℕ) → n ≤ 0 → (past : List Started) (x : Started) (later : List Started) (from to : ℕ) → p.seen.begun ≡ past ++ x ∷ later → IsWindow n from to (record { start = x.start; end = x.end }) (times_of later) → ⊥
+      no_window n none past x later from to cut w =
           let late = starts_late 260 past x later (subst (Spread 260) cut spread) in
           let begins = w.begins in
           let order = w.order in
           let within = w.within in
-          omega (arith, late, begins, order, within)
+          omega (arith, late, begins, order, within, none)
 
   pub all_shows : (rs : List ReactorTurn) → Facts m s ts rs end c → HaveShortDictionaries m → AllHomeLittle m s p.seen.text ts (rs ++ end ∷ []) → AllShowHomes m p.seen (clocks_heard p.seen.told) (ready_heard p.seen.told) c (rs ++ end ∷ [])
   all_shows [] f short little = shows_alone f

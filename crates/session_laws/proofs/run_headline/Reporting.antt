@@ -43,6 +43,7 @@ use Rattle.session_laws.proofs.run_headline.Noting.{AllNoted, IsNoted, all_noted
 use Rattle.session_laws.proofs.run_headline.Facts.{EachNoted, Facts, came_long, goes_noted, last_boards, noted_so, notes_of, turns_cut}
 use Rattle.session_laws.proofs.run_headline.Joining.{row_none}
 use Rattle.session_laws.proofs.run_headline.Words.{Said, line_is, made_numbered, news_in}
+use Rattle.session_laws.proofs.run_lines.Further.{first_front, named_front}
 
 -- lines that tell none of any board
 abbrev TellNone : List ReportLine → Type 0
@@ -165,6 +166,19 @@ pub record Taken (rs : List ReactorTurn) (made : List MotionTurn) : Type 0 where
   pub takes : TakeNews rs front
   pub long : (back ≡ []) ⊎ (length front ≡ length rs)
 
+-- so did the first ones of them
+taken_front : (xs ys : List ReactorTurn) (made front back : List MotionTurn) → made ≡ front ++ back → TakeNews (xs ++ ys) front → (back ≡ []) ⊎ (length front ≡ length (xs ++ ys)) → Taken xs made
+taken_front [] ys made front back are takes long = record { front = []; back = made; are = refl; takes = tt; long = inr refl }
+taken_front (x ∷ xs) ys made [] back are takes (inl none) = record { front = []; back = back; are = are; takes = (takes.0, none_front xs ys takes.1); long = inl none }
+  where
+    none_front : (xs ys : List ReactorTurn) → TakeNews (xs ++ ys) [] → TakeNews xs []
+    none_front [] ys takes = tt
+    none_front (x ∷ xs) ys takes = (takes.0, none_front xs ys takes.1)
+taken_front (x ∷ xs) ys made [] back are takes (inr long) = absurd (omega (arith, long))
+taken_front (x ∷ xs) ys made (d ∷ front) back are takes long =
+    let r = taken_front xs ys (front ++ back) front back refl takes.1 (elim long [ inl e ↦ inl e | inr e ↦ inr (omega (arith, e)) ]) in
+    record { front = d ∷ r.front; back = r.back; are = are ∙ ap (λ z. d ∷ z) r.are; takes = (takes.0, r.takes); long = elim r.long [ inl e ↦ inl e | inr e ↦ inr (ap suc e) ] }
+
 note_is : (r : ReactorTurn) (x d : Note) → r.note ≡ Some x → x ≡ d → news_of r.note ≡ d.news
 note_is r x d e f = ap news_of e ∙ ap (λ (n : Note). n.news) f
 
@@ -205,6 +219,10 @@ DriftsTold (r ∷ rs) = ((b : ℕ) → drifts_of b r.lines ≡ drifts_of b (drif
 drifts_both : (xs ys : List ReactorTurn) → DriftsTold xs → DriftsTold ys → DriftsTold (xs ++ ys)
 drifts_both [] ys a b = b
 drifts_both (x ∷ xs) ys a b = (a.0, drifts_both xs ys a.1 b)
+
+drifts_front : (xs ys : List ReactorTurn) → DriftsTold (xs ++ ys) → DriftsTold xs
+drifts_front [] ys d = tt
+drifts_front (x ∷ xs) ys d = (d.0, drifts_front xs ys d.1)
 
 turns_drift : (m : Machine) (switches : List Switch) (before : List Came) (rs : List ReactorTurn) → AreReactorTurns m switches before rs → DriftsTold rs
 turns_drift m switches before [] h = tt
@@ -388,34 +406,34 @@ module _ (m : Machine) (v : IsValidMachine m) (s : Scene) (ts : List MotionTurn)
       (λ board line from x same. let low = there 0 (length Took.front) board line from x in omega (arith, low, same, high)) boards))
 
   -- those that are left untold hold from behind a turn on, where so does each that a note tells that was not taken
-  told_to : (turn : ℕ) → ((front back : List MotionTurn) → p.made ≡ front ++ back → length front ≡ length (rest ++ end ∷ []) → EachTold (λ board line from. turn * turn_ns < from) (news_in back)) → (b : ℕ) → b < length m.boards
-      → TellsFurther b (clocks_at t.clocks b).held turn c (gather (λ z. z.lines) (first ∷ (rest ++ end ∷ [])))
-  told_to turn left b inside =
+  told_to : (xs : List ReactorTurn) (had : Taken xs p.made) (lines : List ReportLine) (turn : ℕ) → ((b : ℕ) → drifts_of b lines ≡ drifts_of b (drift_lines (news_in had.front)))
+      → ((front back : List MotionTurn) → p.made ≡ front ++ back → length front ≡ length xs → EachTold (λ board line from. turn * turn_ns < from) (news_in back)) → (b : ℕ) → b < length m.boards → TellsFurther b (clocks_at t.clocks b).held turn lines
+  told_to xs had lines turn lines_tell left b inside =
       let r = ready_here in
       let h = r.heard in
       let All : ℕ → Line → ℕ → Type 0 = λ board line from. Unit {0} in
       let Late : ℕ → Line → ℕ → Type 0 = λ board line from. turn * turn_ns < from in
       let known = subst (AreKnown m) told p.known in
-      let whole : t.clocks ≡ noted_lines (news_in Took.back) (noted_lines (news_in Took.front) h.clocks) =
+      let whole : t.clocks ≡ noted_lines (news_in had.back) (noted_lines (news_in had.front) h.clocks) =
       h.on ∙ ap (noted_lines (news_in (h.turn ∷ h.later))) (sym (none_noted (news_in h.past) h.clocks none_early)) ∙ sym (noted_append (news_in h.past) (news_in (h.turn ∷ h.later)) h.clocks)
-      ∙ ap (λ ns. noted_lines ns h.clocks) (sym (news_append h.past (h.turn ∷ h.later)) ∙ ap news_in (sym h.are ∙ Took.are) ∙ news_append Took.front Took.back) ∙ noted_append (news_in Took.front) (news_in Took.back) h.clocks in
-      let mid = noted_lines (news_in Took.front) h.clocks in
-      let long_mid = noted_long (news_in Took.front) h.clocks in
-      let long_all = ap length whole ∙ noted_long (news_in Took.back) mid in
+      ∙ ap (λ ns. noted_lines ns h.clocks) (sym (news_append h.past (h.turn ∷ h.later)) ∙ ap news_in (sym h.are ∙ had.are) ∙ news_append had.front had.back) ∙ noted_append (news_in had.front) (news_in had.back) h.clocks in
+      let mid = noted_lines (news_in had.front) h.clocks in
+      let long_mid = noted_long (news_in had.front) h.clocks in
+      let long_all = ap length whole ∙ noted_long (news_in had.back) mid in
       let many = known.0.count in
       let own = line_of_first b inside in
-      let g = noted_grown All (news_in Took.front) h.clocks b (omega (arith, inside, many, long_all, long_mid)) (any (news_in Took.front)) in
-      let late : EachTold Late (news_in Took.back) = elim Took.long [
+      let g = noted_grown All (news_in had.front) h.clocks b (omega (arith, inside, many, long_all, long_mid)) (any (news_in had.front)) in
+      let late : EachTold Late (news_in had.back) = elim had.long [
         | inl e ↦ subst (λ ds. EachTold Late (news_in ds)) (sym e) tt
-        | inr e ↦ left Took.front Took.back Took.are e
+        | inr e ↦ left had.front had.back had.are e
       ] in
-      let k = noted_grown Late (news_in Took.back) mid b (omega (arith, inside, many, long_all)) late in
+      let k = noted_grown Late (news_in had.back) mid b (omega (arith, inside, many, long_all)) late in
       record {
         told = g.more;
         rest = k.more;
         are = ap (λ (cs : List Clocks). (clocks_at cs b).held) whole ∙ k.held ∙ ap (λ hs. hs ++ k.more) (g.held ∙ ap (λ hs. hs ++ g.more) own);
-        lines_are = Lines_told b ∙ sym g.lines;
-        later = λ through. hold_behind turn k.more k.each;
+        lines_are = lines_tell b ∙ sym g.lines;
+        later = hold_behind turn k.more k.each;
       }
     where
       any : (ns : List NoteNews) → EachTold (λ board line from. Unit {0}) ns
@@ -431,16 +449,32 @@ module _ (m : Machine) (v : IsValidMachine m) (s : Scene) (ts : List MotionTurn)
           let own = line_is (length (came_from [] r.past)) b m.boards r.is.lines r.is.fit inside in
           ap (λ (x : Clocks). x.held) (ap (λ cs. clocks_at cs b) r.is.clocks_are ∙ own.2)
 
-  further : (turn : ℕ) → turn ≤ length Behind + 276 → (b : ℕ) → b < length m.boards → TellsFurther b (clocks_at t.clocks b).held turn c Lines
-  further turn soon b inside =
+  -- what is told by notes behind some of them holds from behind a turn on
+  late : (turn : ℕ) (front back : List MotionTurn) → p.made ≡ front ++ back → turn ≤ length front + 276 → EachTold (λ board line from. turn * turn_ns < from) (news_in back)
+  late turn front back are soon =
       let words = words_in p.made in
       let Late : ℕ → Line → ℕ → Type 0 = λ board line from. turn * turn_ns < from in
-      told_to turn (λ front back are long.
       let at_front : 0 + length front ≡ length front = omega arith in
       let all = subst (λ i. AllNoted words i back) at_front (noted_later words 0 front back (subst (AllNoted words 0) are Notes_all)) in
       let size = ap length are ∙ length-append front back in
-      told_more (IsNoted words (length front) (length p.made)) Late (news_in back) (λ board line from x. (let far = x.late in let at = x.is.from_is in omega (arith, long, far, at, soon)))
-      (noted_between words (length front) (length front) (length p.made) back (omega arith) (omega (arith, size)) all)) b inside
+      told_more (IsNoted words (length front) (length p.made)) Late (news_in back) (λ board line from x. (let far = x.late in let at = x.is.from_is in omega (arith, far, at, soon)))
+      (noted_between words (length front) (length front) (length p.made) back (omega arith) (omega (arith, size)) all)
+
+  -- so do the first turns: each line that is told behind them holds from behind the 275th turn behind them on
+  further : (front later : List ReactorTurn) → first ∷ Behind ≡ front ++ later → (turn : ℕ) → turn ≤ length front + 275 → (b : ℕ) → b < length m.boards → TellsFurther b (clocks_at t.clocks b).held turn (gather (λ z. z.lines) front)
+  further [] later are turn soon b inside =
+      told_to [] (record { front = []; back = p.made; are = refl; takes = tt; long = inr refl }) [] turn (λ b. refl) (λ front back are long. late turn front back are (omega (arith, soon, long))) b inside
+  further (y ∷ xs) later are turn soon b inside =
+      let same : first ≡ y = cc in
+      let then : Behind ≡ xs ++ later = cc in
+      let Takes : List ReactorTurn → Type 0 = λ z. TakeNews z Took.front in
+      let Long : List ReactorTurn → Type 0 = λ z. (Took.back ≡ []) ⊎ (length Took.front ≡ length z) in
+      let Drifts : List ReactorTurn → Type 0 = λ z. DriftsTold z in
+      let own = taken_front xs later p.made Took.front Took.back Took.are (subst Takes then Took.takes) (subst Long then Took.long) in
+      let none = λ (b : ℕ). ap (λ (r : ReactorTurn). drifts_of b r.lines) (sym same) ∙ First_tells b in
+      let tells = λ (b : ℕ).
+      drifts_append b y.lines (gather (λ (r : ReactorTurn). r.lines) xs) ∙ ap (λ z. z ++ drifts_of b (gather (λ (r : ReactorTurn). r.lines) xs)) (none b) ∙ drifts_are b xs own.front (drifts_front xs later (subst Drifts then All_drift.1)) own.takes in
+      told_to xs own (gather (λ (z : ReactorTurn). z.lines) (y ∷ xs)) turn tells (λ front back are long. late turn front back are (omega (arith, soon, long))) b inside
 
   lines_cut : (xs ys : List ReactorTurn) → gather (λ z. z.lines) (xs ++ ys) ≡ gather (λ z. z.lines) xs ++ gather (λ z. z.lines) ys
   lines_cut [] ys = refl
@@ -476,10 +510,6 @@ module _ (m : Machine) (v : IsValidMachine m) (s : Scene) (ts : List MotionTurn)
       let rest_none = none_taken upto others Took.front Took.back h.past (h.turn ∷ h.later) (omega (arith, few, size)) (sym Took.are ∙ h.are) (subst Takes cut Took.takes) (drifts_front upto others (subst DriftsTold cut All_drift.1)) none_early in
       let First : ReactorTurn → Type 0 = λ (r : ReactorTurn). TellNone (r.lines ++ gather (λ (z : ReactorTurn). z.lines) upto) in
       subst First same (λ b. drifts_append b first.lines (gather (λ (z : ReactorTurn). z.lines) upto) ∙ ap (λ z. z ++ drifts_of b (gather (λ (y : ReactorTurn). y.lines) upto)) (First_tells b) ∙ rest_none b)
-    where
-      drifts_front : (xs ys : List ReactorTurn) → DriftsTold (xs ++ ys) → DriftsTold xs
-      drifts_front [] ys d = tt
-      drifts_front (x ∷ xs) ys d = (d.0, drifts_front xs ys d.1)
 
   -- no board has its line behind a further one
   boards_first : BoardsFirst Lines
@@ -494,5 +524,12 @@ module _ (m : Machine) (v : IsValidMachine m) (s : Scene) (ts : List MotionTurn)
       subst BoardsFirst (sym (ap lines are ∙ lines_cut upto others))
       (first_behind (lines upto) (lines others) (none_upto r.past r.turn r.later r.are (omega (arith, number, long))) (none_first (lines others) later_none))
 
-  pub told_further : (turn : ℕ) → turn ≤ length Behind + 276 → TellFurther m t.clocks turn c Lines
-  told_further turn soon = record { first = boards_first; named = named; further = further turn soon }
+  pub told_further : (front later : List ReactorTurn) → first ∷ Behind ≡ front ++ later → (turn : ℕ) → turn ≤ length front + 275 → TellFurther m t.clocks turn (gather (λ z. z.lines) front)
+  told_further front later are turn soon =
+      let lines = λ (zs : List ReactorTurn). gather (λ (z : ReactorTurn). z.lines) zs in
+      let cut = ap lines are ∙ lines_cut front later in
+      record {
+        first = first_front (lines front) (lines later) (subst BoardsFirst cut boards_first);
+        named = named_front m (lines front) (lines later) (subst (AreNamed m) cut named);
+        further = further front later are turn soon;
+      }

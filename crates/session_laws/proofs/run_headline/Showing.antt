@@ -262,11 +262,11 @@ module _ (m : Machine) (v : IsValidMachine m) (s : Scene) (ts : List MotionTurn)
         subst At (sym e) (sound_of m v s ts p t first rest end e r (λ b h. f.boards b first rest h refl))
 
     -- and the lines tell the further ones
-    pub further_by : (turn : ℕ) → turn ≤ length (rest ++ end ∷ []) + 276 → (o : Option Told) → p.seen.told ≡ o → p.seen.begun ≢ [] → TellFurther m (clocks_heard p.seen.told) turn c (gather (λ t. t.lines) (first ∷ (rest ++ end ∷ [])))
-    further_by turn soon None e some = absurd (some (not_told e))
-    further_by turn soon (Some t) e some =
-        let At : Option Told → Type 0 = λ o. TellFurther m (clocks_heard o) turn c (gather (λ (x : ReactorTurn). x.lines) (first ∷ (rest ++ end ∷ []))) in
-        subst At (sym e) (told_further m v s ts p end c first rest f t e turn soon)
+    pub further_by : (o : Option Told) → p.seen.told ≡ o → p.seen.begun ≢ [] → (front later : List ReactorTurn) → first ∷ (rest ++ end ∷ []) ≡ front ++ later → TellFurther m (clocks_heard p.seen.told) (length front + 271) (gather (λ t. t.lines) front)
+    further_by None e some front later are = absurd (some (not_told e))
+    further_by (Some t) e some front later are =
+        let At : Option Told → Type 0 = λ o. TellFurther m (clocks_heard o) (length front + 271) (gather (λ (x : ReactorTurn). x.lines) front) in
+        subst At (sym e) (told_further m v s ts p end c first rest f t e front later are (length front + 271) (omega arith))
 
     -- what is known in the last turn, behind its note
     abbrev Last_known : Known
@@ -595,7 +595,7 @@ module _ (m : Machine) (v : IsValidMachine m) (s : Scene) (ts : List MotionTurn)
         ];
         own = λ g. elim long [ inl l ↦ own_by g l | inr z ↦ absurd (z.never (own_cause c g)) ];
         sound = sound_by p.seen.told refl;
-        further = further_by (length (rest ++ end ∷ [])) (omega arith) p.seen.told refl;
+        further = further_by p.seen.told refl;
       }
         where
           early_by : (o : Option Told) → p.seen.told ≡ o → (x : Started) (later : List Started) (past behind : List ReactorTurn) (place : ℕ) → p.seen.begun ≡ x ∷ later → first ∷ (rest ++ end ∷ []) ≡ past ++ behind

@@ -2,7 +2,6 @@
 use Rattle.std.proofs.Common.{◌≡◌, ℕ, ◌+◌, ◌*◌, ◌^◌, ◌<◌, ◌≤◌, Bool, true, false, List, [], ◌∷◌, ◌++◌, length, Some, sym, refl, subst, arith, inl, inr}
 use Rattle.std.specs.Prelude.{◌==◌, if◌then◌else◌}
 use Rattle.std.proofs.lemmas.Bool.Decides.{eqb_tells}
-use Rattle.plan_types.specs.declared.cause.Cause.{Cause}
 use Rattle.plan_types.specs.declared.clock.BoardClock.{BoardClock}
 use Rattle.plan_types.specs.declared.machine.Machine.{Machine}
 use Rattle.plan_types.specs.declared.plan.Held.{Held}
@@ -93,5 +92,5 @@ module _ (m : Machine) (v : IsValidMachine m) (s : Scene) (ts : List MotionTurn)
       let size = came_long [] (first ∷ rest) in
       held_low clock turns b told_held valid.start valid.freq.high (drift_few (board_at m b).drift valid.drift_low valid.drift_high) (omega (arith, long, size, few)) (first_sampled clock turns told_held rest_held sampled)
 
-  pub drifts_low : (last : ℕ) (c : Cause) (lines : List ReportLine) → TellFurther m t.clocks last c lines → DriftsLow lines
-  drifts_low last c lines tells = all_low m lines (λ b h. (let x = tells.further b h in subst DriftsLow (sym x.lines_are) (board_drifts b x.told x.rest h x.are))) tells.named
+  pub drifts_low : (last : ℕ) (lines : List ReportLine) → TellFurther m t.clocks last lines → DriftsLow lines
+  drifts_low last lines tells = all_low m lines (λ b h. (let x = tells.further b h in subst DriftsLow (sym x.lines_are) (board_drifts b x.told x.rest h x.are))) tells.named

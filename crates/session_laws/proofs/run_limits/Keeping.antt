@@ -110,8 +110,9 @@ module _ (m : Machine) (v : IsValidMachine m) (s : Scene) (ts : List MotionTurn)
             let small = p.small in
             let many = length-append rest (end ∷ []) in
             let own = long_own m v s ts p end c first rest f (own_cause c through) in
-            let Tell : Option Told → Type 0 = λ o. TellFurther m (clocks_heard o) (length (rest ++ end ∷ [])) c (gather (λ t. t.lines) (first ∷ (rest ++ end ∷ []))) in
-            drifts_low m v s ts p t first rest end e (ready m v s ts p t first rest end e f.ahead f.words_left f.turns f.words) (λ b h. f.boards b first rest h refl) (omega (arith, made, small, many, own)) (length (rest ++ end ∷ [])) c (gather (λ t. t.lines) (first ∷ (rest ++ end ∷ []))) (subst Tell e (shows.further some))
+            let turns = first ∷ (rest ++ end ∷ []) in
+            let Tell : Option Told → Type 0 = λ o. TellFurther m (clocks_heard o) (length turns + 271) (gather (λ t. t.lines) turns) in
+            drifts_low m v s ts p t first rest end e (ready m v s ts p t first rest end e f.ahead f.words_left f.turns f.words) (λ b h. f.boards b first rest h refl) (omega (arith, made, small, many, own)) (length turns + 271) (gather (λ t. t.lines) turns) (subst Tell e (shows.further some turns [] (sym (append-nil turns))))
 
     pub run_low : AreLow (gather (λ t. t.lines) (first ∷ (rest ++ end ∷ [])))
     run_low =

@@ -25,9 +25,9 @@ use Rattle.run_plans.proofs.Beginning.{Spread, spread_of}
 use Rattle.session_laws.specs.run_ends.Boards.{boards_of, lines_at}
 use Rattle.session_laws.specs.run_ends.Ends.{GoesThrough}
 use Rattle.session_laws.proofs.run_ends.Connecting.{boards_append}
-use Rattle.session_laws.specs.run_headline.Further.{ShowsAll, TellFurther}
+use Rattle.session_laws.specs.run_headline.Further.{TellFurther}
 use Rattle.session_laws.specs.run_headline.Timely.{AreOfMoves, AreSound, ShowPlans, TellBoards}
-use Rattle.session_laws.proofs.run_lines.Further.{further_front}
+use Rattle.session_laws.proofs.run_lines.Further.{Reach, further_front}
 use Rattle.session_laws.proofs.run_headline.Showing.{none_at}
 use Rattle.session_laws.specs.run_lines.Due.{AreFirst, BoardsHave, HaveTheirLines, StandApart, begun_lines, due_lines}
 
@@ -419,8 +419,7 @@ pub shown_sound : (m : Machine) (seen : Seen) (clocks : List Clocks) (ready : �
     → gather (λ t. t.lines) (first ∷ rest) ≡ said ++ more → heads_of said ≢ [] → AreSound m clocks ready
 shown_sound m seen clocks ready c first rest said more h are some = h.sound (start_some m seen clocks ready first rest said more (starts_of m seen clocks ready c first rest h) are some)
 
-pub shown_further : (m : Machine) (seen : Seen) (clocks : List Clocks) (ready : ℕ) (own c : Cause) (first : ReactorTurn) (rest : List ReactorTurn) (said more : List ReportLine) → ShowPlans m seen clocks ready own first rest
-    → gather (λ t. t.lines) (first ∷ rest) ≡ said ++ more → (ShowsAll c → (more ≡ []) × ShowsAll own) → heads_of said ≢ [] → TellFurther m clocks (length rest) c said
-shown_further m seen clocks ready own c first rest said more h are whole some =
-    further_front m clocks (length rest) own c said more whole
-    (subst (TellFurther m clocks (length rest) own) are (h.further (start_some m seen clocks ready first rest said more (starts_of m seen clocks ready own first rest h) are some)))
+pub shown_further : (m : Machine) (seen : Seen) (clocks : List Clocks) (ready : ℕ) (c : Cause) (first : ReactorTurn) (rest : List ReactorTurn) (said more : List ReportLine) → ShowPlans m seen clocks ready c first rest
+    → gather (λ t. t.lines) (first ∷ rest) ≡ said ++ more → (r : Reach (first ∷ rest) said more) → heads_of said ≢ [] → TellFurther m clocks (r.n + 271) said
+shown_further m seen clocks ready c first rest said more h are r some =
+    further_front m clocks (first ∷ rest) said more r are (h.further (start_some m seen clocks ready first rest said more (starts_of m seen clocks ready c first rest h) are some))

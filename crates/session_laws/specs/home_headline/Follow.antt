@@ -71,14 +71,17 @@ pub record ShowHomes (m : Machine) (seen : Seen) (clocks : List Clocks) (ready :
   pub through : GoesThrough c → AreThrough m seen c (length rest)
   -- the numbers of accepted lines and of passed commands stand in its lines once
   pub counts : GoesThrough c → counts_of (gather (λ t. t.lines) (first ∷ rest)) ≡ report.Lines (program_end m seen.text).lines (program_end m seen.text).passed ∷ []
-  -- where a section was begun, the clock lines are sound, and the lines tell the further ones: those that are left untold hold from behind the 271st turn
-  -- behind the last one on
+  -- where a section was begun, the clock lines are sound, and the lines of the first turns tell the further ones: those
+  -- that are left untold hold from behind the 271st turn behind these on
   pub sound : seen.begun ≢ [] → AreSound m clocks ready
-  pub further : seen.begun ≢ [] → TellFurther m clocks (length rest + 271) c (gather (λ t. t.lines) (first ∷ rest))
-  -- and the pulses of a section fit its plan without these as well
-  pub told : (short : List Clocks) → ((b : ℕ) → b < length m.boards → AreFirstLines (clocks_at short b) (clocks_at clocks b) (length rest + 271)) →
+  pub further : seen.begun ≢ [] → (front later : List ReactorTurn) → first ∷ rest ≡ front ++ later →
+      TellFurther m clocks (length front + 271) (gather (λ t. t.lines) front)
+  -- and the pulses of a section that are told by a turn fit its plan without lines that hold from behind the seventh turn
+  -- behind it on as well
+  pub told : (turn n : ℕ) → n + 7 ≤ turn → n ≤ length rest → (short : List Clocks) →
+      ((b : ℕ) → b < length m.boards → AreFirstLines (clocks_at short b) (clocks_at clocks b) turn) →
       (past : List Started) (s : Started) (later : List Started) (from to place : ℕ) → seen.begun ≡ past ++ s ∷ later → place < length m.steppers →
-      IsWindow (length rest) from to (record { start = s.start; end = s.end }) (times_of later) →
+      IsWindow n from to (record { start = s.start; end = s.end }) (times_of later) →
       Fits (clocks_at short (stepper_at m place).board).first.freq (base_tick m short s.start place) (pulses_of place (lines_between from to rest)) (stepper_plan m short s.section.moves s.start place)
 
 -- so the turns of a whole run, which ended for a cause
@@ -101,10 +104,11 @@ pub record ShowBegun (m : Machine) (seen : Seen) (clocks : List Clocks) (ready :
   pub through : GoesThrough c → AreThrough m seen c (length rest)
   -- the numbers of accepted lines and of passed commands stand in its lines once
   pub counts : GoesThrough c → counts_of (gather (λ t. t.lines) (first ∷ rest)) ≡ report.Lines (program_end m seen.text).lines (program_end m seen.text).passed ∷ []
-  -- where a section was begun, the clock lines are sound, and the lines tell the further ones: those that are left untold hold from behind the 271st turn
-  -- behind the last one on
+  -- where a section was begun, the clock lines are sound, and the lines of the first turns tell the further ones: those
+  -- that are left untold hold from behind the 271st turn behind these on
   pub sound : seen.begun ≢ [] → AreSound m clocks ready
-  pub further : seen.begun ≢ [] → TellFurther m clocks (length rest + 271) c (gather (λ t. t.lines) (first ∷ rest))
+  pub further : seen.begun ≢ [] → (front later : List ReactorTurn) → first ∷ rest ≡ front ++ later →
+      TellFurther m clocks (length front + 271) (gather (λ t. t.lines) front)
 
 -- so the turns of a whole run, which ended for a cause
 abbrev pub AllShowBegun : Machine → Seen → List Clocks → ℕ → Cause → List ReactorTurn → Type 0

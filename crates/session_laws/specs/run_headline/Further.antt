@@ -1,7 +1,5 @@
 -- The further clock lines in a report.
 use Rattle.std.specs.Prelude.{◌≡◌, ℕ, ◌<◌, List, [], ◌∷◌, ◌++◌, length}
-use Rattle.plan_types.specs.declared.cause.Cause.{Cause}
-use Rattle.plan_types.specs.declared.cause.Cause.TheVariants as cause
 use Rattle.plan_types.specs.declared.machine.Machine.{Machine}
 use Rattle.plan_types.specs.declared.plan.Held.{Held}
 use Rattle.plan_types.specs.Lines.{Clocks}
@@ -24,24 +22,18 @@ AreNamed m [] = Unit {0}
 AreNamed m (report.Drift board sent clock from ∷ lines) = (board < length m.boards) × AreNamed m lines
 AreNamed m (other ∷ lines) = AreNamed m lines
 
--- a run that ends for such a cause shows all of its lines: it is neither want of memory nor a write that failed
-abbrev pub ShowsAll : Cause → Type 0
-ShowsAll cause.Memory = ⊥
-ShowsAll cause.WriteFault = ⊥
-ShowsAll other = Unit {0}
-
--- The further clock lines of a board in a report: its lines tell the first ones of those that hold, in order; where the run shows all its lines
--- the others hold from behind a turn on.
-pub record TellsFurther (b : ℕ) (held : List Held) (turn : ℕ) (c : Cause) (lines : List ReportLine) : Type 0 where
+-- The further clock lines of a board in a report: its lines tell the first ones of those that hold, in order; the others
+-- hold from behind a turn on.
+pub record TellsFurther (b : ℕ) (held : List Held) (turn : ℕ) (lines : List ReportLine) : Type 0 where
   pub told : List Held
   pub rest : List Held
   pub are : held ≡ told ++ rest
   pub lines_are : drifts_of b lines ≡ held_lines b told
-  pub later : ShowsAll c → HoldBehind turn rest
+  pub later : HoldBehind turn rest
 
 -- The lines of a run tell the further clock lines of its boards, as above: none stands before a board's line, and each is of a board that
 -- is there.
-pub record TellFurther (m : Machine) (clocks : List Clocks) (turn : ℕ) (c : Cause) (lines : List ReportLine) : Type 0 where
+pub record TellFurther (m : Machine) (clocks : List Clocks) (turn : ℕ) (lines : List ReportLine) : Type 0 where
   pub first : BoardsFirst lines
   pub named : AreNamed m lines
-  pub further : (b : ℕ) → b < length m.boards → TellsFurther b (clocks_at clocks b).held turn c lines
+  pub further : (b : ℕ) → b < length m.boards → TellsFurther b (clocks_at clocks b).held turn lines

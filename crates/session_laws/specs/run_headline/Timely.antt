@@ -148,9 +148,11 @@ pub record ShowPlans (m : Machine) (seen : Seen) (clocks : List Clocks) (ready :
       pulses_of place (gather (λ t. t.lines) past) ≡ []
   -- all lines of a run that went through are such as a reactor tells that homes nothing
   pub own : GoesThrough c → AreTold false m (gather (λ t. t.lines) (first ∷ rest))
-  -- where a section was begun, the clock lines are sound, and the lines tell the further ones
+  -- where a section was begun, the clock lines are sound, and the lines of the first turns tell the further ones: those
+  -- that are left untold hold from behind the 271st turn behind these on
   pub sound : seen.begun ≢ [] → AreSound m clocks ready
-  pub further : seen.begun ≢ [] → TellFurther m clocks (length rest) c (gather (λ t. t.lines) (first ∷ rest))
+  pub further : seen.begun ≢ [] → (front later : List ReactorTurn) → first ∷ rest ≡ front ++ later →
+      TellFurther m clocks (length front + 271) (gather (λ t. t.lines) front)
 
 -- so the turns of a whole run, which ended for a cause
 abbrev pub AllShowPlans : Machine → Seen → List Clocks → ℕ → Cause → List ReactorTurn → Type 0

@@ -1,6 +1,6 @@
 use Rattle.std.proofs.Common.{◌∙◌, ℕ, List, inl, subst}
 use Rattle.mesh_text.specs.Files.{mesh_code, mesh_end}
-use Rattle.host_cli.specs.Body.{cause_of}
+use Rattle.report_laws.specs.Body.{cause_of}
 use Rattle.host_cli.proofs.Bedded.{shown-file}
 use Rattle.host_cli.proofs.Cuts.{text-cut}
 use Rattle.host_cli.proofs.mesh.over_bed.Goals as goal

@@ -1,4 +1,4 @@
-use Rattle.host_cli.proofs.Linked.{run_planned}
+use Rattle.host_cli.proofs.Runs.{run_planned}
 use Rattle.host_cli.proofs.Whole.{of-machine}
 use Rattle.host_cli.proofs.scene.run_found.Goals as goal
 

@@ -3,7 +3,7 @@ use Rattle.plan_types.specs.declared.cause.Cause.TheVariants as cause
 use Rattle.plan_types.specs.declared.machine.Machine.{Machine}
 use Rattle.wire_scene.specs.declared.scene.Scene.{Scene}
 use Rattle.host_cli.specs.Answers.{IsRunCause}
-use Rattle.host_cli.specs.Jobs.{no_scene}
+use Rattle.report_laws.specs.Read.{no_scene}
 use Rattle.cause_runs.specs.Short.{HaveShortDictionaries}
 use Rattle.cause_runs.proofs.ShortNames.{short_dictionaries}
 use Rattle.host_cli.specs.Scenes.{ShowsRun}

@@ -1,0 +1,54 @@
+-- The report of a run over links checks, whether its text has sections or none.
+use Rattle.std.proofs.Common.{◌≡◌, ◌∙◌, ℕ, List, [], ◌∷◌, ◌++◌, sym, refl, ap, Some}
+use Rattle.std.specs.Prelude.{Ok}
+use Rattle.cfg_text.specs.Reading.{reading}
+use Rattle.io_core.specs.declared.traits.Files.{Ghosts as Files}
+use Rattle.io_core.specs.declared.traits.Sink.{Ghosts as Sink}
+use Rattle.plan_types.specs.declared.cause.Cause.{Cause}
+use Rattle.plan_types.specs.declared.cause.Cause.TheVariants as cause
+use Rattle.plan_types.specs.declared.machine.Machine.{Machine}
+use Rattle.plan_types.specs.declared.plan.Section.{Section}
+use Rattle.report_text.specs.declared.line.ReportLine.{ReportLine}
+use Rattle.report_text.specs.declared.line.ReportLine.TheVariants as report
+use Rattle.report_text.specs.Text.{report_text}
+use Rattle.session_lanes.specs.declared.near.LinkLog.{LinkLog}
+use Rattle.wire_scene.specs.declared.scene.Scene.{Scene}
+use Rattle.session_laws.specs.run_ends.Ends.{GoesThrough}
+use Rattle.session_laws.specs.run_headline.Timely.{AreOfMoves, HoldsNothingLong}
+use Rattle.session_laws.specs.home_headline.Little.{AllHomeLittle}
+use Rattle.report_laws.specs.Checks.{check_cause}
+use Rattle.report_laws.specs.Promises.{sections_over}
+use Rattle.report_laws.specs.Linked.{IsLinkReport}
+use Rattle.report_laws.specs.Read.{IsSceneFor}
+use Rattle.report_laws.proofs.Homing.{home-links}
+use Rattle.report_laws.proofs.Linking.{link-checks, same-log, written-whole}
+use Rattle.report_laws.proofs.Scenes.{scene_under}
+use Rattle.report_laws.proofs.WithoutSections.{none-links}
+
+module _ {F S : Type 0} (f : Files F) (o : Sink S) (printer : List ℕ) (m : Machine) (s : Scene) (gcode : List ℕ) (files files' : F) (out out' : S) (c : Cause) (lines : List ReportLine) (counts : List ℕ) (links : List LinkLog) (configured : reading printer ≡ Ok m)
+    (r : IsLinkReport f o m s gcode files files' out out' c lines counts links) (text : List ℕ) (told : f.told files gcode ≡ Some text) (through : GoesThrough c) where
+  -- a run of moves
+  pub any-moves : AreOfMoves (sections_over m text) → HoldsNothingLong m s text r.reported.runs.runs.0 (r.reported.runs.runs.1 ++ r.reported.runs.runs.2 ∷ []) → check_cause m text (report_text m (r.reported.said ++ report.End c ∷ [])) ≡ cause.Done
+  any-moves moves holds = by (sections_over m text) refl
+    where
+      by : (sections : List Section) → sections_over m text ≡ sections → check_cause m text (report_text m (r.reported.said ++ report.End c ∷ [])) ≡ cause.Done
+      by [] e = none-links f o printer m s gcode files files' out out' c lines counts links configured r text told e through
+      by (x ∷ sections) e = link-checks f o printer m s gcode files files' out out' c lines counts links configured r text told moves (λ none. (let g : x ∷ sections ≡ [] = sym e ∙ none in cc)) holds through
+
+  -- a run of moves and homing
+  pub any-homes : AllHomeLittle m s text r.reported.runs.runs.0 (r.reported.runs.runs.1 ++ r.reported.runs.runs.2 ∷ []) → IsSceneFor m s → check_cause m text (report_text m (r.reported.said ++ report.End c ∷ [])) ≡ cause.Done
+  any-homes little scene = by (sections_over m text) refl
+    where
+      by : (sections : List Section) → sections_over m text ≡ sections → check_cause m text (report_text m (r.reported.said ++ report.End c ∷ [])) ≡ cause.Done
+      by [] e = none-links f o printer m s gcode files files' out out' c lines counts links configured r text told e through
+      by (x ∷ sections) e = home-links f o printer m s gcode files files' out out' c lines counts links configured r text told little (scene_under m s scene) (λ none. (let g : x ∷ sections ≡ [] = sym e ∙ none in cc)) through
+
+  -- what is written is the report, where nothing was written before
+  pub as-written : (log : List ℕ) → o.written out ≡ Some [] → o.written out' ≡ Some log → check_cause m text (report_text m (r.reported.said ++ report.End c ∷ [])) ≡ cause.Done → check_cause m text log ≡ cause.Done
+  as-written log none wrote checks =
+      let own = r.reported in
+      let not = written-whole c through in
+      let w = own.cause_is not.0 not.1 in
+      let all = own.written.all not.0 not.1 [] none in
+      let is : log ≡ report_text m (own.said ++ report.End own.own ∷ []) = same-log log (report_text m (own.said ++ report.End own.own ∷ [])) (sym wrote ∙ all) in
+      ap (check_cause m text) (is ∙ ap (λ (x : Cause). report_text m (own.said ++ report.End x ∷ [])) (w.1 ∙ sym w.2)) ∙ checks

@@ -1,0 +1,302 @@
+-- The report of a run over links in which axes home checks.
+use Rattle.std.proofs.Common.{◌≡◌, ◌≢◌, ◌∙◌, ℕ, true, false, ◌+◌, ◌*◌, ◌<◌, ◌≤◌, ◌^◌, All, List, [], ◌∷◌, ◌++◌, length, Option, Some, None, ap, sym, refl, subst, arith, append-nil, inl, inr, length-append, map}
+use Rattle.std.proofs.Math.Logic.{∥∥₁_elim, ∥∥₁_map, ∥∥₁_prop}
+use Rattle.std.proofs.Props.{props}
+use Rattle.std.proofs.lemmas.Grind.{flat_map-append}
+use Rattle.std.proofs.lemmas.List.{length-map}
+use Rattle.std.specs.Prelude.{Ok}
+use Rattle.cfg_text.specs.Reading.{reading}
+use Rattle.io_core.specs.declared.traits.Files.{Ghosts as Files}
+use Rattle.io_core.specs.declared.traits.Sink.{Ghosts as Sink}
+use Rattle.plan_types.specs.declared.cause.Cause.{Cause}
+use Rattle.plan_types.specs.declared.cause.Cause.TheVariants as cause
+use Rattle.plan_types.specs.declared.machine.Machine.{Machine}
+use Rattle.plan_types.specs.Clock.{tick, turn_ns}
+use Rattle.plan_types.specs.Lines.{Clocks}
+use Rattle.plan_types.specs.Machines.{IsValidMachine}
+use Rattle.plan_types.specs.Sections.{clocks_at}
+use Rattle.report_text.specs.declared.line.ReportLine.{ReportLine}
+use Rattle.report_text.specs.declared.line.ReportLine.TheVariants as report
+use Rattle.report_text.specs.Text.{report_text}
+use Rattle.log_text.specs.declared.line.LogLine.{LogLine}
+use Rattle.report_laws.specs.Further.{further_told}
+use Rattle.report_laws.specs.Logged.{logged}
+use Rattle.report_laws.proofs.Configured.{names-of-reading}
+use Rattle.host_reactor.specs.Reactor.{Run, reacts}
+use Rattle.host_reactor.specs.declared.ordered.Known.{Known}
+use Rattle.host_reactor.specs.Notes.{news_of, noted}
+use Rattle.host_reactor.specs.Report.{first_lines}
+use Rattle.host_reactor.specs.Runs.{Came, known_by}
+use Rattle.motion_work.specs.Seen.{Started}
+use Rattle.motion_work.specs.Told.{Told}
+use Rattle.session_lanes.specs.declared.near.Told as near
+use Rattle.session_lanes.specs.declared.near.LinkLog.{LinkLog}
+use Rattle.session_work.specs.declared.table.MotionTurn.{MotionTurn}
+use Rattle.session_work.specs.declared.table.ReactorTurn.{ReactorTurn}
+use Rattle.session_work.specs.Rows.{gather}
+use Rattle.session_desk.specs.declared.tell.Kept.{Kept}
+use Rattle.session_run.specs.Boards.{AreReactorTurns, came_from, came_in}
+use Rattle.session_run.specs.Reported.{IsReported}
+use Rattle.session_run.specs.Runs.{RunsOver}
+use Rattle.wire_scene.specs.declared.scene.Scene.{Scene}
+use Rattle.wire_scene.specs.declared.scene.Switch.{Switch}
+use Rattle.run_plans.specs.Lines.{head_in, heads_of}
+use Rattle.run_plans.specs.Planned.{AreToldBy, Plans, Seen, put_of}
+use Rattle.run_plans.proofs.Spreading.{plans_spread}
+use Rattle.session_laws.specs.run_ends.Boards.{board_in, boards_of}
+use Rattle.session_laws.specs.run_ends.Ends.{GoesThrough}
+use Rattle.session_laws.specs.run_headline.Further.{TellFurther}
+use Rattle.session_laws.specs.run_headline.Timely.{clocks_heard, ready_heard}
+use Rattle.session_laws.specs.run_headline.Told.{AreTold}
+use Rattle.session_laws.proofs.run_causes.Answering.{run_silent}
+use Rattle.session_laws.proofs.run_headline.Boarded.{ready}
+use Rattle.session_laws.proofs.run_headline.Runs.{facts, run_ended}
+use Rattle.session_laws.proofs.run_headline.Showing.{Ended, Facts, few, untold_alone}
+use Rattle.session_laws.proofs.run_headline.Telling.{first_told, reacts_told}
+use Rattle.session_laws.specs.run_lines.Due.{begun_lines}
+use Rattle.session_laws.proofs.run_lines.Heads.{first_heads}
+use Rattle.session_laws.specs.run_causes.Unanswered.{GaveNoAnswer}
+use Rattle.session_laws.specs.home_headline.Cuts.{cuts_of}
+use Rattle.session_laws.specs.home_headline.Follow.{AllShowHomes, ShowHomes}
+use Rattle.session_laws.specs.home_headline.Little.{AllHomeLittle}
+use Rattle.cause_runs.specs.Short.{HaveShortDictionaries}
+use Rattle.cause_runs.proofs.ShortNames.{short_dictionaries}
+use Rattle.session_laws.proofs.home_headline.Shows.{run_shows}
+use Rattle.session_laws.specs.run_limits.Limits.{AreLow, DriftsLow, greatest_tick, start_limit}
+use Rattle.session_laws.proofs.run_limits.Early.{heads_low, starts_early}
+use Rattle.session_laws.proofs.run_limits.Drifts.{drifts_low}
+use Rattle.session_laws.proofs.run_limits.Keeping.{gather_both, low_of, ready_by}
+use Rattle.session_laws.proofs.run_limits.Ticks.{board_low, lines_low}
+use Rattle.report_laws.specs.Checks.{check_cause}
+use Rattle.report_laws.specs.Homes.{ShowsHomes}
+use Rattle.report_laws.specs.Promises.{sections_over}
+use Rattle.report_laws.specs.Linked.{IsLinkReport}
+use Rattle.report_laws.specs.Shown.{section_turn, sections_shown}
+use Rattle.report_laws.proofs.Inside.{some_behind}
+use Rattle.report_laws.specs.page.Log.{Follows, SaysLog}
+use Rattle.report_laws.proofs.Faulted.{last_lines}
+use Rattle.report_laws.proofs.Homed.{home-checks, home-front, home-none, none_first, read-back}
+use Rattle.report_laws.proofs.Unbegun.{ShowsNone, counts_low}
+use Rattle.report_laws.proofs.Unshown.{alone_own, alone_plain, both_none, shown_heads, shown_none, whole_before}
+use Rattle.report_laws.proofs.page.Front.{heads-follow}
+use Rattle.report_laws.proofs.Linking.{text-cause, written-whole}
+use Rattle.report_laws.proofs.Low.{shown_turn}
+use Rattle.report_laws.proofs.Linked.{home_lines}
+use Rattle.report_laws.proofs.Standing.{first_shown, told_parts}
+use Rattle.report_laws.proofs.Wide.{long_uncut, turn_long, turns_long}
+use Rattle.report_laws.proofs.Limits.{HaveLongCuts}
+
+-- sections that have their line were begun
+begun_some : (m : Machine) (seen : Seen) (clocks : List Clocks) (at : ℕ) (c : Cause) (first : ReactorTurn) (rest : List ReactorTurn) → ShowHomes m seen clocks at c first rest → heads_of (gather (λ t. t.lines) (first ∷ rest)) ≢ [] → seen.begun ≢ []
+begun_some m seen clocks at c first rest shows some none =
+    let front = first_heads m seen clocks at first rest (record { late = shows.late; started = shows.started; boards = shows.boards; lines = shows.lines; early = shows.early }) in
+    let e : [] ≡ heads_of (gather (λ (t : ReactorTurn). t.lines) (first ∷ rest)) ++ front.0 = sym (ap (begun_lines 0) none) ∙ front.1 in
+    some (by (heads_of (gather (λ (t : ReactorTurn). t.lines) (first ∷ rest))) front.0 e)
+  where
+    by : (xs ys : List ReportLine) → [] ≡ xs ++ ys → xs ≡ []
+    by [] ys e = refl
+    by (x ∷ xs) ys e = absurd (let f : [] ≡ x ∷ (xs ++ ys) = e in cc)
+
+-- the lines of the turns of a run keep the limits of a run
+module _ (m : Machine) (v : IsValidMachine m) (s : Scene) (ts : List MotionTurn) (p : Plans m (length m.boards) ts) (end : ReactorTurn) (c : Cause) (some : p.seen.begun ≢ []) where
+  module _ (first : ReactorTurn) (rest : List ReactorTurn) (f : Facts m s ts (first ∷ rest) end c) (why : Some c ≡ (reacts m s.switches f.known (length (came_from [] (first ∷ rest))) end.states end.note).ordered.end)
+      (shows : ShowHomes m p.seen (clocks_heard p.seen.told) (ready_heard p.seen.told) c first (rest ++ end ∷ [])) where
+    early : All (λ x. x.start < start_limit) p.seen.begun
+    early = starts_early m (length m.boards) ts p (length m.boards) f.from f.to f.goes
+
+    low_ticks : (o : Option Told) → p.seen.told ≡ o → (b : ℕ) → b < length m.boards → tick (clocks_at (clocks_heard o) b).first (ready_heard o * turn_ns) ≤ greatest_tick (ready_heard o)
+    low_ticks None e b h = absurd (some (subst (λ (o : Option Told). AreToldBy m o p.seen.begun) e p.sections))
+    low_ticks (Some t) e b h = board_low m v s ts p t first rest end e (ready m v s ts p t first rest end e f.ahead f.words_left f.turns f.words) b (f.boards b first rest h refl) h
+
+    boards_low : AreLow (boards_of (gather (λ t. t.lines) (first ∷ (rest ++ end ∷ []))))
+    boards_low =
+        let told = shows.boards some in
+        let lines = λ (z : List ReactorTurn). gather (λ (t : ReactorTurn). t.lines) z in
+        let count = (shows.sound some).clocks_are.count in
+        let cut = ap boards_of (ap lines told.are ∙ gather_both told.past told.later) ∙ flat_map-append board_in (lines told.past) (lines told.later) ∙ ap (λ z. boards_of (lines told.past) ++ z) told.rest ∙ append-nil (boards_of (lines told.past)) ∙ told.lines in
+        subst AreLow (sym cut)
+        (lines_low (ready_heard p.seen.told) 0 (clocks_heard p.seen.told) (ready_by m (clocks_heard p.seen.told) (ready_heard p.seen.told) p.seen.begun shows.started some early) (λ i lt. low_ticks p.seen.told refl i (omega (arith, lt, count))))
+
+    further_low : DriftsLow (gather (λ t. t.lines) (first ∷ (rest ++ end ∷ [])))
+    further_low = by p.seen.told refl
+      where
+        by : (o : Option Told) → p.seen.told ≡ o → DriftsLow (gather (λ t. t.lines) (first ∷ (rest ++ end ∷ [])))
+        by None e = absurd (some (subst (λ (o : Option Told). AreToldBy m o p.seen.begun) e p.sections))
+        by (Some t) e =
+            let made = length-map p.made put_of in
+            let small = p.small in
+            let many = length-append rest (end ∷ []) in
+            let own = few m v s ts p end c first rest f in
+            let turns = first ∷ (rest ++ end ∷ []) in
+            let Tell : Option Told → Type 0 = λ o. TellFurther m (clocks_heard o) (length turns + 271) (gather (λ t. t.lines) turns) in
+            drifts_low m v s ts p t first rest end e (ready m v s ts p t first rest end e f.ahead f.words_left f.turns f.words) (λ b h. f.boards b first rest h refl) (omega (arith, made, small, many, own)) (length turns + 271) (gather (λ t. t.lines) turns) (subst Tell e (shows.further some turns [] (sym (append-nil turns))))
+
+    home_low : AreLow (gather (λ t. t.lines) (first ∷ (rest ++ end ∷ [])))
+    home_low =
+        low_of (gather (λ t. t.lines) (first ∷ (rest ++ end ∷ []))) (heads_low m p.seen.begun 0 (first ∷ (rest ++ end ∷ [])) (plans_spread m (length m.boards) ts p) early shows.lines) boards_low (counts_low m v s ts p end c first rest f why)
+        further_low
+
+-- the first of some lines
+low_first : (xs ys : List ReportLine) → AreLow (xs ++ ys) → AreLow xs
+low_first [] ys low = tt
+low_first (x ∷ xs) ys low = (low.0, low_first xs ys low.1)
+
+long_first : (xs ys : List ReportLine) → HaveLongCuts (xs ++ ys) → HaveLongCuts xs
+long_first [] ys long = tt
+long_first (report.Cut i board pin tick from ∷ xs) ys long = (long.0, long.1, long_first xs ys long.2)
+long_first (x ∷ xs) ys long = long_first xs ys long
+
+-- and each is one that a reactor may tell
+told_both : (m : Machine) (xs ys : List ReportLine) → AreTold true m xs → AreTold true m ys → AreTold true m (xs ++ ys)
+told_both m [] ys a b = b
+told_both m (x ∷ xs) ys a b = (a.0, told_both m xs ys a.1 b)
+
+turn_told : (m : Machine) (switches : List Switch) (r : Known) (k : ℕ) (t : ReactorTurn) → t.lines ≡ (reacts m switches r k t.states t.note).ordered.lines → AreTold true m t.lines
+turn_told m switches r k t e = subst (λ (z : List ReportLine). AreTold true m z) (sym e) (reacts_told true m switches r k t.states t.note (inl refl))
+
+all_told : (m : Machine) (switches : List Switch) (before : List Came) (rs : List ReactorTurn) (end : ReactorTurn) (known : Known) (k : ℕ) → AreReactorTurns m switches before rs → end.lines ≡ (reacts m switches known k end.states end.note).ordered.lines
+    → AreTold true m (gather (λ t. t.lines) (rs ++ end ∷ []))
+all_told m switches before [] end known k turns last = told_both m end.lines [] (turn_told m switches known k end last) tt
+all_told m switches before (r ∷ rs) end known k turns last =
+    told_both m r.lines (gather (λ (t : ReactorTurn). t.lines) (rs ++ end ∷ [])) (turn_told m switches (known_by m switches before) (length before) r turns.0.lines_are) (all_told m switches (came_in r ∷ before) rs end known k turns.1 last)
+
+module _ {F S : Type 0} (f : Files F) (o : Sink S) (m : Machine) (s : Scene) (name : List ℕ) (files files' : F) (out out' : S) (kept kept' : Kept) (t : near.Told Run) (r : RunsOver f o m s name files out kept t files' out' kept') where
+  limits : (v : IsValidMachine m) (rs : List ReactorTurn) (p : Plans m (length m.boards) r.runs.0) → rs ≡ r.runs.1 → AllShowHomes m p.seen (clocks_heard p.seen.told) (ready_heard p.seen.told) t.cause (rs ++ r.runs.2 ∷ [])
+      → heads_of (gather (λ t. t.lines) (rs ++ r.runs.2 ∷ [])) ≢ [] → (t.cause ≡ cause.Memory → ⊥) → AreLow (gather (λ t. t.lines) (rs ++ r.runs.2 ∷ []))
+  limits v [] p e shows some other =
+      let Of : List ReactorTurn → Type 0 = λ z. Facts m s r.runs.0 z r.runs.2 t.cause in
+      absurd (untold_alone m v s r.runs.0 p r.runs.2 t.cause p.seen.told refl (subst Of (sym e) (facts f o m s name files files' out out' kept kept' t r other)) (begun_some m p.seen (clocks_heard p.seen.told) (ready_heard p.seen.told) t.cause r.runs.2 [] shows some))
+  limits v (first ∷ rest) p e shows some other =
+      let End : List ReactorTurn → Type 0 = λ z. Ended m s r.runs.0 z r.runs.2 t.cause in
+      let ended = subst End (sym e) (run_ended f o m s name files files' out out' kept kept' t r other) in
+      home_low m v s r.runs.0 p r.runs.2 t.cause (begun_some m p.seen (clocks_heard p.seen.told) (ready_heard p.seen.told) t.cause first (rest ++ r.runs.2 ∷ []) shows some) first rest ended.facts ended.end_is shows
+
+  -- and where no section has its line they are those of boards and notes
+  nones : (v : IsValidMachine m) (rs : List ReactorTurn) (p : Plans m (length m.boards) r.runs.0) → rs ≡ r.runs.1 → AllShowHomes m p.seen (clocks_heard p.seen.told) (ready_heard p.seen.told) t.cause (rs ++ r.runs.2 ∷ [])
+      → AreTold true m (gather (λ t. t.lines) (rs ++ r.runs.2 ∷ [])) → cuts_of (gather (λ t. t.lines) (rs ++ r.runs.2 ∷ [])) ≡ [] → heads_of (gather (λ t. t.lines) (rs ++ r.runs.2 ∷ [])) ≡ [] → (t.cause ≡ cause.Memory → ⊥)
+      → ((board turn : ℕ) → t.cause ≡ cause.Connect board turn → r.runs.1 ≡ [] → ⊥) → ShowsNone m (gather (λ t. t.lines) (rs ++ r.runs.2 ∷ []))
+  nones v [] p e shows told uncut none other answers =
+      let End : List ReactorTurn → Type 0 = λ z. Ended m s r.runs.0 z r.runs.2 t.cause in
+      let ended = subst End (sym e) (run_ended f o m s name files files' out out' kept kept' t r other) in
+      elim (last_lines m s r.runs.0 [] r.runs.2 t.cause ended.facts ended.end_is) [
+        | inl own ↦ absurd (alone_own m s r.runs.0 r.runs.2 t.cause ended.facts own other (λ board turn is. answers board turn is (sym e)))
+        | inr plain ↦ alone_plain m s r.runs.0 r.runs.2 t.cause ended.facts plain
+      ]
+  nones v (first ∷ rest) p e shows told uncut none other answers =
+      let End : List ReactorTurn → Type 0 = λ z. Ended m s r.runs.0 z r.runs.2 t.cause in
+      let ended = subst End (sym e) (run_ended f o m s name files files' out out' kept kept' t r other) in
+      shown_none m v s r.runs.0 p r.runs.2 t.cause first rest ended.facts ended.end_is shows told uncut none
+
+  home_nones : IsValidMachine m → HaveShortDictionaries m → (text : List ℕ) → f.told files name ≡ Some text → kept.at ≡ 0 → AllHomeLittle m s text r.runs.0 (r.runs.1 ++ r.runs.2 ∷ []) → AreTold true m (gather (λ t. t.lines) (r.runs.1 ++ r.runs.2 ∷ []))
+      → cuts_of (gather (λ t. t.lines) (r.runs.1 ++ r.runs.2 ∷ [])) ≡ [] → heads_of (gather (λ t. t.lines) (r.runs.1 ++ r.runs.2 ∷ [])) ≡ [] → (t.cause ≡ cause.Memory → ⊥)
+      → ((board turn : ℕ) → t.cause ≡ cause.Connect board turn → r.runs.1 ≡ [] → ⊥) → ∥ ShowsNone m (gather (λ t. t.lines) (r.runs.1 ++ r.runs.2 ∷ [])) ∥₁
+  home_nones v short text told at little lines uncut none other answers =
+      ∥∥₁_map (run_shows f o m s name files files' out out' kept kept' t r v short text told at) (λ w. nones v r.runs.1 w.0.plans refl (w.2 other little) lines uncut none other answers)
+
+  home_limits : IsValidMachine m → HaveShortDictionaries m → (text : List ℕ) → f.told files name ≡ Some text → kept.at ≡ 0 → AllHomeLittle m s text r.runs.0 (r.runs.1 ++ r.runs.2 ∷ []) → heads_of (gather (λ t. t.lines) (r.runs.1 ++ r.runs.2 ∷ [])) ≢ []
+      → (t.cause ≡ cause.Memory → ⊥) → ∥ AreLow (gather (λ t. t.lines) (r.runs.1 ++ r.runs.2 ∷ [])) ∥₁
+  home_limits v short text told at little some other =
+      ∥∥₁_map (run_shows f o m s name files files' out out' kept kept' t r v short text told at) (λ w. limits v r.runs.1 w.0.plans refl (w.2 other little) some other)
+
+  home_told : (t.cause ≡ cause.Memory → ⊥) → AreTold true m (gather (λ t. t.lines) (r.runs.1 ++ r.runs.2 ∷ []))
+  home_told other =
+      let x = facts f o m s name files files' out out' kept kept' t r other in
+      all_told m s.switches [] r.runs.1 r.runs.2 x.known (length (came_from [] r.runs.1)) x.turns x.lines_are
+
+  home_long : All (λ w. w.line < 2 ^ 64) s.switches → (t.cause ≡ cause.Memory → ⊥) → HaveLongCuts (gather (λ t. t.lines) (r.runs.1 ++ r.runs.2 ∷ []))
+  home_long scene other =
+      let ended = run_ended f o m s name files files' out out' kept kept' t r other in
+      let x = ended.facts in
+      let end = r.runs.2 in
+      let before = came_from [] r.runs.1 in
+      turns_long m s.switches scene [] r.runs.1 end tt x.turns (λ goes. elim (last_lines m s r.runs.0 r.runs.1 end t.cause x ended.end_is) [
+        | inl own ↦ turn_long m s.switches scene before end goes (x.lines_are ∙ ap (λ (k : Known). (reacts m s.switches k (length before) end.states end.note).ordered.lines) (x.own own).0)
+        | inr plain ↦ subst (λ (z : List ReportLine). HaveLongCuts z) (sym plain) (long_uncut m (first_lines m (noted m end.note x.known) (length before) (news_of end.note) end.states) (first_told false m (noted m end.note x.known) (length before) (news_of end.note) end.states))
+      ])
+
+module _ {F S : Type 0} (f : Files F) (o : Sink S) (printer : List ℕ) (m : Machine) (s : Scene) (gcode : List ℕ) (files files' : F) (out out' : S) (c : Cause) (lines : List ReportLine) (counts : List ℕ) (links : List LinkLog) (configured : reading printer ≡ Ok m)
+    (r : IsLinkReport f o m s gcode files files' out out' c lines counts links) (text : List ℕ) (told : f.told files gcode ≡ Some text)
+    (little : AllHomeLittle m s text r.reported.runs.runs.0 (r.reported.runs.runs.1 ++ r.reported.runs.runs.2 ∷ [])) (scene : All (λ w. w.line < 2 ^ 64) s.switches) where
+  home_valid : IsValidMachine m
+  home_valid = subst (λ (x : Machine). IsValidMachine x) r.reported.runs.printer r.reported.runs.fresh.machine
+
+  -- what the lines of such a run show that were printed
+  record Showing : Type 0 where
+    shows : ShowsHomes m s.switches text c r.reported.said
+    told_all : AreTold true m r.reported.said
+    long : HaveLongCuts r.reported.said
+    low : heads_of r.reported.said ≢ [] → ∥ AreLow r.reported.said ∥₁
+    none : heads_of r.reported.said ≡ [] → ∥ ShowsNone m r.reported.said ∥₁
+
+  abbrev own : IsReported f o m s gcode files files' out out' c lines counts links
+  own = r.reported
+
+  abbrev whole : List ReportLine
+  whole = gather (λ t. t.lines) (r.reported.runs.runs.1 ++ r.reported.runs.runs.2 ∷ [])
+
+  showing : (r.reported.told.cause ≡ cause.Memory → ⊥) → ∥ Showing ∥₁
+  showing not =
+      ∥∥₁_map (r.homes text told not little) (λ shows. record {
+        shows = shows;
+        told_all = (told_parts true m own.said own.rest (subst (AreTold true m) own.shown told_whole)).0;
+        long = long_first own.said own.rest (subst HaveLongCuts own.shown (home_long f o m s gcode files files' out own.behind own.kept own.kept' own.told own.runs scene not));
+        low = λ some. ∥∥₁_map (low_whole (λ none. some (both_none (heads_of own.said) (heads_of own.rest) (sym parts ∙ none)).0)) (λ low. low_first own.said own.rest (subst AreLow own.shown low));
+        none = λ none. ∥∥₁_elim (home_lines f o m s gcode files files' out out' c lines counts links home_valid short own text told not little whole [] own.told.cause (λ g. (refl, refl)) (sym (append-nil whole))) ∥∥₁_prop
+            (λ all. none_of all none (heads_of whole) refl);
+      })
+    where
+      short : HaveShortDictionaries m
+      short = short_dictionaries printer m configured
+
+      parts : heads_of whole ≡ heads_of own.said ++ heads_of own.rest
+      parts = ap heads_of own.shown ∙ flat_map-append head_in own.said own.rest
+
+      told_whole : AreTold true m whole
+      told_whole = home_told f o m s gcode files files' out own.behind own.kept own.kept' own.told own.runs not
+
+      low_whole : heads_of whole ≢ [] → ∥ AreLow whole ∥₁
+      low_whole some = home_limits f o m s gcode files files' out own.behind own.kept own.kept' own.told own.runs home_valid short text told own.fresh.at little some not
+
+      -- a run of one turn doesn't end for a board that gave no answer
+      unanswered : (board turn : ℕ) → own.told.cause ≡ cause.Connect board turn → own.runs.runs.1 ≡ [] → ⊥
+      unanswered board turn is alone =
+          let Gave : List ReactorTurn → Type 0 = λ z. GaveNoAnswer m s board turn own.runs.runs.0 z own.runs.runs.2 in
+          ∥∥₁_elim (run_silent f o m s gcode files files' out own.behind own.kept own.kept' own.told own.runs home_valid text told own.fresh.at board turn is) (hlevel props) (λ gave. subst Gave alone gave)
+
+      none_of : ShowsHomes m s.switches text own.told.cause whole → heads_of own.said ≡ [] → (heads : List ReportLine) → heads_of whole ≡ heads → ∥ ShowsNone m own.said ∥₁
+      none_of all none [] e =
+          let uncut : cuts_of whole ≡ [] = ap cuts_of (sym (whole_before whole e)) ∙ all.cuts.before in
+          ∥∥₁_map (home_nones f o m s gcode files files' out own.behind own.kept own.kept' own.told own.runs home_valid short text told own.fresh.at little told_whole uncut e not unanswered)
+          (λ shows. none_first m own.said own.rest (subst (ShowsNone m) own.shown shows))
+      none_of all none (h ∷ hs) e =
+          let some : heads_of whole ≢ [] = λ none. (let g : h ∷ hs ≡ [] = sym e ∙ none in cc) in
+          ∥∥₁_map (low_whole some) (λ low.
+          home-none m s.switches text own.told.cause whole home_valid (λ none. some (sym (shown_heads whole) ∙ none)) all low told_whole (home_long f o m s gcode files files' out own.behind own.kept own.kept' own.told own.runs scene not) own.said own.rest own.shown none)
+
+  -- a section is shown
+  shown_some : (i turn : ℕ) → section_turn i r.reported.said ≡ Some turn → sections_shown r.reported.said ≢ []
+  shown_some i turn e none = (let f : None ≡ Some turn = sym (ap (section_turn i) none) ∙ shown_turn i r.reported.said ∙ e in cc)
+
+  pub home-links : sections_over m text ≢ [] → GoesThrough c → check_cause m text (report_text m (r.reported.said ++ report.End c ∷ [])) ≡ cause.Done
+  home-links some through =
+      let not = written-whole c through in
+      ∥∥₁_elim (showing (λ e. not.0 ((r.reported.cause_is not.0 not.1).2 ∙ e))) (hlevel props) (λ (z : Showing).
+      let first = begun_first z.shows.begun ((z.shows.all through).1) (λ none. some (sym (z.shows.all through).0 ∙ ap (map (λ (x : Started). x.section)) none)) in
+      ∥∥₁_elim (z.low (some_behind 0 first.0 r.reported.said first.1)) (hlevel props) (λ low.
+      home-checks m s.switches text c r.reported.said home_valid (shown_some 0 first.0 first.1) z.shows low z.told_all z.long through (names-of-reading printer m configured) (z.shows.whole through) (text-cause m text c (z.shows.cause through))))
+    where
+      begun_first : (begun : List Started) → sections_shown r.reported.said ≡ begun_lines 0 begun → begun ≢ [] → (turn : ℕ) × (section_turn 0 r.reported.said ≡ Some turn)
+      begun_first [] e never = absurd (never refl)
+      begun_first (x ∷ begun) e never = (x.start, first_shown 0 x.start x.section.kind (begun_lines 1 begun) r.reported.said e)
+
+  -- what was printed before the end line follows the plan, as far as the run came
+  pub printed-front : (r.reported.told.cause ≡ cause.Memory → ⊥) → ∥ ((log : List LogLine) × SaysLog m (report_text m r.reported.said) log × Follows (GoesThrough c) m (sections_over m text) log) ∥₁
+  printed-front other = ∥∥₁_elim (showing other) ∥∥₁_prop (λ (z : Showing). by z (heads_of r.reported.said) refl)
+    where
+      by : (z : Showing) (heads : List ReportLine) → heads_of r.reported.said ≡ heads → ∥ ((log : List LogLine) × SaysLog m (report_text m r.reported.said) log × Follows (GoesThrough c) m (sections_over m text) log) ∥₁
+      by z [] e = ∥∥₁_map (z.none e) (λ shows.
+          read-back (GoesThrough c) m (sections_over m text) r.reported.said home_valid (names-of-reading printer m configured) shows.of_run (heads-follow (GoesThrough c) m (sections_over m text) (further_told (map logged r.reported.said)) r.reported.said shows.may shows.heads))
+      by z (h ∷ hs) e =
+          let some : heads_of r.reported.said ≢ [] = λ none. (let g : h ∷ hs ≡ [] = sym e ∙ none in cc) in
+          ∥∥₁_map (z.low some) (λ low.
+          home-front m s.switches text c r.reported.said home_valid (λ none. some (sym (shown_heads r.reported.said) ∙ none)) z.shows low z.told_all z.long (names-of-reading printer m configured))

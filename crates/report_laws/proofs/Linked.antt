@@ -1,0 +1,1072 @@
+-- The report of a run over links follows the plans.
+use Rattle.std.proofs.Common.{◌≡◌, ◌≢◌, ℕ, zero, suc, ◌+◌, ◌<◌, ◌≤◌, ◌⊎◌, Bool, true, false, All, List, [], ◌∷◌, ◌++◌, get_or, map, take, drop, length, Some, None, refl, ap, sym, ◌∙◌, subst, arith, inl, inr, append_assoc, append-nil, length-append}
+use Rattle.std.proofs.Math.Logic.{∥∥₁_elim, ∥∥₁_map}
+use Rattle.std.proofs.Props.{props}
+use Rattle.std.specs.Prelude.{◌-◌, ◌==◌, if◌then◌else◌}
+use Rattle.std.proofs.lemmas.List.{length-drop, length-map, length-take-le, take-take, take_all}
+use Rattle.std.proofs.lemmas.List.Elements.{All-head, All-tail}
+use Rattle.plan_types.specs.declared.cause.Cause.{Cause}
+use Rattle.plan_types.specs.declared.cause.Cause.TheVariants as cause
+use Rattle.plan_types.specs.declared.machine.Machine.{Machine}
+use Rattle.plan_types.specs.declared.plan.Planned.{Planned}
+use Rattle.plan_types.specs.declared.plan.Pulse.{Pulse}
+use Rattle.plan_types.specs.declared.plan.ReadStop.{ReadStop}
+use Rattle.plan_types.specs.declared.plan.ReadStop.TheVariants as read
+use Rattle.plan_types.specs.declared.plan.Section.{Section}
+use Rattle.plan_types.specs.declared.plan.SectionKind.{SectionKind}
+use Rattle.plan_types.specs.declared.plan.SectionKind.TheVariants.{Moves}
+use Rattle.plan_types.specs.Lines.{Clocks}
+use Rattle.plan_types.specs.Machines.{IsValidMachine, stepper_at}
+use Rattle.plan_types.specs.Plan.{Fits}
+use Rattle.plan_types.specs.Sections.{base_tick, clocks_at, stepper_plan}
+use Rattle.io_core.specs.declared.traits.Files.{Ghosts as Files}
+use Rattle.io_core.specs.declared.traits.Sink.{Ghosts as Sink}
+use Rattle.report_text.specs.declared.line.ReportLine.{ReportLine}
+use Rattle.report_text.specs.declared.line.ReportLine.TheVariants as report
+use Rattle.gcode_program.specs.Programs.{program_end, program_sections}
+use Rattle.wire_scene.specs.declared.scene.Scene.{Scene}
+use Rattle.wire_scene.specs.declared.scene.Switch.{Switch}
+use Rattle.host_reactor.specs.Running.{text_end}
+use Rattle.motion_work.specs.Seen.{AreStarted, IsPlanned, Started}
+use Rattle.session_lanes.specs.declared.near.LinkLog.{LinkLog}
+use Rattle.section_feed.specs.Fewer.{AreFirstLines}
+use Rattle.session_work.specs.declared.table.ReactorTurn.{ReactorTurn}
+use Rattle.session_work.specs.Rows.{gather}
+use Rattle.session_work.proofs.Goes.{gather_on}
+use Rattle.session_desk.specs.declared.read.ReadStop.{ReadStop as DeskStop}
+use Rattle.session_desk.specs.declared.read.ReadStop.TheVariants as stop
+use Rattle.session_desk.specs.Desks as desk
+use Rattle.session_run.specs.Reported.{IsReported}
+use Rattle.run_plans.specs.Boards.{lines_between, times_of}
+use Rattle.run_plans.specs.Lines.{TellTurns, pulse_in, pulses_of}
+use Rattle.run_plans.proofs.Beginning.{Spread}
+use Rattle.run_plans.proofs.Spreading.{plans_spread}
+use Rattle.run_laws.specs.Boards.{IsWindow, NextStart}
+use Rattle.session_laws.specs.run_headline.Told.{AreTold}
+use Rattle.session_laws.specs.run_headline.Timely.{AllShowPlans, AreOfMoves, AreSound, HoldsNothingLong, ShowPlans, clocks_heard, ready_heard}
+use Rattle.session_laws.specs.run_ends.Ends.{GoesThrough}
+use Rattle.host_reactor.specs.Rows.{IsOwn}
+use Rattle.session_laws.specs.run_headline.Made.{IsNamed}
+use Rattle.session_laws.proofs.run_headline.Cutting.{run_silent}
+use Rattle.session_laws.proofs.run_headline.Making.{run_made}
+use Rattle.session_laws.specs.run_links.Links.{AreLinksIn}
+use Rattle.session_laws.proofs.run_links.Links.{run_links}
+use Rattle.session_laws.proofs.run_lates.Ending.{run_home_tells, run_near_tells}
+use Rattle.session_laws.proofs.run_lates.Late.{run_late}
+use Rattle.session_laws.proofs.run_lates.Naming.{run_home_units}
+use Rattle.session_laws.proofs.run_turns.Ending.{ends}
+use Rattle.session_laws.proofs.run_turns.Starting.{starts}
+use Rattle.session_laws.proofs.run_turns.Words.{run_taken}
+use Rattle.session_laws.proofs.run_clocks.First as clocks
+use Rattle.session_laws.proofs.run_clocks.Printed.{run_printed}
+use Rattle.session_laws.proofs.run_headline.Runs.{facts, run_ended, run_names, run_none, run_shows}
+use Rattle.session_laws.proofs.run_headline.Showing.{cut_last}
+use Rattle.session_laws.proofs.home_headline.Cuts.{run_answers}
+use Rattle.session_laws.proofs.home_headline.Read.{run_reads}
+use Rattle.std.proofs.lemmas.Grind.{flat_map-append}
+use Rattle.plan_types.specs.Sections.{section_end, section_starts}
+use Rattle.run_plans.specs.Lines.{head_in, heads_of}
+use Rattle.session_laws.specs.run_headline.Further.{TellFurther}
+use Rattle.run_plans.specs.Planned.{Seen}
+use Rattle.session_laws.specs.run_lines.Due.{AreFirst, BoardsHave, HaveTheirLines, StandApart, begun_lines, due_lines}
+use Rattle.session_laws.proofs.run_lines.Further.{Reach, reach}
+use Rattle.session_laws.proofs.run_lines.Heads.{ShowStarts, first_heads, shown_boards, shown_further, shown_heads, shown_sound, stand_apart, whole_heads}
+use Rattle.session_laws.specs.run_ends.Boards.{counts_of}
+use Rattle.report_laws.specs.Body.{cause_of, no_section, section_lines}
+use Rattle.report_laws.specs.Headline.{kind_of, moves_of}
+use Rattle.homing_laws.proofs.home_plans.Noting.{begun_row}
+use Rattle.session_laws.specs.home_headline.Cuts.{TellEnds}
+use Rattle.session_laws.specs.home_headline.Follow.{AllShowBegun, AllShowHomes, HaveBegunLines, ShowHomes}
+use Rattle.session_laws.specs.home_headline.Little.{AllHomeLittle, ShownHoldLittle}
+use Rattle.session_laws.proofs.home_headline.Clear.{clear_little}
+use Rattle.session_laws.proofs.home_headline.Heads.{begun_heads, home_boards, homes_apart, homes_further, homes_sound, show_begun}
+use Rattle.session_laws.proofs.home_headline.Before.{run_before}
+use Rattle.session_laws.proofs.home_headline.Sections.{all_begun}
+use Rattle.session_laws.proofs.home_headline.Shows.{all_shows}
+use Rattle.session_laws.proofs.home_headline.Switches.{all_ends, run_last}
+use Rattle.session_laws.specs.home_wholes.Whole.{AllWholeHomes}
+use Rattle.session_laws.proofs.home_wholes.Joined.{run_own}
+use Rattle.session_laws.proofs.home_wholes.Shows.{all_wholes}
+use Rattle.session_laws.specs.clear_homes.Closes.{AllClose}
+use Rattle.session_laws.proofs.clear_homes.Clear as homed
+use Rattle.session_laws.proofs.clear_homes.First.{run_first}
+use Rattle.session_laws.proofs.run_causes.Answering as answering
+use Rattle.session_laws.proofs.clear_homes.Through.{soon_all}
+use Rattle.cause_runs.specs.Short.{HaveShortDictionaries}
+use Rattle.session_laws.specs.clear_runs.Clear.{SendsAllSoon}
+use Rattle.session_laws.proofs.clear_runs.Clear.{run_through}
+use Rattle.session_laws.proofs.clear_runs.Stopped.{run_is_for}
+use Rattle.session_laws.proofs.clear_runs.Through.{sends_hold}
+use Rattle.report_laws.specs.Promises.{FollowsPlanBy, IsCauseOf, IsCompleteBefore, IsCompleteBy, IsCompleteOfMovesBefore, IsCompleteOfMovesBy, lines_line, sections_over}
+use Rattle.report_laws.specs.Homes.{ShowsBegun, ShowsHomes}
+use Rattle.report_laws.specs.Linked.{IsLinkReport, ShowsText}
+use Rattle.report_laws.specs.Shown.{lines_behind, pulses_before, pulses_in, section_turn, sections_shown}
+use Rattle.report_laws.proofs.Behind.{AreNumbered, behind, behind_front, in_stays, next_begun, numbered_due, numbered_front}
+use Rattle.report_laws.proofs.Followed.{NextAt, shown}
+use Rattle.report_laws.proofs.Inside.{have_cuts, numbered_begun, some_behind, turn_front}
+use Rattle.session_laws.proofs.run_headline.Facts.{starts_late}
+
+-- the section of a number is that which was begun there
+section_is : (past : List Started) (s : Started) (later : List Started) (sections : List Section) (n : ℕ) → map (λ x. x.section) (past ++ s ∷ later) ≡ take n sections → get_or sections (length past) no_section ≡ s.section
+section_is [] s later sections zero e = absurd (let f : s.section ∷ map (λ (x : Started). x.section) later ≡ [] = e in cc)
+section_is [] s later [] (suc n) e = absurd (let f : s.section ∷ map (λ (x : Started). x.section) later ≡ [] = e in cc)
+section_is [] s later (x ∷ sections) (suc n) e = let f : x ≡ s.section = cc in f
+section_is (y ∷ past) s later sections zero e = absurd (let f : y.section ∷ map (λ (x : Started). x.section) (past ++ s ∷ later) ≡ [] = e in cc)
+section_is (y ∷ past) s later [] (suc n) e = absurd (let f : y.section ∷ map (λ (x : Started). x.section) (past ++ s ∷ later) ≡ [] = e in cc)
+section_is (y ∷ past) s later (x ∷ sections) (suc n) e = let behind : map (λ (z : Started). z.section) (past ++ s ∷ later) ≡ take n sections = cc in section_is past s later sections n behind
+
+next_before : (n : ℕ) (later : List Started) (to : ℕ) → to + 1 ≡ n → NextStart n (map (λ (x : Started). record { start = x.start + 1; end = x.end }) later) → NextStart to (times_of later)
+next_before n [] to e h = tt
+next_before n (y ∷ later) to e h = omega (arith, e, h)
+
+-- sections one behind the other
+apart_by : (m : Machine) (clocks : List Clocks) (ready : ℕ) (past : List Started) (s y : Started) (later : List Started) → AreStarted m clocks ready (past ++ s ∷ y ∷ later) → s.end + 260 ≤ y.start
+apart_by m clocks ready [] s y later h = let start = h.1.0.start in omega (arith, start)
+apart_by m clocks ready (x ∷ past) s y later h = apart_by m clocks (x.end + 260) past s y later h.1
+
+over_at : (k : ℕ) (past : List Started) (s : Started) (later : List Started) → All (λ x. x.end + 5 ≤ k) (past ++ s ∷ later) → s.end + 5 ≤ k
+over_at k [] s later a = All-head (λ (x : Started). x.end + 5 ≤ k) s later a
+over_at k (x ∷ past) s later a = over_at k past s later (All-tail (λ (y : Started). y.end + 5 ≤ k) x (past ++ s ∷ later) a)
+
+-- one of some sections is planned
+planned_at : (m : Machine) (clocks : List Clocks) (ready : ℕ) (past : List Started) (s : Started) (later : List Started) → AreStarted m clocks ready (past ++ s ∷ later) → IsPlanned s.section.kind m clocks s
+planned_at m clocks ready [] s later h = h.0.planned
+planned_at m clocks ready (x ∷ past) s later h = planned_at m clocks (x.end + 260) past s later h.1
+
+module _ (m : Machine) (seen : Seen) (text : List ℕ) (first : ReactorTurn) (rest : List ReactorTurn) (spread : Spread 260 seen.begun) (of_text : map (λ s. s.section) seen.begun ≡ take (length seen.begun) (program_sections m seen.text))
+    (lines : TellTurns m seen.begun 0 (first ∷ rest)) (same : seen.text ≡ text) where
+  -- a section's line, with the section that was begun and its turns
+  record Part (i turn s : ℕ) : Type 0 where
+    past : List Started
+    x : Started
+    later : List Started
+    cut : seen.begun ≡ past ++ x ∷ later
+    place_is : length past ≡ i
+    from : ℕ
+    to : ℕ
+    start : x.start ≡ turn
+    window : IsWindow (length rest) from to (record { start = x.start; end = x.end }) (times_of later)
+    ends : (to ≡ length rest) ⊎ NextAt m seen.begun spread s (to + 1) later
+    pulses : pulses_of s (lines_between from to rest) ≡ pulses_in i s (gather (λ t. t.lines) (first ∷ rest))
+    moves : moves_of (sections_over m text) i ≡ x.section.moves
+    kind : kind_of (sections_over m text) i ≡ x.section.kind
+
+  sections_of : (past : List Started) (x : Started) (later : List Started) → seen.begun ≡ past ++ x ∷ later → get_or (sections_over m text) (length past) no_section ≡ x.section
+  sections_of past x later cut =
+      section_is past x later (sections_over m text) (length seen.begun)
+      (ap (map (λ (z : Started). z.section)) (sym cut) ∙ of_text ∙ ap (λ z. take (length seen.begun) (program_sections m z)) same)
+
+  part_of : (i turn s : ℕ) → section_turn i (gather (λ t. t.lines) (first ∷ rest)) ≡ Some turn → Part i turn s
+  part_of i turn s e =
+      let x = shown m seen.begun spread s 0 i turn (first ∷ rest) lines e in
+      let At : List Started → Type 0 = λ z. Spread 260 z in
+      let late = starts_late 260 x.past x.s x.later (subst At x.cut spread) in
+      let from = turn - 1 in
+      let to = turn - 1 + x.many in
+      let start = x.start in
+      let within = x.within in
+      let some = x.some in
+      let begins : from + 1 ≡ x.s.start = omega arith in
+      let count : to - from ≡ x.many = omega arith in
+      let place : turn - 0 ≡ suc from = omega arith in
+      let behind : turn + x.many ≡ to + 1 = omega arith in
+      let Next : ℕ → Type 0 = λ n. NextAt m seen.begun spread s n x.later in
+      record {
+        past = x.past;
+        x = x.s;
+        later = x.later;
+        cut = x.cut;
+        place_is = x.place_is;
+        from = from;
+        to = to;
+        start = start;
+        window = record { begins = begins; order = omega arith; within = omega arith; next = next_before (turn + x.many) x.later to (omega arith) x.next };
+        ends = elim x.ends [ inl f ↦ inl (omega (arith, f, behind)) | inr f ↦ inr (subst Next behind f) ];
+        pulses = ap (λ n. pulses_of s (gather (λ (t : ReactorTurn). t.lines) (take n (drop from rest)))) count
+            ∙ sym (x.pulses ∙ ap (λ n. pulses_of s (gather (λ (t : ReactorTurn). t.lines) (take x.many (drop n (first ∷ rest))))) place);
+        moves = ap (λ n. moves_of (sections_over m text) n) (sym x.place_is) ∙ ap (λ (z : Section). z.moves) (sections_of x.past x.s x.later x.cut);
+        kind = ap (λ n. kind_of (sections_over m text) n) (sym x.place_is) ∙ ap (λ (z : Section). z.kind) (sections_of x.past x.s x.later x.cut);
+      }
+
+  -- the end of a section of moves
+  part_end : (clocks : List Clocks) (ready : ℕ) → AreStarted m clocks ready seen.begun → (i turn : ℕ) (e : section_turn i (gather (λ t. t.lines) (first ∷ rest)) ≡ Some turn) → kind_of (sections_over m text) i ≡ Moves
+      → (part_of i turn 0 e).x.end ≡ section_end m clocks (moves_of (sections_over m text) i) turn
+  part_end clocks ready started i turn e moves =
+      let x = part_of i turn 0 e in
+      let Apart : List Started → Type 0 = λ z. AreStarted m clocks ready z in
+      let planned = planned_at m clocks ready x.past x.x x.later (subst Apart x.cut started) in
+      let moved = subst (λ (k : SectionKind). IsPlanned k m clocks x.x) (sym x.kind ∙ moves) planned in
+      moved.end ∙ ap (λ n. section_end m clocks x.x.section.moves n) x.start ∙ ap (λ z. section_end m clocks z turn) (sym x.moves)
+
+  -- a section of moves with its line ended by the last turn, where all did
+  part_over : (clocks : List Clocks) (ready : ℕ) → AreStarted m clocks ready seen.begun → All (λ y. y.end + 5 ≤ length rest) seen.begun → (i turn : ℕ) → section_turn i (gather (λ t. t.lines) (first ∷ rest)) ≡ Some turn
+      → kind_of (sections_over m text) i ≡ Moves → section_end m clocks (moves_of (sections_over m text) i) turn < length rest
+  part_over clocks ready started over i turn e moves =
+      let x = part_of i turn 0 e in
+      let Over : List Started → Type 0 = λ z. All (λ y. y.end + 5 ≤ length rest) z in
+      let o = over_at (length rest) x.past x.x x.later (subst Over x.cut over) in
+      let end = part_end clocks ready started i turn e moves in
+      omega (arith, o, end)
+
+  -- and by it where the next section has its line
+  part_next : (clocks : List Clocks) (ready : ℕ) → AreStarted m clocks ready seen.begun → (i turn next : ℕ) → section_turn i (gather (λ t. t.lines) (first ∷ rest)) ≡ Some turn → section_turn (i + 1) (gather (λ t. t.lines) (first ∷ rest)) ≡ Some next
+      → kind_of (sections_over m text) i ≡ Moves → section_end m clocks (moves_of (sections_over m text) i) turn < length rest
+  part_next clocks ready started i turn next e f moves =
+      let x = part_of i turn 0 e in
+      let y = part_of (i + 1) next 0 f in
+      let Apart : List Started → Type 0 = λ z. AreStarted m clocks ready z in
+      let behind = next_begun x.past x.x x.later y.past y.x y.later (sym x.cut ∙ y.cut) (omega (arith, x.place_is, y.place_is)) in
+      let apart = apart_by m clocks ready x.past x.x y.x y.later (subst Apart (x.cut ∙ ap (λ z. x.past ++ x.x ∷ z) behind) started) in
+      let begins = y.window.begins in
+      let order = y.window.order in
+      let within = y.window.within in
+      let end = part_end clocks ready started i turn e moves in
+      omega (arith, apart, begins, order, within, end)
+
+  -- the pulses of each stepper in each section fit its plan
+  abbrev AllFit : List Clocks → Type 0
+  AllFit clocks = (past : List Started) (s : Started) (later : List Started) (from to place : ℕ) → seen.begun ≡ past ++ s ∷ later → place < length m.steppers → IsWindow (length rest) from to (record { start = s.start; end = s.end }) (times_of later)
+      → Fits (clocks_at clocks (stepper_at m place).board).first.freq (base_tick m clocks s.start place) (pulses_of place (lines_between from to rest)) (stepper_plan m clocks s.section.moves s.start place)
+
+  -- the lines of all turns
+  fits_follow : (clocks : List Clocks) → AllFit clocks → FollowsPlanBy clocks m (sections_over m text) (gather (λ t. t.lines) (first ∷ rest))
+  fits_follow clocks fits i turn s e low =
+      let x = part_of i turn s e in
+      let fit = fits x.past x.x x.later x.from x.to s x.cut low x.window in
+      let pulses = x.pulses in
+      let start = x.start in
+      let own = x.moves in
+      let Of : List Pulse × ℕ × List _ → Type 0 = λ z. Fits (clocks_at clocks (stepper_at m s).board).first.freq (base_tick m clocks z.1 s) z.0 (stepper_plan m clocks z.2 z.1 s) in
+      subst Of (λ j. (pulses j, start j, sym own j)) fit
+
+module _ (m : Machine) (seen : Seen) (clocks : List Clocks) (ready : ℕ) (c : Cause) (text : List ℕ) (first : ReactorTurn) (rest : List ReactorTurn) (spread : Spread 260 seen.begun) (h : ShowPlans m seen clocks ready c first rest)
+    (same : seen.text ≡ text) where
+  piece : (i turn s : ℕ) → section_turn i (gather (λ t. t.lines) (first ∷ rest)) ≡ Some turn → Part m seen text first rest spread h.of_text h.lines same i turn s
+  piece i turn s e = part_of m seen text first rest spread h.of_text h.lines same i turn s e
+
+  lines_follow : FollowsPlanBy clocks m (sections_over m text) (gather (λ t. t.lines) (first ∷ rest))
+  lines_follow = fits_follow m seen text first rest spread h.of_text h.lines same clocks h.fit
+
+  lines_whole : GoesThrough c → IsCompleteBy clocks m (sections_over m text) (gather (λ t. t.lines) (first ∷ rest))
+  lines_whole g i turn s e low =
+      let x = piece i turn s e in
+      let whole = h.whole g x.past x.x x.later x.from x.to s x.cut low x.window (over x.past x.x x.later x.to x.cut x.ends) in
+      let pulses = x.pulses in
+      let start = x.start in
+      let own = x.moves in
+      let Of : List Pulse × ℕ × List _ → Type 0 = λ z. length z.0 ≡ length (stepper_plan m clocks z.2 z.1 s) in
+      subst Of (λ j. (pulses j, start j, sym own j)) whole
+    where
+      over : (past : List Started) (x : Started) (later : List Started) (to : ℕ) → seen.begun ≡ past ++ x ∷ later → (to ≡ length rest) ⊎ NextAt m seen.begun spread s (to + 1) later → x.end + 5 ≤ to
+      over past x later to cut (inl f) =
+          let Over : List Started → Type 0 = λ z. All (λ y. y.end + 5 ≤ length rest) z in
+          let o = over_at (length rest) past x later (subst Over cut (h.through g).over) in
+          omega (arith, o, f)
+      over past x [] to cut (inr f) = absurd f
+      over past x (y ∷ later) to cut (inr f) =
+          let Apart : List Started → Type 0 = λ z. AreStarted m clocks ready z in
+          let a = apart_by m clocks ready past x y later (subst Apart cut h.started) in
+          omega (arith, a, f)
+
+  lines_before : IsCompleteBefore clocks m (sections_over m text) (gather (λ t. t.lines) (first ∷ rest))
+  lines_before i turn s other e low more same some =
+      let x = piece i turn s e in
+      let b = behind m seen.begun spread other 0 (i + 1) (first ∷ rest) h.lines some in
+      let next = next_begun x.past x.x x.later b.past b.s b.later (sym x.cut ∙ b.cut) (omega (arith, b.place_is, x.place_is)) in
+      let at = starts x.later b.s b.later x.to next x.window.next x.ends b.within in
+      let Apart : List Started → Type 0 = λ z. AreStarted m clocks ready z in
+      let apart = apart_by m clocks ready x.past x.x b.s b.later (subst Apart (x.cut ∙ ap (λ z. x.past ++ x.x ∷ z) next) h.started) in
+      let turns : b.s.start - 0 ≡ suc x.to = omega (arith, at) in
+      let size = length-drop x.to rest in
+      let told : pulses_of other (lines_behind (i + 1) (gather (λ t. t.lines) (first ∷ rest))) ≡ pulses_of other (lines_between x.to (length rest) rest) =
+      b.pulses ∙ ap (λ n. pulses_of other (gather (λ (t : ReactorTurn). t.lines) (drop n (first ∷ rest)))) turns
+      ∙ ap (λ z. pulses_of other (gather (λ (t : ReactorTurn). t.lines) z)) (sym (take_all (length rest - x.to) (drop x.to rest) (omega (arith, size)))) in
+      let whole = h.passed x.past x.x x.later x.from x.to s other x.cut low more same x.window (omega (arith, at, apart)) (λ f. some (told ∙ f)) in
+      let pulses = x.pulses in
+      let start = x.start in
+      let own = x.moves in
+      let Of : List Pulse × ℕ × List _ → Type 0 = λ z. length z.0 ≡ length (stepper_plan m clocks z.2 z.1 s) in
+      subst Of (λ j. (pulses j, start j, sym own j)) whole
+    where
+      starts : (later : List Started) (y : Started) (more : List Started) (to : ℕ) → later ≡ y ∷ more → NextStart to (times_of later) → (to ≡ length rest) ⊎ NextAt m seen.begun spread s (to + 1) later → y.start < 0 + length (first ∷ rest) → y.start ≡ to + 1
+      starts [] y more to e n a w = absurd (let f : [] ≡ y ∷ more = e in cc)
+      starts (z ∷ later) y more to e n (inl a) w = let same : z ≡ y = cc in let is = ap (λ (q : Started). q.start) same in absurd (omega (arith, n, a, w, is))
+      starts (z ∷ later) y more to e n (inr a) w = let same : z ≡ y = cc in ap (λ (q : Started). q.start) (sym same) ∙ a
+
+-- and what a run that went through shows of its cause
+ends_through : (m : Machine) (seen : Seen) (clocks : List Clocks) (ready : ℕ) (c : Cause) (text : List ℕ) (all : List ReactorTurn) → (c' : ReactorTurn) × (r : List ReactorTurn) × (all ≡ c' ∷ r) → AllShowPlans m seen clocks ready c all → seen.text ≡ text → GoesThrough c
+    → c ≡ text_end (program_end m text).stop
+ends_through m seen clocks ready c text [] some h same g = absurd (let e : [] ≡ some.0 ∷ some.1 = some.2 in cc)
+ends_through m seen clocks ready c text (first ∷ rest) some h same g = let t = h.through g in t.cause_is ∙ ap (λ z. text_end (program_end m z).stop) same
+
+all_follow : (m : Machine) (seen : Seen) (clocks : List Clocks) (ready : ℕ) (c : Cause) (text : List ℕ) (all : List ReactorTurn) → Spread 260 seen.begun → AllShowPlans m seen clocks ready c all → seen.text ≡ text
+    → FollowsPlanBy clocks m (sections_over m text) (gather (λ t. t.lines) all)
+all_follow m seen clocks ready c text [] spread h same i turn s e low = absurd (let f : None ≡ Some turn = e in cc)
+all_follow m seen clocks ready c text (first ∷ rest) spread h same i turn s e low = lines_follow m seen clocks ready c text first rest spread h same i turn s e low
+
+all_before : (m : Machine) (seen : Seen) (clocks : List Clocks) (ready : ℕ) (c : Cause) (text : List ℕ) (all : List ReactorTurn) → Spread 260 seen.begun → AllShowPlans m seen clocks ready c all → seen.text ≡ text
+    → IsCompleteBefore clocks m (sections_over m text) (gather (λ t. t.lines) all)
+all_before m seen clocks ready c text [] spread h same = λ i turn s other e low other_low board some. absurd (some refl)
+all_before m seen clocks ready c text (first ∷ rest) spread h same = lines_before m seen clocks ready c text first rest spread h same
+
+all_whole : (m : Machine) (seen : Seen) (clocks : List Clocks) (ready : ℕ) (c : Cause) (text : List ℕ) (all : List ReactorTurn) → Spread 260 seen.begun → AllShowPlans m seen clocks ready c all → seen.text ≡ text → GoesThrough c
+    → IsCompleteBy clocks m (sections_over m text) (gather (λ t. t.lines) all)
+all_whole m seen clocks ready c text [] spread h same g i turn s e low = absurd (let f : None ≡ Some turn = e in cc)
+all_whole m seen clocks ready c text (first ∷ rest) spread h same g i turn s e low = lines_whole m seen clocks ready c text first rest spread h same g i turn s e low
+
+all_over : (m : Machine) (seen : Seen) (clocks : List Clocks) (ready : ℕ) (c : Cause) (text : List ℕ) (all : List ReactorTurn) → Spread 260 seen.begun → AllShowPlans m seen clocks ready c all → seen.text ≡ text → AreOfMoves (sections_over m text) → GoesThrough c
+    → (i turn : ℕ) → section_turn i (gather (λ t. t.lines) all) ≡ Some turn → section_end m clocks (moves_of (sections_over m text) i) turn < length all - 1
+all_over m seen clocks ready c text [] spread h same moves g i turn e = absurd (let f : None ≡ Some turn = e in cc)
+all_over m seen clocks ready c text (first ∷ rest) spread h same moves g i turn e =
+    let x = part_of m seen text first rest spread h.of_text h.lines same i turn 0 e in
+    let Kinds : ℕ → Type 0 = λ n. kind_of (sections_over m text) n ≡ Moves in
+    let Over : ℕ → Type 0 = λ n. section_end m clocks (moves_of (sections_over m text) i) turn < n in
+    let one : suc (length rest) - 1 ≡ length rest = omega (arith) in
+    subst Over (sym one) (part_over m seen text first rest spread h.of_text h.lines same clocks ready h.started (h.through g).over i turn e
+    (subst Kinds x.place_is (kind_moves (sections_over m text) (length x.past) moves (inside x.past x.x x.later x.cut (h.through g).all))))
+  where
+    inside : (past : List Started) (y : Started) (later : List Started) → seen.begun ≡ past ++ y ∷ later → map (λ (z : Started). z.section) seen.begun ≡ program_sections m seen.text → length past < length (sections_over m text)
+    inside past y later cut whole =
+        let size = sym (length-map seen.begun (λ (z : Started). z.section)) ∙ ap length whole ∙ ap (λ z. length (program_sections m z)) same in
+        let count = ap length cut ∙ length-append past (y ∷ later) in
+        omega (arith, size, count)
+
+    kind_moves : (sections : List Section) (n : ℕ) → AreOfMoves sections → n < length sections → kind_of sections n ≡ Moves
+    kind_moves [] n all low = absurd (omega (arith, low))
+    kind_moves (s ∷ sections) zero all low = All-head (λ (z : Section). z.kind ≡ Moves) s sections all
+    kind_moves (s ∷ sections) (suc n) all low = kind_moves sections n (All-tail (λ (z : Section). z.kind ≡ Moves) s sections all) (omega (arith, low))
+
+-- the first lines of a report show the first ones of the pulses
+before_front : (s : ℕ) (xs ys : List ReportLine) → (more : List Pulse) × (pulses_before s (xs ++ ys) ≡ pulses_before s xs ++ more)
+before_front s [] ys = (pulses_before s ys, refl)
+before_front s (report.Section j t kind ∷ xs) ys = ([], refl)
+before_front s (report.Pulse board stepper tick up ∷ xs) ys = by (stepper == s) (before_front s xs ys)
+  where
+    by : (b : Bool) → (more : List Pulse) × (pulses_before s (xs ++ ys) ≡ pulses_before s xs ++ more) → (more : List Pulse) × ((if b then record { tick = tick; stepper = stepper; up = up } ∷ pulses_before s (xs ++ ys) else pulses_before s (xs ++ ys))
+        ≡ (if b then record { tick = tick; stepper = stepper; up = up } ∷ pulses_before s xs else pulses_before s xs) ++ more)
+    by true rest = (rest.0, ap (λ z. record { tick = tick; stepper = stepper; up = up } ∷ z) rest.1)
+    by false rest = rest
+before_front s (report.Machine corexy boards steppers ∷ xs) ys = before_front s xs ys
+before_front s (report.Board board freq at tick ∷ xs) ys = before_front s xs ys
+before_front s (report.Cut section board pin tick from ∷ xs) ys = before_front s xs ys
+before_front s (report.Drift board sent clock from ∷ xs) ys = before_front s xs ys
+before_front s (report.Lines accepted passed ∷ xs) ys = before_front s xs ys
+before_front s (report.Out board pin tick on ∷ xs) ys = before_front s xs ys
+before_front s (report.Fit section stepper pulses planned early late ∷ xs) ys = before_front s xs ys
+before_front s (report.Made seed moves ∷ xs) ys = before_front s xs ys
+before_front s (report.Count stepper pulses ∷ xs) ys = before_front s xs ys
+before_front s (report.End c ∷ xs) ys = before_front s xs ys
+
+in_front : (i turn s : ℕ) (xs ys : List ReportLine) → section_turn i xs ≡ Some turn → (more : List Pulse) × (pulses_in i s (xs ++ ys) ≡ pulses_in i s xs ++ more)
+in_front i turn s [] ys e = absurd (let f : None ≡ Some turn = e in cc)
+in_front i turn s (report.Section j t kind ∷ xs) ys e = by (j == i) (λ f. in_front i turn s xs ys f) e
+  where
+    by : (b : Bool) → (section_turn i xs ≡ Some turn → (more : List Pulse) × (pulses_in i s (xs ++ ys) ≡ pulses_in i s xs ++ more)) → (if b then Some t else section_turn i xs) ≡ Some turn
+        → (more : List Pulse) × ((if b then pulses_before s (xs ++ ys) else pulses_in i s (xs ++ ys)) ≡ (if b then pulses_before s xs else pulses_in i s xs) ++ more)
+    by true rec f = before_front s xs ys
+    by false rec f = rec f
+in_front i turn s (report.Pulse board stepper tick up ∷ xs) ys e = in_front i turn s xs ys e
+in_front i turn s (report.Machine corexy boards steppers ∷ xs) ys e = in_front i turn s xs ys e
+in_front i turn s (report.Board board freq at tick ∷ xs) ys e = in_front i turn s xs ys e
+in_front i turn s (report.Cut section board pin tick from ∷ xs) ys e = in_front i turn s xs ys e
+in_front i turn s (report.Drift board sent clock from ∷ xs) ys e = in_front i turn s xs ys e
+in_front i turn s (report.Lines accepted passed ∷ xs) ys e = in_front i turn s xs ys e
+in_front i turn s (report.Out board pin tick on ∷ xs) ys e = in_front i turn s xs ys e
+in_front i turn s (report.Fit section stepper pulses planned early late ∷ xs) ys e = in_front i turn s xs ys e
+in_front i turn s (report.Made seed moves ∷ xs) ys e = in_front i turn s xs ys e
+in_front i turn s (report.Count stepper pulses ∷ xs) ys e = in_front i turn s xs ys e
+in_front i turn s (report.End c ∷ xs) ys e = in_front i turn s xs ys e
+
+fits_front : (freq base : ℕ) (ps qs : List Pulse) (plan : List Planned) → Fits freq base (ps ++ qs) plan → Fits freq base ps plan
+fits_front freq base [] qs plan h = tt
+fits_front freq base (p ∷ ps) qs [] h = absurd h
+fits_front freq base (p ∷ ps) qs (s ∷ plan) h = (h.0, fits_front freq s.tick ps qs plan h.1)
+
+follow_front : (clocks : List Clocks) (m : Machine) (text : List ℕ) (xs ys : List ReportLine) → FollowsPlanBy clocks m (sections_over m text) (xs ++ ys) → FollowsPlanBy clocks m (sections_over m text) xs
+follow_front clocks m text xs ys h i turn s e low =
+    let all = h i turn s (turn_front i turn xs ys e) low in
+    let f = in_front i turn s xs ys e in
+    let freq = (clocks_at clocks (stepper_at m s).board).first.freq in
+    let plan = stepper_plan m clocks (moves_of (sections_over m text) i) turn s in
+    let At : List Pulse → Type 0 = λ z. Fits freq (base_tick m clocks turn s) z plan in
+    fits_front freq (base_tick m clocks turn s) (pulses_in i s xs) f.0 plan (subst At f.1 all)
+
+complete_front : (clocks : List Clocks) (m : Machine) (text : List ℕ) (xs ys : List ReportLine) → AreNumbered 0 (heads_of xs) → IsCompleteBefore clocks m (sections_over m text) (xs ++ ys) → IsCompleteBefore clocks m (sections_over m text) xs
+complete_front clocks m text xs ys numbered h i turn s other e low more same some =
+    let front = behind_front other (i + 1) xs ys some in
+    let grown = ap (pulses_of other) front ∙ flat_map-append (pulse_in other) (lines_behind (i + 1) xs) ys in
+    let stays = in_stays i s other 0 xs ys numbered (omega arith) some in
+    ap length (sym stays) ∙ h i turn s other (turn_front i turn xs ys e) low more same (λ f. some (first_none (pulses_of other (lines_behind (i + 1) xs)) (pulses_of other ys) (sym grown ∙ f)))
+  where
+    first_none : (ps qs : List Pulse) → ps ++ qs ≡ [] → ps ≡ []
+    first_none [] qs e = refl
+    first_none (p ∷ ps) qs e = let f : p ∷ (ps ++ qs) ≡ [] = e in cc
+
+moves_front : (clocks : List Clocks) (m : Machine) (text : List ℕ) (xs ys : List ReportLine) → AreNumbered 0 (heads_of xs) → IsCompleteOfMovesBefore clocks m (sections_over m text) (xs ++ ys) → IsCompleteOfMovesBefore clocks m (sections_over m text) xs
+moves_front clocks m text xs ys numbered h i turn s other e kind low more same some =
+    let front = behind_front other (i + 1) xs ys some in
+    let grown = ap (pulses_of other) front ∙ flat_map-append (pulse_in other) (lines_behind (i + 1) xs) ys in
+    let stays = in_stays i s other 0 xs ys numbered (omega arith) some in
+    ap length (sym stays) ∙ h i turn s other (turn_front i turn xs ys e) kind low more same (λ f. some (first_none (pulses_of other (lines_behind (i + 1) xs)) (pulses_of other ys) (sym grown ∙ f)))
+  where
+    first_none : (ps qs : List Pulse) → ps ++ qs ≡ [] → ps ≡ []
+    first_none [] qs e = refl
+    first_none (p ∷ ps) qs e = let f : p ∷ (ps ++ qs) ≡ [] = e in cc
+
+-- the section lines
+same_heads : (lines : List ReportLine) → sections_shown lines ≡ heads_of lines
+same_heads [] = refl
+same_heads (report.Section section turn kind ∷ lines) = ap (λ z. report.Section section turn kind ∷ z) (same_heads lines)
+same_heads (report.Pulse board stepper tick up ∷ lines) = same_heads lines
+same_heads (report.Machine corexy boards steppers ∷ lines) = same_heads lines
+same_heads (report.Board board freq at tick ∷ lines) = same_heads lines
+same_heads (report.Cut section board pin tick from ∷ lines) = same_heads lines
+same_heads (report.Drift board sent clock from ∷ lines) = same_heads lines
+same_heads (report.Lines accepted passed ∷ lines) = same_heads lines
+same_heads (report.Out board pin tick on ∷ lines) = same_heads lines
+same_heads (report.Fit section stepper pulses planned early late ∷ lines) = same_heads lines
+same_heads (report.Made seed moves ∷ lines) = same_heads lines
+same_heads (report.Count stepper pulses ∷ lines) = same_heads lines
+same_heads (report.End c ∷ lines) = same_heads lines
+
+as_due : (m : Machine) (clocks : List Clocks) (ready i : ℕ) (sections : List Section) → due_lines m clocks ready i sections ≡ section_lines i (section_starts m clocks ready sections) sections
+as_due m clocks ready i [] = refl
+as_due m clocks ready i (s ∷ sections) = ap (λ z. report.Section i (ready + s.dwell) s.kind ∷ z) (as_due m clocks (section_end m clocks s.moves (ready + s.dwell) + 260) (i + 1) sections)
+
+-- the numbers of what was read
+first_counts : (a p : ℕ) (rest lines : List ReportLine) → counts_of lines ≡ report.Lines a p ∷ rest → lines_line lines ≡ Some (a, p)
+first_counts a p rest [] e = absurd (let f : [] ≡ report.Lines a p ∷ rest = e in cc)
+first_counts a p rest (report.Lines accepted passed ∷ lines) e =
+    let f : report.Lines accepted passed ∷ counts_of lines ≡ report.Lines a p ∷ rest = e in
+    let same : (accepted, passed) ≡ (a, p) = cc in
+    ap Some same
+first_counts a p rest (report.Section section turn kind ∷ lines) e = first_counts a p rest lines e
+first_counts a p rest (report.Pulse board stepper tick up ∷ lines) e = first_counts a p rest lines e
+first_counts a p rest (report.Machine corexy boards steppers ∷ lines) e = first_counts a p rest lines e
+first_counts a p rest (report.Board board freq at tick ∷ lines) e = first_counts a p rest lines e
+first_counts a p rest (report.Cut section board pin tick from ∷ lines) e = first_counts a p rest lines e
+first_counts a p rest (report.Drift board sent clock from ∷ lines) e = first_counts a p rest lines e
+first_counts a p rest (report.Out board pin tick on ∷ lines) e = first_counts a p rest lines e
+first_counts a p rest (report.Fit section stepper pulses planned early late ∷ lines) e = first_counts a p rest lines e
+first_counts a p rest (report.Made seed moves ∷ lines) e = first_counts a p rest lines e
+first_counts a p rest (report.Count stepper pulses ∷ lines) e = first_counts a p rest lines e
+first_counts a p rest (report.End c ∷ lines) e = first_counts a p rest lines e
+
+all_counts : (m : Machine) (seen : Seen) (clocks : List Clocks) (ready : ℕ) (c : Cause) (text : List ℕ) (all : List ReactorTurn) → (x : ReactorTurn) × (xs : List ReactorTurn) × (all ≡ x ∷ xs) → AllShowPlans m seen clocks ready c all → seen.text ≡ text
+    → GoesThrough c → counts_of (gather (λ t. t.lines) all) ≡ report.Lines (program_end m text).lines (program_end m text).passed ∷ []
+all_counts m seen clocks ready c text [] some h same g = absurd (let e : [] ≡ some.0 ∷ some.1 = some.2 in cc)
+all_counts m seen clocks ready c text (first ∷ rest) some h same g =
+    h.counts g ∙ ap (λ z. report.Lines (program_end m z).lines (program_end m z).passed ∷ []) same
+
+all_heads : (m : Machine) (seen : Seen) (clocks : List Clocks) (ready : ℕ) (c : Cause) (text : List ℕ) (all : List ReactorTurn) → AllShowPlans m seen clocks ready c all → (some : (x : ReactorTurn) × (xs : List ReactorTurn) × (all ≡ x ∷ xs))
+    → seen.text ≡ text → AreOfMoves (program_sections m text) → HaveTheirLines m text clocks ready c (gather (λ t. t.lines) all)
+all_heads m seen clocks ready c text [] h some same moves = absurd (let e : [] ≡ some.0 ∷ some.1 = some.2 in cc)
+all_heads m seen clocks ready c text (first ∷ rest) h some same moves =
+    let Moves : List ℕ → Type 0 = λ z. AreOfMoves (program_sections m z) in
+    let Have : List ℕ → Type 0 = λ z. HaveTheirLines m z clocks ready c (gather (λ (t : ReactorTurn). t.lines) (first ∷ rest)) in
+    subst Have same (shown_heads m seen clocks ready c first rest h (subst Moves (sym same) moves))
+
+all_boards : (m : Machine) (seen : Seen) (clocks : List Clocks) (ready : ℕ) (c : Cause) (all : List ReactorTurn) (said more : List ReportLine) → AllShowPlans m seen clocks ready c all → gather (λ t. t.lines) all ≡ said ++ more → (heads_of said ≡ [] → ⊥)
+    → BoardsHave clocks ready said
+all_boards m seen clocks ready c [] [] more h are some = absurd (some refl)
+all_boards m seen clocks ready c [] (s ∷ said) more h are some = absurd (let e : [] ≡ s ∷ (said ++ more) = are in cc)
+all_boards m seen clocks ready c (first ∷ rest) said more h are some = shown_boards m seen clocks ready c first rest said more h are some
+
+all_apart : (m : Machine) (seen : Seen) (clocks : List Clocks) (ready : ℕ) (c : Cause) (all : List ReactorTurn) (said more : List ReportLine) → AllShowPlans m seen clocks ready c all → gather (λ t. t.lines) all ≡ said ++ more → (heads_of said ≡ [] → ⊥)
+    → StandApart m clocks ready said × AreSound m clocks ready
+all_apart m seen clocks ready c [] [] more h are some = absurd (some refl)
+all_apart m seen clocks ready c [] (s ∷ said) more h are some = absurd (let e : [] ≡ s ∷ (said ++ more) = are in cc)
+all_apart m seen clocks ready c (first ∷ rest) said more h are some = (stand_apart m seen clocks ready c first rest h said more are some, shown_sound m seen clocks ready c first rest said more h are some)
+
+reach_all : (all : List ReactorTurn) → (x : ReactorTurn) × (xs : List ReactorTurn) × (all ≡ x ∷ xs) → (said more : List ReportLine) → gather (λ t. t.lines) all ≡ said ++ more → Reach all said more
+reach_all [] some said more are = absurd (let e : [] ≡ some.0 ∷ some.1 = some.2 in cc)
+reach_all (first ∷ rest) some said more are = reach first rest said more are
+
+all_further : (m : Machine) (seen : Seen) (clocks : List Clocks) (ready : ℕ) (c : Cause) (all : List ReactorTurn) (said more : List ReportLine) → AllShowPlans m seen clocks ready c all → gather (λ t. t.lines) all ≡ said ++ more
+    → (r : Reach all said more) → (heads_of said ≡ [] → ⊥) → TellFurther m clocks (r.n + 271) said
+all_further m seen clocks ready c [] said more h are r some = absurd (let within = r.within in omega (arith, within))
+all_further m seen clocks ready c (first ∷ rest) said more h are r some = shown_further m seen clocks ready c first rest said more h are r some
+
+all_own : (m : Machine) (seen : Seen) (clocks : List Clocks) (ready : ℕ) (c : Cause) (all : List ReactorTurn) → AllShowPlans m seen clocks ready c all → GoesThrough c → AreTold false m (gather (λ t. t.lines) all)
+all_own m seen clocks ready c [] h g = tt
+all_own m seen clocks ready c (first ∷ rest) h g = h.own g
+
+ends_as : (s : ReadStop) → text_end s ≡ cause_of s
+ends_as read.End = refl
+ends_as (read.Stop line) = refl
+ends_as (read.Refused line kind) = refl
+
+-- a run that went through was written whole
+through_whole : (c : Cause) → GoesThrough c → (c ≡ cause.Memory → ⊥) × (c ≡ cause.WriteFault → ⊥)
+through_whole cause.Done g = (λ e. let f : cause.Done ≡ cause.Memory = e in cc, λ e. let f : cause.Done ≡ cause.WriteFault = e in cc)
+through_whole (cause.Line line kind) g = (λ e. let f : cause.Line line kind ≡ cause.Memory = e in cc, λ e. let f : cause.Line line kind ≡ cause.WriteFault = e in cc)
+through_whole (cause.Asked line) g = (λ e. let f : cause.Asked line ≡ cause.Memory = e in cc, λ e. let f : cause.Asked line ≡ cause.WriteFault = e in cc)
+through_whole c g = absurd g
+
+-- memory was wanted, or a write failed, or neither
+cause_either : (c : Cause) → ((c ≡ cause.Memory) ⊎ (c ≡ cause.WriteFault)) ⊎ ((c ≡ cause.Memory → ⊥) × (c ≡ cause.WriteFault → ⊥))
+cause_either cause.Memory = inl (inl refl)
+cause_either cause.WriteFault = inl (inr refl)
+cause_either c = inr (λ e. let f : c ≡ cause.Memory = e in cc, λ e. let f : c ≡ cause.WriteFault = e in cc)
+
+read_causes : (x : DeskStop) (c : Cause) → c ≡ desk.cause_of x → (c ≡ cause.Memory) ⊎ ((c ≡ cause.ReadFault) ⊎ (c ≡ cause.WriteFault))
+read_causes stop.Memory c e = inl e
+read_causes stop.Failed c e = inr (inl e)
+
+some_turns : {T : Type 0} (xs : List T) (x : T) → (y : T) × (ys : List T) × (xs ++ x ∷ [] ≡ y ∷ ys)
+some_turns [] x = (x, [], refl)
+some_turns (y ∷ xs) x = (y, xs ++ x ∷ [], refl)
+
+-- what the turns of a run in which axes may home show
+homes_follow : (m : Machine) (seen : Seen) (clocks : List Clocks) (ready : ℕ) (c : Cause) (text : List ℕ) (first : ReactorTurn) (rest : List ReactorTurn) → Spread 260 seen.begun → ShowHomes m seen clocks ready c first rest → seen.text ≡ text
+    → FollowsPlanBy clocks m (sections_over m text) (gather (λ t. t.lines) (first ∷ rest))
+homes_follow m seen clocks ready c text first rest spread h same = fits_follow m seen text first rest spread h.of_text h.lines same clocks h.fit
+
+-- where the sections of moves of its turns are whole, those of its lines are
+module _ (m : Machine) (seen : Seen) (clocks : List Clocks) (ready : ℕ) (c : Cause) (text : List ℕ) (first : ReactorTurn) (rest : List ReactorTurn) (spread : Spread 260 seen.begun) (h : ShowHomes m seen clocks ready c first rest)
+    (same : seen.text ≡ text) where
+  home_piece : (i turn s : ℕ) → section_turn i (gather (λ t. t.lines) (first ∷ rest)) ≡ Some turn → Part m seen text first rest spread h.of_text h.lines same i turn s
+  home_piece i turn s e = part_of m seen text first rest spread h.of_text h.lines same i turn s e
+
+  -- in a run that went through
+  abbrev MovesWhole : Type 0
+  MovesWhole = (past : List Started) (s : Started) (later : List Started) (from to place : ℕ) → seen.begun ≡ past ++ s ∷ later → s.section.kind ≡ Moves → place < length m.steppers
+      → IsWindow (length rest) from to (record { start = s.start; end = s.end }) (times_of later) → s.end + 5 ≤ to → length (pulses_of place (lines_between from to rest)) ≡ length (stepper_plan m clocks s.section.moves s.start place)
+
+  homes_whole : MovesWhole → GoesThrough c → IsCompleteOfMovesBy clocks m (sections_over m text) (gather (λ t. t.lines) (first ∷ rest))
+  homes_whole moves g i turn s e kind low =
+      let x = home_piece i turn s e in
+      let whole = moves x.past x.x x.later x.from x.to s x.cut (sym x.kind ∙ kind) low x.window (over x.past x.x x.later x.to x.cut x.ends) in
+      let pulses = x.pulses in
+      let start = x.start in
+      let own = x.moves in
+      let Of : List Pulse × ℕ × List _ → Type 0 = λ z. length z.0 ≡ length (stepper_plan m clocks z.2 z.1 s) in
+      subst Of (λ j. (pulses j, start j, sym own j)) whole
+    where
+      over : (past : List Started) (x : Started) (later : List Started) (to : ℕ) → seen.begun ≡ past ++ x ∷ later → (to ≡ length rest) ⊎ NextAt m seen.begun spread s (to + 1) later → x.end + 5 ≤ to
+      over past x later to cut (inl f) =
+          let Over : List Started → Type 0 = λ z. All (λ y. y.end + 5 ≤ length rest) z in
+          let o = over_at (length rest) past x later (subst Over cut (h.through g).over) in
+          omega (arith, o, f)
+      over past x [] to cut (inr f) = absurd f
+      over past x (y ∷ later) to cut (inr f) =
+          let Apart : List Started → Type 0 = λ z. AreStarted m clocks ready z in
+          let a = apart_by m clocks ready past x y later (subst Apart cut h.started) in
+          omega (arith, a, f)
+
+  -- and whatever ended it
+  abbrev MovesPassed : Type 0
+  MovesPassed = (past : List Started) (s : Started) (later : List Started) (from to place other : ℕ) → seen.begun ≡ past ++ s ∷ later → s.section.kind ≡ Moves → place < length m.steppers → other < length m.steppers
+      → (stepper_at m other).board ≡ (stepper_at m place).board → IsWindow (length rest) from to (record { start = s.start; end = s.end }) (times_of later) → s.end + 5 ≤ to
+      → pulses_of other (lines_between to (length rest) rest) ≢ [] → length (pulses_of place (lines_between from to rest)) ≡ length (stepper_plan m clocks s.section.moves s.start place)
+
+  homes_before : MovesPassed → IsCompleteOfMovesBefore clocks m (sections_over m text) (gather (λ t. t.lines) (first ∷ rest))
+  homes_before passed i turn s other e kind low more board some =
+      let x = home_piece i turn s e in
+      let b = behind m seen.begun spread other 0 (i + 1) (first ∷ rest) h.lines some in
+      let next = next_begun x.past x.x x.later b.past b.s b.later (sym x.cut ∙ b.cut) (omega (arith, b.place_is, x.place_is)) in
+      let at = starts x.later b.s b.later x.to next x.window.next x.ends b.within in
+      let Apart : List Started → Type 0 = λ z. AreStarted m clocks ready z in
+      let apart = apart_by m clocks ready x.past x.x b.s b.later (subst Apart (x.cut ∙ ap (λ z. x.past ++ x.x ∷ z) next) h.started) in
+      let turns : b.s.start - 0 ≡ suc x.to = omega (arith, at) in
+      let size = length-drop x.to rest in
+      let told : pulses_of other (lines_behind (i + 1) (gather (λ t. t.lines) (first ∷ rest))) ≡ pulses_of other (lines_between x.to (length rest) rest) =
+      b.pulses ∙ ap (λ n. pulses_of other (gather (λ (t : ReactorTurn). t.lines) (drop n (first ∷ rest)))) turns
+      ∙ ap (λ z. pulses_of other (gather (λ (t : ReactorTurn). t.lines) z)) (sym (take_all (length rest - x.to) (drop x.to rest) (omega (arith, size)))) in
+      let whole = passed x.past x.x x.later x.from x.to s other x.cut (sym x.kind ∙ kind) low more board x.window (omega (arith, at, apart)) (λ f. some (told ∙ f)) in
+      let pulses = x.pulses in
+      let start = x.start in
+      let own = x.moves in
+      let Of : List Pulse × ℕ × List _ → Type 0 = λ z. length z.0 ≡ length (stepper_plan m clocks z.2 z.1 s) in
+      subst Of (λ j. (pulses j, start j, sym own j)) whole
+    where
+      starts : (later : List Started) (y : Started) (more : List Started) (to : ℕ) → later ≡ y ∷ more → NextStart to (times_of later) → (to ≡ length rest) ⊎ NextAt m seen.begun spread s (to + 1) later → y.start < 0 + length (first ∷ rest) → y.start ≡ to + 1
+      starts [] y more to e n a w = absurd (let f : [] ≡ y ∷ more = e in cc)
+      starts (z ∷ later) y more to e n (inl a) w = let same : z ≡ y = cc in let is = ap (λ (q : Started). q.start) same in absurd (omega (arith, n, a, w, is))
+      starts (z ∷ later) y more to e n (inr a) w = let same : z ≡ y = cc in ap (λ (q : Started). q.start) (sym same) ∙ a
+
+-- turns up to one
+tell_take : (m : Machine) (begun : List Started) (k n : ℕ) (ts : List ReactorTurn) → TellTurns m begun k ts → TellTurns m begun k (take n ts)
+tell_take m begun k zero ts h = tt
+tell_take m begun k (suc n) [] h = tt
+tell_take m begun k (suc n) (t ∷ ts) h = (h.0, tell_take m begun (k + 1) n ts h.1)
+
+take_in : {A : Type 0} (k from n : ℕ) (xs : List A) → from + k ≤ n → take k (drop from (take n xs)) ≡ take k (drop from xs)
+take_in k zero n xs h = take-take k n xs (omega (arith, h))
+take_in k (suc from) zero xs h = absurd (omega (arith, h))
+take_in k (suc from) (suc n) [] h = refl
+take_in k (suc from) (suc n) (x ∷ xs) h = take_in k from n xs (omega (arith, h))
+
+-- those that were written show it
+module _ (m : Machine) (switches : List Switch) (seen : Seen) (clocks : List Clocks) (ready : ℕ) (own c : Cause) (text : List ℕ) (said rest : List ReportLine) (spread : Spread 260 seen.begun) (same : seen.text ≡ text) (through : GoesThrough c → (rest ≡ []) × (c ≡ own)) where
+  homes_shown : (turns : List ReactorTurn) → (x : ReactorTurn) × (xs : List ReactorTurn) × (turns ≡ x ∷ xs) → AllShowHomes m seen clocks ready own turns → TellEnds m switches seen.begun 0 turns → AllWholeHomes m seen clocks own turns → gather (λ t. t.lines) turns ≡ said ++ rest → ShowsHomes m switches text c said
+  homes_shown [] some all ends wholes shown_all = absurd (let e : [] ≡ some.0 ∷ some.1 = some.2 in cc)
+  homes_shown (first ∷ later) some h ends wholes shown_all = record {
+    clocks = clocks;
+    ready = ready;
+    prefix = let At : List ReportLine → Type 0 = λ z. FollowsPlanBy clocks m (sections_over m text) z in follow_front clocks m text said rest (subst At shown_all (homes_follow m seen clocks ready own text first later spread h same));
+    whole = λ g.
+        let Whole : List ReportLine → Type 0 = λ z. IsCompleteOfMovesBy clocks m (sections_over m text) z in
+        subst Whole (whole g) (homes_whole m seen clocks ready own text first later spread h same (wholes.whole (went g)) (went g));
+    before =
+        let Before : List ReportLine → Type 0 = λ z. IsCompleteOfMovesBefore clocks m (sections_over m text) z in
+        moves_front clocks m text said rest numbered (subst Before shown_all (homes_before m seen clocks ready own text first later spread h same wholes.passed));
+    begun = seen.begun;
+    of_text = h.of_text ∙ ap (λ z. take (length seen.begun) (program_sections m z)) same;
+    started = h.started;
+    sections = (
+      heads_of rest ++ front.0,
+      front.1 ∙ ap (λ z. z ++ front.0) both ∙ append_assoc (heads_of said) (heads_of rest) front.0 ∙ ap (λ z. z ++ (heads_of rest ++ front.0)) (sym (same_heads said)),
+    );
+    all = λ g.
+        let t = h.through (went g) in
+        (t.all ∙ ap (program_sections m) same, same_heads said ∙ ap heads_of (sym (whole g)) ∙ whole_heads m seen clocks ready first later starts t.over);
+    cuts = have_cuts m switches seen.begun spread ready (begun_row m clocks ready seen.begun h.started) (first ∷ later) h.lines ends c said rest shown_all numbered (λ g. (
+      (through g).0,
+      λ past s more cut.
+          let Over : List Started → Type 0 = λ z. All (λ (y : Started). y.end + 5 ≤ length later) z in
+          let over = over_at (length later) past s more (subst Over cut (h.through (went g)).over) in
+          omega (arith, over),
+    ));
+    boards = λ i turn e. home_boards m seen clocks ready own first later said rest (show_begun m seen clocks ready own first later h) shown_all (some_behind i turn said e);
+    counts = λ g.
+        let is = h.counts (went g) ∙ ap (λ z. report.Lines (program_end m z).lines (program_end m z).passed ∷ []) same in
+        first_counts (program_end m text).lines (program_end m text).passed [] said (ap counts_of (sym (whole g)) ∙ is);
+    cause = λ g.
+        let is = (h.through (went g)).cause_is ∙ ap (λ z. text_end (program_end m z).stop) same in
+        (through g).1 ∙ is ∙ ends_as (program_end m text).stop;
+    apart = λ i turn e. homes_apart m seen clocks ready own first later h said rest shown_all (some_behind i turn said e);
+    sound = λ i turn e. homes_sound m seen clocks ready own first later said rest (show_begun m seen clocks ready own first later h) shown_all (some_behind i turn said e);
+    last = reached.n + 271;
+    further = λ i turn e. (told_further i turn e).further;
+    first = λ i turn e. (told_further i turn e).first;
+    named = λ i turn e. (told_further i turn e).named;
+    over = λ i turn e kind why.
+        let soon : section_end m clocks (moves_of (sections_over m text) i) turn < reached.n = elim why [
+          | inl next ↦
+              let over = part_next m seen text first (take reached.n later) spread h.of_text upto_lines same clocks ready h.started i turn next.0 (in_upto i turn e) (in_upto (i + 1) next.0 next.1) kind in
+              omega (arith, over, size)
+          | inr g ↦
+              let over = part_over m seen text first later spread h.of_text h.lines same clocks ready h.started (h.through (went g)).over i turn (in_all i turn e) kind in
+              let all = reached.whole (through g).0 in
+              omega (arith, over, all)
+        ] in
+        omega (arith, soon);
+    told = λ short firsts.
+        let Follows : List ReportLine → Type 0 = λ z. FollowsPlanBy short m (sections_over m text) z in
+        follow_front short m text said reached.more (subst Follows reached.upto (fits_follow m seen text first (take reached.n later) spread h.of_text upto_lines same short (fits short firsts)));
+  }
+    where
+      -- the last turn of which lines were written
+      reached : Reach (first ∷ later) said rest
+      reached = reach first later said rest shown_all
+
+      size : length (take reached.n later) ≡ reached.n
+      size = length-take-le reached.n later (let within = reached.within in omega (arith, within))
+
+      upto_lines : TellTurns m seen.begun 0 (first ∷ take reached.n later)
+      upto_lines = tell_take m seen.begun 0 (suc reached.n) (first ∷ later) h.lines
+
+      in_upto : (i turn : ℕ) → section_turn i said ≡ Some turn → section_turn i (gather (λ t. t.lines) (first ∷ take reached.n later)) ≡ Some turn
+      in_upto i turn e = ap (section_turn i) reached.upto ∙ turn_front i turn said reached.more e
+
+      fits : (short : List Clocks) → ((b : ℕ) → b < length m.boards → AreFirstLines (clocks_at short b) (clocks_at clocks b) (reached.n + 271)) → AllFit m seen text first (take reached.n later) spread h.of_text upto_lines same short
+      fits short firsts past s more from to place cut low w =
+          let within = reached.within in
+          let Window : ℕ → Type 0 = λ n. IsWindow n from to (record { start = s.start; end = s.end }) (times_of more) in
+          let own = subst Window size w in
+          let order = own.order in
+          let inside = own.within in
+          let fit = h.told (reached.n + 271) reached.n (omega arith) (omega (arith, within)) short firsts past s more from to place cut low own in
+          let At : List ReportLine → Type 0 = λ z. Fits (clocks_at short (stepper_at m place).board).first.freq (base_tick m short s.start place) (pulses_of place z) (stepper_plan m short s.section.moves s.start place) in
+          subst At (ap (λ z. gather (λ (t : ReactorTurn). t.lines) z) (sym (take_in (to - from) from reached.n later (omega (arith, order, inside))))) fit
+
+      both : heads_of (gather (λ t. t.lines) (first ∷ later)) ≡ heads_of said ++ heads_of rest
+      both = ap heads_of shown_all ∙ flat_map-append head_in said rest
+
+      in_all : (i turn : ℕ) → section_turn i said ≡ Some turn → section_turn i (gather (λ t. t.lines) (first ∷ later)) ≡ Some turn
+      in_all i turn e = ap (section_turn i) shown_all ∙ turn_front i turn said rest e
+
+      starts : ShowStarts m seen clocks ready first later
+      starts = record { late = h.late; started = h.started; boards = h.boards; lines = h.lines; early = h.early }
+
+      front : AreFirst (heads_of (gather (λ t. t.lines) (first ∷ later))) (begun_lines 0 seen.begun)
+      front = first_heads m seen clocks ready first later starts
+
+      numbered : AreNumbered 0 (heads_of said)
+      numbered =
+          let Numbered : List ReportLine → Type 0 = λ z. AreNumbered 0 z in
+          let all = numbered_front 0 (heads_of (gather (λ (t : ReactorTurn). t.lines) (first ∷ later))) front.0 (subst Numbered front.1 (numbered_begun 0 seen.begun)) in
+          numbered_front 0 (heads_of said) (heads_of rest) (subst Numbered both all)
+
+      went : GoesThrough c → GoesThrough own
+      went g = subst (λ (z : Cause). GoesThrough z) (through g).1 g
+
+      told_further : (i turn : ℕ) → section_turn i said ≡ Some turn → TellFurther m clocks (reached.n + 271) said
+      told_further i turn e = homes_further m seen clocks ready own first later said rest (show_begun m seen clocks ready own first later h) shown_all reached (some_behind i turn said e)
+
+      whole : GoesThrough c → gather (λ t. t.lines) (first ∷ later) ≡ said
+      whole g = shown_all ∙ ap (λ z. said ++ z) (through g).0 ∙ append-nil said
+
+-- and what is not of pulses
+module _ (m : Machine) (seen : Seen) (clocks : List Clocks) (ready : ℕ) (own c : Cause) (text : List ℕ) (said rest : List ReportLine) (same : seen.text ≡ text) (through : GoesThrough c → (rest ≡ []) × (c ≡ own)) where
+  begun_shown : (turns : List ReactorTurn) → (x : ReactorTurn) × (xs : List ReactorTurn) × (turns ≡ x ∷ xs) → AllShowBegun m seen clocks ready own turns → gather (λ t. t.lines) turns ≡ said ++ rest → ShowsBegun m text c said
+  begun_shown [] some h shown_all = absurd (let e : [] ≡ some.0 ∷ some.1 = some.2 in cc)
+  begun_shown (first ∷ later) some h shown_all = record {
+    clocks = clocks;
+    ready = ready;
+    begun = own_lines.begun;
+    of_text = own_lines.of_text ∙ ap (λ z. take (length own_lines.begun) (program_sections m z)) same;
+    started = own_lines.started;
+    sections = (
+      heads_of rest ++ own_lines.front.0,
+      own_lines.front.1 ∙ ap (λ z. z ++ own_lines.front.0) both ∙ append_assoc (heads_of said) (heads_of rest) own_lines.front.0 ∙ ap (λ z. z ++ (heads_of rest ++ own_lines.front.0)) (sym (same_heads said)),
+    );
+    all = λ g.
+        let all = own_lines.all (went g) in
+        (all.0 ∙ ap (program_sections m) same, same_heads said ∙ ap heads_of (sym (whole g)) ∙ all.1);
+    boards = λ i turn e. home_boards m seen clocks ready own first later said rest h shown_all (some_behind i turn said e);
+    sound = λ i turn e. homes_sound m seen clocks ready own first later said rest h shown_all (some_behind i turn said e);
+    counts = λ g.
+        let is = h.counts (went g) ∙ ap (λ z. report.Lines (program_end m z).lines (program_end m z).passed ∷ []) same in
+        first_counts (program_end m text).lines (program_end m text).passed [] said (ap counts_of (sym (whole g)) ∙ is);
+    cause = λ g.
+        let is = (h.through (went g)).cause_is ∙ ap (λ z. text_end (program_end m z).stop) same in
+        (through g).1 ∙ is ∙ ends_as (program_end m text).stop;
+    last = reached.n + 271;
+    further = λ i turn e. (told_further i turn e).further;
+    first = λ i turn e. (told_further i turn e).first;
+    named = λ i turn e. (told_further i turn e).named;
+  }
+    where
+      reached : Reach (first ∷ later) said rest
+      reached = reach first later said rest shown_all
+
+      own_lines : HaveBegunLines m seen.text clocks ready own (gather (λ t. t.lines) (first ∷ later))
+      own_lines = begun_heads m seen clocks ready own first later h
+
+      both : heads_of (gather (λ t. t.lines) (first ∷ later)) ≡ heads_of said ++ heads_of rest
+      both = ap heads_of shown_all ∙ flat_map-append head_in said rest
+
+      went : GoesThrough c → GoesThrough own
+      went g = subst (λ (z : Cause). GoesThrough z) (through g).1 g
+
+      told_further : (i turn : ℕ) → section_turn i said ≡ Some turn → TellFurther m clocks (reached.n + 271) said
+      told_further i turn e = homes_further m seen clocks ready own first later said rest h shown_all reached (some_behind i turn said e)
+
+      whole : GoesThrough c → gather (λ t. t.lines) (first ∷ later) ≡ said
+      whole g = shown_all ∙ ap (λ z. said ++ z) (through g).0 ∙ append-nil said
+
+-- and what is of pulses too, where this may be said of the turns
+module _ (m : Machine) (seen : Seen) (clocks : List Clocks) (ready : ℕ) (own c : Cause) (text : List ℕ) (said rest : List ReportLine) (spread : Spread 260 seen.begun) (same : seen.text ≡ text) (through : GoesThrough c → (rest ≡ []) × (c ≡ own)) (Little : Type 0) where
+  front_shown : (turns : List ReactorTurn) → (x : ReactorTurn) × (xs : List ReactorTurn) × (turns ≡ x ∷ xs) → AllShowBegun m seen clocks ready own turns → (Little → AllShowHomes m seen clocks ready own turns) → gather (λ t. t.lines) turns ≡ said ++ rest
+      → (begun : ShowsBegun m text c said) × (Little → FollowsPlanBy begun.clocks m (sections_over m text) said)
+  unfolding begun_shown
+  front_shown [] some b h shown_all = absurd (let e : [] ≡ some.0 ∷ some.1 = some.2 in cc)
+  front_shown (first ∷ later) some b h shown_all = (
+    begun_shown m seen clocks ready own c text said rest same through (first ∷ later) some b shown_all,
+    λ little. let At : List ReportLine → Type 0 = λ z. FollowsPlanBy clocks m (sections_over m text) z in follow_front clocks m text said rest (subst At shown_all (homes_follow m seen clocks ready own text first later spread (h little) same)),
+  )
+
+no_turn : (turn : ℕ) → None ≡ Some turn → ⊥
+no_turn turn e = cc
+
+-- where nothing was written
+nothing_shown : (m : Machine) (text : List ℕ) (c : Cause) → (GoesThrough c → ⊥) → ShowsBegun m text c []
+nothing_shown m text c not = record {
+  clocks = [];
+  ready = 260;
+  begun = [];
+  of_text = refl;
+  started = tt;
+  sections = ([], refl);
+  all = λ g. absurd (not g);
+  boards = λ i turn e. absurd (no_turn turn e);
+  sound = λ i turn e. absurd (no_turn turn e);
+  counts = λ g. absurd (not g);
+  cause = λ g. absurd (not g);
+  last = 0;
+  further = λ i turn e b h. absurd (no_turn turn e);
+  first = λ i turn e. absurd (no_turn turn e);
+  named = λ i turn e. absurd (no_turn turn e);
+}
+
+nothing_written : (said rest : List ReportLine) → [] ≡ said ++ rest → said ≡ []
+nothing_written [] rest e = refl
+nothing_written (x ∷ said) rest e = absurd (let g : [] ≡ x ∷ (said ++ rest) = e in cc)
+
+-- the lines of some turns
+abbrev lines_of : List ReactorTurn → List ReportLine
+lines_of turns = gather (λ t. t.lines) turns
+
+-- memory was wanted, or not
+memory_or : (c : Cause) → (c ≡ cause.Memory) ⊎ (c ≡ cause.Memory → ⊥)
+memory_or c = elim (cause_either c) [
+  | inl e ↦ elim e [ inl x ↦ inl x | inr x ↦ inr (λ y. let g : cause.WriteFault ≡ cause.Memory = sym x ∙ y in cc) ]
+  | inr not ↦ inr not.0
+]
+
+module _ {F S : Type 0} (f : Files F) (o : Sink S) (m : Machine) (s : Scene) (gcode : List ℕ) (files files' : F) (out out' : S) (c : Cause) (lines : List ReportLine) (counts : List ℕ) (links : List LinkLog) (v : IsValidMachine m) (short : HaveShortDictionaries m) where
+  -- a run that went through was written whole, and ends for its own cause
+  whole_of : (r : IsReported f o m s gcode files files' out out' c lines counts links) → GoesThrough c → (r.rest ≡ []) × (c ≡ r.told.cause)
+  whole_of r g =
+      let not = through_whole c g in
+      let w = r.cause_is not.0 not.1 in
+      (w.0, w.2)
+
+  texts : (r : IsReported f o m s gcode files files' out out' c lines counts links) (text : List ℕ) → f.told files gcode ≡ Some text → AreOfMoves (sections_over m text) → (r.told.cause ≡ cause.Memory → ⊥)
+      → HoldsNothingLong m s text r.runs.runs.0 (r.runs.runs.1 ++ r.runs.runs.2 ∷ []) → ∥ ShowsText m text c r.said ∥₁
+  texts r text told moves other holds =
+      ∥∥₁_map (run_shows f o m s gcode files files' out r.behind r.kept r.kept' r.told r.runs v short text told r.fresh.at) (λ shows.
+      let seen = shows.0.plans.seen in
+      let same = shows.1 in
+      let all = shows.2 other moves holds in
+      let clocks = clocks_heard seen.told in
+      let ready = ready_heard seen.told in
+      let turns = r.runs.runs.1 ++ r.runs.runs.2 ∷ [] in
+      let spread = plans_spread m (length m.boards) r.runs.runs.0 shows.0.plans in
+      let own = r.told.cause in
+      let follows = all_follow m seen clocks ready own text turns spread all same in
+      let At : List ReportLine → Type 0 = λ z. FollowsPlanBy clocks m (sections_over m text) z in
+      let Whole : List ReportLine → Type 0 = λ z. IsCompleteBy clocks m (sections_over m text) z in
+      let Through : Cause → Type 0 = λ z. GoesThrough z in
+      let heads = all_heads m seen clocks ready own text turns all (some_turns r.runs.runs.1 r.runs.runs.2) same moves in
+      let due = as_due m clocks ready 0 (sections_over m text) in
+      let both = ap heads_of r.shown ∙ flat_map-append head_in r.said r.rest in
+      let Before : List ReportLine → Type 0 = λ z. IsCompleteBefore clocks m (sections_over m text) z in
+      let Numbered : List ReportLine → Type 0 = λ z. AreNumbered 0 z in
+      let numbered = numbered_front 0 (heads_of r.said) (heads_of r.rest) (subst Numbered both (numbered_front 0 (heads_of (gather (λ t. t.lines) turns)) heads.front.0 (subst Numbered heads.front.1 (numbered_due m clocks ready 0 (sections_over m text))))) in
+      let reached = reach_all turns (some_turns r.runs.runs.1 r.runs.runs.2) r.said r.rest r.shown in
+      let told_further = λ (i turn : ℕ) (e : section_turn i r.said ≡ Some turn). all_further m seen clocks ready own turns r.said r.rest all r.shown reached (some_behind i turn r.said e) in
+      record {
+        clocks = clocks;
+        ready = ready;
+        sections = (
+          heads_of r.rest ++ heads.front.0,
+          sym due ∙ heads.front.1 ∙ ap (λ z. z ++ heads.front.0) both ∙ append_assoc (heads_of r.said) (heads_of r.rest) heads.front.0 ∙ ap (λ z. z ++ (heads_of r.rest ++ heads.front.0)) (sym (same_heads r.said)),
+        );
+        all = λ g.
+            let not = through_whole c g in
+            let w = r.cause_is not.0 not.1 in
+            let said : gather (λ t. t.lines) turns ≡ r.said = r.shown ∙ ap (λ z. r.said ++ z) w.0 ∙ append-nil r.said in
+            same_heads r.said ∙ ap heads_of (sym said) ∙ heads.all (subst Through w.2 g) ∙ due;
+        counts = λ g.
+            let not = through_whole c g in
+            let w = r.cause_is not.0 not.1 in
+            let said : gather (λ t. t.lines) turns ≡ r.said = r.shown ∙ ap (λ z. r.said ++ z) w.0 ∙ append-nil r.said in
+            let is = all_counts m seen clocks ready own text turns (some_turns r.runs.runs.1 r.runs.runs.2) all same (subst Through w.2 g) in
+            first_counts (program_end m text).lines (program_end m text).passed [] r.said (ap counts_of (sym said) ∙ is);
+        boards = λ i turn e. all_boards m seen clocks ready own turns r.said r.rest all r.shown (some_behind i turn r.said e);
+        apart = λ i turn e. (all_apart m seen clocks ready own turns r.said r.rest all r.shown (some_behind i turn r.said e)).0;
+        sound = λ i turn e. (all_apart m seen clocks ready own turns r.said r.rest all r.shown (some_behind i turn r.said e)).1;
+        last = reached.n + 271;
+        further = λ i turn e. (told_further i turn e).further;
+        first = λ i turn e. (told_further i turn e).first;
+        named = λ i turn e. (told_further i turn e).named;
+        over = λ g i turn e.
+            let not = through_whole c g in
+            let w = r.cause_is not.0 not.1 in
+            let said : gather (λ t. t.lines) turns ≡ r.said = r.shown ∙ ap (λ z. r.said ++ z) w.0 ∙ append-nil r.said in
+            let over = all_over m seen clocks ready own text turns spread all same moves (subst Through w.2 g) i turn (ap (section_turn i) said ∙ e) in
+            let all_turns = reached.whole w.0 in
+            omega (arith, over, all_turns);
+        own = λ g.
+            let not = through_whole c g in
+            let w = r.cause_is not.0 not.1 in
+            let said : gather (λ t. t.lines) turns ≡ r.said = r.shown ∙ ap (λ z. r.said ++ z) w.0 ∙ append-nil r.said in
+            subst (AreTold false m) said (all_own m seen clocks ready own turns all (subst Through w.2 g));
+        prefix = follow_front clocks m text r.said r.rest (subst At r.shown follows);
+        before = complete_front clocks m text r.said r.rest numbered (subst Before r.shown (all_before m seen clocks ready own text turns spread all same));
+        whole = λ g.
+            let not = through_whole c g in
+            let w = r.cause_is not.0 not.1 in
+            let said : gather (λ t. t.lines) turns ≡ r.said = r.shown ∙ ap (λ z. r.said ++ z) w.0 ∙ append-nil r.said in
+            subst Whole said (all_whole m seen clocks ready own text turns spread all same (subst Through w.2 g));
+        cause = λ g.
+            let not = through_whole c g in
+            let w = r.cause_is not.0 not.1 in
+            let is = ends_through m seen clocks ready own text turns (some_turns r.runs.runs.1 r.runs.runs.2) all same (subst Through w.2 g) in
+            w.2 ∙ is ∙ ends_as (program_end m text).stop;
+      })
+
+  -- and of any text, all lines or the first ones
+  pub home_lines : (r : IsReported f o m s gcode files files' out out' c lines counts links) (text : List ℕ) → f.told files gcode ≡ Some text → (r.told.cause ≡ cause.Memory → ⊥)
+      → AllHomeLittle m s text r.runs.runs.0 (r.runs.runs.1 ++ r.runs.runs.2 ∷ []) → (said rest : List ReportLine) (d : Cause) → (GoesThrough d → (rest ≡ []) × (d ≡ r.told.cause))
+      → gather (λ t. t.lines) (r.runs.runs.1 ++ r.runs.runs.2 ∷ []) ≡ said ++ rest → ∥ ShowsHomes m s.switches text d said ∥₁
+  home_lines r text told other little said rest d through shown =
+      ∥∥₁_map (run_made f o m s gcode files files' out r.behind r.kept r.kept' r.told r.runs text told r.fresh.at) (λ w.
+      let made = w.0 in
+      let seen = made.plans.seen in
+      let turns = r.runs.runs.1 ++ r.runs.runs.2 ∷ [] in
+      let Little : List ℕ → Type 0 = λ z. AllHomeLittle m s z r.runs.runs.0 turns in
+      let held = subst Little (sym w.1) little in
+      let all = facts f o m s gcode files files' out r.behind r.kept r.kept' r.told r.runs other in
+      homes_shown m s.switches seen (clocks_heard seen.told) (ready_heard seen.told) r.told.cause d text said rest (plans_spread m (length m.boards) r.runs.runs.0 made.plans) w.1 through turns (some_turns r.runs.runs.1 r.runs.runs.2)
+      (all_shows m v s r.runs.runs.0 made.plans r.runs.runs.2 r.told.cause r.runs.runs.1 all short held)
+      (all_ends m v s r.runs.runs.0 made.plans r.runs.runs.2 r.told.cause r.runs.runs.1 (run_ended f o m s gcode files files' out r.behind r.kept r.kept' r.told r.runs other))
+      (all_wholes m v s r.runs.runs.0 made.plans r.runs.runs.2 r.told.cause r.runs.runs.1 all short held) shown)
+
+  home_texts : (r : IsReported f o m s gcode files files' out out' c lines counts links) (text : List ℕ) → f.told files gcode ≡ Some text → (r.told.cause ≡ cause.Memory → ⊥)
+      → AllHomeLittle m s text r.runs.runs.0 (r.runs.runs.1 ++ r.runs.runs.2 ∷ []) → ∥ ShowsHomes m s.switches text c r.said ∥₁
+  home_texts r text told other little = home_lines r text told other little r.said r.rest c (whole_of r) r.shown
+
+  -- whatever its links hold, and whatever ended it
+  abbrev HoldLittle : IsReported f o m s gcode files files' out out' c lines counts links → List ℕ → Type 0
+  HoldLittle r text = ShownHoldLittle m s text r.runs.runs.0 r.runs.runs.1 r.runs.runs.2 r.told.cause
+
+  begun_texts : (r : IsReported f o m s gcode files files' out out' c lines counts links) (text : List ℕ) → f.told files gcode ≡ Some text → ∥ ((begun : ShowsBegun m text c r.said) × (HoldLittle r text → FollowsPlanBy begun.clocks m (sections_over m text) r.said)) ∥₁
+  begun_texts r text told = elim (memory_or r.told.cause) [
+    | inr other ↦ ∥∥₁_map (run_made f o m s gcode files files' out r.behind r.kept r.kept' r.told r.runs text told r.fresh.at) (λ w.
+        let made = w.0 in
+        let seen = made.plans.seen in
+        let turns = r.runs.runs.1 ++ r.runs.runs.2 ∷ [] in
+        let Little : List ℕ → Type 0 = λ z. AllHomeLittle m s z r.runs.runs.0 turns in
+        let all = facts f o m s gcode files files' out r.behind r.kept r.kept' r.told r.runs other in
+        front_shown m seen (clocks_heard seen.told) (ready_heard seen.told) r.told.cause c text r.said r.rest (plans_spread m (length m.boards) r.runs.runs.0 made.plans) w.1 (whole_of r) (HoldLittle r text) turns (some_turns r.runs.runs.1 r.runs.runs.2)
+        (all_begun m v s r.runs.runs.0 made.plans r.runs.runs.2 r.told.cause r.runs.runs.1 all)
+        (λ little. all_shows m v s r.runs.runs.0 made.plans r.runs.runs.2 r.told.cause r.runs.runs.1 all short (subst Little (sym w.1) (little.0 other))) r.shown)
+    | inl memory ↦ elim (cut_last r.runs.runs.1) [
+      | inl none ↦
+          let lines_are : [] ≡ r.said ++ r.rest = sym (ap lines_of none) ∙ sym (written memory) ∙ r.shown in
+          let At : List ReportLine → Type 0 = λ z. (begun : ShowsBegun m text c z) × (HoldLittle r text → FollowsPlanBy begun.clocks m (sections_over m text) z) in
+          ∣ subst At (sym (nothing_written r.said r.rest lines_are)) (nothing_shown m text c (none_through memory), λ little i turn s e h. absurd (no_turn turn e)) ∣₁
+      | inr x ↦
+          let turns = x.0 ++ x.1 ∷ [] in
+          let lines_are : lines_of turns ≡ r.said ++ r.rest = sym (ap lines_of x.2) ∙ sym (written memory) ∙ r.shown in
+          let size = ap length x.2 ∙ length-append x.0 (x.1 ∷ []) in
+          ∥∥₁_map (run_before f o m s gcode files files' out r.behind r.kept r.kept' r.told r.runs v text told r.fresh.at x.0 x.1 x.2) (λ w.
+          let seen = w.4.seen in
+          let long = w.3 in
+          let Little : List ReactorTurn → Type 0 = λ z. AllHomeLittle m s text w.0 z in
+          front_shown m seen (clocks_heard seen.told) (ready_heard seen.told) cause.ReadFault c text r.said r.rest (plans_spread m (length m.boards) w.0 w.4) w.5 (λ g. absurd (none_through memory g)) (HoldLittle r text) turns (some_turns x.0 x.1) w.6
+          (λ little. w.7 short (subst Little x.2 (little.1 memory w.0 w.1 w.2 (omega (arith, long, size))))) lines_are)
+    ]
+  ]
+    where
+      none_through : r.told.cause ≡ cause.Memory → GoesThrough c → ⊥
+      none_through memory g = (through_whole c g).0 ((whole_of r g).1 ∙ memory)
+
+      written : r.told.cause ≡ cause.Memory → lines_of (r.runs.runs.1 ++ r.runs.runs.2 ∷ []) ≡ lines_of r.runs.runs.1
+      written memory =
+          let silent = run_silent f o m s gcode files files' out r.behind r.kept r.kept' r.told r.runs memory in
+          gather_on (λ (t : ReactorTurn). t.lines) r.runs.runs.1 r.runs.runs.2 ∙ ap (λ z. gather (λ (t : ReactorTurn). t.lines) r.runs.runs.1 ++ z) silent ∙ append-nil (gather (λ (t : ReactorTurn). t.lines) r.runs.runs.1)
+
+  -- in a scene without entries it goes through
+  completes : (r : IsReported f o m s gcode files files' out out' c lines counts links) (text : List ℕ) → f.told files gcode ≡ Some text → AreOfMoves (sections_over m text) → ((line : ℕ) → (program_end m text).stop ≡ read.Stop line → ⊥)
+      → s.entries ≡ [] → SendsAllSoon m text r.runs.runs.0 → IsCauseOf (cause_of (program_end m text).stop) c
+  completes r text told moves goes clear sends = elim (cause_either c) [
+    | inl e ↦ elim e [ inl x ↦ inr (inl x) | inr x ↦ inr (inr (inr x)) ]
+    | inr not ↦
+        let w = r.cause_is not.0 not.1 in
+        elim (run_is_for f o m s gcode files files' out r.behind r.kept r.kept' r.told r.runs) [
+          | inl e ↦ inr (inl (w.2 ∙ e))
+          | inr (inl e) ↦ inr (inr (inr (w.2 ∙ e)))
+          | inr (inr (inl x)) ↦ inr (read_causes x.0 c (w.2 ∙ x.1))
+          | inr (inr (inr own)) ↦
+              let other = λ (e : r.told.cause ≡ cause.Memory). not.0 (w.2 ∙ e) in
+              let through = run_through f o m s gcode files files' out r.behind r.kept r.kept' r.told r.runs v short text told r.fresh.at clear own other moves goes sends in
+              let Through : Cause → Type 0 = λ z. GoesThrough z in
+              let holds = sends_hold m s text r.runs.runs.0 clear (r.runs.runs.1 ++ r.runs.runs.2 ∷ []) in
+              inl (∥∥₁_elim (texts r text told moves other holds) (hlevel props) (λ z. z.cause (subst Through (sym w.2) through)))
+        ]
+  ]
+
+  -- and so does one of any text, or a switch never closed
+  homes_complete : (r : IsReported f o m s gcode files files' out out' c lines counts links) (text : List ℕ) → f.told files gcode ≡ Some text → ((line : ℕ) → (program_end m text).stop ≡ read.Stop line → ⊥)
+      → s.entries ≡ [] → SendsAllSoon m text r.runs.runs.0 → IsCauseOf (cause_of (program_end m text).stop) c ⊎ ((section : ℕ) × (c ≡ cause.NoSwitch section))
+  homes_complete r text told goes clear sends = elim (cause_either c) [
+    | inl e ↦ inl (elim e [ inl x ↦ inr (inl x) | inr x ↦ inr (inr (inr x)) ])
+    | inr not ↦
+        let w = r.cause_is not.0 not.1 in
+        elim (run_is_for f o m s gcode files files' out r.behind r.kept r.kept' r.told r.runs) [
+          | inl e ↦ inl (inr (inl (w.2 ∙ e)))
+          | inr (inl e) ↦ inl (inr (inr (inr (w.2 ∙ e))))
+          | inr (inr (inl x)) ↦ inl (inr (read_causes x.0 c (w.2 ∙ x.1)))
+          | inr (inr (inr own)) ↦
+              let other = λ (e : r.told.cause ≡ cause.Memory). not.0 (w.2 ∙ e) in
+              let Through : Cause → Type 0 = λ z. GoesThrough z in
+              let little = clear_little m s text r.runs.runs.0 (r.runs.runs.1 ++ r.runs.runs.2 ∷ []) clear (soon_all m text r.runs.runs.0 sends) in
+              elim (homed.run_through f o m s gcode files files' out r.behind r.kept r.kept' r.told r.runs v short text told r.fresh.at clear own other goes sends) [
+                | inl through ↦ inl (inl (∥∥₁_elim (home_texts r text told other little) (hlevel props) (λ z. z.cause (subst Through (sym w.2) through))))
+                | inr e ↦ inr (e.0, w.2 ∙ e.1)
+              ]
+        ]
+  ]
+
+  -- a cause other than want of memory and a failed write is that for which the run ended
+  of_run : (r : IsReported f o m s gcode files files' out out' c lines counts links) (x : Cause) → (x ≡ cause.Memory → ⊥) → (x ≡ cause.WriteFault → ⊥) → c ≡ x → r.told.cause ≡ x
+  of_run r x memory write e = let w = r.cause_is (λ g. memory (sym e ∙ g)) (λ g. write (sym e ∙ g)) in sym w.2 ∙ e
+
+  of_no_switch : (r : IsReported f o m s gcode files files' out out' c lines counts links) (section : ℕ) → c ≡ cause.NoSwitch section → r.told.cause ≡ cause.NoSwitch section
+  of_no_switch r section e = of_run r (cause.NoSwitch section) (λ g. let h : cause.NoSwitch section ≡ cause.Memory = g in cc) (λ g. let h : cause.NoSwitch section ≡ cause.WriteFault = g in cc) e
+
+  of_late : (r : IsReported f o m s gcode files files' out out' c lines counts links) (board first arrival spoiled spill : ℕ) → c ≡ cause.Late board first arrival spoiled spill
+      → r.told.cause ≡ cause.Late board first arrival spoiled spill
+  of_late r board first arrival spoiled spill e =
+      let late = cause.Late board first arrival spoiled spill in
+      of_run r late (λ g. let h : late ≡ cause.Memory = g in cc) (λ g. let h : late ≡ cause.WriteFault = g in cc) e
+
+  -- and so does one of any text whose switches close in time
+  switches_complete : (r : IsReported f o m s gcode files files' out out' c lines counts links) (text : List ℕ) → f.told files gcode ≡ Some text → ((line : ℕ) → (program_end m text).stop ≡ read.Stop line → ⊥)
+      → s.entries ≡ [] → SendsAllSoon m text r.runs.runs.0 → AllClose m s text r.runs.runs.0 → IsCauseOf (cause_of (program_end m text).stop) c
+  switches_complete r text told goes clear sends closes = elim (homes_complete r text told goes clear sends) [
+    | inl x ↦ x
+    | inr e ↦
+        let is = of_no_switch r e.0 e.1 in
+        let Own : Cause → Type 0 = λ z. IsOwn z in
+        let Through : Cause → Type 0 = λ z. GoesThrough z in
+        let other = λ (g : r.told.cause ≡ cause.Memory). (let h : cause.NoSwitch e.0 ≡ cause.Memory = sym is ∙ g in let none : ⊥ = cc in none) in
+        absurd (subst Through is (homed.run_closes f o m s gcode files files' out r.behind r.kept r.kept' r.told r.runs v short text told r.fresh.at clear (subst Own (sym is) tt) other goes sends closes))
+  ]
+
+  pub planned : IsReported f o m s gcode files files' out out' c lines counts links → IsLinkReport f o m s gcode files files' out out' c lines counts links
+  planned r = record {
+    reported = r;
+    names = λ own other.
+        let w = r.cause_is other (λ e. subst IsOwn e own) in
+        let Own : Cause → Type 0 = λ z. IsOwn z in
+        let Named : Cause → Type 0 = λ z. IsNamed m s r.runs.runs.1 r.runs.runs.2 z in
+        subst Named (sym w.2) (run_names f o m s gcode files files' out r.behind r.kept r.kept' r.told r.runs (subst Own w.2 own) (λ e. other (w.2 ∙ e)));
+    earlier = run_none f o m s gcode files files' out r.behind r.kept r.kept' r.told r.runs;
+    answers = run_answers f o m s gcode files files' out r.behind r.kept r.kept' r.told r.runs;
+    readings = run_reads f o m s gcode files files' out r.behind r.kept r.kept' r.told r.runs;
+    boards = λ text told. subst (λ z. ∥ AreLinksIn m s text r.told.cause r.runs.runs.0 r.runs.runs.1 r.runs.runs.2 z ∥₁) (sym r.links_are)
+        (run_links f o m s gcode files files' out r.behind r.kept r.kept' r.told r.runs text told r.fresh.at);
+    shows = texts r;
+    begun = begun_texts r;
+    homes = home_texts r;
+    own = λ text told other little soon. run_own f o m s gcode files files' out r.behind r.kept r.kept' r.told r.runs v short text told r.fresh.at other little soon;
+    complete = completes r;
+    complete_homes = homes_complete r;
+    complete_switches = switches_complete r;
+    first_ticks = λ text told goes clear own other sends soon. homed.run_firsts f o m s gcode files files' out r.behind r.kept r.kept' r.told r.runs v short text told r.fresh.at clear own other goes sends soon;
+    no_switch = λ text told goes clear sends. ∥∥₁_map (homed.run_misses f o m s gcode files files' out r.behind r.kept r.kept' r.told r.runs v short text told r.fresh.at clear goes sends) (λ w.
+        (w.0, w.1, λ section e. w.2 section (of_no_switch r section e)));
+    last_cut = λ text told. run_last f o m s gcode files files' out r.behind r.kept r.kept' r.told r.runs v text told r.fresh.at;
+    connect = λ text told board turn e. answering.run_silent f o m s gcode files files' out r.behind r.kept r.kept' r.told r.runs v text told r.fresh.at board turn
+        (of_run r (cause.Connect board turn) (λ g. let h : cause.Connect board turn ≡ cause.Memory = g in cc) (λ g. let h : cause.Connect board turn ≡ cause.WriteFault = g in cc) e);
+    stale = λ board turn e. answering.run_stale f o m s gcode files files' out r.behind r.kept r.kept' r.told r.runs v board turn
+        (of_run r (cause.Stale board turn) (λ g. let h : cause.Stale board turn ≡ cause.Memory = g in cc) (λ g. let h : cause.Stale board turn ≡ cause.WriteFault = g in cc) e);
+    expired = λ board turn e. run_first f o m s gcode files files' out r.behind r.kept r.kept' r.told r.runs board turn
+        (of_run r (cause.Expired board turn) (λ g. let h : cause.Expired board turn ≡ cause.Memory = g in cc) (λ g. let h : cause.Expired board turn ≡ cause.WriteFault = g in cc) e);
+    late = λ board first arrival spoiled spill e. run_late f o m s gcode files files' out r.behind r.kept r.kept' r.told r.runs v board first arrival spoiled spill (of_late r board first arrival spoiled spill e);
+    late_unit = λ text told board first arrival spoiled spill e little.
+        run_home_units f o m s gcode files files' out r.behind r.kept r.kept' r.told r.runs v short board first arrival spoiled spill text told r.fresh.at (of_late r board first arrival spoiled spill e) little;
+    shutdowns = λ text told other near. elim near [
+      | inl little ↦ run_home_tells f o m s gcode files files' out r.behind r.kept r.kept' r.told r.runs v short text told r.fresh.at other little
+      | inr x ↦ run_near_tells f o m s gcode files files' out r.behind r.kept r.kept' r.told r.runs v short text told r.fresh.at other x.0 x.1
+    ];
+    times = λ text told. ∥∥₁_map (run_made f o m s gcode files files' out r.behind r.kept r.kept' r.told r.runs text told r.fresh.at) (λ w.
+        let ts = r.runs.runs.0 in
+        let rs = r.runs.runs.1 in
+        let took = run_taken f o m s gcode files files' out r.behind r.kept r.kept' r.told r.runs ts [] (sym (append-nil ts)) in (
+          w.0,
+          w.1,
+          record {
+            first = λ t known. starts m v s ts w.0.plans t r.runs.runs.2 known rs took;
+            ends = λ past x others axis. ends m s ts w.0.plans rs took past x others axis;
+            exact = λ other t known. clocks.run_first f o m s gcode files files' out r.behind r.kept r.kept' r.told r.runs v other w.0 t known;
+          },
+        ));
+    board_lines = λ other. run_printed f o m s gcode files files' out r.behind r.kept r.kept' r.told r.runs v other;
+  }

@@ -1,7 +1,0 @@
-use Rattle.run_checks.proofs.Homing.{printed-front}
-use Rattle.run_checks.proofs.Scenes.{scene_under}
-use Rattle.run_checks.proofs.page.printed_lines_follow_the_plan.Goals as goal
-
-pub returns : goal.returns
-returns g c = λ printer m s gcode files files' out out' cause lines counts links configured r text told little scene other wrote.
-    printed-front g.F.Files g.S.Sink printer m s gcode files files' out out' cause lines counts links configured r text told little (scene_under m s scene) other wrote

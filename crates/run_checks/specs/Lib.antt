@@ -1,4 +1,0 @@
-pub mod Stands
-pub mod Read
-pub mod page
-pub mod Replayed

@@ -24,3 +24,4 @@ pub mod Knowing
 pub mod Unclocked
 pub mod Homed
 pub mod Clear
+pub mod Ordering

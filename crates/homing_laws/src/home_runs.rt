@@ -7,7 +7,9 @@ ghost use Rattle.plan_types.specs.declared.machine.Machine.{Machine};
 ghost use Rattle.plan_types.specs.Clock.{clock_of};
 ghost use Rattle.wire_scene.specs.declared.scene.Entry.{Entry};
 ghost use Rattle.wire_scene.specs.declared.scene.Switch.{Switch};
+ghost use Rattle.board_asking.specs.Machine.{trigger_of};
 ghost use Rattle.board_sim.specs.Board.{stepper_at};
+ghost use Rattle.board_sim.specs.Fair.{Meant, commands_of};
 ghost use Rattle.board_sim.specs.RigRuns.{IsHalted};
 ghost use Rattle.link_work.specs.Stands.{first_state};
 ghost use Rattle.board_runs.specs.Turns.{AreBoardTurns, BoardTurn, stands_after};
@@ -23,7 +25,8 @@ ghost use Rattle.clock_runs.specs.Runs.{IsInRun};
 ghost use Rattle.plan_types.specs.declared.plan.BoardState.TheVariants.{Running};
 ghost use Rattle.plan_types.specs.Machines.{IsValidMachine, board_at};
 ghost use Rattle.plan_types.specs.Machines as machine;
-ghost use Rattle.homing_laws.specs.home_runs.Sections.{HomesFrom, IsAnswered, IsMoved, Moves, RestsInTime, SpoilsFew, TakesSetUp};
+ghost use Rattle.homing_laws.specs.home_runs.Sections.{HomesFrom, IsAnswered, IsMoved, Moves, RestsInTime, SpoilsFew, TakesSetUp, queued_by};
+ghost use Rattle.homing_laws.specs.home_runs.SetUps.{AreInOrder};
 ghost use Rattle.section_units.specs.Sections.{BoardSection};
 ghost use Rattle.trigger_group.specs.declared.order.Member.{Member};
 ghost use Rattle.link_work.specs.Limits.{AllKeepLimits};
@@ -164,4 +167,16 @@ pub fn told_boards_are_home_boards()
         (turns_told (clock_of (board_at m b)) 0 (orders_in turns) states (first_state (board_at m b) pins b entries) end told)) →
         AreToldIn m switches pins entries b stops ss turns →
         IsHomeBoard b entries ready (length turns) ss (record { board = board_at m b; pins = pins; clocks = clocks; sections = map (λ s. s.section) ss; orders = orders_in turns; states = states }) }
+{}
+
+/// The law of order, of homing sections: of what a board was sent from 254 turns before the start of a homing section on, it takes the
+/// commands of the section in order, whatever happens on the lines: no unit of a stepper that moves in it before the stepper's clock was
+/// set, the trigger started, a timeout set, and the stepper bound to the trigger, one behind the other; and nothing sets its clock from
+/// there on. This asks that no unit sets a clock in these turns, and none is sent in the first four.
+pub fn set_ups_are_taken_in_order()
+    ensures { (m : Machine) (switches : List Switch) (pins : List (List Level)) (entries : List Entry) (b stepper : ℕ) (came : List Came) (later early : List BoardTurn) (from start : ℕ) (members : List Member) (own : List Meant) →
+        IsInRun m switches pins entries b came (later ++ early) → HomesFrom m switches from start members came → from + 254 ≡ start → Moves b stepper members →
+        SetNoClockFrom from (later ++ early) → SendNoneIn from (from + 4) (later ++ early) → length early ≡ from →
+        (stands_after (first_state (board_at m b) pins b entries) (later ++ early)).core.taken ≡ queued_by early ++ own →
+        AreInOrder (machine.stepper_at m stepper).oid (trigger_of m b) 0 (commands_of own) }
 {}

@@ -1,10 +1,11 @@
 -- A trigger whose timeouts are at most a tick, whatever comes.
-use Rattle.std.proofs.Common.{◌≡◌, ◌≢◌, ℕ, zero, suc, ◌/◌, ◌≤◌, ◌&&◌, Bool, true, false, not, List, [], ◌∷◌, get_or, set, Option, Some, None, refl, ap, sym, ◌∙◌, subst, ◌⊎◌, inl, inr}
+use Rattle.std.proofs.Common.{◌≡◌, ◌≢◌, ℕ, zero, suc, ◌/◌, ◌≤◌, ◌&&◌, Bool, true, false, not, List, [], ◌∷◌, ◌++◌, get_or, set, Option, Some, None, refl, ap, sym, ◌∙◌, subst, ◌⊎◌, inl, inr}
 use Rattle.std.specs.Prelude.{if◌then◌else◌, slice_index_or, nat_lt}
 use Rattle.std.proofs.lemmas.List.{get_or-set_same}
 use Rattle.plan_types.specs.declared.levels.Level.{Level}
 use Rattle.plan_types.specs.declared.plan.BoardState.{BoardState}
 use Rattle.plan_types.specs.declared.plan.BoardState.TheVariants.{Running, Shut}
+use Rattle.plan_types.specs.declared.plan.Pulse.{Pulse}
 use Rattle.plan_types.specs.Board.{nearest}
 use Rattle.board_step.specs.Steps.{Pending}
 use Rattle.board_trig.specs.declared.sampling.Homing.{Homing}
@@ -14,9 +15,9 @@ use Rattle.board_trig.specs.declared.trigger.Happening.TheVariants.{Nothing, Exp
 use Rattle.board_trig.specs.Trigger as trig
 use Rattle.msg_code.specs.declared.cmd.Cmd.{Cmd}
 use Rattle.msg_code.specs.declared.cmd.Cmd.TheVariants as cmd
-use Rattle.board_sim.specs.Board.{is_shut, stepper_at}
+use Rattle.board_sim.specs.Board.{Controller, is_shut, stepper_at}
 use Rattle.board_sim.specs.Rig.{Rig, Slot, Passed, slot_at, levels_of, becomes, make_trigger, make_endstop, start, expires_at_once, set_timeout, trigger, bind, home, by_board, acts, acts_running, takes, earliest, runs_to, rested, rests_to, happens_to, happens, goes_on, at_of, passes_by, pass}
-use Rattle.board_sim.specs.RigRuns.{RigStep, Takes, Passes, rig_after_all, IsThere, IsBehind, IsTimely, AreBehind, AreTimely, IsLimitedTo}
+use Rattle.board_sim.specs.RigRuns.{RigStep, Takes, Passes, all_made, rig_after_all, IsThere, IsBehind, IsTimely, AreBehind, AreTimely, IsLimitedTo}
 use Rattle.board_sim.proofs.RigPlaces.{there_is, is_there}
 use Rattle.board_sim.proofs.RigCommands.{IsIn, takes_is, passes_is}
 use Rattle.board_sim.proofs.RigShut.{all_left_by, happens_state}
@@ -213,25 +214,39 @@ first_timed r i j most clock s running at told there le =
     by None e = here (trig.with_timeout r.controller.tick clock s.trigger) e limits
     by (Some n) e = here (record (trig.with_timeout r.controller.tick clock s.trigger) { untold = None }) refl limits
 
--- a board that is shut down stays so
-goes_shut : (o : Option (ℕ × ℕ)) (r : Rig) (t : ℕ) (rest : Passed) → is_shut r.controller.state ≡ true → (is_shut (happens r t (at_of o)).rig.controller.state ≡ true → is_shut rest.rig.controller.state ≡ true)
-    → is_shut (goes_on o (rests_to r t) (passes_by (happens r t (at_of o)) rest)).rig.controller.state ≡ true
-goes_shut None r t rest e more = ap is_shut (pass_left r.controller t e).1 ∙ e
-goes_shut (Some at) r t rest e more =
-    more (ap is_shut (happens_state (runs_to r (at.0 / 3)).rig t at.1 (slot_at (runs_to r (at.0 / 3)).rig at.1) ∙ (pass_left r.controller (at.0 / 3) e).1) ∙ e)
+-- a board that is shut down stays so, and makes no pulse
+abbrev Left : Passed → Type 0
+Left p = (is_shut p.rig.controller.state ≡ true) × (p.pulses ≡ [])
 
-pass_shut : (n : ℕ) (r : Rig) (t : ℕ) → is_shut r.controller.state ≡ true → is_shut (pass n r t).rig.controller.state ≡ true
-pass_shut zero r t e = e
-pass_shut (suc n) r t e = let first = happens r t (at_of (earliest r t 0 r.triggers)) in goes_shut (earliest r t 0 r.triggers) r t (pass n first.rig t) e (λ shut. pass_shut n first.rig t shut)
+both_none : (xs ys : List Pulse) → xs ≡ [] → ys ≡ [] → xs ++ ys ≡ []
+both_none xs ys e f = rw (e, f) refl
 
-stays_shut : (steps : List RigStep) (r : Rig) → is_shut r.controller.state ≡ true → is_shut (rig_after_all steps r).controller.state ≡ true
-stays_shut [] r e = e
-stays_shut (Takes c ∷ ss) r e = stays_shut ss (takes r c).rig (ap (λ b. is_shut b.state) (all_left_by r (c ∷ []) e) ∙ e)
-stays_shut (Passes n t ∷ ss) r e = stays_shut ss (pass n r t).rig (pass_shut n r t e)
+goes_left : (o : Option (ℕ × ℕ)) (r : Rig) (t : ℕ) (rest : Passed) → is_shut r.controller.state ≡ true → (is_shut (happens r t (at_of o)).rig.controller.state ≡ true → Left rest)
+    → Left (goes_on o (rests_to r t) (passes_by (happens r t (at_of o)) rest))
+goes_left None r t rest e more = let left = pass_left r.controller t e in (ap is_shut left.1 ∙ e, left.0)
+goes_left (Some at) r t rest e more =
+    let left = pass_left r.controller (at.0 / 3) e in
+    let behind = more (ap is_shut (happens_state (runs_to r (at.0 / 3)).rig t at.1 (slot_at (runs_to r (at.0 / 3)).rig at.1) ∙ left.1) ∙ e) in
+    (behind.0, both_none (happens r t at).pulses rest.pulses left.0 behind.1)
+
+passes_left : (n : ℕ) (r : Rig) (t : ℕ) → is_shut r.controller.state ≡ true → Left (pass n r t)
+passes_left zero r t e = (e, refl)
+passes_left (suc n) r t e = let first = happens r t (at_of (earliest r t 0 r.triggers)) in goes_left (earliest r t 0 r.triggers) r t (pass n first.rig t) e (λ shut. passes_left n first.rig t shut)
+
+pub stays_shut : (steps : List RigStep) (r : Rig) → is_shut r.controller.state ≡ true → (is_shut (rig_after_all steps r).controller.state ≡ true) × (all_made steps r ≡ [])
+stays_shut [] r e = (e, refl)
+stays_shut (Takes c ∷ ss) r e = stays_shut ss (takes r c).rig (ap (λ (b : Controller). is_shut b.state) (all_left_by r (c ∷ []) e) ∙ e)
+stays_shut (Passes n t ∷ ss) r e =
+    let left = passes_left n r t e in
+    let rest = stays_shut ss (pass n r t).rig left.0 in
+    (rest.0, both_none (pass n r t).pulses (all_made ss (pass n r t).rig) left.1 rest.1)
+
+pub runs_or_shut : (r : Rig) → (r.controller.state ≡ Running) ⊎ (is_shut r.controller.state ≡ true)
+runs_or_shut r = by r.controller.state refl
+  where
+    by : (o : BoardState) → r.controller.state ≡ o → (r.controller.state ≡ Running) ⊎ (is_shut r.controller.state ≡ true)
+    by Running e = inl e
+    by (Shut reason tick first) e = inr (ap is_shut e)
 
 pub ran_before : (steps : List RigStep) (r : Rig) → (rig_after_all steps r).controller.state ≡ Running → r.controller.state ≡ Running
-ran_before steps r e = by r.controller.state refl
-  where
-    by : (o : BoardState) → r.controller.state ≡ o → r.controller.state ≡ Running
-    by Running is = is
-    by (Shut reason tick first) is = absurd (let shut : true ≡ false = sym (stays_shut steps r (ap is_shut is)) ∙ ap is_shut e in cc)
+ran_before steps r e = elim (runs_or_shut r) [ inl runs ↦ runs | inr shut ↦ absurd (let bad : true ≡ false = sym (stays_shut steps r shut).0 ∙ ap is_shut e in cc) ]

@@ -25,3 +25,5 @@ pub mod Unclocked
 pub mod Homed
 pub mod Clear
 pub mod Ordering
+pub mod Stopping
+pub mod Stopped

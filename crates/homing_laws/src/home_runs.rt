@@ -1,6 +1,6 @@
 //! Homing over the turns of a run: a board, its link, and the group that it is a member of.
 
-ghost use Rattle.std.specs.Prelude.{◌≡◌, ◌<◌, ◌≤◌, ◌+◌, ◌++◌, ◌∷◌, ℕ, All, List, [], Option, Some, length, map, true};
+ghost use Rattle.std.specs.Prelude.{◌≡◌, ◌<◌, ◌≤◌, ◌+◌, ◌++◌, ◌∷◌, ℕ, All, List, [], Option, Some, length, false, map, true};
 ghost use Rattle.plan_types.specs.declared.levels.Level.{Level};
 ghost use Rattle.plan_types.specs.declared.machine.BoardDef.{BoardDef};
 ghost use Rattle.plan_types.specs.declared.machine.Machine.{Machine};
@@ -10,7 +10,9 @@ ghost use Rattle.wire_scene.specs.declared.scene.Switch.{Switch};
 ghost use Rattle.board_asking.specs.Machine.{trigger_of};
 ghost use Rattle.board_sim.specs.Board.{stepper_at};
 ghost use Rattle.board_sim.specs.Fair.{Meant, commands_of};
-ghost use Rattle.board_sim.specs.RigRuns.{IsHalted};
+ghost use Rattle.board_sim.specs.Rig.{Slot, slot_at};
+ghost use Rattle.board_sim.specs.RigRuns.{AllBefore, IsHalted};
+ghost use Rattle.plan_types.specs.declared.plan.Pulse.{Pulse};
 ghost use Rattle.link_work.specs.Stands.{first_state};
 ghost use Rattle.board_runs.specs.Turns.{AreBoardTurns, BoardTurn, stands_after};
 ghost use Rattle.trigger_group.specs.declared.order.End.{End};
@@ -26,7 +28,7 @@ ghost use Rattle.plan_types.specs.declared.plan.BoardState.TheVariants.{Running}
 ghost use Rattle.plan_types.specs.Machines.{IsValidMachine, board_at};
 ghost use Rattle.plan_types.specs.Machines as machine;
 ghost use Rattle.homing_laws.specs.home_runs.Sections.{HomesFrom, IsAnswered, IsMoved, Moves, RestsInTime, SpoilsFew, TakesSetUp, queued_by};
-ghost use Rattle.homing_laws.specs.home_runs.SetUps.{AreInOrder};
+ghost use Rattle.homing_laws.specs.home_runs.SetUps.{AreInOrder, TookInTurn};
 ghost use Rattle.section_units.specs.Sections.{BoardSection};
 ghost use Rattle.trigger_group.specs.declared.order.Member.{Member};
 ghost use Rattle.link_work.specs.Limits.{AllKeepLimits};
@@ -46,7 +48,7 @@ ghost use Rattle.homing_laws.specs.home_runs.Words.{BeginsNone, IsBegunIn, Tells
 ghost use Rattle.homing_laws.specs.home_runs.Ended.{AreToldIn, IsToldIn};
 ghost use Rattle.homing_laws.specs.home_runs.Windows.{BringCalm, HasAnswer, IsSetUp, IsWatched, TellFired};
 ghost use Rattle.homing_laws.specs.home_runs.Guards.{ReasonFits, StandsFired};
-ghost use Rattle.msg_code.specs.declared.cmd.Cmd.TheVariants.{TrsyncState};
+ghost use Rattle.msg_code.specs.declared.cmd.Cmd.TheVariants.{StepperStopOnTrigger, TrsyncState};
 
 /// The law of told triggers: where a board took the set-up of a homing section by a turn at whose end nothing that it said is still
 /// under way, and from there on nothing comes that starts its trigger anew or sets the clock of a stepper that is bound to it, this
@@ -179,4 +181,20 @@ pub fn set_ups_are_taken_in_order()
         SetNoClockFrom from (later ++ early) → SendNoneIn from (from + 4) (later ++ early) → length early ≡ from →
         (stands_after (first_state (board_at m b) pins b entries) (later ++ early)).core.taken ≡ queued_by early ++ own →
         AreInOrder (machine.stepper_at m stepper).oid (trigger_of m b) 0 (commands_of own) }
+{}
+
+/// The law of bound steppers, of homing sections: from the turn on in which a board took the command that binds a stepper that moves in a
+/// homing section to the board's trigger, the stepper makes no pulse at or after the tick at which the trigger triggered, up to any turn at
+/// whose end this can't trigger, whatever happens on the lines, and none at all where the trigger couldn't trigger as it was bound.
+pub fn moving_steppers_stop_with_their_trigger()
+    ensures { (m : Machine) (switches : List Switch) (pins : List (List Level)) (entries : List Entry) (b stepper : ℕ) (came : List Came) (later : List BoardTurn) (t : BoardTurn) (between early : List BoardTurn) (from start : ℕ) (members : List Member)
+        (front : List Meant) (bind : Meant) (behind : List Meant) (slot : Slot) →
+        IsValidMachine m → IsInRun m switches pins entries b came (later ++ t ∷ (between ++ early)) → HomesFrom m switches from start members came → from + 254 ≡ start → Moves b stepper members →
+        stepper < length m.steppers → (machine.stepper_at m stepper).board ≡ b →
+        SetNoClockFrom from (later ++ t ∷ (between ++ early)) → SendNoneIn from (from + 4) (later ++ t ∷ (between ++ early)) → length early ≡ from →
+        (stands_after (first_state (board_at m b) pins b entries) (later ++ t ∷ (between ++ early))).core.taken ≡ queued_by early ++ (front ++ bind ∷ behind) →
+        bind.command ≡ StepperStopOnTrigger (machine.stepper_at m stepper).oid (trigger_of m b) → TookInTurn (first_state (board_at m b) pins b entries) (queued_by early ++ front) t (between ++ early) →
+        slot_at (stands_after (first_state (board_at m b) pins b entries) (later ++ t ∷ (between ++ early))).core.board (trigger_of m b) ≡ Some slot → slot.trigger.can ≡ false →
+        (pulses : List Pulse) × ((stands_after (first_state (board_at m b) pins b entries) (between ++ early)).core.made ++ pulses ≡
+        (stands_after (first_state (board_at m b) pins b entries) (later ++ t ∷ (between ++ early))).core.made) × AllBefore (machine.stepper_at m stepper).oid slot.trigger.tick pulses }
 {}

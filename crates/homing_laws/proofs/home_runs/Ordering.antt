@@ -63,7 +63,7 @@ use Rattle.homing_laws.proofs.home_runs.Whole.{brings_calm, turn_commands, units
 use Rattle.homing_laws.proofs.home_runs.Windows.{ordered_after}
 
 -- how far some commands bring it
-abbrev far_all : ℕ → ℕ → ℕ → List Cmd → ℕ
+abbrev pub far_all : ℕ → ℕ → ℕ → List Cmd → ℕ
 far_all i j far [] = far
 far_all i j far (c ∷ cs) = far_all i j (far_by i j far c) cs
 
@@ -83,6 +83,10 @@ order_both i j far (x ∷ xs) ys a b = (a.0, order_both i j (far_by i j far x) x
 order_front : (i j far : ℕ) (xs ys : List Cmd) → AreInOrder i j far (xs ++ ys) → AreInOrder i j far xs
 order_front i j far [] ys a = tt
 order_front i j far (x ∷ xs) ys a = (a.0, order_front i j (far_by i j far x) xs ys a.1)
+
+pub order_rest : (i j far : ℕ) (xs ys : List Cmd) → AreInOrder i j far (xs ++ ys) → AreInOrder i j (far_all i j far xs) ys
+order_rest i j far [] ys a = a
+order_rest i j far (x ∷ xs) ys a = order_rest i j (far_by i j far x) xs ys a.1
 
 goes_both : (i j : ℕ) (P Q : ℕ → Type 0) (far : ℕ) (xs ys : List Cmd) → Goes i j P far xs → ((now : ℕ) → P now → Goes i j Q now ys) → Goes i j Q far (xs ++ ys)
 goes_both i j P Q far xs ys g more =
@@ -126,10 +130,10 @@ question_quiet commands a s = both (asks_now commands a) s
 abbrev IsBound : ℕ → Type 0
 IsBound far = far ≡ 4
 
-no_match : (a b : ℕ) → (a ≡ b → ⊥) → (a == b) ≡ false
+pub no_match : (a b : ℕ) → (a ≡ b → ⊥) → (a == b) ≡ false
 no_match a b d = elim (eqb_tells a b) [ inl p ↦ absurd (d p.1) | inr p ↦ p.0 ]
 
-either_way : (t : Bool) (m n : ℕ) → m ≡ n → cond t m n ≡ n
+pub either_way : (t : Bool) (m n : ℕ) → m ≡ n → cond t m n ≡ n
 either_way true m n e = e
 either_way false m n e = refl
 

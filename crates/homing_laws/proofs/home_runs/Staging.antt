@@ -428,7 +428,7 @@ time_staged i j done r t k = record {
 abbrev pub StagedIn : ℕ → ℕ → Core → Type 0
 StagedIn i j h = StagedBy i j (commands_of h.taken) h.board
 
-took_in : (i j : ℕ) (h : Core) (ms : List Meant) → i < 256 → j < 256 → StagedIn i j h → StagedBy i j (commands_of (h.taken ++ ms)) (takes_all h.board (commands_of ms)).rig
+pub took_in : (i j : ℕ) (h : Core) (ms : List Meant) → i < 256 → j < 256 → StagedIn i j h → StagedBy i j (commands_of (h.taken ++ ms)) (takes_all h.board (commands_of ms)).rig
 took_in i j h ms li lj k = subst (λ (cs : List Cmd). StagedBy i j cs (takes_all h.board (commands_of ms)).rig) (sym (commands_both h.taken ms)) (took_staged i j (commands_of h.taken) h.board (commands_of ms) li lj k)
 
 none_in : (i j : ℕ) (h : Core) → StagedIn i j h → StagedBy i j (commands_of (h.taken ++ [])) h.board

@@ -1,7 +1,10 @@
 -- In what order a board takes the commands of a homing section.
-use Rattle.std.specs.Prelude.{◌≡◌, ◌≤◌, ◌==◌, ◌&&◌, ℕ, List, [], ◌∷◌, max, if◌then◌else◌}
+use Rattle.std.specs.Prelude.{◌<◌, ◌≡◌, ◌≤◌, ◌==◌, ◌&&◌, ℕ, List, [], ◌∷◌, length, max, if◌then◌else◌}
 use Rattle.msg_code.specs.declared.cmd.Cmd.{Cmd}
 use Rattle.msg_code.specs.declared.cmd.Cmd.TheVariants as cmd
+use Rattle.board_sim.specs.Fair.{Meant}
+use Rattle.link_work.specs.Turn.{LinkState}
+use Rattle.board_runs.specs.Turns.{BoardTurn, stands_after}
 
 -- How far a stepper is set up, and its trigger: 1, its clock is set; 2, the trigger is started; 3, a timeout is set; 4, the stepper is bound to
 -- the trigger. What a command makes of it.
@@ -26,3 +29,7 @@ IsInOrder stepper trigger far c = Unit {0}
 abbrev pub AreInOrder : ℕ → ℕ → ℕ → List Cmd → Type 0
 AreInOrder stepper trigger far [] = Unit {0}
 AreInOrder stepper trigger far (c ∷ cs) = IsInOrder stepper trigger far c × AreInOrder stepper trigger (far_by stepper trigger far c) cs
+
+-- behind these turns a board has taken the command that stands behind some others, and it had not behind the turns before
+abbrev pub TookInTurn : LinkState → List Meant → BoardTurn → List BoardTurn → Type 0
+TookInTurn first front t past = (length (stands_after first past).core.taken ≤ length front) × (length front < length t.after.core.taken)

@@ -27,3 +27,4 @@ pub mod Clear
 pub mod Ordering
 pub mod Stopping
 pub mod Stopped
+pub mod Timing

@@ -4,7 +4,7 @@ ghost use Rattle.std.specs.Prelude.{◌≡◌, ◌<◌, ◌≤◌, ◌+◌, ◌+
 ghost use Rattle.plan_types.specs.declared.levels.Level.{Level};
 ghost use Rattle.plan_types.specs.declared.machine.BoardDef.{BoardDef};
 ghost use Rattle.plan_types.specs.declared.machine.Machine.{Machine};
-ghost use Rattle.plan_types.specs.Clock.{clock_of};
+ghost use Rattle.plan_types.specs.Clock.{board_tick, clock_of};
 ghost use Rattle.wire_scene.specs.declared.scene.Entry.{Entry};
 ghost use Rattle.wire_scene.specs.declared.scene.Switch.{Switch};
 ghost use Rattle.board_asking.specs.Machine.{trigger_of};
@@ -28,7 +28,7 @@ ghost use Rattle.plan_types.specs.declared.plan.BoardState.TheVariants.{Running}
 ghost use Rattle.plan_types.specs.Machines.{IsValidMachine, board_at};
 ghost use Rattle.plan_types.specs.Machines as machine;
 ghost use Rattle.homing_laws.specs.home_runs.Sections.{HomesFrom, IsAnswered, IsMoved, Moves, RestsInTime, SpoilsFew, TakesSetUp, queued_by};
-ghost use Rattle.homing_laws.specs.home_runs.SetUps.{AreInOrder, TookInTurn};
+ghost use Rattle.homing_laws.specs.home_runs.SetUps.{AreInOrder, ReadsAtMost, TookInTurn};
 ghost use Rattle.section_units.specs.Sections.{BoardSection};
 ghost use Rattle.trigger_group.specs.declared.order.Member.{Member};
 ghost use Rattle.link_work.specs.Limits.{AllKeepLimits};
@@ -48,7 +48,7 @@ ghost use Rattle.homing_laws.specs.home_runs.Words.{BeginsNone, IsBegunIn, Tells
 ghost use Rattle.homing_laws.specs.home_runs.Ended.{AreToldIn, IsToldIn};
 ghost use Rattle.homing_laws.specs.home_runs.Windows.{BringCalm, HasAnswer, IsSetUp, IsWatched, TellFired};
 ghost use Rattle.homing_laws.specs.home_runs.Guards.{ReasonFits, StandsFired};
-ghost use Rattle.msg_code.specs.declared.cmd.Cmd.TheVariants.{StepperStopOnTrigger, TrsyncState};
+ghost use Rattle.msg_code.specs.declared.cmd.Cmd.TheVariants.{StepperStopOnTrigger, TrsyncSetTimeout, TrsyncState};
 
 /// The law of told triggers: where a board took the set-up of a homing section by a turn at whose end nothing that it said is still
 /// under way, and from there on nothing comes that starts its trigger anew or sets the clock of a stepper that is bound to it, this
@@ -197,4 +197,21 @@ pub fn moving_steppers_stop_with_their_trigger()
         slot_at (stands_after (first_state (board_at m b) pins b entries) (later ++ t ∷ (between ++ early))).core.board (trigger_of m b) ≡ Some slot → slot.trigger.can ≡ false →
         (pulses : List Pulse) × ((stands_after (first_state (board_at m b) pins b entries) (between ++ early)).core.made ++ pulses ≡
         (stands_after (first_state (board_at m b) pins b entries) (later ++ t ∷ (between ++ early))).core.made) × AllBefore (machine.stepper_at m stepper).oid slot.trigger.tick pulses }
+{}
+
+/// The law of timeouts, of homing sections: from the turn on in which a board took the command that binds a stepper that moves in a homing
+/// section to the board's trigger, behind a timeout of the section, the stepper makes no pulse at or after a tick, where each timeout that
+/// the board takes is read as a tick that is at most this one, whatever happens on the lines.
+pub fn moving_steppers_stop_at_their_timeouts()
+    ensures { (m : Machine) (switches : List Switch) (pins : List (List Level)) (entries : List Entry) (b stepper : ℕ) (came : List Came) (later : List BoardTurn) (t : BoardTurn) (between early : List BoardTurn) (from start : ℕ) (members : List Member)
+        (front : List Meant) (set : Meant) (middle : List Meant) (bind : Meant) (behind : List Meant) (clock most : ℕ) →
+        IsValidMachine m → IsInRun m switches pins entries b came (later ++ t ∷ (between ++ early)) → HomesFrom m switches from start members came → from + 254 ≡ start → Moves b stepper members →
+        stepper < length m.steppers → (machine.stepper_at m stepper).board ≡ b →
+        SetNoClockFrom from (later ++ t ∷ (between ++ early)) → SendNoneIn from (from + 4) (later ++ t ∷ (between ++ early)) → length early ≡ from →
+        (stands_after (first_state (board_at m b) pins b entries) (later ++ t ∷ (between ++ early))).core.taken ≡ queued_by early ++ ((front ++ set ∷ middle) ++ bind ∷ behind) →
+        set.command ≡ TrsyncSetTimeout (trigger_of m b) clock → bind.command ≡ StepperStopOnTrigger (machine.stepper_at m stepper).oid (trigger_of m b) →
+        TookInTurn (first_state (board_at m b) pins b entries) (queued_by early ++ (front ++ set ∷ middle)) t (between ++ early) →
+        ReadsAtMost (board_tick (clock_of (board_at m b))) (trigger_of m b) most (first_state (board_at m b) pins b entries) (later ++ t ∷ (between ++ early)) →
+        (pulses : List Pulse) × ((stands_after (first_state (board_at m b) pins b entries) (between ++ early)).core.made ++ pulses ≡
+        (stands_after (first_state (board_at m b) pins b entries) (later ++ t ∷ (between ++ early))).core.made) × AllBefore (machine.stepper_at m stepper).oid most pulses }
 {}

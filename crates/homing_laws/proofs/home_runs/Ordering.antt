@@ -133,7 +133,7 @@ IsBound far = far ≡ 4
 pub no_match : (a b : ℕ) → (a ≡ b → ⊥) → (a == b) ≡ false
 no_match a b d = elim (eqb_tells a b) [ inl p ↦ absurd (d p.1) | inr p ↦ p.0 ]
 
-pub either_way : (t : Bool) (m n : ℕ) → m ≡ n → cond t m n ≡ n
+either_way : (t : Bool) (m n : ℕ) → m ≡ n → cond t m n ≡ n
 either_way true m n e = e
 either_way false m n e = refl
 

@@ -30,31 +30,31 @@ use Rattle.homing_laws.specs.home_runs.SetUps.{TookInTurn}
 use Rattle.homing_laws.proofs.home_runs.Staging.{commands_both}
 
 -- what an event is to the board, and what some steps are
-abbrev rig_in : Core → Event → List RigStep
+abbrev pub rig_in : Core → Event → List RigStep
 rig_in h (event.Pass t) = cond (nat_le h.board.controller.tick t) (Passes (all_left t h.board.triggers + 1) t ∷ []) []
 rig_in h e = map Takes (commands_of (takes_in h e))
 
-abbrev rig_steps : List Step → Core → List RigStep
+abbrev pub rig_steps : List Step → Core → List RigStep
 rig_steps [] h = []
 rig_steps (Do e ∷ steps) h = rig_in h e ++ rig_steps steps (happens h e)
 rig_steps (Turn turn ∷ steps) h = rig_steps steps (in_turn h turn)
 
-abbrev took : List Step → Core → List Meant
+abbrev pub took : List Step → Core → List Meant
 took [] h = []
 took (Do e ∷ steps) h = takes_in h e ++ took steps (happens h e)
 took (Turn turn ∷ steps) h = took steps (in_turn h turn)
 
-took_is : (steps : List Step) (h : Core) → (run steps h).taken ≡ h.taken ++ took steps h
+pub took_is : (steps : List Step) (h : Core) → (run steps h).taken ≡ h.taken ++ took steps h
 took_is [] h = sym (append-nil h.taken)
 took_is (Do e ∷ steps) h = took_is steps (happens h e) ∙ append_assoc h.taken (takes_in h e) (took steps (happens h e))
 took_is (Turn turn ∷ steps) h = took_is steps (in_turn h turn)
 
 -- the board behind it, and its pulses
-takes_rig : (r : Rig) (cs : List Cmd) → rig_after_all (map Takes cs) r ≡ (takes_all r cs).rig
+pub takes_rig : (r : Rig) (cs : List Cmd) → rig_after_all (map Takes cs) r ≡ (takes_all r cs).rig
 takes_rig r [] = refl
 takes_rig r (c ∷ cs) = takes_rig (takes r c).rig cs
 
-takes_none : (r : Rig) (cs : List Cmd) → all_made (map Takes cs) r ≡ []
+pub takes_none : (r : Rig) (cs : List Cmd) → all_made (map Takes cs) r ≡ []
 takes_none r [] = refl
 takes_none r (c ∷ cs) = takes_none (takes r c).rig cs
 
@@ -66,7 +66,7 @@ time_made : (b : Bool) (n : ℕ) (r : Rig) (t : ℕ) → (cond b (pass n r t) (r
 time_made true n r t = sym (append-nil (pass n r t).pulses)
 time_made false n r t = refl
 
-event_board : (h : Core) (e : Event) → (does h e).board ≡ rig_after_all (rig_in h e) h.board
+pub event_board : (h : Core) (e : Event) → (does h e).board ≡ rig_after_all (rig_in h e) h.board
 event_board h (event.Pass t) = time_board (nat_le h.board.controller.tick t) (all_left t h.board.triggers + 1) h.board t
 event_board h e = sym (takes_rig h.board (commands_of (takes_in h e)))
 
@@ -74,21 +74,21 @@ event_made : (h : Core) (e : Event) → (does h e).pulses ≡ all_made (rig_in h
 event_made h (event.Pass t) = time_made (nat_le h.board.controller.tick t) (all_left t h.board.triggers + 1) h.board t
 event_made h e = sym (takes_none h.board (commands_of (takes_in h e)))
 
-made_both : (xs ys : List RigStep) (r : Rig) → all_made (xs ++ ys) r ≡ all_made xs r ++ all_made ys (rig_after_all xs r)
+pub made_both : (xs ys : List RigStep) (r : Rig) → all_made (xs ++ ys) r ≡ all_made xs r ++ all_made ys (rig_after_all xs r)
 made_both [] ys r = refl
 made_both (Takes c ∷ xs) ys r = made_both xs ys (rig_after r (Takes c))
 made_both (Passes n t ∷ xs) ys r =
     ap (λ (ps : List Pulse). (pass n r t).pulses ++ ps) (made_both xs ys (rig_after r (Passes n t)))
     ∙ sym (append_assoc (pass n r t).pulses (all_made xs (rig_after r (Passes n t))) (all_made ys (rig_after_all xs (rig_after r (Passes n t)))))
 
-steps_board : (steps : List Step) (h : Core) → (run steps h).board ≡ rig_after_all (rig_steps steps h) h.board
+pub steps_board : (steps : List Step) (h : Core) → (run steps h).board ≡ rig_after_all (rig_steps steps h) h.board
 steps_board [] h = refl
 steps_board (Do e ∷ steps) h =
     let rest = rig_steps steps (happens h e) in
     steps_board steps (happens h e) ∙ ap (rig_after_all rest) (event_board h e) ∙ sym (after_both (rig_in h e) rest h.board)
 steps_board (Turn turn ∷ steps) h = steps_board steps (in_turn h turn)
 
-steps_made : (steps : List Step) (h : Core) → (run steps h).made ≡ h.made ++ all_made (rig_steps steps h) h.board
+pub steps_made : (steps : List Step) (h : Core) → (run steps h).made ≡ h.made ++ all_made (rig_steps steps h) h.board
 steps_made [] h = sym (append-nil h.made)
 steps_made (Do e ∷ steps) h =
     let g = happens h e in
@@ -98,7 +98,7 @@ steps_made (Do e ∷ steps) h =
     (ap (λ (ps : List Pulse). ps ++ all_made rest g.board) (event_made h e) ∙ ap (λ (r : Rig). all_made (rig_in h e) h.board ++ all_made rest r) (event_board h e) ∙ sym (made_both (rig_in h e) rest h.board))
 steps_made (Turn turn ∷ steps) h = steps_made steps (in_turn h turn)
 
-rig_append : (xs ys : List Step) (h : Core) → rig_steps (xs ++ ys) h ≡ rig_steps xs h ++ rig_steps ys (run xs h)
+pub rig_append : (xs ys : List Step) (h : Core) → rig_steps (xs ++ ys) h ≡ rig_steps xs h ++ rig_steps ys (run xs h)
 rig_append [] ys h = refl
 rig_append (Do e ∷ xs) ys h =
     ap (λ (l : List RigStep). rig_in h e ++ l) (rig_append xs ys (happens h e)) ∙ sym (append_assoc (rig_in h e) (rig_steps xs (happens h e)) (rig_steps ys (run xs (happens h e))))
@@ -109,10 +109,10 @@ held_in : (h : Core) (e : Event) → IsHeld e → rig_in h e ≡ map Takes (comm
 held_in h (event.Pass t) k = absurd k
 held_in h e k = refl
 
-takes_both : (xs ys : List Meant) → map Takes (commands_of (xs ++ ys)) ≡ map Takes (commands_of xs) ++ map Takes (commands_of ys)
+pub takes_both : (xs ys : List Meant) → map Takes (commands_of (xs ++ ys)) ≡ map Takes (commands_of xs) ++ map Takes (commands_of ys)
 takes_both xs ys = ap (map Takes) (commands_both xs ys) ∙ map-append Takes (commands_of xs) (commands_of ys)
 
-held_steps : (steps : List Step) (h : Core) → AllHold steps → rig_steps steps h ≡ map Takes (commands_of (took steps h))
+pub held_steps : (steps : List Step) (h : Core) → AllHold steps → rig_steps steps h ≡ map Takes (commands_of (took steps h))
 held_steps [] h k = refl
 held_steps (Do e ∷ steps) h k =
     ap (λ (l : List RigStep). l ++ rig_steps steps (happens h e)) (held_in h e k.0) ∙ ap (λ (l : List RigStep). map Takes (commands_of (takes_in h e)) ++ l) (held_steps steps (happens h e) k.1)
@@ -124,16 +124,16 @@ abbrev pub EachBehind : ℕ → ℕ → List Meant → Type 0
 EachBehind i j [] = Unit {0}
 EachBehind i j (m ∷ ms) = IsBehind i j m.command × EachBehind i j ms
 
-behind_parts : (i j : ℕ) (xs ys : List Meant) → EachBehind i j (xs ++ ys) → EachBehind i j xs × EachBehind i j ys
+pub behind_parts : (i j : ℕ) (xs ys : List Meant) → EachBehind i j (xs ++ ys) → EachBehind i j xs × EachBehind i j ys
 behind_parts i j [] ys b = (tt, b)
 behind_parts i j (x ∷ xs) ys b = let parts = behind_parts i j xs ys b.1 in ((b.0, parts.0), parts.1)
 
-behind_both : (i j : ℕ) (xs ys : List RigStep) → AreBehind i j xs → AreBehind i j ys → AreBehind i j (xs ++ ys)
+pub behind_both : (i j : ℕ) (xs ys : List RigStep) → AreBehind i j xs → AreBehind i j ys → AreBehind i j (xs ++ ys)
 behind_both i j [] ys a b = b
 behind_both i j (Takes c ∷ xs) ys a b = (a.0, behind_both i j xs ys a.1 b)
 behind_both i j (Passes n t ∷ xs) ys a b = behind_both i j xs ys a b
 
-takes_behind : (i j : ℕ) (ms : List Meant) → EachBehind i j ms → AreBehind i j (map Takes (commands_of ms))
+pub takes_behind : (i j : ℕ) (ms : List Meant) → EachBehind i j ms → AreBehind i j (map Takes (commands_of ms))
 takes_behind i j [] b = tt
 takes_behind i j (m ∷ ms) b = (b.0, takes_behind i j ms b.1)
 
@@ -153,11 +153,11 @@ steps_behind i j (Do e ∷ steps) h b =
 steps_behind i j (Turn turn ∷ steps) h b = steps_behind i j steps (in_turn h turn) b
 
 -- steps that take nothing
-abbrev TakesNone : Step → Type 0
+abbrev pub TakesNone : Step → Type 0
 TakesNone (Do e) = (h : Core) → takes_in h e ≡ []
 TakesNone (Turn turn) = Unit {0}
 
-took_none : (steps : List Step) (h : Core) → AllOf TakesNone steps → took steps h ≡ []
+pub took_none : (steps : List Step) (h : Core) → AllOf TakesNone steps → took steps h ≡ []
 took_none [] h k = refl
 took_none (Do e ∷ steps) h k = ap (λ (ms : List Meant). ms ++ took steps (happens h e)) (k.0 h) ∙ took_none steps (happens h e) k.1
 took_none (Turn turn ∷ steps) h k = took_none steps (in_turn h turn) k.1
@@ -169,12 +169,12 @@ replies_none Stays = (λ h. refl, (λ h. refl, (λ h. refl, tt)))
 replies_none Garbled = (λ h. refl, tt)
 
 -- a turn: what the board does while it stands, and the rest, in which it takes nothing
-record TurnParts (l m : LinkState) : Type 0 where
-  held : List Step
-  on : List Step
-  holds : AllHold held
-  none : AllOf TakesNone on
-  is : m.core ≡ run on (run held l.core)
+pub record TurnParts (l m : LinkState) : Type 0 where
+  pub held : List Step
+  pub on : List Step
+  pub holds : AllHold held
+  pub none : AllOf TakesNone on
+  pub is : m.core ≡ run on (run held l.core)
 
 parts_same : (clock : BoardClock) (turn : ℕ) (o : Orders) (resent : Bool) (l : LinkState) → TurnParts l (after_replies turn (after_board clock turn (after_host turn o resent l)))
 parts_same clock turn o resent l =
@@ -191,11 +191,11 @@ parts_same clock turn o resent l =
       is = sym (ap (λ (h : Core). run up (run pass h)) (run_append (host_steps turn o resent) down l.core) ∙ ap (λ (h : Core). run up h) (sym (run_append down pass l1.core)));
     }
 
-turn_parts : (clock : BoardClock) (turn : ℕ) (o : Orders) (l m : LinkState) → IsTurn clock turn o l m → TurnParts l m
+pub turn_parts : (clock : BoardClock) (turn : ℕ) (o : Orders) (l m : LinkState) → IsTurn clock turn o l m → TurnParts l m
 turn_parts clock turn o l m t = subst (λ (x : LinkState). TurnParts l x) (sym t.becomes) (parts_same clock turn o t.resent l)
 
 -- turns behind some others, as steps
-later_steps : (clock : BoardClock) (first : LinkState) (later past : List BoardTurn) → AreBoardTurns clock first (later ++ past) → (steps : List Step) × ((stands_after first (later ++ past)).core ≡ run steps (stands_after first past).core)
+pub later_steps : (clock : BoardClock) (first : LinkState) (later past : List BoardTurn) → AreBoardTurns clock first (later ++ past) → (steps : List Step) × ((stands_after first (later ++ past)).core ≡ run steps (stands_after first past).core)
 later_steps clock first [] past are = ([], refl)
 later_steps clock first (t ∷ later) past are =
     let before = later ++ past in
@@ -208,7 +208,7 @@ later_steps clock first (t ∷ later) past are =
 cons_is : {A : Type 0} (x y : A) (xs ys : List A) → x ∷ xs ≡ y ∷ ys → (x ≡ y) × (xs ≡ ys)
 cons_is x y xs ys e = (cc, cc)
 
-fits : (xs new front rest : List Meant) → xs ++ new ≡ front ++ rest → length xs ≤ length front → (f : List Meant) × (front ≡ xs ++ f) × (new ≡ f ++ rest)
+pub fits : (xs new front rest : List Meant) → xs ++ new ≡ front ++ rest → length xs ≤ length front → (f : List Meant) × (front ≡ xs ++ f) × (new ≡ f ++ rest)
 fits [] new front rest e l = (front, refl, e)
 fits (x ∷ xs) new [] rest e l = absurd (omega (arith, l))
 fits (x ∷ xs) new (y ∷ front) rest e l =

@@ -35,7 +35,7 @@ use Rattle.homing_laws.proofs.home_runs.Joining.{all_queued, small_by}
 use Rattle.homing_laws.proofs.home_runs.Ordering.{far_all, no_match, order_rest, taken_in_order}
 use Rattle.homing_laws.proofs.home_runs.Staging.{commands_both, stage_append, staged_after, took_in}
 use Rattle.homing_laws.proofs.home_runs.Stopping.{EachBehind, HasWhereRuns, behind_parts, stops_in_turns}
-use Rattle.homing_laws.proofs.home_runs.Timing.{AreWhole, HasThen, commands_in, limits_in_turns, sound_along, staged_along_rig}
+use Rattle.homing_laws.proofs.home_runs.Timing.{HasThen, commands_in, limits_in_turns, sound_along, staged_along_rig}
 use Rattle.homing_laws.proofs.home_runs.Whole.{Only, Ready, only_parts, queue_only, ready_on, run_only, run_ready}
 use Rattle.homing_laws.proofs.home_runs.Windows.{ordered_after}
 

@@ -1,9 +1,7 @@
 -- A stepper that is bound behind its trigger's first timeout makes no pulse at or behind the tick up to which the timeouts are read.
-use Rattle.std.proofs.Common.{◌≡◌, ℕ, suc, ◌+◌, ◌<◌, ◌≤◌, ◌==◌, ◌&&◌, Bool, true, false, cond, List, [], ◌∷◌, ◌++◌, length, map, Some, refl, ap, sym, ◌∙◌, subst, arith, inl, inr, append_assoc, append-nil, length-append, drop}
-use Rattle.std.specs.Prelude.{max, nat_le}
-use Rattle.std.proofs.lemmas.Bool.{eq-eqb}
+use Rattle.std.proofs.Common.{◌≡◌, ℕ, ◌+◌, ◌<◌, ◌≤◌, Bool, true, false, cond, List, [], ◌∷◌, ◌++◌, length, map, refl, ap, sym, ◌∙◌, subst, arith, inl, inr, append_assoc, append-nil, length-append}
+use Rattle.std.specs.Prelude.{nat_le}
 use Rattle.std.proofs.lemmas.Bool.Decides.{leb_tells}
-use Rattle.std.proofs.lemmas.List.{append_cancel_left, map-append, take-append-drop}
 use Rattle.plan_types.specs.declared.levels.Level.{Level}
 use Rattle.plan_types.specs.declared.machine.BoardDef.{BoardDef}
 use Rattle.plan_types.specs.declared.plan.BoardState.TheVariants.{Running}
@@ -12,9 +10,8 @@ use Rattle.plan_types.specs.Clock.{board_tick, clock_of}
 use Rattle.wire_scene.specs.declared.scene.Entry.{Entry}
 use Rattle.msg_code.specs.declared.cmd.Cmd.{Cmd}
 use Rattle.msg_code.specs.declared.cmd.Cmd.TheVariants as cmd
-use Rattle.board_sim.specs.Board.{is_shut}
 use Rattle.board_sim.specs.Fair.{Meant, commands_of}
-use Rattle.board_sim.specs.Rig.{Rig, all_left, pass, passes, takes, takes_all}
+use Rattle.board_sim.specs.Rig.{Rig, all_left, pass, passes, takes}
 use Rattle.board_sim.specs.RigRuns.{AllBefore, AllSound, AreBehind, AreTimely, IsBehind, IsTimely, Passes, RigStep, Takes, all_made, rig_after, rig_after_all}
 use Rattle.board_sim.proofs.RigStates.{all_tick}
 use Rattle.board_sim.proofs.Sound.{passes_sound, takes_sound}
@@ -32,7 +29,7 @@ use Rattle.homing_board.proofs.Timed.{runs_or_shut, stays_shut}
 use Rattle.homing_laws.specs.home_runs.SetUps.{AreReadBy, ReadsAtMost, TookInTurn}
 use Rattle.homing_laws.proofs.clear_boards.Standing.{tick_is}
 use Rattle.homing_laws.proofs.home_runs.Staging.{StagedBy, commands_both, time_staged, took_staged}
-use Rattle.homing_laws.proofs.home_runs.Stopping.{EachBehind, TakesNone, TurnParts, event_board, fits, held_steps, made_both, rig_append, rig_in, rig_steps, steps_board, steps_made, takes_both, takes_none, takes_rig, took, took_is, took_none, turn_parts}
+use Rattle.homing_laws.proofs.home_runs.Stopping.{EachBehind, TakesNone, TurnParts, event_board, fits, held_steps, made_both, rig_append, rig_in, rig_steps, steps_board, steps_made, takes_both, takes_none, took, took_is, took_none, turn_parts}
 
 -- the commands in what comes to a board
 abbrev pub commands_in : List RigStep → List Cmd

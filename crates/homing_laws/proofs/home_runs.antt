@@ -24,3 +24,7 @@ pub mod Knowing
 pub mod Unclocked
 pub mod Homed
 pub mod Clear
+pub mod Ordering
+pub mod Stopping
+pub mod Stopped
+pub mod Timing

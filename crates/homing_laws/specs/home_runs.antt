@@ -6,3 +6,4 @@ pub mod Sections
 pub mod Settled
 pub mod Words
 pub mod Ended
+pub mod SetUps

@@ -1,14 +1,18 @@
 //! Homing over the turns of a run: a board, its link, and the group that it is a member of.
 
-ghost use Rattle.std.specs.Prelude.{◌≡◌, ◌<◌, ◌≤◌, ◌+◌, ◌++◌, ◌∷◌, ℕ, All, List, [], Option, Some, length, map, true};
+ghost use Rattle.std.specs.Prelude.{◌≡◌, ◌<◌, ◌≤◌, ◌+◌, ◌++◌, ◌∷◌, ℕ, All, List, [], Option, Some, length, false, map, true};
 ghost use Rattle.plan_types.specs.declared.levels.Level.{Level};
 ghost use Rattle.plan_types.specs.declared.machine.BoardDef.{BoardDef};
 ghost use Rattle.plan_types.specs.declared.machine.Machine.{Machine};
-ghost use Rattle.plan_types.specs.Clock.{clock_of};
+ghost use Rattle.plan_types.specs.Clock.{board_tick, clock_of};
 ghost use Rattle.wire_scene.specs.declared.scene.Entry.{Entry};
 ghost use Rattle.wire_scene.specs.declared.scene.Switch.{Switch};
+ghost use Rattle.board_asking.specs.Machine.{trigger_of};
 ghost use Rattle.board_sim.specs.Board.{stepper_at};
-ghost use Rattle.board_sim.specs.RigRuns.{IsHalted};
+ghost use Rattle.board_sim.specs.Fair.{Meant, commands_of};
+ghost use Rattle.board_sim.specs.Rig.{Slot, slot_at};
+ghost use Rattle.board_sim.specs.RigRuns.{AllBefore, IsHalted};
+ghost use Rattle.plan_types.specs.declared.plan.Pulse.{Pulse};
 ghost use Rattle.link_work.specs.Stands.{first_state};
 ghost use Rattle.board_runs.specs.Turns.{AreBoardTurns, BoardTurn, stands_after};
 ghost use Rattle.trigger_group.specs.declared.order.End.{End};
@@ -23,7 +27,8 @@ ghost use Rattle.clock_runs.specs.Runs.{IsInRun};
 ghost use Rattle.plan_types.specs.declared.plan.BoardState.TheVariants.{Running};
 ghost use Rattle.plan_types.specs.Machines.{IsValidMachine, board_at};
 ghost use Rattle.plan_types.specs.Machines as machine;
-ghost use Rattle.homing_laws.specs.home_runs.Sections.{HomesFrom, IsAnswered, IsMoved, Moves, RestsInTime, SpoilsFew, TakesSetUp};
+ghost use Rattle.homing_laws.specs.home_runs.Sections.{HomesFrom, IsAnswered, IsMoved, Moves, RestsInTime, SpoilsFew, TakesSetUp, queued_by};
+ghost use Rattle.homing_laws.specs.home_runs.SetUps.{AreInOrder, ReadsAtMost, TookInTurn};
 ghost use Rattle.section_units.specs.Sections.{BoardSection};
 ghost use Rattle.trigger_group.specs.declared.order.Member.{Member};
 ghost use Rattle.link_work.specs.Limits.{AllKeepLimits};
@@ -43,7 +48,7 @@ ghost use Rattle.homing_laws.specs.home_runs.Words.{BeginsNone, IsBegunIn, Tells
 ghost use Rattle.homing_laws.specs.home_runs.Ended.{AreToldIn, IsToldIn};
 ghost use Rattle.homing_laws.specs.home_runs.Windows.{BringCalm, HasAnswer, IsSetUp, IsWatched, TellFired};
 ghost use Rattle.homing_laws.specs.home_runs.Guards.{ReasonFits, StandsFired};
-ghost use Rattle.msg_code.specs.declared.cmd.Cmd.TheVariants.{TrsyncState};
+ghost use Rattle.msg_code.specs.declared.cmd.Cmd.TheVariants.{StepperStopOnTrigger, TrsyncSetTimeout, TrsyncState};
 
 /// The law of told triggers: where a board took the set-up of a homing section by a turn at whose end nothing that it said is still
 /// under way, and from there on nothing comes that starts its trigger anew or sets the clock of a stepper that is bound to it, this
@@ -164,4 +169,49 @@ pub fn told_boards_are_home_boards()
         (turns_told (clock_of (board_at m b)) 0 (orders_in turns) states (first_state (board_at m b) pins b entries) end told)) →
         AreToldIn m switches pins entries b stops ss turns →
         IsHomeBoard b entries ready (length turns) ss (record { board = board_at m b; pins = pins; clocks = clocks; sections = map (λ s. s.section) ss; orders = orders_in turns; states = states }) }
+{}
+
+/// The law of order, of homing sections: of what a board was sent from 254 turns before the start of a homing section on, it takes the
+/// commands of the section in order, whatever happens on the lines: no unit of a stepper that moves in it before the stepper's clock was
+/// set, the trigger started, a timeout set, and the stepper bound to the trigger, one behind the other; and nothing sets its clock from
+/// there on. This asks that no unit sets a clock in these turns, and none is sent in the first four.
+pub fn set_ups_are_taken_in_order()
+    ensures { (m : Machine) (switches : List Switch) (pins : List (List Level)) (entries : List Entry) (b stepper : ℕ) (came : List Came) (later early : List BoardTurn) (from start : ℕ) (members : List Member) (own : List Meant) →
+        IsInRun m switches pins entries b came (later ++ early) → HomesFrom m switches from start members came → from + 254 ≡ start → Moves b stepper members →
+        SetNoClockFrom from (later ++ early) → SendNoneIn from (from + 4) (later ++ early) → length early ≡ from →
+        (stands_after (first_state (board_at m b) pins b entries) (later ++ early)).core.taken ≡ queued_by early ++ own →
+        AreInOrder (machine.stepper_at m stepper).oid (trigger_of m b) 0 (commands_of own) }
+{}
+
+/// The law of bound steppers, of homing sections: from the turn on in which a board took the command that binds a stepper that moves in a
+/// homing section to the board's trigger, the stepper makes no pulse at or after the tick at which the trigger triggered, up to any turn at
+/// whose end this can't trigger, whatever happens on the lines, and none at all where the trigger couldn't trigger as it was bound.
+pub fn moving_steppers_stop_with_their_trigger()
+    ensures { (m : Machine) (switches : List Switch) (pins : List (List Level)) (entries : List Entry) (b stepper : ℕ) (came : List Came) (later : List BoardTurn) (t : BoardTurn) (between early : List BoardTurn) (from start : ℕ) (members : List Member)
+        (front : List Meant) (bind : Meant) (behind : List Meant) (slot : Slot) →
+        IsValidMachine m → IsInRun m switches pins entries b came (later ++ t ∷ (between ++ early)) → HomesFrom m switches from start members came → from + 254 ≡ start → Moves b stepper members →
+        stepper < length m.steppers → (machine.stepper_at m stepper).board ≡ b →
+        SetNoClockFrom from (later ++ t ∷ (between ++ early)) → SendNoneIn from (from + 4) (later ++ t ∷ (between ++ early)) → length early ≡ from →
+        (stands_after (first_state (board_at m b) pins b entries) (later ++ t ∷ (between ++ early))).core.taken ≡ queued_by early ++ (front ++ bind ∷ behind) →
+        bind.command ≡ StepperStopOnTrigger (machine.stepper_at m stepper).oid (trigger_of m b) → TookInTurn (first_state (board_at m b) pins b entries) (queued_by early ++ front) t (between ++ early) →
+        slot_at (stands_after (first_state (board_at m b) pins b entries) (later ++ t ∷ (between ++ early))).core.board (trigger_of m b) ≡ Some slot → slot.trigger.can ≡ false →
+        (pulses : List Pulse) × ((stands_after (first_state (board_at m b) pins b entries) (between ++ early)).core.made ++ pulses ≡
+        (stands_after (first_state (board_at m b) pins b entries) (later ++ t ∷ (between ++ early))).core.made) × AllBefore (machine.stepper_at m stepper).oid slot.trigger.tick pulses }
+{}
+
+/// The law of timeouts, of homing sections: from the turn on in which a board took the command that binds a stepper that moves in a homing
+/// section to the board's trigger, behind a timeout of the section, the stepper makes no pulse at or after a tick, where each timeout that
+/// the board takes is read as a tick that is at most this one, whatever happens on the lines.
+pub fn moving_steppers_stop_at_their_timeouts()
+    ensures { (m : Machine) (switches : List Switch) (pins : List (List Level)) (entries : List Entry) (b stepper : ℕ) (came : List Came) (later : List BoardTurn) (t : BoardTurn) (between early : List BoardTurn) (from start : ℕ) (members : List Member)
+        (front : List Meant) (set : Meant) (middle : List Meant) (bind : Meant) (behind : List Meant) (clock most : ℕ) →
+        IsValidMachine m → IsInRun m switches pins entries b came (later ++ t ∷ (between ++ early)) → HomesFrom m switches from start members came → from + 254 ≡ start → Moves b stepper members →
+        stepper < length m.steppers → (machine.stepper_at m stepper).board ≡ b →
+        SetNoClockFrom from (later ++ t ∷ (between ++ early)) → SendNoneIn from (from + 4) (later ++ t ∷ (between ++ early)) → length early ≡ from →
+        (stands_after (first_state (board_at m b) pins b entries) (later ++ t ∷ (between ++ early))).core.taken ≡ queued_by early ++ ((front ++ set ∷ middle) ++ bind ∷ behind) →
+        set.command ≡ TrsyncSetTimeout (trigger_of m b) clock → bind.command ≡ StepperStopOnTrigger (machine.stepper_at m stepper).oid (trigger_of m b) →
+        TookInTurn (first_state (board_at m b) pins b entries) (queued_by early ++ (front ++ set ∷ middle)) t (between ++ early) →
+        ReadsAtMost (board_tick (clock_of (board_at m b))) (trigger_of m b) most (first_state (board_at m b) pins b entries) (later ++ t ∷ (between ++ early)) →
+        (pulses : List Pulse) × ((stands_after (first_state (board_at m b) pins b entries) (between ++ early)).core.made ++ pulses ≡
+        (stands_after (first_state (board_at m b) pins b entries) (later ++ t ∷ (between ++ early))).core.made) × AllBefore (machine.stepper_at m stepper).oid most pulses }
 {}

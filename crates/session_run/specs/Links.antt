@@ -7,7 +7,7 @@ use Rattle.msg_code.specs.declared.unit.Control.{Control}
 use Rattle.msg_code.specs.declared.talk.State.{State}
 use Rattle.link_work.specs.Ends.{is_quiet_line}
 use Rattle.link_work.specs.Held.{IsCounted, hold, lead_of, spoiled_with}
-use Rattle.link_work.specs.Late.{HasCause, TellsCause}
+use Rattle.link_work.specs.Late.{HasCause, TakesInTime, TellsCause}
 use Rattle.link_work.specs.Stands.{CanTurn, GoesOn, IsKnown, Seen, StandsFor, orders}
 use Rattle.link_work.specs.Told.{IsShutNews, IsTold}
 use Rattle.link_work.specs.Turn.{IsTurn, LinkState}
@@ -28,6 +28,8 @@ pub record Turns (x : Seen) (k : ℕ) (c : Control) (b : Batch) (s : State) (y :
   pub held : y.held ≡ (if s.idle then [] else hold x.held k b.units)
   pub counted : IsCounted (lead_of x.clock.drift) (spoiled_with x.spoiled k (is_quiet_line y.down k && is_quiet_line y.up k)) (hold x.held k b.units) s.shut
   pub cause : TellsCause x k (orders c b) s.shut
+  -- what the board hasn't taken is younger than the stretch's spoiled turns are many
+  pub in_time : TakesInTime x k (orders c b) y.spoiled
   pub clock : y.clock ≡ x.clock
   pub turn : y.turn ≡ k + 1
   pub few : k < 2 ^ 59

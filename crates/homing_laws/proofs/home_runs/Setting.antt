@@ -178,7 +178,7 @@ commands_both m clocks b start axis (x ∷ xs) ys =
     ap (λ (l : List Cmd). command_to m clocks b start axis x ++ l) (commands_both m clocks b start axis xs ys)
     ∙ sym (append_assoc (command_to m clocks b start axis x) (commands_to m clocks b start axis xs) (commands_to m clocks b start axis ys))
 
-abbrev AllTo : ℕ → List Ctl → Type 0
+abbrev pub AllTo : ℕ → List Ctl → Type 0
 AllTo b [] = Unit {0}
 AllTo b (c ∷ cs) = (c.board ≡ b) × AllTo b cs
 
@@ -198,7 +198,7 @@ to_fired : (b : ℕ) (o : Option Fired) (xs : List Ctl) → AllTo b xs → AllTo
 to_fired b None xs a = a
 to_fired b (Some f) xs a = tt
 
-orders_are_to : (round : Round) (x : Seen) → AllTo x.member.board (orders_to round x)
+pub orders_are_to : (round : Round) (x : Seen) → AllTo x.member.board (orders_to round x)
 orders_are_to (Resets row) x = to_map x _ (take 6 (drop (row * 6) (steppers x))) (λ k. refl)
 orders_are_to (Starts timeout) x = (refl, (refl, to_map x (stop x) (take 8 (steppers x)) (λ k. refl)))
 orders_are_to Homes x =
@@ -218,11 +218,11 @@ none_to i j m clocks b c start axis (x ∷ ctls) a d =
     (subst (λ (t : Bool). EachCalm i j (cond t (order_command m clocks b start axis x.what ∷ []) [])) (sym no) tt) (none_to i j m clocks b c start axis ctls a.1 d)
 
 -- members on other boards
-abbrev NotOn : ℕ → List Seen → Type 0
+abbrev pub NotOn : ℕ → List Seen → Type 0
 NotOn b [] = Unit {0}
 NotOn b (x ∷ xs) = (x.member.board ≢ b) × NotOn b xs
 
-above_not : (b : ℕ) (xs : List Seen) → ((k : ℕ) (d : Member) → k < length (map (λ (s : Seen). s.member) xs) → b < (get_or (map (λ (s : Seen). s.member) xs) k d).board) → NotOn b xs
+pub above_not : (b : ℕ) (xs : List Seen) → ((k : ℕ) (d : Member) → k < length (map (λ (s : Seen). s.member) xs) → b < (get_or (map (λ (s : Seen). s.member) xs) k d).board) → NotOn b xs
 above_not b [] above = tt
 above_not b (x ∷ xs) above = (λ e. let h = above 0 x.member (omega arith) in absurd (omega (arith, h, e)), above_not b xs (λ k d l. above (suc k) d (omega (arith, l))))
 

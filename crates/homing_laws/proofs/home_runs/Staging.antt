@@ -408,7 +408,7 @@ all_staged i j s r (c ∷ cs) li lj e f k =
     all_staged i j (stage_of i j s c) (takes r c).rig cs li lj (takes_steppers r c ∙ e) (takes_places r c ∙ f)
     (λ runs. let ran = ran_by r.controller.state r c refl runs in takes_staged i j s r c ran (omega (arith, li, e)) (omega (arith, lj, f)) (k ran))
 
-took_staged : (i j : ℕ) (done : List Cmd) (r : Rig) (cs : List Cmd) → i < 256 → j < 256 → StagedBy i j done r → StagedBy i j (done ++ cs) (takes_all r cs).rig
+pub took_staged : (i j : ℕ) (done : List Cmd) (r : Rig) (cs : List Cmd) → i < 256 → j < 256 → StagedBy i j done r → StagedBy i j (done ++ cs) (takes_all r cs).rig
 took_staged i j done r cs li lj k =
     let x = all_staged i j (stage_from i j no_stage done) r cs li lj k.steppers k.triggers k.staged in
     record {
@@ -417,7 +417,7 @@ took_staged i j done r cs li lj k =
       staged = λ runs. subst (λ (s : Stage). Staged i j s (takes_all r cs).rig) (sym (stage_append i j no_stage done cs)) (x.2 runs);
     }
 
-time_staged : (i j : ℕ) (done : List Cmd) (r : Rig) (t : ℕ) → StagedBy i j done r → StagedBy i j done (passes r t).rig
+pub time_staged : (i j : ℕ) (done : List Cmd) (r : Rig) (t : ℕ) → StagedBy i j done r → StagedBy i j done (passes r t).rig
 time_staged i j done r t k = record {
   steppers = passes_steppers r t ∙ k.steppers;
   triggers = (passes_next i j r t).places ∙ k.triggers;
@@ -428,7 +428,7 @@ time_staged i j done r t k = record {
 abbrev pub StagedIn : ℕ → ℕ → Core → Type 0
 StagedIn i j h = StagedBy i j (commands_of h.taken) h.board
 
-took_in : (i j : ℕ) (h : Core) (ms : List Meant) → i < 256 → j < 256 → StagedIn i j h → StagedBy i j (commands_of (h.taken ++ ms)) (takes_all h.board (commands_of ms)).rig
+pub took_in : (i j : ℕ) (h : Core) (ms : List Meant) → i < 256 → j < 256 → StagedIn i j h → StagedBy i j (commands_of (h.taken ++ ms)) (takes_all h.board (commands_of ms)).rig
 took_in i j h ms li lj k = subst (λ (cs : List Cmd). StagedBy i j cs (takes_all h.board (commands_of ms)).rig) (sym (commands_both h.taken ms)) (took_staged i j (commands_of h.taken) h.board (commands_of ms) li lj k)
 
 none_in : (i j : ℕ) (h : Core) → StagedIn i j h → StagedBy i j (commands_of (h.taken ++ [])) h.board

@@ -16,6 +16,7 @@ returns-clause-state c =
       held = e.held;
       counted = e.counted;
       cause = e.cause;
+      in_time = e.in_time;
       clock = e.clock;
       turn = e.turn;
       few = c.requires.can.1.few;

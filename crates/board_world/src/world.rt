@@ -89,14 +89,16 @@ impl World {
         Ok(())
     }
 
-    fn put(&mut self, batch: &Batch) -> Result<(), AllocError>
+    /// The units of a batch are queued.
+    pub fn put(&mut self, batch: &Batch) -> Result<(), AllocError>
         ensures { OnOk result ((h : Core) → StandsFor self.old h → StandsFor self.new (happens h (Event.Put batch.now))) }
     {
         queue_units(&mut self.host, &self.formats, batch.units.as_slice())?;
         Ok(())
     }
 
-    fn control(&mut self, control: &Control) -> Result<(), AllocError>
+    /// The commands of a control are queued.
+    pub fn control(&mut self, control: &Control) -> Result<(), AllocError>
         ensures { OnOk result ((h : Core) → StandsFor self.old h → StandsFor self.new (happens h (Event.Control control.now))) }
     {
         queue_commands(&mut self.host, &self.formats, control.commands.as_slice())?;
@@ -194,7 +196,8 @@ impl World {
         self.up.lose();
     }
 
-    fn pass(&mut self, until: u64) -> Result<(), AllocError>
+    /// The board is run on to a tick.
+    pub fn pass(&mut self, until: u64) -> Result<(), AllocError>
         requires { until < tick_limit }
         ensures { OnOk result ((h : Core) → StandsFor self.old h → StandsFor self.new (happens h (Event.Pass until))) }
     {

@@ -34,10 +34,21 @@ fn billions(n: u128, guess: u64) -> u128
     n / 1_000_000_000
 }
 
+/// The ticks of a board that doesn't drift, up to one of the first turns.
+fn plain_ticks(freq: u32, turn: u64) -> u64
+    requires { turn < 2 ^ 31 }
+    ensures { result ≡ turn * freq * 1_000_000 / 1_000_000_000 }
+{
+    turn * u64::from(freq) / 1_000
+}
+
 /// The ticks that a board makes from its start up to a turn.
 fn ticks_to(clock: BoardClock, turn: u64) -> u128
     ensures { result ≡ turn * clock.freq * rate clock.drift / 1_000_000_000 }
 {
+    if clock.drift == 0 && turn < 1 << 31 {
+        return u128::from(plain_ticks(clock.freq, turn));
+    }
     let rate = rate(clock.drift);
     let millionths = u128::from(turn) * u128::from(clock.freq) * u128::from(rate);
     billions(

@@ -42,11 +42,11 @@ module _ {M L A F S : Type 0} (m : Motion M) (l : Link L) (a : Reactor A) (f : F
       subst (λ (w : F × S × Kept). Happened f s names lines files out kept w.0 w.1 w.2) (λ i. (sym fs i, sym os i, sym ks i)) h
 
   module _ (start : M) (links : List L) (machine : A) (x y : Desk F S) (files' : F) (out' : S) (kept' : Kept) where
-    pub told_run : (told : Option (Told A)) → IfSome told (λ t. IsRun m l a (desk_out f s) start links (head_at machine x) (ran_at t y))
+    pub told_run : (names : Machine) → x.machine.now ≡ names → (told : Option (Told A)) → IfSome told (λ t. IsRun m l a (desk_out f s) start links (head_at machine x) (ran_at t y))
         → (x.files.ghost_name ≡ y.files.ghost_name → files' ≡ y.files.now) → (x.out.ghost_name ≡ y.out.ghost_name → out' ≡ y.out.now) → (x.kept.ghost_name ≡ y.kept.ghost_name → kept' ≡ y.kept.now)
-        → IfSome told (λ t. IsToldRun m l a f s x.machine.now x.name.now start links machine x.files.now x.out.now x.kept.now t files' out' kept')
-    told_run None i fs os ks = tt
-    told_run (Some t) i fs os ks =
+        → IfSome told (λ t. IsToldRun m l a f s names x.name.now start links machine x.files.now x.out.now x.kept.now t files' out' kept')
+    told_run names e None i fs os ks = tt
+    told_run names e (Some t) i fs os ks =
         let rows = i.1 ++ i.2 ∷ [] in
         let d = outside_goes a (desk_out f s) (Desked f s) nothing then (λ d ls e o w. w.0) (λ d n z e w. w.0) _ 0 (head_at machine x) rows (ran_at t y).head i.4.1 in (
           i.0,
@@ -57,7 +57,8 @@ module _ {M L A F S : Type 0} (m : Motion M) (l : Link L) (a : Reactor A) (f : F
           y,
           i.4,
           i.5,
-          given x.machine.now (lines_of rows) x.files.now x.out.now x.kept.now y files' out' kept' (fs (sym d.0.0)) (os (sym d.0.1)) (ks (sym d.0.2)) d.1,
+          given names (lines_of rows) x.files.now x.out.now x.kept.now y files' out' kept' (fs (sym d.0.0)) (os (sym d.0.1)) (ks (sym d.0.2))
+              (subst (λ n. Happened f s n (lines_of rows) x.files.now x.out.now x.kept.now y.files.now y.out.now y.kept.now) e d.1),
           (refl, refl, refl, refl),
           (sym (fs (sym d.0.0)), sym (os (sym d.0.1)), sym (ks (sym d.0.2)), d.0.4),
         )

@@ -6,7 +6,7 @@ use Rattle.report_text.specs.declared.line.ReportLine.{ReportLine}
 use Rattle.report_text.specs.Text.{line_text, report_text}
 use Rattle.report_write.specs.declared.write.WriteStop.{WriteStop}
 use Rattle.report_write.specs.Written.{WritesAll, WritesFront}
-use Rattle.report_write.proofs.Writing.{all-front, lines-front, report_text-append}
+use Rattle.report_write.proofs.Writing.{report_text-append, report_text-line}
 use Rattle.session_desk.specs.Counts.{with_pulse, with_pulses}
 use Rattle.session_desk.specs.Tells.{Said, StopsWriting, Tells, is_pulse, unless_pulse, without_pulses}
 
@@ -95,30 +95,36 @@ pub counted-one : (c d e : List ℕ) (lines : List ReportLine) (i : ℕ) (l : Re
 counted-one c d e lines i l h one two =
     counted-more c d e (take i lines) (get_or lines i l ∷ []) one two ∙ ap (λ t. with_pulses t c) (sym (take-more lines i l h))
 
--- all lines before one were told, and nothing more
-pub said-before : (m : Machine) (lines : List ReportLine) (i : ℕ) (old new : Option (List ℕ)) (k n : List ReportLine) (c e : List ℕ) → WritesAll old new (report_text m (take i lines)) → n ≡ k ++ without_pulses (take i lines)
-    → e ≡ with_pulses (take i lines) c → Said m lines old new k c n e
-said-before m lines i old new k n c e all keeps counts = record {
+-- the first lines were told, of which nothing was written
+pub said-unwritten : (m : Machine) (lines : List ReportLine) (i : ℕ) (w : Option (List ℕ)) (k n : List ReportLine) (c e : List ℕ) → n ≡ k ++ without_pulses (take i lines) → e ≡ with_pulses (take i lines) c → Said m lines w w k c n e
+said-unwritten m lines i w k n c e keeps counts = record {
   said = take i lines;
   rest = drop i lines;
   are = sym (take-append-drop i lines);
   keeps = keeps;
   counted = counts;
-  writes = all-front old new (report_text m (take i lines)) all;
+  writes = λ before is. ([], is ∙ ap Some (sym (append-nil before)), (report_text m (take i lines), refl));
 }
 
--- a line was told, of which the front was written, behind those before it
-pub said-front : (m : Machine) (lines : List ReportLine) (i : ℕ) (l : ReportLine) (old mid new : Option (List ℕ)) (k j n : List ReportLine) (c d e : List ℕ) → i < length lines → WritesAll old mid (report_text m (take i lines))
-    → WritesFront mid new (line_text m (get_or lines i l)) → j ≡ k ++ without_pulses (take i lines) → n ≡ j ++ without_pulses (get_or lines i l ∷ []) → d ≡ with_pulses (take i lines) c → e ≡ with_pulse (get_or lines i l) d
-    → Said m lines old new k c n e
-said-front m lines i l old mid new k j n c d e h all front one two three four = record {
-  said = take (i + 1) lines;
-  rest = drop (i + 1) lines;
-  are = sym (take-append-drop (i + 1) lines);
-  keeps = kept-one k j n lines i l h one two;
-  counted = counted-one c d e lines i l h three four;
-  writes = subst (λ ls. WritesFront old new (report_text m ls)) (sym (take-more lines i l h)) (lines-front m old mid new (take i lines) (get_or lines i l) [] all front);
+-- all lines were told, whose text or its front was written
+pub said-all : (m : Machine) (lines : List ReportLine) (old new : Option (List ℕ)) (text : List ℕ) (k n : List ReportLine) (c e : List ℕ) → text ≡ report_text m lines → WritesFront old new text → n ≡ k ++ without_pulses lines → e ≡ with_pulses lines c → Said m lines old new k c n e
+said-all m lines old new text k n c e is front keeps counts = record {
+  said = lines;
+  rest = [];
+  are = sym (append-nil lines);
+  keeps = keeps;
+  counted = counts;
+  writes = subst (λ t. WritesFront old new t) is front;
 }
+
+-- the text of one more line
+pub text-one : (m : Machine) (a b d : List ℕ) (lines : List ReportLine) (i : ℕ) (l : ReportLine) → i < length lines → b ≡ a ++ report_text m (take i lines) → d ≡ b ++ line_text m (get_or lines i l) → d ≡ a ++ report_text m (take (i + 1) lines)
+text-one m a b d lines i l h one two =
+    two ∙ ap (λ t. t ++ line_text m (get_or lines i l)) one ∙ append_assoc a (report_text m (take i lines)) (line_text m (get_or lines i l)) ∙ ap (λ t. a ++ t) (sym (report_text-line m (take i lines) (get_or lines i l)))
+    ∙ ap (λ ls. a ++ report_text m ls) (sym (take-more lines i l h))
+
+pub text-whole : (m : Machine) (a b : List ℕ) (lines : List ReportLine) (i : ℕ) → length lines ≤ i → b ≡ a ++ report_text m (take i lines) → b ≡ a ++ report_text m lines
+text-whole m a b lines i h one = one ∙ ap (λ ls. a ++ report_text m ls) (take_all i lines h)
 
 pub kept-whole : (k l lines : List ReportLine) (i : ℕ) → length lines ≤ i → l ≡ k ++ without_pulses (take i lines) → l ≡ k ++ without_pulses lines
 kept-whole k l lines i h one = one ∙ ap (λ t. k ++ without_pulses t) (take_all i lines h)

@@ -7,7 +7,7 @@ use crate::read::{ReadStop, read_piece};
 use crate::tell::{Kept, tell_lines};
 use io_core::{Files, Gate, Sink};
 use plan_types::{Cause, Listed, Machine};
-use report_text::ReportLine;
+use report_text::{LinePrinter, ReportLine};
 use session_lanes::{Told, run_back};
 use session_work::{LinkMachine, MotionMachine, Outside, Piece, ReactorMachine};
 use std::alloc::Global;
@@ -16,18 +16,18 @@ use std::thread::Threads;
 
 /// Borrowed files and a borrowed output, and what is kept of the run. All that the caller wants to know of afterwards is
 /// behind a reference.
-pub struct Desk<'a, F, S> {
+pub struct Desk<'a, 'm, F, S> {
     pub files: &'a mut F,
     pub out: &'a mut S,
     pub kept: &'a mut Kept,
     /// The machine whose names the report has.
-    pub machine: &'a Machine,
+    pub machine: &'a LinePrinter<'m>,
     /// The file of the text.
     pub name: &'a str,
     pub alloc: Global,
 }
 
-impl<'a, F, S> Drop for Desk<'a, F, S> {
+impl<'a, 'm, F, S> Drop for Desk<'a, 'm, F, S> {
     fn drop(self)
         ensures files { self.exit.0.now ≡ self.entry.files.now }
         ensures out { self.exit.1.0.now ≡ self.entry.out.now }
@@ -86,7 +86,7 @@ fn next_piece<F: Files>(
     }
 }
 
-impl<'a, F: Files, S: Sink> Outside for Desk<'a, F, S> {
+impl<'a, 'm, F: Files, S: Sink> Outside for Desk<'a, 'm, F, S> {
     ghost use Rattle.std.specs.Prelude.{◌≡◌, []};
     ghost use Rattle.session_desk.specs.Desks.{Desked, Serves, Writes};
 
@@ -135,12 +135,15 @@ pub fn run_with<
     ensures ran { IfSome result (λ t. IsToldRun M.MotionMachine L.LinkMachine A.ReactorMachine F.Files S.Sink machine.now name.now motion links.items reactor files.old out.old kept.old t files.new out.new kept.new) }
     ensures none { IfNone result ((files.new ≡ files.old) × (out.new ≡ out.old) × (kept.new ≡ kept.old)) }
 {
+    let Ok(printer) = LinePrinter::new(alloc, machine) else {
+        return None;
+    };
     let mut told = None;
     let desk = Desk {
         files,
         out,
         kept,
-        machine,
+        machine: &printer,
         name,
         alloc,
     };

@@ -1,5 +1,5 @@
 //! The lines of a report, as they are told.
-ghost use Rattle.std.specs.Prelude.{◌≡◌, ◌++◌, ◌∷◌, [], Some, None, length, OnOk, OnErr, IfErr};
+ghost use Rattle.std.specs.Prelude.{◌≡◌, ◌++◌, ◌∷◌, ℕ, List, [], Option, Some, None, length, OnOk, OnErr, IfErr};
 ghost use Rattle.io_core.specs.Faults.{Rose};
 ghost use Rattle.report_text.specs.Text.{line_text, report_text};
 ghost use Rattle.report_write.specs.Written.{WritesAll, WritesFront};
@@ -8,9 +8,9 @@ ghost use Rattle.session_desk.specs.Tells.{Said, StopsWriting, Tells, without_pu
 
 use crate::read::ReadStop;
 use io_core::Sink;
-use plan_types::{Listed, Machine};
-use report_text::ReportLine;
-use report_write::{WriteStop, write_line};
+use plan_types::Listed;
+use report_text::{LinePrinter, ReportLine};
+use report_write::{WriteStop, write_piece};
 
 /// What is kept of a run outside of it.
 #[derive(Drop)]
@@ -24,7 +24,7 @@ pub struct Kept {
     /// Why the writing stopped, and the reading.
     pub unwritten: Option<WriteStop>,
     pub unread: Option<ReadStop>,
-    /// The text of a line.
+    /// The text of the lines that are written next.
     pub buffer: Vec<u8>,
 }
 
@@ -72,12 +72,35 @@ fn keep(
     }
 }
 
-// Keeps or counts lines and writes them, up to the first that can't be kept or written.
+// Keeps or counts lines and adds their text to a buffer, up to the first that can't be kept or put into text.
+fn gather(
+    kept: &mut Listed<ReportLine>,
+    counts: &mut Vec<u64>,
+    buffer: &mut Vec<u8>,
+    machine: &LinePrinter<'_>,
+    lines: &[ReportLine],
+) -> Result<(), WriteStop>
+    ensures text { OnOk result (buffer.new.items ≡ buffer.old.items ++ report_text machine.now lines.now) }
+    ensures kept { OnOk result (kept.new ≡ kept.old ++ without_pulses lines.now) }
+    ensures counted { OnOk result (counts.new.items ≡ with_pulses lines.now counts.old.items) }
+    ensures said { (written : Option (List ℕ)) → Said machine.now lines.now written written kept.old counts.old.items kept.new counts.new.items }
+    ensures memory { IfErr result (λ stop. stop ≡ WriteStop.Memory) }
+{
+    for line in lines {
+        keep(kept, counts, line)?;
+        if machine.put(buffer, line).is_err() {
+            return Err(WriteStop::Memory);
+        }
+    }
+    Ok(())
+}
+
+// Keeps or counts lines and writes them in one piece, unless memory is wanted before.
 fn say<S: Sink>(
     kept: &mut Listed<ReportLine>,
     counts: &mut Vec<u64>,
     buffer: &mut Vec<u8>,
-    machine: &Machine,
+    machine: &LinePrinter<'_>,
     lines: &[ReportLine],
     out: &mut S,
 ) -> Result<(), WriteStop>
@@ -88,15 +111,21 @@ fn say<S: Sink>(
     ensures said { Said machine.now lines.now (S.written out.old) (S.written out.new) kept.old counts.old.items kept.new counts.new.items }
     ensures stopped { IfErr result (λ stop. StopsWriting stop (S.faults out.old) (S.faults out.new)) }
 {
-    for line in lines {
-        keep(kept, counts, line)?;
-        write_line(buffer, line, machine, out)?;
+    buffer.clear();
+    gather(kept, counts, buffer, machine, lines)?;
+    if write_piece(out, buffer).is_err() {
+        return Err(WriteStop::Failed);
     }
     Ok(())
 }
 
 /// Tells lines: keeps them, but for those of pulses, which it counts, and writes them, unless the writing was stopped before.
-pub fn tell_lines<S: Sink>(kept: &mut Kept, machine: &Machine, lines: &[ReportLine], out: &mut S)
+pub fn tell_lines<S: Sink>(
+    kept: &mut Kept,
+    machine: &LinePrinter<'_>,
+    lines: &[ReportLine],
+    out: &mut S,
+)
     ensures told { Tells machine.now lines.now kept.old.unwritten (S.written out.old) (S.faults out.old) kept.old.lines kept.old.counts.items kept.new.unwritten (S.written out.new) (S.faults out.new) kept.new.lines kept.new.counts.items }
     ensures at { kept.new.at ≡ kept.old.at }
     ensures unread { kept.new.unread ≡ kept.old.unread }

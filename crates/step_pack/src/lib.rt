@@ -141,7 +141,7 @@ fn windows_of(
     requires { AreSpaced last steps.now }
     ensures value { IfOk result (λ windows. windows.items ≡ windows_of max_error last steps.now) }
 {
-    let mut windows = Vec::new(alloc);
+    let mut windows = Vec::with_capacity(alloc, steps.len())?;
     let mut before = last;
     for place in 0..steps.len() {
         let step = steps[place];

@@ -15,6 +15,9 @@ use std::alloc::Global;
 /// As many steps as no memory holds: a stream has no room for more, as if it had kept all.
 const MOST_STEPS: u64 = 1 << 60;
 
+/// Room for so many steps at most is made before they are taken.
+const FEW_STEPS: usize = 32;
+
 /// Drops the first elements.
 fn keep_from(raw: &mut Vec<Planned>, count: usize)
     requires { count ≤ length raw.old.items }
@@ -202,7 +205,8 @@ impl StepStream {
         ensures end { known_end self.new ≡ known_end self.old }
         ensures reach { reach_of self.new ≡ reach_of self.old }
     {
-        let mut steps = Vec::new(self.alloc);
+        let waiting = self.raw.len().saturating_sub(self.next);
+        let mut steps = Vec::with_capacity(self.alloc, waiting.min(FEW_STEPS))?;
         let mut last = self.last;
         let mut next = self.next;
         while is_due(&self.raw, next, until, self.reach, self.end) {

@@ -42,3 +42,25 @@ pub returns-clause-news : goal.returns-clause-news
 returns-clause-news c =
     let l = c.loop-came.wire in
     all_heard c.args.turn c.args.world.now c.loop-came.world c.args.news.now c.loop-came.news c.args.wire.now.copies l.copies c.loop-came.invariant.heard (not_due (is_due c.args.turn l.copies) c.in_default.ensures.some.1)
+
+pub returns-then-quiet-clause-stands : goal.returns-then-quiet-clause-stands
+returns-then-quiet-clause-stands c =
+    let world = c.args.world.now in
+    let wire = c.args.wire.now in
+    let none = ap (is_due c.args.turn) (c.quiet.ensures.0 c.if-quiet.true).nothing in
+    all_have_come Up c.args.turn world world wire wire (none_has_come Up c.args.turn world wire c.requires) none
+
+pub returns-then-quiet-clause-line : goal.returns-then-quiet-clause-line
+returns-then-quiet-clause-line c =
+    let world = c.args.world.now in
+    let wire = c.args.wire.now in
+    let none = ap (is_due c.args.turn) (c.quiet.ensures.0 c.if-quiet.true).nothing in
+    line_after Up c.args.turn world world wire wire (none_has_come Up c.args.turn world wire c.requires) none
+
+pub returns-then-quiet-clause-news : goal.returns-then-quiet-clause-news
+returns-then-quiet-clause-news c =
+    let world = c.args.world.now in
+    let copies = c.args.wire.now.copies in
+    let news = c.args.news.now in
+    let none = ap (is_due c.args.turn) (c.quiet.ensures.0 c.if-quiet.true).nothing in
+    all_heard c.args.turn world world news news copies copies (none_heard_yet c.args.turn world news copies) none

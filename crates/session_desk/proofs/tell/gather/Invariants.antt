@@ -1,14 +1,12 @@
 use Rattle.std.proofs.Common.{◌≡◌, ◌++◌, take}
 use Rattle.report_text.specs.Text.{report_text}
-use Rattle.report_write.specs.Written.{WritesAll}
 use Rattle.session_desk.specs.Counts.{with_pulses}
 use Rattle.session_desk.specs.Tells.{without_pulses}
-use Rattle.session_desk.proofs.tell.say.Given as goal
+use Rattle.session_desk.proofs.tell.gather.Given as goal
 
 abbrev pub invariant-loop-line : goal.invariant-loop-line
-invariant-loop-line g l = record {
-  faults : g.S.Sink.faults l.out ≡ g.S.Sink.faults l.fn.out;
-  shown : WritesAll (g.S.Sink.written l.fn.out) (g.S.Sink.written l.out) (report_text l.machine (take l.line-index l.lines));
+invariant-loop-line l = record {
+  text : l.buffer.items ≡ l.fn.buffer.items ++ report_text l.machine (take l.line-index l.lines);
   kept : l.kept ≡ l.fn.kept ++ without_pulses (take l.line-index l.lines);
   counted : l.counts.items ≡ with_pulses (take l.line-index l.lines) l.fn.counts.items;
 }

@@ -163,10 +163,8 @@ pub fn boards_of(
     ensures count { IfOk result (λ boards. length boards ≡ length names.now) }
 {
     let mut boards = Listed::new(alloc);
-    let mut rest = names;
-    while let [first, others @ ..] = rest {
-        boards.push(board_of(alloc, entries, uses, first.as_bytes())?)?;
-        rest = others;
+    for name in names {
+        boards.push(board_of(alloc, entries, uses, name.as_bytes())?)?;
     }
     Ok(boards)
 }

@@ -1,4 +1,4 @@
-use Rattle.std.proofs.Common.{◌≡◌, ◌∙◌, ◌≤◌, ◌<◌, ◌*◌, ◌^◌, refl, arith, rules, ℕ}
+use Rattle.std.proofs.Common.{◌≡◌, ◌∙◌, ◌^◌, refl, arith}
 use Rattle.std.specs.Prelude.{ℤ, pos, ◌*ℤ◌, unsigned_abs}
 use Rattle.std.proofs.lemmas.Int.{fits_signed_mul, to_z-of_z}
 use mir.Val.{SFits, to_z, of_z}
@@ -9,8 +9,10 @@ use Rattle.bed_mesh.proofs.cut.weighted.Goals as goal
 product : (a b x y : ℤ) → a ≡ x → b ≡ y → SFits w128 a → SFits w128 b → SFits w128 (x *ℤ y) → to_z w128 (of_z w128 (to_z w128 (of_z w128 a) *ℤ to_z w128 (of_z w128 b))) ≡ x *ℤ y
 product a b x y e f fa fb fz = rw (to_z-of_z w128 a fa, to_z-of_z w128 b fb, e, f) (to_z-of_z w128 (x *ℤ y) fz)
 
+pub returns-clause-value : goal.returns-clause-value
+returns-clause-value c =
+    product c.from.result c.from-2.result c.args.change (pos c.args.number) (c.from.ensures ∙ to_z-of_z w64 c.args.change c.ranges.change) c.from-2.ensures (record { sfits = c.from.type_inv }) (record { sfits = c.from-2.type_inv })
+    (fits_signed_mul w128 c.args.change (pos c.args.number) (2 ^ 31) (2 ^ 62) c.requires.small (omega (arith, c.requires.part, c.requires.few)) (omega arith))
+
 pub returns-clause-bound : goal.returns-clause-bound
-returns-clause-bound c =
-    let e = product c.from.result c.from-2.result c.args.change (pos c.args.number) (c.from.ensures ∙ to_z-of_z w64 c.args.change c.ranges.change) c.from-2.ensures (record { sfits = c.from.type_inv }) (record { sfits = c.from-2.type_inv })
-    (fits_signed_mul w128 c.args.change (pos c.args.number) (2 ^ 31) (2 ^ 62) c.requires.small (omega (arith, c.requires.part, c.requires.few)) (omega arith)) in
-    rw e (no_more_than (unsigned_abs c.args.change) c.args.change _ c.args.number c.args.whole refl (omega arith) c.requires.part)
+returns-clause-bound c = rw (returns-clause-value c) (no_more_than (unsigned_abs c.args.change) c.args.change _ c.args.number c.args.whole refl (omega arith) c.requires.part)

@@ -8,15 +8,16 @@ use Rattle.plan_types.specs.Lines.{Clocks, lines_tick}
 use Rattle.msg_code.specs.declared.cmd.Cmd.{Cmd}
 use Rattle.msg_code.specs.declared.cmd.Cmd.TheVariants as cmd
 use Rattle.board_world.specs.Orders.{plain, units_orders}
+use Rattle.board_world.specs.World.{Core, Step}
 use Rattle.step_feed.specs.Pacing.{units_of}
 use Rattle.section_units.specs.Sections.{BoardSection, base_of, of_stepper, section_steps}
 use Rattle.link_work.specs.Turn.{Orders}
 use Rattle.run_laws.specs.Events.{AreTicks}
 use Rattle.run_laws.specs.Known.{Sent, sent_at, sent_in, AreBelow, IsLostFor}
 use Rattle.run_laws.specs.Parts.{AreTracked, IsMaking, Makes, MakesIn}
-use Rattle.run_laws.specs.Courses.{Course, parts_of, no_course, course_of, course_from, courses, AreBeforeTurn, AreMadeFor, IsGoodOn, AreGoodOn, AreAllGood, BeginLostOn}
+use Rattle.run_laws.specs.Courses.{Course, parts_of, no_course, course_of, course_from, courses, AreBeforeTurn, AreMadeFor, IsGoodOn, AreGoodOn, AreAllGood, AllHeed, BeginLostOn}
 use Rattle.run_laws.specs.Courses as course
-use Rattle.run_laws.specs.Homes.{RunSection, IsMovesIn, IsSectionBy, AreInTurn, SetsClock, IsControlIn, AreSet, SetsAny, HasUnits, IsHomeRun, AreFrontsIn, AreReleasedIn, IsSplitIn}
+use Rattle.run_laws.specs.Homes.{RunSection, IsMovesIn, IsSectionBy, AreInTurn, SetsClock, IsControlIn, AreSet, SetsAny, HasUnits, IsHomeRun, AreFrontsIn, AreReleasedIn, BeginOn, IsOnFor, IsSplitIn}
 use Rattle.run_laws.proofs.Clocks.{ticks_rise}
 use Rattle.run_laws.proofs.Entering.{AreEarly, all_inside, begun_inside, early_fits}
 use Rattle.run_laws.proofs.Spans.{section_early}
@@ -24,8 +25,10 @@ use Rattle.run_laws.proofs.Waiting.{Frame}
 use Rattle.run_laws.proofs.Releasing.{AreFrom, from_down, paced_from}
 use Rattle.run_laws.proofs.HomeTurns.{StageWith, empty_part}
 use Rattle.run_laws.proofs.HomeControls.{now_of, none_sets}
-use Rattle.run_laws.proofs.HomeSections.{Sound, OrdersOn, bare, ahead_sound, orders_on, Promise, GoesBehind, EndsBy, no_fronts, none_later, set_next, Split, all_of, ahead, split_from, IsLostOf, LostOn}
+use Rattle.run_laws.proofs.HomeSections.{Sound, OrdersOn, bare, ahead_sound, orders_on, Promise, GoesBehind, EndsBy, no_fronts, none_later, set_next, Split, ahead, split_from, split_until, IsLostOf, LostOn}
+use Rattle.run_laws.proofs.HomeCut.{until_cut}
 use Rattle.run_laws.proofs.HomeRuns.{Ground, section_on}
+use Rattle.run_laws.proofs.Stepping.{none_heed}
 use Rattle.link_work.specs.Runs.{queued_in}
 use Rattle.run_laws.proofs.Lists.{sent_append}
 
@@ -228,11 +231,6 @@ made_now oid c os (inl e) = e
 made_now oid c os (inr e) = absurd e
 
 -- until the boards are ready only control commands are queued, and no clock is set
-abbrev split_until : List RunSection → ℕ → ℕ → List Orders → Split
-split_until ss m turn [] = all_of []
-split_until ss zero turn (o ∷ os) = split_from ss turn (o ∷ os)
-split_until ss (suc m) turn (o ∷ os) = ahead (sent_at turn (queued_in o)) (split_until ss m (turn + 1) os)
-
 until_sound : (x : Base) (oid : ℕ) (ss : List RunSection) → All (SectionIn x) ss → AreInTurn x.ready ss → (m : ℕ) (os : List Orders) (turn : ℕ) (c : Course) → turn + m ≡ x.ready → c.known.ends ≡ []
     → (m ≤ length os → HasUnits oid ss ⊎ SetsAny oid os → MadeBy oid c m os) → OrdersOn x.clocks ss (bare ss) turn os → AreSet oid ss turn os → Sound x.own x.stops x.slots oid c c (sent_in turn os) (split_until ss m turn os) ss
 until_sound x oid ss i row m [] turn c at ends made orders set = record { are = refl; good = tt; lost = tt; fronts = λ ps k. (ps, [], sym (append-nil ps), k, no_fronts x.own oid ss); whole = λ w. refl }
@@ -265,17 +263,22 @@ run_sound own clocks freq slots ready stops ss os ticks r oid =
     until_sound x oid ss r.sections r.row ready os 0 no_course (omega arith) refl (λ long w. inr (r.made long oid w)) (orders_on clocks ss 0 os r.orders) (r.set oid)
 
 -- what is late for its stepper
-lost_of : (own : ℕ → ℕ) (turn : ℕ) (cs : ℕ → Course) (c : Cmd) (ticks : List ℕ) → ((oid : ℕ) → IsLostOf own oid turn (cs oid) c ticks) → IsLostFor own turn (λ oid. (cs oid).known) c ticks
-lost_of own turn cs (cmd.QueueStep other interval count add) ticks h = h other refl
-lost_of own turn cs _ ticks h = absurd (h 0)
+lost_of : (own : ℕ → ℕ) (stops : ℕ → Option ℕ) (turn : ℕ) (cs : ℕ → Course) (c : Cmd) (ticks : List ℕ) → ((oid : ℕ) → IsLostOf own stops oid turn (cs oid) c ticks) → IsLostFor own turn (λ oid. (cs oid).known) c ticks × IsOnFor stops cs c
+lost_of own stops turn cs (cmd.QueueStep other interval count add) ticks h = let (first, below, goes_on) = h other refl in ((first, below), goes_on)
+lost_of own stops turn cs _ ticks h = absurd (h 0)
 
 begin_lost : (own : ℕ → ℕ) (stops : ℕ → Option ℕ) (slots : ℕ) (cs : ℕ → Course) (tail : List Sent) → ((oid : ℕ) → LostOn own stops slots oid (cs oid) tail) → BeginLostOn own stops slots cs tail
 begin_lost own stops slots cs [] h = tt
-begin_lost own stops slots cs (s ∷ tail) h = (λ oid. (h oid).0, lost_of own s.turn cs s.order.command s.order.ticks (λ oid. (h oid).1))
+begin_lost own stops slots cs (s ∷ tail) h = (λ oid. (h oid).0, (lost_of own stops s.turn cs s.order.command s.order.ticks (λ oid. (h oid).1)).0)
+
+begin_on : (own : ℕ → ℕ) (stops : ℕ → Option ℕ) (slots : ℕ) (cs : ℕ → Course) (tail : List Sent) → ((oid : ℕ) → LostOn own stops slots oid (cs oid) tail) → BeginOn stops cs tail
+begin_on own stops slots cs [] h = tt
+begin_on own stops slots cs (s ∷ tail) h = (lost_of own stops s.turn cs s.order.command s.order.ticks (λ oid. (h oid).1)).1
 
 pub run_split : (own : ℕ → ℕ) (clocks : Clocks) (freq slots ready : ℕ) (stops : ℕ → Option ℕ) (ss : List RunSection) (os : List Orders) → AreTicks own → IsHomeRun own clocks freq slots ready stops ss os → IsSplitIn own stops slots ss os
 run_split own clocks freq slots ready stops ss os ticks r =
     let z = split_until ss ready 0 os in
+    let c = until_cut clocks freq slots r.tracked.until stops (length os) ss ready r.row r.sections ready os 0 (omega arith) (omega arith) in
     let x = λ (oid : ℕ). run_sound own clocks freq slots ready stops ss os ticks r oid in
     record {
       front = z.front;
@@ -283,6 +286,11 @@ run_split own clocks freq slots ready stops ss os ticks r =
       are = (x 0).are;
       good = λ oid. (x oid).good;
       lost = begin_lost own stops slots (courses z.front) z.tail (λ oid. (x oid).lost);
+      goes_on = begin_on own stops slots (courses z.front) z.tail (λ oid. (x oid).lost);
+      until = c.until;
+      by = c.by;
+      soon = c.soon;
+      left = c.left;
       fronts = λ oid ps k.
           let (early, late, is, old, rest) = (x oid).fronts ps k in
           let none : early ≡ [] = empty_part own stops None [] [] early refl old in
@@ -291,7 +299,11 @@ run_split own clocks freq slots ready stops ss os ticks r =
       whole = (x 0).whole;
     }
 
--- where all units are released soon, all that is queued is good
+-- where all units are released soon, no unit is queued too late, and none finds its stepper halted
+pub split_heed : (own : ℕ → ℕ) (stops : ℕ → Option ℕ) (slots : ℕ) (ss : List RunSection) (os : List Orders) (x : IsSplitIn own stops slots ss os) → AreReleasedIn ss → (steps : List Step) (h : Core) → AllHeed x.front x.tail h steps
+split_heed own stops slots ss os x w steps h = none_heed x.front x.tail steps h (x.whole w)
+
+-- and all that is queued is good
 all_front : (own : ℕ → ℕ) (stops : ℕ → Option ℕ) (slots : ℕ) (ss : List RunSection) (os : List Orders) (x : IsSplitIn own stops slots ss os) → AreReleasedIn ss → x.front ≡ sent_in 0 os
 all_front own stops slots ss os x w = sym (append-nil x.front) ∙ ap (λ y. x.front ++ y) (sym (x.whole w)) ∙ x.are
 

@@ -18,7 +18,7 @@ use Rattle.run_laws.proofs.Stepping.{course_append, good_behind, good_front}
 use Rattle.run_laws.proofs.Units.{ahead_of_step, step_sent, unit_is}
 use Rattle.run_laws.proofs.Waiting.{Frame, IsInside, AreInside, few_pend, lasts}
 use Rattle.run_laws.proofs.HomeUnits.{other_unit}
-use Rattle.run_laws.proofs.HomeTurns.{StageWith, IsEarly, next_unit}
+use Rattle.run_laws.proofs.HomeTurns.{StageWith, IsEarly, next_unit, stop_of}
 use Rattle.run_laws.proofs.HomeSections.{LostOn}
 use Rattle.run_laws.proofs.Spreading.{lasts_below}
 
@@ -36,20 +36,24 @@ LateOn f stops oid homes s c0 Q turn d r =
     AreGoodOn f.own stops f.slots oid d (ahead_of_step turn r.unit) × LostOn f.own stops f.slots oid (course_from oid d (ahead_of_step turn r.unit)) (step_sent turn r.unit ∷ [])
     × ((ls : List ℕ) × (us : List StepUnit) × StageWith f stops oid homes s c0 Q (course_from oid (course_from oid d (ahead_of_step turn r.unit)) (step_sent turn r.unit ∷ [])) ls us)
 
+-- in moves a part doesn't stop
+goes_on_by : (homes : Bool) (stops : ℕ → Option ℕ) (turn : ℕ) (s : BoardSection) → homes ≡ false → stops turn ≡ stop_of homes s → stops turn ≡ None
+goes_on_by homes stops turn s moves e = e ∙ ap (λ b. stop_of b s) moves
+
 -- what is queued up to it, and what is known behind it
 unit_parts : (oid turn : ℕ) (d : Course) (u : StepUnit) → course_from oid d (sent_at turn (unit_orders u)) ≡ course_from oid (course_from oid d (ahead_of_step turn u)) (step_sent turn u ∷ [])
 unit_parts oid turn d u = ap (course_from oid d) (unit_is turn u) ∙ course_append oid d (ahead_of_step turn u) (step_sent turn u ∷ [])
 
 late_own : (f : Frame) (stops : ℕ → Option ℕ) (oid : ℕ) (homes : Bool) (s : BoardSection) (c0 : Course) (Q : List StepUnit → Type 0) (turn : ℕ) (d : Course) (before : List Release) (r : Release) (us : List StepUnit) → IsEarly f homes turn Q
     → r.unit.stepper ≡ oid → StageWith f stops oid homes s c0 Q d (lasts oid before) (r.unit ∷ us) → AreInside f before → IsInside f r.unit → f.start ≤ turn + 250 → r.unit.due ≤ turn + 250 → pending f.clocks r.unit.stepper turn before < f.slots
-    → (homes ≡ false → f.start ≤ turn + 250 → stops turn ≡ None) → f.end + 5 ≤ turn → LateOn f stops oid homes s c0 Q turn d r
-late_own f stops oid homes s c0 Q turn d before r us early own st behind i soon due room goes_on over =
+    → homes ≡ false → (f.start ≤ turn + 250 → stops turn ≡ None) → f.end + 5 ≤ turn → LateOn f stops oid homes s c0 Q turn d r
+late_own f stops oid homes s c0 Q turn d before r us early own st behind i soon due room moves goes_on over =
     let u = r.unit in
     let a = ahead_of_step turn u in
     let t = step_sent turn u in
     let e = course_from oid d a in
     let few : count_from (f.own turn) (lasts oid before) < f.slots = omega (arith, few_pend f turn oid before behind, ap (λ y. pending f.clocks y turn before) own, room) in
-    let one = next_unit f stops oid homes s c0 Q turn d (lasts oid before) u us early own st i soon due few goes_on in
+    let one = next_unit f stops oid homes s c0 Q turn d (lasts oid before) u us early own st i soon due few (λ _. goes_on) in
     let Good : List Sent → Type 0 = λ x. AreGoodOn f.own stops f.slots oid d x in
     let both : AreGoodOn f.own stops f.slots oid d (a ++ t ∷ []) = subst Good (unit_is turn u) one.0 in
     let after = unit_parts oid turn d u in
@@ -61,7 +65,7 @@ late_own f stops oid homes s c0 Q turn d before r us early own st behind i soon 
     let past = bound_made f.own f.clocks f.ready f.end turn u.first f.ticks f.tracked (omega (arith, f.after, f.order)) f.limit low over in
     let Stage : Course → Type 0 = λ x. StageWith f stops oid homes s c0 Q x (u.last ∷ lasts oid before) us in (
       good_front f.own stops f.slots oid d a (t ∷ []) both,
-      ((good_behind f.own stops f.slots oid d a (t ∷ []) both).0, λ _. (omega (arith, past, first), below)),
+      ((good_behind f.own stops f.slots oid d a (t ∷ []) both).0, λ _. (omega (arith, past, first), below, (one.1.turn, ap (λ (x : Course). x.since) (sym after) ∙ one.1.since, goes_on_by homes stops one.1.turn s moves one.1.stop))),
       (u.last ∷ lasts oid before, us, subst Stage after (inr one.1)),
     )
 
@@ -82,9 +86,9 @@ late_other f stops oid homes s c0 Q turn d r ls us ne st =
 
 pub late_unit : (f : Frame) (stops : ℕ → Option ℕ) (oid : ℕ) (homes : Bool) (s : BoardSection) (c0 : Course) (Q : List StepUnit → Type 0) (turn : ℕ) (d : Course) (before : List Release) (r : Release) (rs : List Release) → IsEarly f homes turn Q
     → StageWith f stops oid homes s c0 Q d (lasts oid before) (of_stepper oid (units_of (r ∷ rs))) → AreInside f before → IsInside f r.unit → f.start ≤ turn + 250 → r.unit.due ≤ turn + 250 → pending f.clocks r.unit.stepper turn before < f.slots
-    → (homes ≡ false → f.start ≤ turn + 250 → stops turn ≡ None) → f.end + 5 ≤ turn → LateOn f stops oid homes s c0 Q turn d r
-late_unit f stops oid homes s c0 Q turn d before r rs early st behind i soon due room goes_on over =
+    → homes ≡ false → (f.start ≤ turn + 250 → stops turn ≡ None) → f.end + 5 ≤ turn → LateOn f stops oid homes s c0 Q turn d r
+late_unit f stops oid homes s c0 Q turn d before r rs early st behind i soon due room moves goes_on over =
     elim (eqb_tells r.unit.stepper oid) [
-      | inl x ↦ late_own f stops oid homes s c0 Q turn d before r (of_stepper oid (units_of rs)) early x.1 (rw x.0 at st) behind i soon due room goes_on over
+      | inl x ↦ late_own f stops oid homes s c0 Q turn d before r (of_stepper oid (units_of rs)) early x.1 (rw x.0 at st) behind i soon due room moves goes_on over
       | inr x ↦ late_other f stops oid homes s c0 Q turn d r (lasts oid before) (of_stepper oid (units_of rs)) x.1 (rw x.0 at st)
     ]

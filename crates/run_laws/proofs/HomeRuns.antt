@@ -156,7 +156,7 @@ over_on f stops oid homes s nx later g o os turn from c0 c before (r ∷ rs) soo
           let (good, stage) = controls_on f stops oid homes s nx later g c0 c turn o os (lasts oid before) (of_stepper oid (units_of (r ∷ rs))) st orders.0 now (λ h. ap (lasts oid) (young (omega (arith, h)))) (λ x. made (inr (inl x))) in
           let At_turn : ℕ → Type 0 = λ x. pending f.clocks u.stepper x before < f.slots in
           let (fine, lost, stood) = late_unit f stops oid homes s c0 (Promise oid homes s (turn + 1) os) turn d before r rs (early_by f oid turn homes s os g.start_is) stage behind inside.0 (omega (arith, soon, paced.0.after, here)) (omega (arith, paced.0.room.due, here))
-          (subst At_turn here paced.0.room.steps) (λ x h. g.goes_on x turn (omega (arith, g.start_is, h)) now) over_f in
+          (subst At_turn here paced.0.room.steps) e (λ h. g.goes_on e turn (omega (arith, g.start_is, h)) now) over_f in
           let (ls, us, last) = stood in
           let e_is = course_from oid d a in
           let z = ends_here f stops oid homes s later c0 (course_from oid e_is (t ∷ [])) ls us (Promise oid homes s (turn + 1) os) g.ends last in

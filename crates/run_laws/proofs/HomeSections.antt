@@ -1,5 +1,5 @@
 -- The sections of a run, of moves or homing, one behind the other: what is queued for a stepper is good, and its parts are those of the sections.
-use Rattle.std.proofs.Common.{◌≡◌, ◌≢◌, ℕ, Bool, true, ◌+◌, ◌-◌, ◌≤◌, ◌⊎◌, List, [], ◌∷◌, ◌++◌, All, length, map, Option, Some, refl, ap, sym, ◌∙◌, subst, arith, inl, inr, append_assoc, append-nil, ◌<◌, drop}
+use Rattle.std.proofs.Common.{◌≡◌, ◌≢◌, ℕ, zero, suc, Bool, true, ◌+◌, ◌-◌, ◌≤◌, ◌⊎◌, List, [], ◌∷◌, ◌++◌, All, length, map, Option, Some, None, refl, ap, sym, ◌∙◌, subst, arith, inl, inr, append_assoc, append-nil, ◌<◌, drop}
 use Rattle.std.proofs.lemmas.Bool.Decides.{eqb_tells}
 use Rattle.std.proofs.lemmas.List.Elements.{All-nil, All-cons, All-head, All-tail}
 use Rattle.std.specs.List.{flat_map}
@@ -37,14 +37,15 @@ all_of sent = record { front = sent; tail = [] }
 abbrev pub ahead : List Sent → Split → Split
 ahead first x = record { front = first ++ x.front; tail = x.tail }
 
--- a triple comes too late for a stepper
-abbrev pub IsLostOf : (ℕ → ℕ) → ℕ → ℕ → Course → Cmd → List ℕ → Type 0
-IsLostOf own oid turn c (cmd.QueueStep other interval count add) ticks = other ≡ oid → (slice_index ticks 0 < own turn) × AreBelow (own turn) c.known.ends
-IsLostOf own oid turn c _ ticks = ⊥
+-- a triple comes too late for a stepper, whose part doesn't stop
+abbrev pub IsLostOf : (ℕ → ℕ) → (ℕ → Option ℕ) → ℕ → ℕ → Course → Cmd → List ℕ → Type 0
+IsLostOf own stops oid turn c (cmd.QueueStep other interval count add) ticks =
+    other ≡ oid → (slice_index ticks 0 < own turn) × AreBelow (own turn) c.known.ends × ((since : ℕ) × (c.since ≡ Some since) × (stops since ≡ None))
+IsLostOf own stops oid turn c _ ticks = ⊥
 
 abbrev pub LostOn : (ℕ → ℕ) → (ℕ → Option ℕ) → ℕ → ℕ → Course → List Sent → Type 0
 LostOn own stops slots oid c [] = Unit {0}
-LostOn own stops slots oid c (s ∷ ss) = IsGoodOn own stops slots oid s.turn c s.order.command s.order.ticks × IsLostOf own oid s.turn c s.order.command s.order.ticks
+LostOn own stops slots oid c (s ∷ ss) = IsGoodOn own stops slots oid s.turn c s.order.command s.order.ticks × IsLostOf own stops oid s.turn c s.order.command s.order.ticks
 
 -- what is queued for a stepper of this course is good, up to one that comes too late, and what is made for its parts then is made for those of
 -- a course before, and section by section
@@ -71,6 +72,12 @@ split_on nx end rs turn (o ∷ os) = if nat_lt (end + 4) turn then split_over nx
 abbrev pub split_from : List RunSection → ℕ → List Orders → Split
 split_from [] turn os = all_of (sent_in turn os)
 split_from (s ∷ ss) turn os = split_on (split_from ss) s.section.end s.section.releases turn os
+
+-- from a run's first turn on, where so many are left until the boards are ready
+abbrev pub split_until : List RunSection → ℕ → ℕ → List Orders → Split
+split_until ss m turn [] = all_of []
+split_until ss zero turn (o ∷ os) = split_from ss turn (o ∷ os)
+split_until ss (suc m) turn (o ∷ os) = ahead (sent_at turn (queued_in o)) (split_until ss m (turn + 1) os)
 
 -- good commands ahead of others
 pub ahead_sound : (own : ℕ → ℕ) (stops : ℕ → Option ℕ) (slots oid : ℕ) (c0 c d : Course) (first sent : List Sent) (ss : List RunSection) → AreGoodOn own stops slots oid c first → course_from oid c first ≡ d

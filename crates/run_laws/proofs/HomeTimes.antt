@@ -26,9 +26,8 @@ use Rattle.run_laws.specs.Runs.{AreSpilled, IsSpilled}
 use Rattle.run_laws.specs.Timely.{AllTimely, AreTimely, ControlsKeep, IsTimely}
 use Rattle.run_laws.proofs.Entering.{early_fits, begun_inside, all_inside}
 use Rattle.run_laws.proofs.HeededLinks.{keep_limits}
-use Rattle.run_laws.proofs.HomeLimits.{few_front, home_few}
+use Rattle.run_laws.proofs.HomeLimits.{home_few, released_soon}
 use Rattle.run_laws.proofs.Lasting.{Lasting, lasting_append, batch_lasts, units_timely}
-use Rattle.run_laws.proofs.Latest.{AreFew}
 use Rattle.run_laws.proofs.Seeking.{begun_tell}
 use Rattle.run_laws.proofs.Soon.{timely_append}
 use Rattle.run_laws.proofs.Spoiled.{few_spoiled}
@@ -108,7 +107,7 @@ pub home_timely : (b : BoardDef) (pins : List (List Level)) (board : ℕ) (entri
     → ((k : ℕ) → spoiled (take k (ends_of (clock_of b) 0 os (first_state b pins board entries) l t)) ≤ n) → ((k : ℕ) → own (k + (n + m + 2)) < own k + 2 ^ 31)
     → AllTimely (start b pins) (steps_of (clock_of b) 0 os (first_state b pins board entries) l t)
 home_timely b pins board entries own clocks ready n m turns stops ss os l t o r soon spilled within controls few far =
-    let units = home_few own clocks b.freq b.slots ready stops ss os r soon in
-    let Few : List Orders → Type 0 = λ x. AreFew x in
+    let Run : List Orders → Type 0 = λ x. IsHomeRun own clocks b.freq b.slots ready stops ss x in
     few_spoiled b pins board entries own n os l t o (home_lasting own clocks b.freq b.slots ready n m turns stops ss os o.ticks r spilled within far)
-    (λ done x rest cut. keep_limits done (controls done x rest cut) (few_front done (x ∷ rest) (subst Few cut units))) few
+    (λ done x rest cut. keep_limits done (controls done x rest cut) (home_few own clocks b.freq b.slots ready (length done) stops ss done (x ∷ rest) (subst Run cut r)
+    (released_soon clocks b.freq b.slots r.tracked.until (length done) stops ss r.sections soon) (omega arith))) few

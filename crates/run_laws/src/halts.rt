@@ -39,8 +39,9 @@ pub fn halted_steppers_keep_fronts()
 {}
 
 /// The law of homing commands: what is queued for a board in a run in which axes home is good, up to the first unit that is left of a section
-/// of moves five turns behind its end, which is queued too late; and pulses of a stepper that are made part by part for the good ones are made
-/// section by section. Where all units of moves are released by four turns behind the ends of their sections, all is good.
+/// of moves five turns behind its end, which is queued too late, of a part that doesn't stop; what is queued up to it of other sections is
+/// released by the fifth turn behind their ends; and pulses of a stepper that are made part by part for the good ones are made section by
+/// section. Where all units of moves are released by four turns behind the ends of their sections, all is good.
 pub fn homing_commands_are_good()
     ensures { (own : ℕ → ℕ) (clocks : Clocks) (freq slots ready : ℕ) (stops : ℕ → Option ℕ) (ss : List RunSection) (os : List Orders) →
         AreTicks own → IsHomeRun own clocks freq slots ready stops ss os → IsSplitIn own stops slots ss os }
@@ -48,8 +49,9 @@ pub fn homing_commands_are_good()
 
 /// The law of a section's turns, in a run in which axes home: the pulses that a board makes from the turn before a section's start up
 /// to the second one before the start of the next are, for each stepper, made for the first steps of that section's plan, in
-/// order, each once, at most the tolerance before its planned tick and never after it; of moves or homing, whatever its triggers do. From
-/// the fifth turn behind a section's end on it makes none, up to the second turn before the start of the next.
+/// order, each once, at most the tolerance before its planned tick and never after it; of moves or homing, whatever its triggers do, and
+/// however late units of moves are queued. From the fifth turn behind a section's end on it makes none, up to the second turn before the
+/// start of the next.
 pub fn homing_sections_keep_their_turns()
     ensures section { (b : BoardDef) (pins : List (List Level)) (own : ℕ → ℕ) (clocks : Clocks) (ready : ℕ) (stops : ℕ → Option ℕ) (past : List RunSection) (s : RunSection) (later : List RunSection)
         (before during behind : List Orders) (first second : List Step) → IsHomeSpan b pins own clocks ready stops (past ++ s ∷ later) before during behind first second →

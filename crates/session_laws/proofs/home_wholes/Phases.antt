@@ -11,10 +11,10 @@ use Rattle.board_sim.specs.Board.{Controller, is_shut, stepper_at}
 use Rattle.board_sim.specs.Fair.{Meant, commands_of, only, pending_at}
 use Rattle.board_sim.specs.Rig.{Rig, takes, takes_all}
 use Rattle.board_sim.proofs.RigShut.{all_left_by}
-use Rattle.run_laws.specs.Known.{Sent, orders_in}
+use Rattle.run_laws.specs.Known.{AreQueued, Sent, orders_in}
 use Rattle.run_laws.specs.Timely.{AreTimely}
 use Rattle.run_laws.specs.Courses.{Course, IsStopped, course_behind, course_from, course_of, courses, no_course, AreGoodOn, AreInTime, IsMadeBy}
-use Rattle.run_laws.proofs.Commanding.{AreQueued, all_stand, finds_on, stands_same}
+use Rattle.run_laws.proofs.Commanding.{all_stand, finds_on, stands_same}
 use Rattle.run_laws.proofs.Entering.{AreEarly, early_behind}
 use Rattle.run_laws.proofs.Spans.{AreLate, early_up}
 use Rattle.run_laws.proofs.Standing.{BoardStands, SlotStands}

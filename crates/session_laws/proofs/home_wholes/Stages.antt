@@ -17,11 +17,10 @@ use Rattle.link_work.specs.Turn.{Orders}
 use Rattle.link_work.specs.Runs.{queued_in}
 use Rattle.link_work.proofs.Sending.{run_append}
 use Rattle.run_laws.specs.Events.{AreQuiet, AreTurnsOf, IsQuiet, IsTurnOf}
-use Rattle.run_laws.specs.Known.{Sent, orders_in, sent_at, sent_in}
+use Rattle.run_laws.specs.Known.{AreQueued, Sent, orders_in, sent_at, sent_in}
 use Rattle.run_laws.specs.Timely.{AllTimely, AreTimely, IsTimelyAt}
 use Rattle.run_laws.specs.Courses.{courses, no_course, AreAllGood, AreInTime, AreSettled, IsSettled}
-use Rattle.run_laws.proofs.Commanding.{AreQueued}
-use Rattle.run_laws.proofs.Coursed.{old_at, pass_keeps, quiet_keep, settled_finds, settles, time_at}
+use Rattle.run_laws.proofs.Coursed.{old_at, pass_keeps, quiet_keep, settled_finds, settles}
 use Rattle.run_laws.proofs.Lists.{cuts, orders_append, own_up, sent_append}
 use Rattle.run_laws.proofs.Stepping.{Finds, Going, Keeps, Script, TakesFind, finds_first, finds_next, good_behind, good_front, queued_behind, queued_front, queues_on, quiet_keeps, time_front, none_heed}
 use Rattle.run_laws.proofs.Turning.{timely_behind, timely_front}
@@ -68,10 +67,11 @@ these_stage p a by turn sent rest h r first others all le old split timely finds
     (good_behind p.own p.stops p.slots oid no_course r.done (first ++ (others ++ rest)) (subst Good (all_front p a ∙ sym whole) p.good oid)) in
     let Old : List Sent → Type 0 = λ x. AreQueued by x in
     let Time : List Sent → Type 0 = λ x. AreInTime p.stops by x in
-    let time = subst Time split r.in_time in
+    let ahead : r.more ≡ first ++ (others ++ rest) = append_cancel_left r.done r.more (first ++ (others ++ rest)) (r.front_is ∙ all_front p a ∙ sym whole) in
+    let time = subst Time ahead r.in_time in
     let now = queued_front by first others (queued_behind by r.done (first ++ others) (subst Old (r.sent_is ∙ ap (λ x. r.done ++ x) split) old)) in
     let was = g r.stands.running r.done (r.left ++ rest) before r.taken in
-    let made = take_ahead p a by turn first r.done (others ++ rest) h.board h.made whole (λ j k l. own_up p.own p.up j k l) le r.stands r.made now good timely (time_front p.stops by first others time) finds on was in
+    let made = take_ahead p a by turn first r.done (others ++ rest) h.board h.made whole (λ j k l. own_up p.own p.up j k l) le r.stands r.made now good timely (time_front p.stops by first (others ++ rest) time) finds on was in
     let behind : (r.done ++ first) ++ (others ++ rest) ≡ p.all = append_assoc r.done first (others ++ rest) ∙ whole in
     let same : done ≡ r.done ++ first = done_same done left (r.done ++ first) (others ++ rest) p.all cut behind (taken ∙ ap (λ x. x ++ orders_in first) (sym r.taken) ∙ sym (orders_append r.done first)) in
     subst (λ (x : List Sent). Phase p a x (takes_all h.board (commands_of (orders_in first))).rig h.made) (sym same) made
@@ -122,7 +122,7 @@ quiet_stages : (p : Script) (a : Aim p) (by turn : ℕ) (sent : List Sent) (step
 quiet_stages p a by turn sent [] rest h q k timely finds g = g
 quiet_stages p a by turn sent (s ∷ steps) rest h q k timely finds g =
     let first = finds_first p by turn sent h s (steps ++ rest) finds in
-    let next = finds_next p by turn turn sent [] sent h s (steps ++ rest) (sym (append-nil sent)) k tt finds in
+    let next = finds_next p by turn turn sent sent h s (steps ++ rest) k finds in
     quiet_stages p a by turn sent steps rest (after h s) q.1 (quiet_keeps p by turn sent h s q.0 k timely.0 (none_heed p.front p.tail (s ∷ []) h a.none).0 first).1 timely.1 next (quiet_stage p a by turn sent h s q.0 k timely.0 first g)
 
 -- time
@@ -160,19 +160,19 @@ turn_steps_stage p a turn sent rest o before rear h bq rq k all timely finds g =
     let h1 = after h (Turn turn) in
     let others = before ++ pass ∷ rear in
     let k1 = (quiet_keeps p turn turn sent h (Turn turn) tt k tt tt (λ r oid st. tt)).1 in
-    let f1 = finds_next p turn turn turn sent [] sent h (Turn turn) (Do (Control o.control) ∷ Do (Put o.batch) ∷ others) (sym (append-nil sent)) k tt finds in
+    let f1 = finds_next p turn turn turn sent sent h (Turn turn) (Do (Control o.control) ∷ Do (Put o.batch) ∷ others) k finds in
     let h2 = happens h1 (Control o.control) in
     let whole : ((sent ++ sent_at turn cs) ++ sent_at turn us) ++ rest ≡ p.all =
     ap (λ x. x ++ rest) (append_assoc sent (sent_at turn cs) (sent_at turn us) ∙ ap (λ x. sent ++ x) (sym split)) ∙ all in
     let k2 : Keeps p turn turn (sent ++ sent_at turn cs) h2 =
-    queues_on p turn turn sent (sent_at turn us ++ rest) h1 (Control o.control) k1 (sym (append_assoc (sent ++ sent_at turn cs) (sent_at turn us) rest) ∙ whole) (time_at p.stops turn cs (p.ahead turn)) (old_at turn cs) refl refl refl in
-    let f2 = finds_next p turn turn turn sent (sent_at turn cs) (sent ++ sent_at turn cs) h1 (Do (Control o.control)) (Do (Put o.batch) ∷ others) refl k1 (time_at p.stops turn cs (p.ahead turn)) f1 in
+    queues_on p turn turn sent (sent_at turn us ++ rest) h1 (Control o.control) k1 (sym (append_assoc (sent ++ sent_at turn cs) (sent_at turn us) rest) ∙ whole) (old_at turn cs) refl refl refl in
+    let f2 = finds_next p turn turn turn sent (sent ++ sent_at turn cs) h1 (Do (Control o.control)) (Do (Put o.batch) ∷ others) k1 f1 in
     let g2 = queued_stage p a h1 (Control o.control) refl refl refl g in
     let h3 = happens h2 (Put o.batch) in
     let k3 : Keeps p turn turn ((sent ++ sent_at turn cs) ++ sent_at turn us) h3 =
-    queues_on p turn turn (sent ++ sent_at turn cs) rest h2 (Put o.batch) k2 whole (time_at p.stops turn us (p.ahead turn)) (old_at turn us) refl refl refl in
+    queues_on p turn turn (sent ++ sent_at turn cs) rest h2 (Put o.batch) k2 whole (old_at turn us) refl refl refl in
     let all_sent = (sent ++ sent_at turn cs) ++ sent_at turn us in
-    let f3 = finds_next p turn turn turn (sent ++ sent_at turn cs) (sent_at turn us) all_sent h2 (Do (Put o.batch)) others refl k2 (time_at p.stops turn us (p.ahead turn)) f2 in
+    let f3 = finds_next p turn turn turn (sent ++ sent_at turn cs) all_sent h2 (Do (Put o.batch)) others k2 f2 in
     let g3 = queued_stage p a h2 (Put o.batch) refl refl refl g2 in
     let early = timely_front before (pass ∷ rear) h3 timely.1.1.1 in
     let q = quiet_keep p turn turn ((sent ++ sent_at turn cs) ++ sent_at turn us) before (pass ∷ rear) h3 bq k3 early (none_heed p.front p.tail before h3 a.none) f3 in
@@ -182,7 +182,7 @@ turn_steps_stage p a turn sent rest o before rear h bq rq k all timely finds g =
     let g5 = pass_stage p a turn turn (p.own (turn + 1)) ((sent ++ sent_at turn cs) ++ sent_at turn us) h4 q.1 g4 in
     let h5 = after h4 pass in
     let late = timely_behind before (pass ∷ rear) h3 timely.1.1.1 in
-    let found = finds_next p turn turn (turn + 1) all_sent [] all_sent h4 pass rear (sym (append-nil all_sent)) q.1 tt q.2 in
+    let found = finds_next p turn turn (turn + 1) all_sent all_sent h4 pass rear q.1 q.2 in
     let Found : List Step → Type 0 = λ x. Finds p turn (turn + 1) all_sent h5 x in
     let f5 = subst Found (sym (append-nil rear)) found in
     let g6 = quiet_stages p a turn (turn + 1) ((sent ++ sent_at turn cs) ++ sent_at turn us) rear [] h5 rq k5.0 late.1 f5 g5 in
@@ -199,13 +199,13 @@ turn_stage p a turn sent rest o steps h t k all timely finds g =
     let Found : List Step → Type 0 = λ x. Finds p turn turn sent h x in
     subst At (sym t.are) (turn_steps_stage p a turn sent rest o t.before t.after h t.before_quiet t.after_quiet k all (subst Timely t.are timely) (subst Found t.are finds) g)
 
-settled_first : (p : Script) (turn : ℕ) (sent : List Sent) (os : List Orders) (steps : List Step) (h : Core) (t : AreTurnsOf p.own turn os steps) → AreSettled p.stops p.own turn sent os steps h t → IsSettled p.stops turn sent h
+settled_first : (p : Script) (turn : ℕ) (sent : List Sent) (os : List Orders) (steps : List Step) (h : Core) (t : AreTurnsOf p.own turn os steps) → AreSettled p.stops p.front p.own turn sent os steps h t → IsSettled p.stops p.front turn sent h
 settled_first p turn sent [] steps h t s = s
 settled_first p turn sent (o ∷ os) steps h t s = s.0
 
 -- turns
 pub turns_stage : (p : Script) (a : Aim p) (turn : ℕ) (sent rest : List Sent) (os : List Orders) (steps : List Step) (h : Core) (t : AreTurnsOf p.own turn os steps) → Keeps p turn turn sent h
-    → (sent ++ sent_in turn os) ++ rest ≡ p.all → AllTimely h steps → AreSettled p.stops p.own turn sent os steps h t → Stage p a h → Stage p a (run steps h)
+    → (sent ++ sent_in turn os) ++ rest ≡ p.all → AllTimely h steps → AreSettled p.stops p.front p.own turn sent os steps h t → Stage p a h → Stage p a (run steps h)
 turns_stage p a turn sent rest [] steps h t k all timely settled g = subst (λ (x : List Step). Stage p a (run x h)) (sym t) g
 turns_stage p a turn sent rest (o ∷ os) steps h t k all timely settled g =
     let (first, later, are, one, more) = t in

@@ -250,7 +250,7 @@ turn_steps_keep p turn sent rest o before rear h bq rq k all timely heed finds =
       ),
     )
 
-turn_keeps : (p : Script) (turn : ℕ) (sent rest : List Sent) (o : Orders) (steps : List Step) (h : Core) → IsTurnOf p.own turn o steps → Keeps p turn turn sent h
+pub turn_keeps : (p : Script) (turn : ℕ) (sent rest : List Sent) (o : Orders) (steps : List Step) (h : Core) → IsTurnOf p.own turn o steps → Keeps p turn turn sent h
     → (sent ++ sent_at turn (queued_in o)) ++ rest ≡ p.all → AllTimely h steps → AllHeed p.front p.tail h steps → Finds p turn turn sent h steps → TurnKeeps p turn sent o h steps
 turn_keeps p turn sent rest o steps h t k all timely heed finds =
     let At : List Step → Type 0 = λ x. TurnKeeps p turn sent o h x in
@@ -258,6 +258,10 @@ turn_keeps p turn sent rest o steps h t k all timely heed finds =
     let Heed : List Step → Type 0 = λ x. AllHeed p.front p.tail h x in
     let Found : List Step → Type 0 = λ x. Finds p turn turn sent h x in
     subst At (sym t.are) (turn_steps_keep p turn sent rest o t.before t.after h t.before_quiet t.after_quiet k all (subst Timely t.are timely) (subst Heed t.are heed) (subst Found t.are finds))
+
+pub settled_first : (p : Script) (turn : ℕ) (sent : List Sent) (os : List Orders) (steps : List Step) (h : Core) (t : AreTurnsOf p.own turn os steps) → AreSettled p.stops p.front p.own turn sent os steps h t → IsSettled p.stops p.front turn sent h
+settled_first p turn sent [] steps h t s = s
+settled_first p turn sent (o ∷ os) steps h t s = s.0
 
 abbrev pub TurnsKeep : Script → ℕ → List Sent → List Orders → Core → List Step → Type 0
 TurnsKeep p turn sent os h steps =
@@ -293,7 +297,7 @@ turns_keep p turn sent rest (o ∷ os) steps h t k all timely settled heed =
     let whole : (mid ++ sent_in (turn + 1) os) ++ rest ≡ p.all = ap (λ x. x ++ rest) cut ∙ all in
     let a = turn_keeps p turn sent (sent_in (turn + 1) os ++ rest) o first h one k (sym (append_assoc mid (sent_in (turn + 1) os) rest) ∙ whole) (timely_front first later h all_timely) (heed_front p.front p.tail first later h all_heed)
     (settled_finds p turn sent h first settled.1) in
-    let next = settles p turn mid (run first h) a.1 (settled_first (turn + 1) mid os later (run first h) more settled.2) in
+    let next = settles p turn mid (run first h) a.1 (settled_first p (turn + 1) mid os later (run first h) more settled.2) in
     let b = turns_keep p (turn + 1) mid rest os later (run first h) more next whole (timely_behind first later h all_timely) settled.2 (heed_behind p.front p.tail first later h all_heed) in
     let n : turn + 1 + length os ≡ turn + length (o ∷ os) = omega arith in
     let To : Core → Type 0 = λ x. Keeps p (turn + length (o ∷ os)) (turn + length (o ∷ os)) (sent ++ sent_in turn (o ∷ os)) x in
@@ -306,10 +310,6 @@ turns_keep p turn sent rest (o ∷ os) steps h t k all timely settled heed =
       subst To (sym (run_append first later h)) (subst Here cut (subst On n b.1)),
       subst Made (sym (run_append first later h)) (subst Until n (makes_both p turn (turn + 1) (turn + 1 + length os) h.made (run first h).made (run later (run first h)).made (omega arith) (omega arith) a.2 b.2)),
     )
-  where
-    settled_first : (turn : ℕ) (sent : List Sent) (os : List Orders) (steps : List Step) (h : Core) (t : AreTurnsOf p.own turn os steps) → AreSettled p.stops p.front p.own turn sent os steps h t → IsSettled p.stops p.front turn sent h
-    settled_first turn sent [] steps h t s = s
-    settled_first turn sent (o ∷ os) steps h t s = s.0
 
 -- a board to which nothing was told
 pub begins : (p : Script) (b : BoardDef) (pins : List (List Level)) → p.own 0 ≡ b.start → p.slots ≡ b.slots → Keeps p 0 0 [] (start b pins)

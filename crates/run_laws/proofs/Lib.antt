@@ -63,3 +63,4 @@ pub mod HomeSpans
 pub mod HomeLimits
 pub mod HomeTimes
 pub mod HomeBoards
+pub mod HomeHeeding

@@ -395,7 +395,7 @@ shut_event h Repeat k = ap (λ (x : Controller). x.state) (all_left_by h.board (
 shut_event h (Pass t) k = (passes_left h.board t k).1
 shut_event h e k = refl
 
-shut_step : (h : Core) (s : Step) → is_shut h.board.controller.state ≡ true → (after h s).board.controller.state ≡ h.board.controller.state
+pub shut_step : (h : Core) (s : Step) → is_shut h.board.controller.state ≡ true → (after h s).board.controller.state ≡ h.board.controller.state
 shut_step h (Do e) k = shut_event h e k
 shut_step h (Turn turn) k = refl
 

@@ -8,9 +8,9 @@ ghost use Rattle.board_world.specs.World.{Step, AllFair, run, start};
 ghost use Rattle.link_work.specs.Turn.{LinkState, Orders};
 ghost use Rattle.plan_types.specs.declared.plan.Pulse.{Pulse};
 ghost use Rattle.plan_types.specs.Lines.{Clocks};
-ghost use Rattle.run_laws.specs.Courses.{AreMadeFor, IsGoodRun, courses, parts_of};
+ghost use Rattle.run_laws.specs.Courses.{AllHeed, AreMadeFor, IsGoodRun, courses, parts_of};
 ghost use Rattle.run_laws.specs.Events.{AreOwn, AreTicks};
-ghost use Rattle.run_laws.specs.Homes.{AreOverBy, AreReleasedIn, IsHomeBoard, IsHomeRun, IsHomeSpan, IsSplitIn, NextBehind, RunSection};
+ghost use Rattle.run_laws.specs.Homes.{AreOverBy, AreSettledOn, IsHomeBoard, IsHomeRun, IsHomeSpan, IsSplitIn, NextBehind, RunSection};
 ghost use Rattle.run_laws.specs.Boards.{OnBoard, told_in};
 ghost use Rattle.wire_scene.specs.declared.scene.Entry.{Entry};
 ghost use Rattle.run_laws.specs.Runs.{AreSpilled, Made};
@@ -74,13 +74,16 @@ pub fn homing_boards_keep_their_sections()
         AreOverBy from past → from ≤ to → to ≤ turns → NextBehind to later → told_in from to x ≡ [] }
 {}
 
-/// The law of few spoiled turns, in a run in which axes home: where the control commands before the last turn keep the limits, all units of moves
-/// are released by four turns behind their section's end, at the end of each turn at most n turns of a link's busy stretch were spoiled, and no unit that is due in the run's turns is released more than m turns behind its due one, no
-/// unit is taken half a round of the 32-bit clock after its first tick, for every n and m for which n + m + 2 turns have fewer than 2^31 of the
-/// board's ticks: for all with n + m up to 10,700 turns, whatever its frequency.
+/// The law of few spoiled turns, in a run in which axes home: where what stops is halted, and the stepper of the first unit of moves that is queued
+/// too late isn't, the control commands before the last turn keep the limits, at the end of each turn at most n turns of a link's busy stretch were
+/// spoiled, and no unit that is due in the run's turns is released more than m turns behind its due one, no unit is taken half a round of the 32-bit
+/// clock after its first tick, for every n and m for which n + m + 2 turns have fewer than 2^31 of the board's ticks: for all with n + m up to
+/// 10,700 turns, whatever its frequency.
 pub fn homing_links_are_timely()
     ensures timely { (b : BoardDef) (pins : List (List Level)) (board : ℕ) (entries : List Entry) (own : ℕ → ℕ) (clocks : Clocks) (ready n m turns : ℕ) (stops : ℕ → Option ℕ) (ss : List RunSection) (os : List Orders) (l : LinkState)
-        (t : AreTurns (clock_of b) 0 os (first_state b pins board entries) l) → AreOwn b (length os) own → IsHomeRun own clocks b.freq b.slots ready stops ss os → AreReleasedIn ss → AreSpilled turns m (map (λ s. s.section) ss) → length os ≤ turns →
+        (t : AreTurns (clock_of b) 0 os (first_state b pins board entries) l) → AreOwn b (length os) own → IsHomeRun own clocks b.freq b.slots ready stops ss os →
+        (split : IsSplitIn own stops b.slots ss os) → AreSettledOn stops split.front (clock_of b) 0 [] os (first_state b pins board entries) l t →
+        AllHeed split.front split.tail (start b pins) (steps_of (clock_of b) 0 os (first_state b pins board entries) l t) → AreSpilled turns m (map (λ s. s.section) ss) → length os ≤ turns →
         ((done : List Orders) (o : Orders) (rest : List Orders) → os ≡ done ++ (o ∷ rest) → ControlsKeep done) →
         ((k : ℕ) → spoiled (take k (ends_of (clock_of b) 0 os (first_state b pins board entries) l t)) ≤ n) → ((k : ℕ) → own (k + (n + m + 2)) < own k + 2 ^ 31) →
         AllTimely (start b pins) (steps_of (clock_of b) 0 os (first_state b pins board entries) l t) }

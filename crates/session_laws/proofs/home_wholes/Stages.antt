@@ -1,6 +1,6 @@
 -- So over the turns of a board and its link.
 use Rattle.std.proofs.Common.{◌≡◌, ℕ, ◌+◌, ◌≤◌, List, [], ◌∷◌, ◌++◌, length, drop, map, refl, ap, sym, ◌∙◌, subst, arith, inl, inr, append_assoc, append-nil, length-append}
-use Rattle.std.proofs.lemmas.List.{take-append-drop}
+use Rattle.std.proofs.lemmas.List.{append_cancel_left, take-append-drop}
 use Rattle.plan_types.specs.declared.plan.BoardState.TheVariants.{Running, Shut}
 use Rattle.plan_types.specs.declared.plan.Pulse.{Pulse}
 use Rattle.board_sim.specs.Board.{is_shut}
@@ -19,8 +19,8 @@ use Rattle.link_work.proofs.Sending.{run_append}
 use Rattle.run_laws.specs.Events.{AreQuiet, AreTurnsOf, IsQuiet, IsTurnOf}
 use Rattle.run_laws.specs.Known.{AreQueued, Sent, orders_in, sent_at, sent_in}
 use Rattle.run_laws.specs.Timely.{AllTimely, AreTimely, IsTimelyAt}
-use Rattle.run_laws.specs.Courses.{courses, no_course, AreAllGood, AreInTime, AreSettled, IsSettled}
-use Rattle.run_laws.proofs.Coursed.{old_at, pass_keeps, quiet_keep, settled_finds, settles}
+use Rattle.run_laws.specs.Courses.{courses, no_course, AreAllGood, AreInTime, AreSettled}
+use Rattle.run_laws.proofs.Coursed.{old_at, pass_keeps, quiet_keep, settled_finds, settled_first, settles}
 use Rattle.run_laws.proofs.Lists.{cuts, orders_append, own_up, sent_append}
 use Rattle.run_laws.proofs.Stepping.{Finds, Going, Keeps, Script, TakesFind, finds_first, finds_next, good_behind, good_front, queued_behind, queued_front, queues_on, quiet_keeps, time_front, none_heed}
 use Rattle.run_laws.proofs.Turning.{timely_behind, timely_front}
@@ -198,10 +198,6 @@ turn_stage p a turn sent rest o steps h t k all timely finds g =
     let Timely : List Step → Type 0 = λ x. AllTimely h x in
     let Found : List Step → Type 0 = λ x. Finds p turn turn sent h x in
     subst At (sym t.are) (turn_steps_stage p a turn sent rest o t.before t.after h t.before_quiet t.after_quiet k all (subst Timely t.are timely) (subst Found t.are finds) g)
-
-settled_first : (p : Script) (turn : ℕ) (sent : List Sent) (os : List Orders) (steps : List Step) (h : Core) (t : AreTurnsOf p.own turn os steps) → AreSettled p.stops p.front p.own turn sent os steps h t → IsSettled p.stops p.front turn sent h
-settled_first p turn sent [] steps h t s = s
-settled_first p turn sent (o ∷ os) steps h t s = s.0
 
 -- turns
 pub turns_stage : (p : Script) (a : Aim p) (turn : ℕ) (sent rest : List Sent) (os : List Orders) (steps : List Step) (h : Core) (t : AreTurnsOf p.own turn os steps) → Keeps p turn turn sent h

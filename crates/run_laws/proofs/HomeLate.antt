@@ -1,17 +1,18 @@
 -- A unit of a section of moves that is left five turns behind its end: for a stepper it is good, and comes too late.
-use Rattle.std.proofs.Common.{◌≡◌, ◌≢◌, ℕ, Bool, false, ◌+◌, ◌*◌, ◌<◌, ◌≤◌, List, [], ◌∷◌, ◌++◌, Option, None, refl, ap, sym, ◌∙◌, subst, arith, inl, inr}
+use Rattle.std.proofs.Common.{◌≡◌, ◌≢◌, ℕ, Bool, false, ◌+◌, ◌-◌, ◌*◌, ◌<◌, ◌≤◌, List, [], ◌∷◌, ◌++◌, Option, None, Some, refl, ap, sym, ◌∙◌, subst, arith, inl, inr}
 use Rattle.std.proofs.lemmas.Bool.Decides.{eqb_tells}
 use Rattle.std.specs.Prelude.{slice_index}
 use Rattle.plan_types.specs.Board.{last_of}
 use Rattle.plan_types.specs.Clock.{turn_ns}
 use Rattle.plan_types.specs.Lines.{lines_tick}
+use Rattle.msg_code.specs.Units.{step_command}
 use Rattle.board_world.specs.Orders.{unit_orders}
 use Rattle.step_feed.specs.Units.{StepUnit}
 use Rattle.step_feed.specs.Pacing.{Release, pending, units_of}
 use Rattle.step_feed.specs.Rings.{count_from}
 use Rattle.section_units.specs.Sections.{BoardSection, of_stepper, ticks_meant}
 use Rattle.run_laws.specs.Known.{Sent, sent_at, AreBelow}
-use Rattle.run_laws.specs.Courses.{Course, course_from, AreGoodOn}
+use Rattle.run_laws.specs.Courses.{Course, IsSince, course_from, AreGoodOn}
 use Rattle.run_laws.proofs.Clocks.{bound_made}
 use Rattle.run_laws.proofs.Lists.{cons_same}
 use Rattle.run_laws.proofs.Stepping.{course_append, good_behind, good_front}
@@ -19,7 +20,7 @@ use Rattle.run_laws.proofs.Units.{ahead_of_step, step_sent, unit_is}
 use Rattle.run_laws.proofs.Waiting.{Frame, IsInside, AreInside, few_pend, lasts}
 use Rattle.run_laws.proofs.HomeUnits.{other_unit}
 use Rattle.run_laws.proofs.HomeTurns.{StageWith, IsEarly, next_unit, stop_of}
-use Rattle.run_laws.proofs.HomeSections.{LostOn}
+use Rattle.run_laws.proofs.HomeSections.{IsBegunOn, LostOn}
 use Rattle.run_laws.proofs.Spreading.{lasts_below}
 
 step_ends : (oid turn : ℕ) (c : Course) (u : StepUnit) → u.stepper ≡ oid → (course_from oid c (step_sent turn u ∷ [])).known.ends ≡ last_of 0 (ticks_meant u) ∷ c.known.ends
@@ -30,10 +31,11 @@ stage_first : (f : Frame) (stops : ℕ → Option ℕ) (oid : ℕ) (homes : Bool
 stage_first f stops oid homes s c0 Q c ls u us (inl n) = n.0.units.2.first
 stage_first f stops oid homes s c0 Q c ls u us (inr g) = g.goes.chain.1.first
 
--- what is queued ahead of the unit's triple is good, and it is so too, but for its being late
+-- what is queued ahead of the unit's triple is good, and it is so too, but for its being late; and its part was begun in the section's turns
 abbrev pub LateOn : Frame → (ℕ → Option ℕ) → ℕ → Bool → BoardSection → Course → (List StepUnit → Type 0) → ℕ → Course → Release → Type 0
 LateOn f stops oid homes s c0 Q turn d r =
     AreGoodOn f.own stops f.slots oid d (ahead_of_step turn r.unit) × LostOn f.own stops f.slots oid (course_from oid d (ahead_of_step turn r.unit)) (step_sent turn r.unit ∷ [])
+    × (homes ≡ false → IsBegunOn oid (f.start - 250) (course_from oid d (ahead_of_step turn r.unit)).since (step_command r.unit))
     × ((ls : List ℕ) × (us : List StepUnit) × StageWith f stops oid homes s c0 Q (course_from oid (course_from oid d (ahead_of_step turn r.unit)) (step_sent turn r.unit ∷ [])) ls us)
 
 -- in moves a part doesn't stop
@@ -66,6 +68,11 @@ late_own f stops oid homes s c0 Q turn d before r us early own st behind i soon 
     let Stage : Course → Type 0 = λ x. StageWith f stops oid homes s c0 Q x (u.last ∷ lasts oid before) us in (
       good_front f.own stops f.slots oid d a (t ∷ []) both,
       ((good_behind f.own stops f.slots oid d a (t ∷ []) both).0, λ _. (omega (arith, past, first), below, (one.1.turn, ap (λ (x : Course). x.since) (sym after) ∙ one.1.since, goes_on_by homes stops one.1.turn s moves one.1.stop))),
+      λ _ _.
+          let Since : Option ℕ → Type 0 = λ x. IsSince (f.start - 250) x in
+          let begun = one.1.soon moves in
+          let at : e.since ≡ Some one.1.turn = sym (ap (λ (x : Course). x.since) after) ∙ one.1.since in
+          subst Since (sym at) (omega (arith, begun)),
       (u.last ∷ lasts oid before, us, subst Stage after (inr one.1)),
     )
 
@@ -81,6 +88,7 @@ late_other f stops oid homes s c0 Q turn d r ls us ne st =
     let Stage : Course → Type 0 = λ x. StageWith f stops oid homes s c0 Q x ls us in (
       good_front f.own stops f.slots oid d a (t ∷ []) both,
       ((good_behind f.own stops f.slots oid d a (t ∷ []) both).0, λ e. absurd (ne e)),
+      λ _ e. absurd (ne e),
       (ls, us, subst Stage (sym other.1 ∙ unit_parts oid turn d u) st),
     )
 

@@ -67,6 +67,11 @@ course_from oid c (s ∷ ss) = course_from oid (course_behind oid c s) ss
 abbrev pub courses : List Sent → ℕ → Course
 courses ss oid = course_from oid no_course ss
 
+-- a stepper's present part was begun in a turn or later
+abbrev pub IsSince : ℕ → Option ℕ → Type 0
+IsSince turn None = ⊥
+IsSince turn (Some since) = turn ≤ since
+
 -- a turn is not before another, where there is one
 abbrev pub IsFrom : ℕ → Option ℕ → Type 0
 IsFrom turn None = ⊥

@@ -1,5 +1,5 @@
 -- A board's part of a run in which axes home.
-use Rattle.std.specs.Prelude.{◌≡◌, ◌≢◌, ℕ, ◌+◌, ◌*◌, ◌%◌, ◌^◌, ◌<◌, ◌≤◌, ◌⊎◌, ◌++◌, Bool, true, false, List, [], ◌∷◌, All, length, take, Option, Some, None}
+use Rattle.std.specs.Prelude.{◌≡◌, ◌≢◌, ℕ, ◌+◌, ◌-◌, ◌*◌, ◌%◌, ◌^◌, ◌<◌, ◌≤◌, ◌⊎◌, ◌++◌, Bool, true, false, List, [], ◌∷◌, All, length, take, Option, Some, None}
 use Rattle.std.specs.List.{flat_map}
 use Rattle.plan_types.specs.declared.clock.BoardClock.{BoardClock}
 use Rattle.plan_types.specs.declared.levels.Level.{Level}
@@ -19,7 +19,7 @@ use Rattle.link_work.specs.Runs.{AreTurns, queued_in}
 use Rattle.link_work.specs.Stands.{first_state}
 use Rattle.link_work.specs.Turn.{LinkState, Orders}
 use Rattle.run_laws.specs.Boards.{OnBoard}
-use Rattle.run_laws.specs.Courses.{IsFrom, IsSettled, AreSettled, FindStopped, AllHeed, AreAllGood, BeginLostOn, AreMadeFor, Course, courses, parts_of}
+use Rattle.run_laws.specs.Courses.{IsFrom, IsSince, IsSettled, AreSettled, FindStopped, AllHeed, AreAllGood, BeginLostOn, AreMadeFor, Course, courses, parts_of}
 use Rattle.run_laws.specs.Courses as course
 use Rattle.run_laws.specs.Events.{AreOwn, AreTicks, AreTurnsOf}
 use Rattle.run_laws.specs.Known.{AreQueued, Sent, sent_at, sent_in}
@@ -180,10 +180,35 @@ abbrev pub BeginOn : (ℕ → Option ℕ) → (ℕ → Course) → List Sent →
 BeginOn stops cs [] = Unit {0}
 BeginOn stops cs (s ∷ ss) = IsOnFor stops cs s.order.command
 
+-- a triple of a stepper whose present part was begun in a turn or later
+abbrev pub IsBegunFor : ℕ → (ℕ → Course) → Cmd → Type 0
+IsBegunFor turn cs (cmd.QueueStep oid interval count add) = IsSince turn (cs oid).since
+IsBegunFor turn cs _ = ⊥
+
+-- The first triple that is left of some sections of moves five turns behind their end: it is queued in that turn, and its
+-- stepper's clock was set 250 turns before the section's start or later; of the sections of moves before it all units are
+-- released by four turns behind their end.
+abbrev pub IsLeftOf : List RunSection → (ℕ → Course) → ℕ → Cmd → Type 0
+IsLeftOf [] cs turn c = ⊥
+IsLeftOf (s ∷ ss) cs turn c =
+    ((s.homes ≡ false) × (turn ≡ s.section.end + 5) × IsBegunFor (s.section.start - 250) cs c)
+    ⊎ ((s.homes ≡ false → AreBefore (s.section.end + 5) s.section.releases) × IsLeftOf ss cs turn c)
+
+-- commands of which the first is that one
+abbrev pub BeginLeftOf : List RunSection → (ℕ → Course) → List Sent → Type 0
+BeginLeftOf ss cs [] = Unit {0}
+BeginLeftOf ss cs (t ∷ tail) = IsLeftOf ss cs t.turn t.order.command
+
+-- pulses before the board's tick of the turn in which the first of some commands was queued, where there is one
+abbrev pub AreBeforeFirst : (ℕ → ℕ) → List Sent → List Pulse → Type 0
+AreBeforeFirst own [] ps = Unit {0}
+AreBeforeFirst own (t ∷ tail) ps = course.AreBefore (own t.turn) ps
+
 -- What is queued in a run in which axes home: commands that are good, of whose parts pulses are made section by section,
--- and perhaps others behind them, of which the first is a triple of a section of moves that is queued too late, whose
--- stepper's part doesn't stop. What is released by its turn, or by the end of the run where there is none, is so by the
--- fifth turn behind the end of its section. There is none where all units of moves are released soon.
+-- and perhaps others behind them, of which the first is a triple of a section of moves that is queued too late, the first
+-- that is left so, whose stepper's part doesn't stop, and by whose turn the pulses are over. What is released by its turn,
+-- or by the end of the run where there is none, is so by the fifth turn behind the end of its section. There is none where
+-- all units of moves are released soon.
 pub record IsSplitIn (own : ℕ → ℕ) (stops : ℕ → Option ℕ) (slots : ℕ) (ss : List RunSection) (os : List Orders) : Type 0 where
   pub front : List Sent
   pub tail : List Sent
@@ -195,7 +220,9 @@ pub record IsSplitIn (own : ℕ → ℕ) (stops : ℕ → Option ℕ) (slots : �
   pub by : AreQueued until front
   pub soon : AreSoon until ss
   pub left : IsLeftAt (length os) ss until tail
+  pub begun : BeginLeftOf ss (courses front) tail
   pub fronts : (oid : ℕ) (ps : List Pulse) → AreMadeFor own stops (parts_of (courses front oid)) ps → AreFrontsIn own oid ss ps
+  pub early : (oid : ℕ) (ps : List Pulse) → AreMadeFor own stops (parts_of (courses front oid)) ps → AreBeforeFirst own tail ps
   pub whole : AreReleasedIn ss → tail ≡ []
 
 -- the next section, where there is one, starts behind a turn

@@ -17,7 +17,7 @@ use Rattle.run_laws.specs.Known.{Sent, sent_at, sent_in, AreBelow, IsLostFor}
 use Rattle.run_laws.specs.Parts.{AreTracked, IsMaking, Makes, MakesIn}
 use Rattle.run_laws.specs.Courses.{Course, parts_of, no_course, course_of, course_from, courses, AreBeforeTurn, AreMadeFor, IsGoodOn, AreGoodOn, AreAllGood, AllHeed, BeginLostOn}
 use Rattle.run_laws.specs.Courses as course
-use Rattle.run_laws.specs.Homes.{RunSection, IsMovesIn, IsSectionBy, AreInTurn, SetsClock, IsControlIn, AreSet, SetsAny, HasUnits, IsHomeRun, AreFrontsIn, AreBeforeFirst, AreReleasedIn, BeginLeftOf, BeginOn, IsLeftOf, IsOnFor, IsSplitIn}
+use Rattle.run_laws.specs.Homes.{RunSection, IsMovesIn, IsSectionBy, AreInTurn, SetsClock, IsControlIn, AreSet, SetsAny, HasUnits, IsHomeRun, AreFrontsIn, AreBeforeFirst, AreReleasedBy, AreReleasedIn, BeginLeftOf, BeginOn, IsLeftOf, IsOnFor, IsSplitIn}
 use Rattle.run_laws.proofs.Clocks.{ticks_rise}
 use Rattle.run_laws.proofs.Entering.{AreEarly, all_inside, begun_inside, early_fits}
 use Rattle.run_laws.proofs.Spans.{section_early}
@@ -286,9 +286,10 @@ left_for : (own : ℕ → ℕ) (stops : ℕ → Option ℕ) (ss : List RunSectio
 left_for own stops ss turn cs (cmd.QueueStep other interval count add) ticks lost h = left_of ss cs turn other interval count add (h other)
 left_for own stops ss turn cs _ ticks lost h = absurd (lost 0)
 
-begin_left : (own : ℕ → ℕ) (stops : ℕ → Option ℕ) (slots : ℕ) (ss : List RunSection) (cs : ℕ → Course) (tail : List Sent) → ((oid : ℕ) → LostOn own stops slots oid (cs oid) tail) → ((oid : ℕ) → LeftOn ss oid (cs oid).since tail) → BeginLeftOf ss cs tail
-begin_left own stops slots ss cs [] lost h = tt
-begin_left own stops slots ss cs (s ∷ tail) lost h = left_for own stops ss s.turn cs s.order.command s.order.ticks (λ oid. (lost oid).1) h
+begin_left : (own : ℕ → ℕ) (stops : ℕ → Option ℕ) (slots turns : ℕ) (ss : List RunSection) (cs : ℕ → Course) (tail : List Sent) → ((oid : ℕ) → LostOn own stops slots oid (cs oid) tail) → ((oid : ℕ) → LeftOn ss oid (cs oid).since tail)
+    → (tail ≡ [] → AreReleasedBy turns ss) → BeginLeftOf turns ss cs tail
+begin_left own stops slots turns ss cs [] lost h out = out refl
+begin_left own stops slots turns ss cs (s ∷ tail) lost h out = left_for own stops ss s.turn cs s.order.command s.order.ticks (λ oid. (lost oid).1) h
 
 pub run_split : (own : ℕ → ℕ) (clocks : Clocks) (freq slots ready : ℕ) (stops : ℕ → Option ℕ) (ss : List RunSection) (os : List Orders) → AreTicks own → IsHomeRun own clocks freq slots ready stops ss os → IsSplitIn own stops slots ss os
 run_split own clocks freq slots ready stops ss os ticks r =
@@ -311,7 +312,7 @@ run_split own clocks freq slots ready stops ss os ticks r =
       by = c.by;
       soon = c.soon;
       left = c.left;
-      begun = begin_left own stops slots ss (courses z.front) z.tail (λ oid. (x oid).lost) (λ oid. (x oid).begun);
+      begun = begin_left own stops slots (length os) ss (courses z.front) z.tail (λ oid. (x oid).lost) (λ oid. (x oid).begun) c.out;
       fronts = λ oid ps k. (fronts_of oid ps k).0;
       early = λ oid ps k. (fronts_of oid ps k).1;
       whole = (x 0).whole;

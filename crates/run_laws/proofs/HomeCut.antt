@@ -1,6 +1,6 @@
 -- Where the first unit that is queued too late stands, in a run in which axes home: all that is released by its turn is so by the fifth turn
 -- behind the end of its section.
-use Rattle.std.proofs.Common.{◌≡◌, ℕ, zero, suc, Bool, true, false, ◌+◌, ◌≤◌, ◌⊎◌, List, [], ◌∷◌, ◌++◌, All, length, map, Option, refl, arith, inl, inr}
+use Rattle.std.proofs.Common.{◌≡◌, ℕ, zero, suc, Bool, true, false, ◌+◌, ◌<◌, ◌≤◌, ◌⊎◌, List, [], ◌∷◌, ◌++◌, All, length, map, Option, refl, arith, inl, inr}
 use Rattle.std.proofs.lemmas.Bool.Decides.{eqb_tells, leb_tells}
 use Rattle.std.proofs.lemmas.List.Elements.{All-head, All-tail}
 use Rattle.plan_types.specs.Lines.{Clocks}
@@ -12,10 +12,10 @@ use Rattle.section_units.specs.Sections.{AreBefore, BoardSection}
 use Rattle.link_work.specs.Turn.{Orders}
 use Rattle.link_work.specs.Runs.{queued_in}
 use Rattle.run_laws.specs.Known.{AreQueued, Sent, sent_at, sent_in}
-use Rattle.run_laws.specs.Homes.{RunSection, IsSectionBy, AreInTurn, AreSoonBy, AreSoon, IsPastMoves, IsLeftAt}
+use Rattle.run_laws.specs.Homes.{RunSection, IsSectionBy, AreInTurn, AreReleasedBy, AreSoonBy, AreSoon, IsPastMoves, IsLeftAt}
 use Rattle.run_laws.proofs.HomeSections.{Split, split_from, split_on, split_over, split_until}
 use Rattle.run_laws.proofs.Releasing.{AreFrom, after_turn, from_down, paced_from}
-use Rattle.run_laws.proofs.Sectioning.{before_down}
+use Rattle.run_laws.proofs.Sectioning.{before_back, before_down}
 use Rattle.run_laws.proofs.Stepping.{queued_append}
 use Rattle.run_laws.proofs.Units.{ahead_of_step}
 
@@ -72,6 +72,12 @@ pub record IsCut (turns turn : ℕ) (ss : List RunSection) (z : Split) : Type 0 
   pub by : AreQueued until z.front
   pub soon : AreSoon until ss
   pub left : IsLeftAt turns ss until z.tail
+  pub out : z.tail ≡ [] → AreReleasedBy turns ss
+
+-- sections that are not over by then
+released_later : (turns e : ℕ) (ss : List RunSection) → AreInTurn e ss → turns ≤ e + 5 → AreReleasedBy turns ss
+released_later turns e [] row h = tt
+released_later turns e (s ∷ ss) row h = (λ _ l. absurd (omega (arith, l, row.0, row.1, h)), released_later turns s.section.end ss row.2 (omega (arith, row.0, row.1, h)))
 
 left_later : (turns until : ℕ) (s : RunSection) (ss : List RunSection) (tail : List Sent) → IsLeftAt turns ss until tail → IsLeftAt turns (s ∷ ss) until tail
 left_later turns until s ss [] a = a
@@ -85,6 +91,7 @@ record CutOn (turns turn : ℕ) (s : RunSection) (rs : List Release) (later : Li
   mine : AreSoonBy until s.section.end rs
   soon : AreSoon until later
   left : IsLeftAt turns (s ∷ later) until z.tail
+  out : z.tail ≡ [] → (s.homes ≡ false → s.section.end + 5 < turns → AreBefore (s.section.end + 5) rs) × AreReleasedBy turns later
 
 tells : (b : Bool) → (b ≡ true) ⊎ (b ≡ false)
 tells true = inl refl
@@ -95,7 +102,7 @@ section_cut : (turns : ℕ) (s : RunSection) (later : List RunSection) → AreIn
     → (os : List Orders) (turn : ℕ) (rs : List Release) → turn + length os ≡ turns → turn ≤ s.section.end + 5 → AreRising rs → AreFrom turn rs → (s.homes ≡ true → AreBefore s.section.end rs)
     → CutOn turns turn s rs later (split_on (split_from later) s.section.end rs turn os)
 section_cut turns s later row next [] turn rs long within rise far home =
-    record { until = turn; low = omega arith; by = tt; mine = soon_by turn s.section.end rs within; soon = soon_later turn s.section.end later row within; left = omega (arith, long) }
+    record { until = turn; low = omega arith; by = tt; mine = soon_by turn s.section.end rs within; soon = soon_later turn s.section.end later row within; left = omega (arith, long); out = λ _. (λ _ h. absurd (omega (arith, long, within, h)), released_later turns s.section.end later row (omega (arith, long, within))) }
 section_cut turns s later row next (o ∷ os) turn rs long within rise far home =
     elim (leb_tells (suc (s.section.end + 4)) turn) [
       | inl p ↦ rw p.0 (over rs far home p.1)
@@ -109,14 +116,18 @@ section_cut turns s later row next (o ∷ os) turn rs long within rise far home 
             mine = soon_back rest.until s.section.end turn rs within rest.mine;
             soon = rest.soon;
             left = rest.left;
+            out = λ e. (let y = rest.out e in (λ moves h. before_back (s.section.end + 5) turn rs (omega (arith, p.1)) (y.0 moves h), y.1));
           })
     ]
   where
+    some : {x : Sent} {xs : List Sent} → x ∷ xs ≡ [] → ⊥
+    some e = cc
+
     over : (rs : List Release) → AreFrom turn rs → (s.homes ≡ true → AreBefore s.section.end rs) → suc (s.section.end + 4) ≤ turn
         → CutOn turns turn s rs later (split_over (split_from later) rs turn o os)
     over [] far home past =
         let c = next (o ∷ os) turn long within in
-        record { until = c.until; low = c.low; by = c.by; mine = tt; soon = c.soon; left = left_later turns c.until s later (split_from later turn (o ∷ os)).tail c.left }
+        record { until = c.until; low = c.low; by = c.by; mine = tt; soon = c.soon; left = left_later turns c.until s later (split_from later turn (o ∷ os)).tail c.left; out = λ e. (λ _ _. tt, c.out e) }
     over (r ∷ rs) far home past =
         elim (tells s.homes) [
           | inl e ↦ absurd (omega (arith, (home e).0, far.0, past))
@@ -129,6 +140,7 @@ section_cut turns s later row next (o ∷ os) turn rs long within rise far home 
             mine = soon_by turn s.section.end (r ∷ rs) within;
             soon = soon_later turn s.section.end later row within;
             left = (refl, inl (e, omega (arith, past, within)));
+            out = λ none. absurd (some none);
           }
         ]
 
@@ -157,16 +169,16 @@ module _ (clocks : Clocks) (freq slots last : ℕ) (stops : ℕ → Option ℕ) 
   Is s = IsSectionBy s.homes clocks freq slots last stops s.section
 
   sections_cut : (ss : List RunSection) (e : ℕ) → AreInTurn e ss → All Is ss → (os : List Orders) (turn : ℕ) → turn + length os ≡ turns → turn ≤ e + 5 → IsCut turns turn ss (split_from ss turn os)
-  sections_cut [] e row all os turn long within = record { until = turns; low = omega (arith, long); by = in_queued turn turns os (omega (arith, long)); soon = tt; left = omega arith }
+  sections_cut [] e row all os turn long within = record { until = turns; low = omega (arith, long); by = in_queued turn turns os (omega (arith, long)); soon = tt; left = omega arith; out = λ _. tt }
   sections_cut (s ∷ ss) e row all os turn long within =
       let (is, home) = releases_by s.homes clocks freq slots last stops s.section (All-head Is s ss all) in
       let c = section_cut turns s ss row.2 (λ ps k l h. sections_cut ss s.section.end row.2 (All-tail Is s ss all) ps k l h) os turn s.section.releases long (omega (arith, within, row.0, row.1)) is.rise
       (from_down turn is.from s.section.releases (omega (arith, is.exact, within, row.0)) is.far) home in
-      record { until = c.until; low = c.low; by = c.by; soon = (c.mine, c.soon); left = c.left }
+      record { until = c.until; low = c.low; by = c.by; soon = (c.mine, c.soon); left = c.left; out = c.out }
 
   -- from a run's first turn on
   pub until_cut : (ss : List RunSection) (ready : ℕ) → AreInTurn ready ss → All Is ss → (m : ℕ) (os : List Orders) (turn : ℕ) → turn + m ≡ ready → turn + length os ≡ turns → IsCut turns turn ss (split_until ss m turn os)
-  until_cut ss ready row all m [] turn at long = record { until = turns; low = omega (arith, long); by = tt; soon = soon_later turns ready ss row (omega (arith, at, long)); left = omega arith }
+  until_cut ss ready row all m [] turn at long = record { until = turns; low = omega (arith, long); by = tt; soon = soon_later turns ready ss row (omega (arith, at, long)); left = omega arith; out = λ _. released_later turns ready ss row (omega (arith, at, long)) }
   until_cut ss ready row all zero (o ∷ os) turn at long = sections_cut ss ready row all (o ∷ os) turn long (omega (arith, at))
   until_cut ss ready row all (suc m) (o ∷ os) turn at long =
       let c = until_cut ss ready row all m os (turn + 1) (omega (arith, at)) (omega (arith, long)) in
@@ -176,6 +188,7 @@ module _ (clocks : Clocks) (freq slots last : ℕ) (stops : ℕ → Option ℕ) 
         by = queued_append c.until (sent_at turn (queued_in o)) (split_until ss m (turn + 1) os).front (at_queued turn c.until (queued_in o) (omega (arith, c.low))) c.by;
         soon = c.soon;
         left = c.left;
+        out = c.out;
       }
 
 -- a homing section of which a part was begun by that turn has ended by then

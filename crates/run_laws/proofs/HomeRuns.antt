@@ -25,7 +25,7 @@ use Rattle.run_laws.proofs.HomeTurns.{Begun, StageWith, IsEarly, turn_on}
 use Rattle.run_laws.proofs.HomeControls.{now_of, controls_went, begun_all}
 use Rattle.run_laws.proofs.HomeSections.{Sound, OrdersOn, bare, cur, ahead_sound, orders_as, orders_later, sets_late, set_next, none_later, pushed_none, Promise, GoesBehind, no_fronts, EndsBy, stage_fronts, Split, all_of, ahead, split_over, split_on, IsBegunOn, IsLeftOn, LeftOn, LostOn}
 use Rattle.run_laws.proofs.Spreading.{lasts_below, first_part, late_released}
-use Rattle.run_laws.proofs.Sectioning.{before_down}
+use Rattle.run_laws.proofs.Sectioning.{before_back, before_down}
 use Rattle.plan_types.specs.declared.plan.Pulse.{Pulse}
 use Rattle.link_work.specs.Runs.{queued_in}
 use Rattle.run_laws.proofs.Lists.{sent_append}
@@ -161,14 +161,6 @@ early_by f oid turn homes s os start us q h some =
 pub before_least : (j k : ℕ) (rs : List Release) → j ≤ k → AreBefore j rs → AreBefore k rs
 before_least j k [] h a = tt
 before_least j k (r ∷ rs) h a = (omega (arith, a.0, h), before_least j k rs h a.1)
-
--- what is released in a turn before another
-before_back : (n k : ℕ) (rs : List Release) → k < n → AreBefore n (after_turn k rs) → AreBefore n rs
-before_back n k [] l a = tt
-before_back n k (r ∷ rs) l a = elim (eqb_tells r.turn k) [
-  | inl p ↦ let e = p.1 in (omega (arith, e, l), before_back n k rs l (rw p.0 at a))
-  | inr p ↦ rw p.0 at a
-]
 
 -- five turns behind the end of a section: nothing is left of it, or one of moves has a unit that comes too late
 tells : (b : Bool) → (b ≡ true) ⊎ (b ≡ false)

@@ -194,10 +194,16 @@ IsLeftOf (s ∷ ss) cs turn c =
     ((s.homes ≡ false) × (turn ≡ s.section.end + 5) × IsBegunFor (s.section.start - 250) cs c)
     ⊎ ((s.homes ≡ false → AreBefore (s.section.end + 5) s.section.releases) × IsLeftOf ss cs turn c)
 
--- commands of which the first is that one
-abbrev pub BeginLeftOf : List RunSection → (ℕ → Course) → List Sent → Type 0
-BeginLeftOf ss cs [] = Unit {0}
-BeginLeftOf ss cs (t ∷ tail) = IsLeftOf ss cs t.turn t.order.command
+-- of each section of moves that is over five turns before the end of so many turns all units are released by four turns
+-- behind its end
+abbrev pub AreReleasedBy : ℕ → List RunSection → Type 0
+AreReleasedBy turns [] = Unit {0}
+AreReleasedBy turns (s ∷ ss) = (s.homes ≡ false → s.section.end + 5 < turns → AreBefore (s.section.end + 5) s.section.releases) × AreReleasedBy turns ss
+
+-- commands of so many turns of which the first is that one; or there are none, and so no triple is left
+abbrev pub BeginLeftOf : ℕ → List RunSection → (ℕ → Course) → List Sent → Type 0
+BeginLeftOf turns ss cs [] = AreReleasedBy turns ss
+BeginLeftOf turns ss cs (t ∷ tail) = IsLeftOf ss cs t.turn t.order.command
 
 -- pulses before the board's tick of the turn in which the first of some commands was queued, where there is one
 abbrev pub AreBeforeFirst : (ℕ → ℕ) → List Sent → List Pulse → Type 0
@@ -220,7 +226,7 @@ pub record IsSplitIn (own : ℕ → ℕ) (stops : ℕ → Option ℕ) (slots : �
   pub by : AreQueued until front
   pub soon : AreSoon until ss
   pub left : IsLeftAt (length os) ss until tail
-  pub begun : BeginLeftOf ss (courses front) tail
+  pub begun : BeginLeftOf (length os) ss (courses front) tail
   pub fronts : (oid : ℕ) (ps : List Pulse) → AreMadeFor own stops (parts_of (courses front oid)) ps → AreFrontsIn own oid ss ps
   pub early : (oid : ℕ) (ps : List Pulse) → AreMadeFor own stops (parts_of (courses front oid)) ps → AreBeforeFirst own tail ps
   pub whole : AreReleasedIn ss → tail ≡ []

@@ -17,7 +17,7 @@ use Rattle.run_laws.specs.Known.{Sent, sent_at, sent_in, AreBelow, IsLostFor}
 use Rattle.run_laws.specs.Parts.{AreTracked, IsMaking, Makes, MakesIn}
 use Rattle.run_laws.specs.Courses.{Course, parts_of, no_course, course_of, course_from, courses, AreBeforeTurn, AreMadeFor, IsGoodOn, AreGoodOn, AreAllGood, AllHeed, BeginLostOn}
 use Rattle.run_laws.specs.Courses as course
-use Rattle.run_laws.specs.Homes.{RunSection, IsMovesIn, IsSectionBy, AreInTurn, SetsClock, IsControlIn, AreSet, SetsAny, HasUnits, IsHomeRun, AreFrontsIn, AreBeforeFirst, AreReleasedBy, AreReleasedIn, BeginLeftOf, BeginOn, IsLeftOf, IsOnFor, IsSplitIn}
+use Rattle.run_laws.specs.Homes.{RunSection, IsMovesIn, IsSectionBy, AreInTurn, SetsClock, IsControlIn, AreSet, SetsAny, HasUnits, IsHomeRun, AreFrontsIn, AreBeforeFirst, AreReleasedBy, AreReleasedIn, BeginLeftOf, IsLeftOf, IsSplitIn}
 use Rattle.run_laws.proofs.Clocks.{ticks_rise}
 use Rattle.run_laws.proofs.Entering.{AreEarly, all_inside, begun_inside, early_fits}
 use Rattle.run_laws.proofs.Spans.{section_early}
@@ -26,7 +26,7 @@ use Rattle.run_laws.proofs.Releasing.{AreFrom, from_down, paced_from}
 use Rattle.run_laws.proofs.HomeTurns.{StageWith, empty_part}
 use Rattle.run_laws.proofs.HomeControls.{now_of, none_sets}
 use Rattle.run_laws.proofs.HomeSections.{Sound, OrdersOn, bare, ahead_sound, orders_on, Promise, GoesBehind, EndsBy, no_fronts, none_later, set_next, Split, ahead, split_from, split_until, IsLeftOn, IsLostOf, LeftOn, LostOn}
-use Rattle.run_laws.proofs.HomeCut.{until_cut}
+use Rattle.run_laws.proofs.HomeCut.{front_queued, left_at, lost_at, split_soon, until_out}
 use Rattle.run_laws.proofs.HomeRuns.{Ground, section_on}
 use Rattle.run_laws.proofs.Stepping.{none_heed}
 use Rattle.link_work.specs.Runs.{queued_in}
@@ -264,17 +264,13 @@ run_sound own clocks freq slots ready stops ss os ticks r oid =
     until_sound x oid ss r.sections r.row ready os 0 no_course (omega arith) refl (λ long w. inr (r.made long oid w)) (orders_on clocks ss 0 os r.orders) (r.set oid)
 
 -- what is late for its stepper
-lost_of : (own : ℕ → ℕ) (stops : ℕ → Option ℕ) (turn : ℕ) (cs : ℕ → Course) (c : Cmd) (ticks : List ℕ) → ((oid : ℕ) → IsLostOf own stops oid turn (cs oid) c ticks) → IsLostFor own turn (λ oid. (cs oid).known) c ticks × IsOnFor stops cs c
-lost_of own stops turn cs (cmd.QueueStep other interval count add) ticks h = let (first, below, goes_on) = h other refl in ((first, below), goes_on)
-lost_of own stops turn cs _ ticks h = absurd (h 0)
+lost_of : (own : ℕ → ℕ) (turn : ℕ) (cs : ℕ → Course) (c : Cmd) (ticks : List ℕ) → ((oid : ℕ) → IsLostOf own oid turn (cs oid) c ticks) → IsLostFor own turn (λ oid. (cs oid).known) c ticks
+lost_of own turn cs (cmd.QueueStep other interval count add) ticks h = h other refl
+lost_of own turn cs _ ticks h = absurd (h 0)
 
 begin_lost : (own : ℕ → ℕ) (stops : ℕ → Option ℕ) (slots : ℕ) (cs : ℕ → Course) (tail : List Sent) → ((oid : ℕ) → LostOn own stops slots oid (cs oid) tail) → BeginLostOn own stops slots cs tail
 begin_lost own stops slots cs [] h = tt
-begin_lost own stops slots cs (s ∷ tail) h = (λ oid. (h oid).0, (lost_of own stops s.turn cs s.order.command s.order.ticks (λ oid. (h oid).1)).0)
-
-begin_on : (own : ℕ → ℕ) (stops : ℕ → Option ℕ) (slots : ℕ) (cs : ℕ → Course) (tail : List Sent) → ((oid : ℕ) → LostOn own stops slots oid (cs oid) tail) → BeginOn stops cs tail
-begin_on own stops slots cs [] h = tt
-begin_on own stops slots cs (s ∷ tail) h = (lost_of own stops s.turn cs s.order.command s.order.ticks (λ oid. (h oid).1)).1
+begin_lost own stops slots cs (s ∷ tail) h = (λ oid. (h oid).0, lost_of own s.turn cs s.order.command s.order.ticks (λ oid. (h oid).1))
 
 -- and left of a section of moves
 left_of : (ss : List RunSection) (cs : ℕ → Course) (turn other interval count : ℕ) (add : ℤ) → IsLeftOn ss other (cs other).since turn (cmd.QueueStep other interval count add) → IsLeftOf ss cs turn (cmd.QueueStep other interval count add)
@@ -282,20 +278,21 @@ left_of [] cs turn other interval count add x = x
 left_of (s ∷ ss) cs turn other interval count add (inl x) = inl (x.0, x.1, x.2 refl)
 left_of (s ∷ ss) cs turn other interval count add (inr x) = inr (x.0, left_of ss cs turn other interval count add x.1)
 
-left_for : (own : ℕ → ℕ) (stops : ℕ → Option ℕ) (ss : List RunSection) (turn : ℕ) (cs : ℕ → Course) (c : Cmd) (ticks : List ℕ) → ((oid : ℕ) → IsLostOf own stops oid turn (cs oid) c ticks) → ((oid : ℕ) → IsLeftOn ss oid (cs oid).since turn c) → IsLeftOf ss cs turn c
-left_for own stops ss turn cs (cmd.QueueStep other interval count add) ticks lost h = left_of ss cs turn other interval count add (h other)
-left_for own stops ss turn cs _ ticks lost h = absurd (lost 0)
+left_for : (own : ℕ → ℕ) (ss : List RunSection) (turn : ℕ) (cs : ℕ → Course) (c : Cmd) (ticks : List ℕ) → ((oid : ℕ) → IsLostOf own oid turn (cs oid) c ticks) → ((oid : ℕ) → IsLeftOn ss oid (cs oid).since turn c) → IsLeftOf ss cs turn c
+left_for own ss turn cs (cmd.QueueStep other interval count add) ticks lost h = left_of ss cs turn other interval count add (h other)
+left_for own ss turn cs _ ticks lost h = absurd (lost 0)
 
 begin_left : (own : ℕ → ℕ) (stops : ℕ → Option ℕ) (slots turns : ℕ) (ss : List RunSection) (cs : ℕ → Course) (tail : List Sent) → ((oid : ℕ) → LostOn own stops slots oid (cs oid) tail) → ((oid : ℕ) → LeftOn ss oid (cs oid).since tail)
     → (tail ≡ [] → AreReleasedBy turns ss) → BeginLeftOf turns ss cs tail
 begin_left own stops slots turns ss cs [] lost h out = out refl
-begin_left own stops slots turns ss cs (s ∷ tail) lost h out = left_for own stops ss s.turn cs s.order.command s.order.ticks (λ oid. (lost oid).1) h
+begin_left own stops slots turns ss cs (s ∷ tail) lost h out = left_for own ss s.turn cs s.order.command s.order.ticks (λ oid. (lost oid).1) h
 
 pub run_split : (own : ℕ → ℕ) (clocks : Clocks) (freq slots ready : ℕ) (stops : ℕ → Option ℕ) (ss : List RunSection) (os : List Orders) → AreTicks own → IsHomeRun own clocks freq slots ready stops ss os → IsSplitIn own stops slots ss os
 run_split own clocks freq slots ready stops ss os ticks r =
     let z = split_until ss ready 0 os in
-    let c = until_cut clocks freq slots r.tracked.until stops (length os) ss ready r.row r.sections ready os 0 (omega arith) (omega arith) in
+    let last = length os in
     let x = λ (oid : ℕ). run_sound own clocks freq slots ready stops ss os ticks r oid in
+    let begun = begin_left own stops slots last ss (courses z.front) z.tail (λ oid. (x oid).lost) (λ oid. (x oid).begun) (until_out last ss ready r.row ready os 0 (omega arith) (omega arith)) in
     let Fronts : ℕ → List Pulse → Type 0 = λ oid y. AreFrontsIn own oid ss y × AreBeforeFirst own z.tail y in
     let fronts_of : (oid : ℕ) (ps : List Pulse) → AreMadeFor own stops (parts_of (courses z.front oid)) ps → Fronts oid ps = λ oid ps k.
     (let (early, late, is, old, rest, soon) = (x oid).fronts ps k in
@@ -307,12 +304,11 @@ run_split own clocks freq slots ready stops ss os ticks r =
       are = (x 0).are;
       good = λ oid. (x oid).good;
       lost = begin_lost own stops slots (courses z.front) z.tail (λ oid. (x oid).lost);
-      goes_on = begin_on own stops slots (courses z.front) z.tail (λ oid. (x oid).lost);
-      until = c.until;
-      by = c.by;
-      soon = c.soon;
-      left = c.left;
-      begun = begin_left own stops slots (length os) ss (courses z.front) z.tail (λ oid. (x oid).lost) (λ oid. (x oid).begun) c.out;
+      until = lost_at last z.tail;
+      by = front_queued os z.front z.tail (x 0).are;
+      soon = split_soon clocks freq slots r.tracked.until last ready stops ss (courses z.front) z.tail r.row r.sections begun;
+      left = left_at last ss (courses z.front) z.tail begun;
+      begun = begun;
       fronts = λ oid ps k. (fronts_of oid ps k).0;
       early = λ oid ps k. (fronts_of oid ps k).1;
       whole = (x 0).whole;

@@ -19,7 +19,7 @@ use Rattle.run_laws.proofs.Stepping.{course_append, good_behind, good_front}
 use Rattle.run_laws.proofs.Units.{ahead_of_step, step_sent, unit_is}
 use Rattle.run_laws.proofs.Waiting.{Frame, IsInside, AreInside, few_pend, lasts}
 use Rattle.run_laws.proofs.HomeUnits.{other_unit}
-use Rattle.run_laws.proofs.HomeTurns.{StageWith, IsEarly, next_unit, stop_of}
+use Rattle.run_laws.proofs.HomeTurns.{StageWith, IsEarly, next_unit}
 use Rattle.run_laws.proofs.HomeSections.{IsBegunOn, LostOn}
 use Rattle.run_laws.proofs.Spreading.{lasts_below}
 
@@ -37,10 +37,6 @@ LateOn f stops oid homes s c0 Q turn d r =
     AreGoodOn f.own stops f.slots oid d (ahead_of_step turn r.unit) × LostOn f.own stops f.slots oid (course_from oid d (ahead_of_step turn r.unit)) (step_sent turn r.unit ∷ [])
     × (homes ≡ false → IsBegunOn oid (f.start - 250) (course_from oid d (ahead_of_step turn r.unit)).since (step_command r.unit))
     × ((ls : List ℕ) × (us : List StepUnit) × StageWith f stops oid homes s c0 Q (course_from oid (course_from oid d (ahead_of_step turn r.unit)) (step_sent turn r.unit ∷ [])) ls us)
-
--- in moves a part doesn't stop
-goes_on_by : (homes : Bool) (stops : ℕ → Option ℕ) (turn : ℕ) (s : BoardSection) → homes ≡ false → stops turn ≡ stop_of homes s → stops turn ≡ None
-goes_on_by homes stops turn s moves e = e ∙ ap (λ b. stop_of b s) moves
 
 -- what is queued up to it, and what is known behind it
 unit_parts : (oid turn : ℕ) (d : Course) (u : StepUnit) → course_from oid d (sent_at turn (unit_orders u)) ≡ course_from oid (course_from oid d (ahead_of_step turn u)) (step_sent turn u ∷ [])
@@ -67,7 +63,7 @@ late_own f stops oid homes s c0 Q turn d before r us early own st behind i soon 
     let past = bound_made f.own f.clocks f.ready f.end turn u.first f.ticks f.tracked (omega (arith, f.after, f.order)) f.limit low over in
     let Stage : Course → Type 0 = λ x. StageWith f stops oid homes s c0 Q x (u.last ∷ lasts oid before) us in (
       good_front f.own stops f.slots oid d a (t ∷ []) both,
-      ((good_behind f.own stops f.slots oid d a (t ∷ []) both).0, λ _. (omega (arith, past, first), below, (one.1.turn, ap (λ (x : Course). x.since) (sym after) ∙ one.1.since, goes_on_by homes stops one.1.turn s moves one.1.stop))),
+      ((good_behind f.own stops f.slots oid d a (t ∷ []) both).0, λ _. (omega (arith, past, first), below)),
       λ _ _.
           let Since : Option ℕ → Type 0 = λ x. IsSince (f.start - 250) x in
           let begun = one.1.soon moves in

@@ -8,8 +8,7 @@ use Rattle.step_feed.specs.Units.{StepUnit}
 use Rattle.step_feed.specs.Pacing.{ArePaced, Release, batch_at}
 use Rattle.link_work.specs.Turn.{Orders}
 use Rattle.section_units.specs.Sections.{AreBefore, BoardSection}
-use Rattle.run_laws.specs.Homes.{AreInTurn, AreOrdersIn, AreSoon, AreSoonBy, IsHomeRun, IsSectionBy, RunSection, AreReleasedIn}
-use Rattle.run_laws.proofs.HomeRuns.{before_least}
+use Rattle.run_laws.specs.Homes.{AreInTurn, AreOrdersIn, AreReleasedIn, AreSoon, AreSoonBy, IsHomeRun, IsSectionBy, RunSection}
 use Rattle.run_laws.proofs.Latest.{AreFew}
 use Rattle.run_laws.proofs.Limiting.{paced_few, sum_of}
 use Rattle.run_laws.proofs.Releasing.{from_down, none_at, paced_from}
@@ -32,22 +31,20 @@ past_empty by end k (r ∷ rs) a l h = elim (eqb_tells r.turn k) [
   | inr p ↦ rw p.0 (past_empty by end k rs a.1 l h)
 ]
 
--- where all units are released by four turns behind the ends of their sections
-before_soon : (n end : ℕ) (rs : List Release) → AreBefore (end + 5) rs → AreSoonBy n end rs
-before_soon n end [] b = tt
-before_soon n end (r ∷ rs) b = (λ _. omega (arith, b.0), before_soon n end rs b.1)
+-- where all units of moves are released by four turns behind the ends of their sections
+before_soon : (until n end : ℕ) (rs : List Release) → n ≤ end + 5 → AreBefore n rs → AreSoonBy until end rs
+before_soon until n end [] h b = tt
+before_soon until n end (r ∷ rs) h b = (λ _. omega (arith, b.0, h), before_soon until n end rs h b.1)
 
-released_by : (homes : Bool) (clocks : Clocks) (freq slots until : ℕ) (stops : ℕ → Option ℕ) (s : BoardSection) → IsSectionBy homes clocks freq slots until stops s → (homes ≡ false → AreBefore (s.end + 5) s.releases) → AreBefore (s.end + 5) s.releases
-released_by true clocks freq slots until stops s h w = before_least s.end (s.end + 5) s.releases (omega arith) h.released
-released_by false clocks freq slots until stops s h w = w refl
+pub released_by : (clocks : Clocks) (freq slots last until : ℕ) (stops : ℕ → Option ℕ) (homes : Bool) (s : BoardSection) → IsSectionBy homes clocks freq slots last stops s → (homes ≡ false → AreBefore (s.end + 5) s.releases) → AreSoonBy until s.end s.releases
+released_by clocks freq slots last until stops true s i w = before_soon until s.end s.end s.releases (omega arith) i.released
+released_by clocks freq slots last until stops false s i w = before_soon until (s.end + 5) s.end s.releases (omega arith) (w refl)
 
 pub released_soon : (clocks : Clocks) (freq slots until n : ℕ) (stops : ℕ → Option ℕ) (ss : List RunSection) → All (λ s. IsSectionBy s.homes clocks freq slots until stops s.section) ss → AreReleasedIn ss → AreSoon n ss
 released_soon clocks freq slots until n stops [] i w = tt
 released_soon clocks freq slots until n stops (s ∷ ss) i w =
-    let P : RunSection → Type 0 = λ x. IsSectionBy x.homes clocks freq slots until stops x.section in (
-      before_soon n s.section.end s.section.releases (released_by s.homes clocks freq slots until stops s.section (All-head P s ss i) w.0),
-      released_soon clocks freq slots until n stops ss (All-tail P s ss i) w.1,
-    )
+    let P : RunSection → Type 0 = λ x. IsSectionBy x.homes clocks freq slots until stops x.section in
+    (released_by clocks freq slots until n stops s.homes s.section (All-head P s ss i) w.0, released_soon clocks freq slots until n stops ss (All-tail P s ss i) w.1)
 
 module _ (clocks : Clocks) (freq slots until by k : ℕ) (low : k ≤ by) (stops : ℕ → Option ℕ) where
   abbrev Is : RunSection → Type 0

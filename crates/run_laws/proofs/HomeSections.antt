@@ -1,5 +1,5 @@
 -- The sections of a run, of moves or homing, one behind the other: what is queued for a stepper is good, and its parts are those of the sections.
-use Rattle.std.proofs.Common.{◌≡◌, ◌≢◌, ℕ, zero, suc, Bool, true, false, ◌+◌, ◌-◌, ◌≤◌, ◌⊎◌, List, [], ◌∷◌, ◌++◌, All, length, map, Option, Some, None, refl, ap, sym, ◌∙◌, subst, arith, inl, inr, append_assoc, append-nil, ◌<◌, drop}
+use Rattle.std.proofs.Common.{◌≡◌, ◌≢◌, ℕ, zero, suc, Bool, true, false, ◌+◌, ◌-◌, ◌≤◌, ◌⊎◌, List, [], ◌∷◌, ◌++◌, All, length, map, Option, Some, refl, ap, sym, ◌∙◌, subst, arith, inl, inr, append_assoc, append-nil, ◌<◌, drop}
 use Rattle.std.proofs.lemmas.Bool.Decides.{eqb_tells}
 use Rattle.std.proofs.lemmas.List.Elements.{All-nil, All-cons, All-head, All-tail}
 use Rattle.std.specs.List.{flat_map}
@@ -37,15 +37,14 @@ all_of sent = record { front = sent; tail = [] }
 abbrev pub ahead : List Sent → Split → Split
 ahead first x = record { front = first ++ x.front; tail = x.tail }
 
--- a triple comes too late for a stepper, whose part doesn't stop
-abbrev pub IsLostOf : (ℕ → ℕ) → (ℕ → Option ℕ) → ℕ → ℕ → Course → Cmd → List ℕ → Type 0
-IsLostOf own stops oid turn c (cmd.QueueStep other interval count add) ticks =
-    other ≡ oid → (slice_index ticks 0 < own turn) × AreBelow (own turn) c.known.ends × ((since : ℕ) × (c.since ≡ Some since) × (stops since ≡ None))
-IsLostOf own stops oid turn c _ ticks = ⊥
+-- a triple comes too late for a stepper
+abbrev pub IsLostOf : (ℕ → ℕ) → ℕ → ℕ → Course → Cmd → List ℕ → Type 0
+IsLostOf own oid turn c (cmd.QueueStep other interval count add) ticks = other ≡ oid → (slice_index ticks 0 < own turn) × AreBelow (own turn) c.known.ends
+IsLostOf own oid turn c _ ticks = ⊥
 
 abbrev pub LostOn : (ℕ → ℕ) → (ℕ → Option ℕ) → ℕ → ℕ → Course → List Sent → Type 0
 LostOn own stops slots oid c [] = Unit {0}
-LostOn own stops slots oid c (s ∷ ss) = IsGoodOn own stops slots oid s.turn c s.order.command s.order.ticks × IsLostOf own stops oid s.turn c s.order.command s.order.ticks
+LostOn own stops slots oid c (s ∷ ss) = IsGoodOn own stops slots oid s.turn c s.order.command s.order.ticks × IsLostOf own oid s.turn c s.order.command s.order.ticks
 
 -- of a stepper, the first triple that is left of some sections of moves
 abbrev pub IsBegunOn : ℕ → ℕ → Option ℕ → Cmd → Type 0

@@ -170,16 +170,6 @@ abbrev pub IsLeftAt : ℕ → List RunSection → ℕ → List Sent → Type 0
 IsLeftAt turns ss turn [] = turns ≤ turn
 IsLeftAt turns ss turn (s ∷ tail) = (s.turn ≡ turn) × IsPastMoves turn ss
 
--- the part of a triple's stepper doesn't stop
-abbrev pub IsOnFor : (ℕ → Option ℕ) → (ℕ → Course) → Cmd → Type 0
-IsOnFor stops cs (cmd.QueueStep oid interval count add) =
-    (since : ℕ) × ((cs oid).since ≡ Some since) × (stops since ≡ None)
-IsOnFor stops cs _ = ⊥
-
-abbrev pub BeginOn : (ℕ → Option ℕ) → (ℕ → Course) → List Sent → Type 0
-BeginOn stops cs [] = Unit {0}
-BeginOn stops cs (s ∷ ss) = IsOnFor stops cs s.order.command
-
 -- a triple of a stepper whose present part was begun in a turn or later
 abbrev pub IsBegunFor : ℕ → (ℕ → Course) → Cmd → Type 0
 IsBegunFor turn cs (cmd.QueueStep oid interval count add) = IsSince turn (cs oid).since
@@ -212,16 +202,15 @@ AreBeforeFirst own (t ∷ tail) ps = course.AreBefore (own t.turn) ps
 
 -- What is queued in a run in which axes home: commands that are good, of whose parts pulses are made section by section,
 -- and perhaps others behind them, of which the first is a triple of a section of moves that is queued too late, the first
--- that is left so, whose stepper's part doesn't stop, and by whose turn the pulses are over. What is released by its turn,
--- or by the end of the run where there is none, is so by the fifth turn behind the end of its section. There is none where
--- all units of moves are released soon.
+-- that is left so, and by whose turn the pulses are over. What is released by its turn, or by the end of the run where
+-- there is none, is so by the fifth turn behind the end of its section. There is none where all units of moves are
+-- released soon.
 pub record IsSplitIn (own : ℕ → ℕ) (stops : ℕ → Option ℕ) (slots : ℕ) (ss : List RunSection) (os : List Orders) : Type 0 where
   pub front : List Sent
   pub tail : List Sent
   pub are : front ++ tail ≡ sent_in 0 os
   pub good : AreAllGood own stops slots front
   pub lost : BeginLostOn own stops slots (courses front) tail
-  pub goes_on : BeginOn stops (courses front) tail
   pub until : ℕ
   pub by : AreQueued until front
   pub soon : AreSoon until ss

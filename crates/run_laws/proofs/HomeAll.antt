@@ -26,7 +26,7 @@ use Rattle.run_laws.proofs.Releasing.{AreFrom, from_down, paced_from}
 use Rattle.run_laws.proofs.HomeTurns.{StageWith, empty_part}
 use Rattle.run_laws.proofs.HomeControls.{now_of, none_sets}
 use Rattle.run_laws.proofs.HomeSections.{Sound, OrdersOn, bare, ahead_sound, orders_on, Promise, GoesBehind, EndsBy, no_fronts, none_later, set_next, Split, ahead, split_from, split_until, IsLeftOn, IsLostOf, LeftOn, LostOn}
-use Rattle.run_laws.proofs.HomeCut.{front_queued, left_at, lost_at, split_soon, until_out}
+use Rattle.run_laws.proofs.HomeCut.{until_out}
 use Rattle.run_laws.proofs.HomeRuns.{Ground, section_on}
 use Rattle.run_laws.proofs.Stepping.{none_heed}
 use Rattle.link_work.specs.Runs.{queued_in}
@@ -304,10 +304,6 @@ run_split own clocks freq slots ready stops ss os ticks r =
       are = (x 0).are;
       good = λ oid. (x oid).good;
       lost = begin_lost own stops slots (courses z.front) z.tail (λ oid. (x oid).lost);
-      until = lost_at last z.tail;
-      by = front_queued os z.front z.tail (x 0).are;
-      soon = split_soon clocks freq slots r.tracked.until last ready stops ss (courses z.front) z.tail r.row r.sections begun;
-      left = left_at last ss (courses z.front) z.tail begun;
       begun = begun;
       fronts = λ oid ps k. (fronts_of oid ps k).0;
       early = λ oid ps k. (fronts_of oid ps k).1;

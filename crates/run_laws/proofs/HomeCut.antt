@@ -1,5 +1,5 @@
 -- Where the first unit that is queued too late stands, in a run in which axes home, and what is over by its turn.
-use Rattle.std.proofs.Common.{◌≡◌, ℕ, zero, suc, Bool, true, false, ◌+◌, ◌<◌, ◌≤◌, ◌⊎◌, List, [], ◌∷◌, ◌++◌, All, length, Option, refl, sym, ◌∙◌, subst, arith, inl, inr, append-nil}
+use Rattle.std.proofs.Common.{◌≡◌, ℕ, zero, suc, Bool, true, false, ◌+◌, ◌<◌, ◌≤◌, ◌⊎◌, List, [], ◌∷◌, ◌++◌, All, length, Option, sym, ◌∙◌, subst, arith, inl, inr, append-nil}
 use Rattle.std.proofs.lemmas.Bool.Decides.{leb_tells}
 use Rattle.std.proofs.lemmas.List.Elements.{All-head, All-tail}
 use Rattle.plan_types.specs.Lines.{Clocks}
@@ -10,7 +10,7 @@ use Rattle.link_work.specs.Turn.{Orders}
 use Rattle.link_work.specs.Runs.{queued_in}
 use Rattle.run_laws.specs.Courses.{Course}
 use Rattle.run_laws.specs.Known.{AreQueued, Sent, sent_at, sent_in}
-use Rattle.run_laws.specs.Homes.{RunSection, IsSectionBy, AreInTurn, AreReleasedBy, AreSoonBy, AreSoon, BeginLeftOf, IsLeftAt, IsLeftOf, IsPastMoves}
+use Rattle.run_laws.specs.Homes.{RunSection, IsSectionBy, AreInTurn, AreReleasedBy, AreSoonBy, AreSoon, BeginLeftOf, IsLeftOf}
 use Rattle.run_laws.proofs.HomeLimits.{released_by}
 use Rattle.run_laws.proofs.HomeSections.{split_from, split_on, split_over, split_until}
 use Rattle.run_laws.proofs.Lists.{up_append, up_at}
@@ -108,38 +108,29 @@ pub split_soon : (clocks : Clocks) (freq slots last turns e : ℕ) (stops : ℕ 
 split_soon clocks freq slots last turns e stops ss cs [] row i begun = out_soon clocks freq slots last stops turns ss i begun
 split_soon clocks freq slots last turns e stops ss cs (t ∷ tail) row i begun = left_soon clocks freq slots last stops t.turn e ss cs t.order.command row i begun
 
--- it is the fifth one behind the end of a section of moves
-past_moves : (until : ℕ) (ss : List RunSection) (cs : ℕ → Course) (c : Cmd) → IsLeftOf ss cs until c → IsPastMoves until ss
-past_moves until [] cs c left = left
-past_moves until (s ∷ ss) cs c (inl left) = inl (left.0, sym left.1)
-past_moves until (s ∷ ss) cs c (inr left) = inr (past_moves until ss cs c left.1)
-
-pub left_at : (turns : ℕ) (ss : List RunSection) (cs : ℕ → Course) (tail : List Sent) → BeginLeftOf turns ss cs tail → IsLeftAt turns ss (lost_at turns tail) tail
-left_at turns ss cs [] begun = omega arith
-left_at turns ss cs (t ∷ tail) begun = (refl, past_moves t.turn ss cs t.order.command begun)
-
 -- a homing section of which a part was begun by that turn has ended by then
-later_past : (until e : ℕ) (ss : List RunSection) → AreInTurn e ss → IsPastMoves until ss → e + 265 ≤ until
-later_past until e [] row i = absurd i
-later_past until e (s ∷ ss) row (inl i) = omega (arith, row.0, row.1, i.1)
-later_past until e (s ∷ ss) row (inr i) = omega (arith, row.0, row.1, later_past until s.section.end ss row.2 i)
+later_past : (until e : ℕ) (ss : List RunSection) (cs : ℕ → Course) (c : Cmd) → AreInTurn e ss → IsLeftOf ss cs until c → e + 265 ≤ until
+later_past until e [] cs c row i = absurd i
+later_past until e (s ∷ ss) cs c row (inl i) = omega (arith, row.0, row.1, i.1)
+later_past until e (s ∷ ss) cs c row (inr i) = omega (arith, row.0, row.1, later_past until s.section.end ss cs c row.2 i.1)
 
 start_behind : (e : ℕ) (past : List RunSection) (s : RunSection) (later : List RunSection) → AreInTurn e (past ++ s ∷ later) → e + 260 ≤ s.section.start
 start_behind e [] s later row = row.0
 start_behind e (x ∷ past) s later row = omega (arith, row.0, row.1, start_behind x.section.end past s later row.2)
 
-moves_apart : (until e : ℕ) (past : List RunSection) (s : RunSection) (later : List RunSection) → AreInTurn e (past ++ s ∷ later) → s.homes ≡ true → IsPastMoves until (past ++ s ∷ later)
+moves_apart : (until e : ℕ) (past : List RunSection) (s : RunSection) (later : List RunSection) (cs : ℕ → Course) (c : Cmd) → AreInTurn e (past ++ s ∷ later) → s.homes ≡ true → IsLeftOf (past ++ s ∷ later) cs until c
     → (until + 255 ≤ s.section.start) ⊎ (s.section.end + 265 ≤ until)
-moves_apart until e [] s later row home (inl i) = absurd (clash s.homes home i.0)
+moves_apart until e [] s later cs c row home (inl i) = absurd (clash s.homes home i.0)
   where
     clash : (b : Bool) → b ≡ true → b ≡ false → ⊥
     clash true x y = cc
     clash false x y = cc
-moves_apart until e [] s later row home (inr i) = inr (later_past until s.section.end later row.2 i)
-moves_apart until e (x ∷ past) s later row home (inl i) = inl (omega (arith, i.1, start_behind x.section.end past s later row.2))
-moves_apart until e (x ∷ past) s later row home (inr i) = moves_apart until x.section.end past s later row.2 home i
+moves_apart until e [] s later cs c row home (inr i) = inr (later_past until s.section.end later cs c row.2 i.1)
+moves_apart until e (x ∷ past) s later cs c row home (inl i) = inl (omega (arith, i.1, start_behind x.section.end past s later row.2))
+moves_apart until e (x ∷ past) s later cs c row home (inr i) = moves_apart until x.section.end past s later cs c row.2 home i.1
 
-pub ended_by : (turns until e : ℕ) (past : List RunSection) (s : RunSection) (later : List RunSection) (tail : List Sent) → AreInTurn e (past ++ s ∷ later) → IsLeftAt turns (past ++ s ∷ later) until tail → s.homes ≡ true
-    → s.section.start ≤ until + 254 → s.section.end ≤ turns → s.section.end ≤ until
-ended_by turns until e past s later [] row left home low within = omega (arith, left, within)
-ended_by turns until e past s later (t ∷ tail) row left home low within = elim (moves_apart until e past s later row home left.1) [ inl far ↦ absurd (omega (arith, far, low)) | inr over ↦ omega (arith, over) ]
+pub ended_by : (turns e : ℕ) (past : List RunSection) (s : RunSection) (later : List RunSection) (cs : ℕ → Course) (tail : List Sent) → AreInTurn e (past ++ s ∷ later) → BeginLeftOf turns (past ++ s ∷ later) cs tail → s.homes ≡ true
+    → s.section.start ≤ lost_at turns tail + 254 → s.section.end ≤ turns → s.section.end ≤ lost_at turns tail
+ended_by turns e past s later cs [] row begun home low within = within
+ended_by turns e past s later cs (t ∷ tail) row begun home low within =
+    elim (moves_apart t.turn e past s later cs t.order.command row home begun) [ inl far ↦ absurd (omega (arith, far, low)) | inr over ↦ omega (arith, over) ]

@@ -19,9 +19,9 @@ use Rattle.link_work.specs.Ends.{spoiled}
 use Rattle.link_work.specs.Runs.{AreTurns, queued_in}
 use Rattle.link_work.specs.Stands.{first_state}
 use Rattle.link_work.specs.Turn.{LinkState, Orders}
-use Rattle.run_laws.specs.Courses.{AllHeed, AreSettled}
+use Rattle.run_laws.specs.Courses.{AllHeed, AreSettled, courses}
 use Rattle.run_laws.specs.Events.{AreOwn, AreTurnsOf, IsTurnOf}
-use Rattle.run_laws.specs.Homes.{AreSettledOn, IsHomeRun, IsLeftAt, IsSplitIn, RunSection}
+use Rattle.run_laws.specs.Homes.{AreSettledOn, IsHomeRun, IsSplitIn, RunSection}
 use Rattle.run_laws.specs.Known.{Sent, orders_in, sent_at, sent_in}
 use Rattle.run_laws.specs.Links.{ends_of, steps_of}
 use Rattle.run_laws.specs.Runs.{AreSpilled}
@@ -31,6 +31,7 @@ use Rattle.run_laws.proofs.Coursed.{begins, settled_finds, settled_first, settle
 use Rattle.run_laws.proofs.HeededLinks.{enough_from, enough_owned, reach_more}
 use Rattle.run_laws.proofs.Heeding.{TakesEnough}
 use Rattle.run_laws.proofs.HomeBoards.{settled_head, settled_owned}
+use Rattle.run_laws.proofs.HomeCut.{lost_at, split_soon}
 use Rattle.run_laws.proofs.HomeLimits.{home_few}
 use Rattle.run_laws.proofs.HomeTimes.{home_lasting}
 use Rattle.run_laws.proofs.Latest.{AreFew}
@@ -127,15 +128,14 @@ record IsWalked (os : List Orders) (front : List Sent) : Type 0 where
   few : AreFew (take count os)
   full : count < length os → length front < length (flat_map queued_in (take count os))
 
-walked : (until : ℕ) (ss : List RunSection) (os : List Orders) (front tail : List Sent) → ((k : ℕ) → k ≤ length os → k ≤ until + 1 → AreFew (take k os))
-    → sent_in 0 os ≡ front ++ tail → IsLeftAt (length os) ss until tail → IsWalked os front
-walked until ss os front [] few is left = record { count = length os; short = omega arith; few = few (length os) (omega arith) (omega (arith, left)); full = λ h. absurd (omega (arith, h)) }
-walked until ss os front (t ∷ tail) few is left = elim (leb_tells (suc until) (length os)) [
+walked : (os : List Orders) (front tail : List Sent) → ((k : ℕ) → k ≤ length os → k ≤ lost_at (length os) tail + 1 → AreFew (take k os)) → sent_in 0 os ≡ front ++ tail → IsWalked os front
+walked os front [] few is = record { count = length os; short = omega arith; few = few (length os) (omega arith) (omega arith); full = λ h. absurd (omega (arith, h)) }
+walked os front (t ∷ tail) few is = elim (leb_tells (suc t.turn) (length os)) [
   | inl p ↦ record {
-    count = suc until;
+    count = suc t.turn;
     short = p.1;
-    few = few (suc until) p.1 (omega arith);
-    full = λ h. reach_more (suc until) os front (t ∷ tail) is h (omega (arith, left.0));
+    few = few (suc t.turn) p.1 (omega arith);
+    full = λ h. reach_more (suc t.turn) os front (t ∷ tail) is h (omega arith);
   }
   | inr p ↦ record { count = length os; short = omega arith; few = few (length os) (omega arith) (omega (arith, p.1)); full = λ h. absurd (omega (arith, h)) }
 ]
@@ -169,9 +169,10 @@ home_timely b pins board entries own clocks ready n m turns stops ss os l t o r 
       lost = split.lost;
     } in
     let Run : List Orders → Type 0 = λ x. IsHomeRun own clocks b.freq b.slots ready stops ss x in
-    let units = λ (k : ℕ) (h : k ≤ last) (near : k ≤ split.until + 1).
-    home_few own clocks b.freq b.slots ready split.until stops ss (take k os) (drop k os) (subst Run (sym (take-append-drop k os)) r) split.soon (omega (arith, length-take-le k os h, near)) in
-    let w = walked split.until ss os split.front split.tail units (sym split.are) split.left in
+    let units = λ (k : ℕ) (h : k ≤ last) (near : k ≤ lost_at last split.tail + 1).
+    home_few own clocks b.freq b.slots ready (lost_at last split.tail) stops ss (take k os) (drop k os) (subst Run (sym (take-append-drop k os)) r)
+    (split_soon clocks b.freq b.slots r.tracked.until last ready stops ss (courses split.front) split.tail r.row r.sections split.begun) (omega (arith, length-take-le k os h, near)) in
+    let w = walked os split.front split.tail units (sym split.are) in
     let size = length split.front in
     turns_timely p n os refl (home_lasting own clocks b.freq b.slots ready n m turns stops ss os o.ticks r spilled within far) 0 [] os [] steps (start b pins) taken refl refl (begins p b pins (own_first b last own o) refl)
     (settled_owned b stops split.front own last 0 [] os steps (start b pins) o low were (settled_head stops split.front clock 0 [] os first l t settled)) heed

@@ -22,7 +22,7 @@ use Rattle.run_laws.specs.Boards.{OnBoard}
 use Rattle.run_laws.specs.Courses.{IsFrom, IsSince, IsSettled, AreSettled, FindStopped, AllHeed, AreAllGood, BeginLostOn, AreMadeFor, Course, courses, parts_of}
 use Rattle.run_laws.specs.Courses as course
 use Rattle.run_laws.specs.Events.{AreOwn, AreTicks, AreTurnsOf}
-use Rattle.run_laws.specs.Known.{AreQueued, Sent, sent_at, sent_in}
+use Rattle.run_laws.specs.Known.{Sent, sent_at, sent_in}
 use Rattle.run_laws.specs.Links.{AreTold, steps_of, steps_of_turn, turns_told}
 use Rattle.run_laws.specs.Parts.{AreTracked, MakesIn}
 use Rattle.run_laws.specs.Runs.{Begins}
@@ -159,17 +159,6 @@ abbrev pub AreSoon : ℕ → List RunSection → Type 0
 AreSoon turn [] = Unit {0}
 AreSoon turn (s ∷ ss) = AreSoonBy turn s.section.end s.section.releases × AreSoon turn ss
 
--- a turn is the fifth one behind the end of a section of moves
-abbrev pub IsPastMoves : ℕ → List RunSection → Type 0
-IsPastMoves turn [] = ⊥
-IsPastMoves turn (s ∷ ss) = ((s.homes ≡ false) × (s.section.end + 5 ≡ turn)) ⊎ IsPastMoves turn ss
-
--- What comes too late in some turns begins with a triple that is queued in a turn, the fifth one behind the end of a
--- section of moves; or there is none, and the turns are over by then.
-abbrev pub IsLeftAt : ℕ → List RunSection → ℕ → List Sent → Type 0
-IsLeftAt turns ss turn [] = turns ≤ turn
-IsLeftAt turns ss turn (s ∷ tail) = (s.turn ≡ turn) × IsPastMoves turn ss
-
 -- a triple of a stepper whose present part was begun in a turn or later
 abbrev pub IsBegunFor : ℕ → (ℕ → Course) → Cmd → Type 0
 IsBegunFor turn cs (cmd.QueueStep oid interval count add) = IsSince turn (cs oid).since
@@ -202,19 +191,13 @@ AreBeforeFirst own (t ∷ tail) ps = course.AreBefore (own t.turn) ps
 
 -- What is queued in a run in which axes home: commands that are good, of whose parts pulses are made section by section,
 -- and perhaps others behind them, of which the first is a triple of a section of moves that is queued too late, the first
--- that is left so, and by whose turn the pulses are over. What is released by its turn, or by the end of the run where
--- there is none, is so by the fifth turn behind the end of its section. There is none where all units of moves are
--- released soon.
+-- that is left so, and by whose turn the pulses are over. There is none where all units of moves are released soon.
 pub record IsSplitIn (own : ℕ → ℕ) (stops : ℕ → Option ℕ) (slots : ℕ) (ss : List RunSection) (os : List Orders) : Type 0 where
   pub front : List Sent
   pub tail : List Sent
   pub are : front ++ tail ≡ sent_in 0 os
   pub good : AreAllGood own stops slots front
   pub lost : BeginLostOn own stops slots (courses front) tail
-  pub until : ℕ
-  pub by : AreQueued until front
-  pub soon : AreSoon until ss
-  pub left : IsLeftAt (length os) ss until tail
   pub begun : BeginLeftOf (length os) ss (courses front) tail
   pub fronts : (oid : ℕ) (ps : List Pulse) → AreMadeFor own stops (parts_of (courses front oid)) ps → AreFrontsIn own oid ss ps
   pub early : (oid : ℕ) (ps : List Pulse) → AreMadeFor own stops (parts_of (courses front oid)) ps → AreBeforeFirst own tail ps

@@ -39,9 +39,9 @@ pub fn halted_steppers_keep_fronts()
 {}
 
 /// The law of homing commands: what is queued for a board in a run in which axes home is good, up to the first unit that is left of a section
-/// of moves five turns behind its end, which is queued too late; what is released by its turn is so by the fifth turn behind the end of its
-/// section; pulses of a stepper that are made part by part for the good ones are made section by section, and are over by that turn. Where all
-/// units of moves are released by four turns behind the ends of their sections, all is good.
+/// of moves five turns behind its end, which is queued too late; pulses of a stepper that are made part by part for the good ones are made
+/// section by section, and are over by the turn of the late one. Where all units of moves are released by four turns behind the ends of their
+/// sections, all is good.
 pub fn homing_commands_are_good()
     ensures { (own : ℕ → ℕ) (clocks : Clocks) (freq slots ready : ℕ) (stops : ℕ → Option ℕ) (ss : List RunSection) (os : List Orders) →
         AreTicks own → IsHomeRun own clocks freq slots ready stops ss os → IsSplitIn own stops slots ss os }

@@ -11,12 +11,12 @@ use Rattle.wire_scene.specs.declared.scene.Switch.{Switch}
 use Rattle.link_work.specs.Stands.{first_state}
 use Rattle.link_work.specs.Turn.{LinkState, Orders}
 use Rattle.board_world.specs.World.{start}
-use Rattle.run_laws.specs.Courses.{AllHeed}
+use Rattle.run_laws.specs.Courses.{AllHeed, courses}
 use Rattle.run_laws.specs.Events.{AreOwn}
-use Rattle.run_laws.specs.Homes.{AreOrdersIn, AreSoon, IsHomeBoard, IsHomeRun, IsLeftAt, IsSplitIn, RunSection}
+use Rattle.run_laws.specs.Homes.{AreOrdersIn, AreSoon, BeginLeftOf, IsHomeBoard, IsHomeRun, IsSplitIn, RunSection}
 use Rattle.run_laws.specs.Links.{AreTold, steps_of, turns_told}
 use Rattle.run_laws.specs.Timely.{AllTimely}
-use Rattle.run_laws.proofs.HomeCut.{ended_by}
+use Rattle.run_laws.proofs.HomeCut.{ended_by, front_queued, lost_at, split_soon}
 use Rattle.trigger_group.specs.declared.order.End.TheVariants.{Endstop}
 use Rattle.trigger_group.specs.declared.order.Member.{Member}
 use Rattle.axis_homing.specs.Rising.{members_of}
@@ -103,7 +103,7 @@ one_homed m switches pins entries b freq slots ready end by own clocks stops pas
     (none_sent m switches pins entries b freq slots ready end by own clocks stops past s later turns run out (omega (arith, far, at, low)) t from begins)
 
 all_homed : (m : Machine) (switches : List Switch) (pins : List (List Level)) (entries : List Entry) (b freq slots ready : ℕ) (own : ℕ → ℕ) (clocks : Clocks) (stops : ℕ → Option ℕ) (ss : List RunSection) (turns : List BoardTurn)
-    → IsHomeRun own clocks freq slots ready stops ss (orders_in turns) → (split : IsSplitIn own stops slots ss (orders_in turns)) → AreToldIn m switches pins entries b stops ss turns → AreHomed m switches pins entries b split.until stops turns
+    → IsHomeRun own clocks freq slots ready stops ss (orders_in turns) → (split : IsSplitIn own stops slots ss (orders_in turns)) → AreToldIn m switches pins entries b stops ss turns → AreHomed m switches pins entries b (lost_at (length (orders_in turns)) split.tail) stops turns
 all_homed m switches pins entries b freq slots ready own clocks stops ss turns run split told = λ turn end low is l.
     let x = told turn end is l in
     let s = x.1 in
@@ -112,13 +112,16 @@ all_homed m switches pins entries b freq slots ready own clocks stops ss turns r
     let at = x.5 in
     let long = order_length turns in
     let run_is = subst (λ (y : List RunSection). IsHomeRun own clocks freq slots ready stops y (orders_in turns)) x.3 run in
-    let left = subst (λ (y : List RunSection). IsLeftAt (length (orders_in turns)) y split.until split.tail) x.3 split.left in
-    let ended = ended_by (length (orders_in turns)) split.until ready x.0 s x.2 split.tail run_is.row left x.4 (omega (arith, soon, low)) (omega (arith, at, l, long)) in (
+    let last = length (orders_in turns) in
+    let by = lost_at last split.tail in
+    let begun = subst (λ (y : List RunSection). BeginLeftOf last y (courses split.front) split.tail) x.3 split.begun in
+    let ended = ended_by last ready x.0 s x.2 (courses split.front) split.tail run_is.row begun x.4 (omega (arith, soon, low)) (omega (arith, at, l, long)) in
+    let clear = split_soon clocks freq slots run.tracked.until last ready stops ss (courses split.front) split.tail run.row run.sections split.begun in (
       s.section.start,
       x.6,
       x.7,
       far,
-      one_homed m switches pins entries b freq slots ready end split.until own clocks stops x.0 s x.2 turns run_is (subst (AreSoon split.until) x.3 split.soon) ended x.4 x.5 x.8,
+      one_homed m switches pins entries b freq slots ready end by own clocks stops x.0 s x.2 turns run_is (subst (AreSoon by) x.3 clear) ended x.4 x.5 x.8,
     )
 
 pub home_board : (m : Machine) (switches : List Switch) (pins : List (List Level)) (entries : List Entry) (b ready : ℕ) (own : ℕ → ℕ) (clocks : Clocks) (stops : ℕ → Option ℕ) (ss : List RunSection) (turns : List BoardTurn) (states : List State) (end : LinkState)
@@ -146,7 +149,8 @@ home_board m switches pins entries b ready own clocks stops ss turns states end 
       end = end;
       told = told;
       timely = timely;
-      settled = all_settled m switches pins entries b split.until split.front split.tail turns stops end (turns_told clock 0 (orders_in turns) states first end told) v are split.by split.are
+      settled = all_settled m switches pins entries b (lost_at (length (orders_in turns)) split.tail) split.front split.tail turns stops end (turns_told clock 0 (orders_in turns) states first end told) v are
+          (front_queued (orders_in turns) split.front split.tail split.are) split.are
           (all_homed m switches pins entries b d.freq d.slots ready own clocks stops ss turns run split sections);
       heed = heed;
     }

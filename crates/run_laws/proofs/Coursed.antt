@@ -6,7 +6,7 @@ use Rattle.plan_types.specs.declared.plan.Pulse.{Pulse}
 use Rattle.msg_code.specs.declared.cmd.Cmd.{Cmd}
 use Rattle.msg_code.specs.declared.cmd.Cmd.TheVariants as cmd
 use Rattle.board_sim.specs.Board.{new_controller, is_shut, stepper_at}
-use Rattle.board_sim.specs.Fair.{Meant, only}
+use Rattle.board_sim.specs.Fair.{only}
 use Rattle.board_sim.proofs.HaltedTime.{time_keeps, whole_part}
 use Rattle.board_sim.proofs.Keeps.{first_kept}
 use Rattle.board_sim.proofs.RigShut.{passes_left}
@@ -20,10 +20,10 @@ use Rattle.link_work.specs.Runs.{queued_in}
 use Rattle.link_work.proofs.Sending.{run_append}
 use Rattle.link_work.proofs.Steps.{tick_passed}
 use Rattle.run_laws.specs.Events.{AreQuiet, IsTurnOf, AreTurnsOf}
-use Rattle.run_laws.specs.Known.{AreQueued, Sent, sent_at, sent_in}
+use Rattle.run_laws.specs.Known.{Sent, sent_at, sent_in}
 use Rattle.run_laws.specs.Timely.{AllTimely}
 use Rattle.run_laws.specs.Courses.{courses, IsFrom, IsStopped, IsInTime, AreInTime, IsSettled, AreSettled, FindStopped, AllHeed}
-use Rattle.run_laws.proofs.Lists.{sent_append, own_up}
+use Rattle.run_laws.proofs.Lists.{up_at, up_later, sent_append, own_up}
 use Rattle.run_laws.proofs.Passes.{AreBetween, between_append, between_wide}
 use Rattle.run_laws.proofs.Turning.{fair_append, timely_front, timely_behind, none_at, places_length}
 use Rattle.run_laws.proofs.Windows.{quiet_made, Makes}
@@ -125,16 +125,12 @@ pass_keeps p turn sent h k =
       next.1,
     )
 
-queued_up : (turn : ℕ) (ss : List Sent) → AreQueued turn ss → AreQueued (turn + 1) ss
-queued_up turn [] a = tt
-queued_up turn (s ∷ ss) a = (omega (arith, a.0), queued_up turn ss a.1)
-
 -- the next turn begins
 pub settles : (p : Script) (turn : ℕ) (sent : List Sent) (h : Core) → Keeps p turn (turn + 1) sent h → IsSettled p.stops p.front (turn + 1) sent h → Keeps p (turn + 1) (turn + 1) sent h
 settles p turn sent h k settled = record {
   ordered = k.ordered;
   queued = k.queued;
-  turns = queued_up turn sent k.turns;
+  turns = up_later turn sent k.turns;
   order = omega arith;
   rest = k.rest;
   all_is = k.all_is;
@@ -194,10 +190,6 @@ time_first : (stops : ℕ → Option ℕ) (ss : List Sent) → ((turn : ℕ) →
 time_first stops [] h = tt
 time_first stops (s ∷ ss) h = (time_of stops s.turn s.order.command (h s.turn), time_first stops ss h)
 
-pub old_at : (turn : ℕ) (ms : List Meant) → AreQueued turn (sent_at turn ms)
-old_at turn [] = tt
-old_at turn (m ∷ ms) = (omega arith, old_at turn ms)
-
 abbrev TurnKeeps : Script → ℕ → List Sent → Orders → Core → List Step → Type 0
 TurnKeeps p turn sent o h steps =
     AllFair h steps × Keeps p turn (turn + 1) (sent ++ sent_at turn (queued_in o)) (run steps h) × Makes (p.own turn) (p.own (turn + 1)) h.made (run steps h).made
@@ -222,11 +214,11 @@ turn_steps_keep p turn sent rest o before rear h bq rq k all timely heed finds =
     let whole : ((sent ++ sent_at turn cs) ++ sent_at turn us) ++ rest ≡ p.all =
     ap (λ x. x ++ rest) (append_assoc sent (sent_at turn cs) (sent_at turn us) ∙ ap (λ x. sent ++ x) (sym split)) ∙ all in
     let k2 : Keeps p turn turn (sent ++ sent_at turn cs) h2 =
-    queues_on p turn turn sent (sent_at turn us ++ rest) h1 (Control o.control) k1 (sym (append_assoc (sent ++ sent_at turn cs) (sent_at turn us) rest) ∙ whole) (old_at turn cs) refl refl refl in
+    queues_on p turn turn sent (sent_at turn us ++ rest) h1 (Control o.control) k1 (sym (append_assoc (sent ++ sent_at turn cs) (sent_at turn us) rest) ∙ whole) (up_at turn cs) refl refl refl in
     let f2 = finds_next p turn turn turn sent (sent ++ sent_at turn cs) h1 (Do (Control o.control)) (Do (Put o.batch) ∷ others) k1 f1 in
     let h3 = happens h2 (Put o.batch) in
     let k3 : Keeps p turn turn ((sent ++ sent_at turn cs) ++ sent_at turn us) h3 =
-    queues_on p turn turn (sent ++ sent_at turn cs) rest h2 (Put o.batch) k2 whole (old_at turn us) refl refl refl in
+    queues_on p turn turn (sent ++ sent_at turn cs) rest h2 (Put o.batch) k2 whole (up_at turn us) refl refl refl in
     let f3 = finds_next p turn turn turn (sent ++ sent_at turn cs) ((sent ++ sent_at turn cs) ++ sent_at turn us) h2 (Do (Put o.batch)) others k2 f2 in
     let q = quiet_keep p turn turn ((sent ++ sent_at turn cs) ++ sent_at turn us) before (pass ∷ rear) h3 bq k3 (timely_front before (pass ∷ rear) h3 timely.1.1.1) (heed_front p.front p.tail before (pass ∷ rear) h3 heed.1.1.1) f3 in
     let h4 = run before h3 in

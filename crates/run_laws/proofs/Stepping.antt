@@ -21,7 +21,7 @@ use Rattle.run_laws.specs.Finds.{AllFindHalted, AllSetNot, StepsFindHalted}
 use Rattle.run_laws.specs.Courses.{Course, parts_of, IsFrom, IsStopped, no_course, course_behind, course_from, courses, AreMadeFor, IsMadeBy, AreGoodOn, AreAllGood, AreInTime, BeginLostOn, FindsFree, HeedsIn, HeedsAt, AllHeed, IsGoodOn}
 use Rattle.run_laws.proofs.Fits.{IsShutBy}
 use Rattle.run_laws.proofs.Taking.{shut_fair}
-use Rattle.run_laws.proofs.Lists.{sent_front, orders_append, orders_at, own_up, cuts, longer, lost_for}
+use Rattle.run_laws.proofs.Lists.{up_append, up_behind, up_front, sent_front, orders_append, orders_at, own_up, cuts, longer, lost_for}
 use Rattle.run_laws.proofs.Standing.{BoardStands}
 use Rattle.run_laws.proofs.Commanding.{all_stand, since_all, stands_same, all_lost}
 
@@ -76,18 +76,6 @@ pub record Keeps (p : Script) (by turn : ℕ) (sent : List Sent) (h : Core) : Ty
   pub state : Going p by turn sent h ⊎ Gone p h
 
 -- lists of commands
-pub queued_front : (turn : ℕ) (ss ts : List Sent) → AreQueued turn (ss ++ ts) → AreQueued turn ss
-queued_front turn [] ts a = tt
-queued_front turn (s ∷ ss) ts a = (a.0, queued_front turn ss ts a.1)
-
-pub queued_behind : (turn : ℕ) (ss ts : List Sent) → AreQueued turn (ss ++ ts) → AreQueued turn ts
-queued_behind turn [] ts a = a
-queued_behind turn (s ∷ ss) ts a = queued_behind turn ss ts a.1
-
-pub queued_append : (turn : ℕ) (ss ts : List Sent) → AreQueued turn ss → AreQueued turn ts → AreQueued turn (ss ++ ts)
-queued_append turn [] ts a b = b
-queued_append turn (s ∷ ss) ts a b = (a.0, queued_append turn ss ts a.1 b)
-
 pub time_front : (stops : ℕ → Option ℕ) (turn : ℕ) (ss ts : List Sent) → AreInTime stops turn (ss ++ ts) → AreInTime stops turn ss
 time_front stops turn [] ts a = tt
 time_front stops turn (s ∷ ss) ts a = (a.0, time_front stops turn ss ts a.1)
@@ -138,7 +126,7 @@ takes_these p by turn sent h g r first m others le old more left timely finds ta
     let Old : List Sent → Type 0 = λ x. AreQueued by x in
     let Time : List Sent → Type 0 = λ x. AreInTime p.stops by x in
     let time = subst Time more r.in_time in
-    let now = queued_front by first others (queued_behind by r.done (first ++ others) (subst Old (r.sent_is ∙ ap (λ x. r.done ++ x) left) old)) in
+    let now = up_front by first others (up_behind by r.done (first ++ others) (subst Old (r.sent_is ∙ ap (λ x. r.done ++ x) left) old)) in
     let went = all_stand p.own (λ j k le. own_up p.own p.up j k le) p.stops p.slots by turn first (courses r.done) h.board r.stands le now good timely (time_front p.stops by first m time) finds in
     let e : (oid : ℕ) → courses (r.done ++ first) oid ≡ course_from oid (courses r.done oid) first = λ oid. course_append oid no_course r.done first in
     let At : Rig → Type 0 = λ x. BoardStands p.own p.stops p.slots by turn (courses (r.done ++ first)) x.controller in
@@ -186,7 +174,7 @@ takes_lost p by turn sent h g r s m others behind le old tail left timely finds 
     let fine : (oid : ℕ) → IsGoodOn p.own p.stops p.slots oid s.turn (course_from oid (courses r.done oid) r.more) s.order.command s.order.ticks = λ oid.
     (let At : Course → Type 0 = λ c. IsGoodOn p.own p.stops p.slots oid s.turn c s.order.command s.order.ticks in subst At (e oid) (was.0 oid)) in
     let late = lost_for p.own s.turn (λ oid. (courses p.front oid).known) (λ oid. (course_from oid (courses r.done oid) r.more).known) s.order.command s.order.ticks (λ oid. ap (λ (c : Course). c.known) (e oid)) was.1 in
-    let now = queued_front by l others (queued_behind by r.done (l ++ others) (subst Old (r.sent_is ∙ ap (λ x. r.done ++ x) left) old)) in
+    let now = up_front by l others (up_behind by r.done (l ++ others) (subst Old (r.sent_is ∙ ap (λ x. r.done ++ x) left) old)) in
     let (fair, shut, stop) = all_lost p.own (λ j k le. own_up p.own p.up j k le) p.stops p.slots by turn r.more s m (courses r.done) h.board r.stands le now good (fine, late) timely r.in_time free finds in
     let (done, more, is, to) = stop in (
       fair,
@@ -318,7 +306,7 @@ queues_on p by turn sent rest h e k all old none board made =
     record {
       ordered = ordered_by h e k.ordered;
       queued = orders_append sent new ∙ ap (λ x. orders_in sent ++ x) (orders_at by (orders_of e)) ∙ ap (λ x. x ++ orders_of e) k.queued;
-      turns = queued_append by sent new k.turns old;
+      turns = up_append by sent new k.turns old;
       order = k.order;
       rest = rest;
       all_is = all;

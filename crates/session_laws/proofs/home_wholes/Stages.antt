@@ -20,9 +20,9 @@ use Rattle.run_laws.specs.Events.{AreQuiet, AreTurnsOf, IsQuiet, IsTurnOf}
 use Rattle.run_laws.specs.Known.{AreQueued, Sent, orders_in, sent_at, sent_in}
 use Rattle.run_laws.specs.Timely.{AllTimely, AreTimely, IsTimelyAt}
 use Rattle.run_laws.specs.Courses.{courses, no_course, AreAllGood, AreInTime, AreSettled}
-use Rattle.run_laws.proofs.Coursed.{old_at, pass_keeps, quiet_keep, settled_finds, settled_first, settles}
-use Rattle.run_laws.proofs.Lists.{cuts, orders_append, own_up, sent_append}
-use Rattle.run_laws.proofs.Stepping.{Finds, Going, Keeps, Script, TakesFind, finds_first, finds_next, good_behind, good_front, queued_behind, queued_front, queues_on, quiet_keeps, time_front, none_heed}
+use Rattle.run_laws.proofs.Coursed.{pass_keeps, quiet_keep, settled_finds, settled_first, settles}
+use Rattle.run_laws.proofs.Lists.{up_at, up_behind, up_front, cuts, orders_append, own_up, sent_append}
+use Rattle.run_laws.proofs.Stepping.{Finds, Going, Keeps, Script, TakesFind, finds_first, finds_next, good_behind, good_front, queues_on, quiet_keeps, time_front, none_heed}
 use Rattle.run_laws.proofs.Turning.{timely_behind, timely_front}
 use Rattle.session_laws.proofs.home_wholes.Phases.{Aim, Phase, more_made, shut_on, take_ahead}
 use Rattle.session_laws.proofs.home_wholes.Still.{time_passes}
@@ -69,7 +69,7 @@ these_stage p a by turn sent rest h r first others all le old split timely finds
     let Time : List Sent → Type 0 = λ x. AreInTime p.stops by x in
     let ahead : r.more ≡ first ++ (others ++ rest) = append_cancel_left r.done r.more (first ++ (others ++ rest)) (r.front_is ∙ all_front p a ∙ sym whole) in
     let time = subst Time ahead r.in_time in
-    let now = queued_front by first others (queued_behind by r.done (first ++ others) (subst Old (r.sent_is ∙ ap (λ x. r.done ++ x) split) old)) in
+    let now = up_front by first others (up_behind by r.done (first ++ others) (subst Old (r.sent_is ∙ ap (λ x. r.done ++ x) split) old)) in
     let was = g r.stands.running r.done (r.left ++ rest) before r.taken in
     let made = take_ahead p a by turn first r.done (others ++ rest) h.board h.made whole (λ j k l. own_up p.own p.up j k l) le r.stands r.made now good timely (time_front p.stops by first (others ++ rest) time) finds on was in
     let behind : (r.done ++ first) ++ (others ++ rest) ≡ p.all = append_assoc r.done first (others ++ rest) ∙ whole in
@@ -165,12 +165,12 @@ turn_steps_stage p a turn sent rest o before rear h bq rq k all timely finds g =
     let whole : ((sent ++ sent_at turn cs) ++ sent_at turn us) ++ rest ≡ p.all =
     ap (λ x. x ++ rest) (append_assoc sent (sent_at turn cs) (sent_at turn us) ∙ ap (λ x. sent ++ x) (sym split)) ∙ all in
     let k2 : Keeps p turn turn (sent ++ sent_at turn cs) h2 =
-    queues_on p turn turn sent (sent_at turn us ++ rest) h1 (Control o.control) k1 (sym (append_assoc (sent ++ sent_at turn cs) (sent_at turn us) rest) ∙ whole) (old_at turn cs) refl refl refl in
+    queues_on p turn turn sent (sent_at turn us ++ rest) h1 (Control o.control) k1 (sym (append_assoc (sent ++ sent_at turn cs) (sent_at turn us) rest) ∙ whole) (up_at turn cs) refl refl refl in
     let f2 = finds_next p turn turn turn sent (sent ++ sent_at turn cs) h1 (Do (Control o.control)) (Do (Put o.batch) ∷ others) k1 f1 in
     let g2 = queued_stage p a h1 (Control o.control) refl refl refl g in
     let h3 = happens h2 (Put o.batch) in
     let k3 : Keeps p turn turn ((sent ++ sent_at turn cs) ++ sent_at turn us) h3 =
-    queues_on p turn turn (sent ++ sent_at turn cs) rest h2 (Put o.batch) k2 whole (old_at turn us) refl refl refl in
+    queues_on p turn turn (sent ++ sent_at turn cs) rest h2 (Put o.batch) k2 whole (up_at turn us) refl refl refl in
     let all_sent = (sent ++ sent_at turn cs) ++ sent_at turn us in
     let f3 = finds_next p turn turn turn (sent ++ sent_at turn cs) all_sent h2 (Do (Put o.batch)) others k2 f2 in
     let g3 = queued_stage p a h2 (Put o.batch) refl refl refl g2 in

@@ -50,10 +50,10 @@ settled_owned b stops front own last turn sent [] steps h o within t s = s
 settled_owned b stops front own last turn sent (x ∷ os) steps h o within t s =
     (s.0, s.1, settled_owned b stops front own last (turn + 1) (sent ++ sent_at turn (queued_in x)) os t.1 (run t.0 h) o (next_within turn last x os within) t.4 s.2)
 
-abbrev steps_told : (clock : BoardClock) (turn : ℕ) (os : List Orders) (states : List State) (l m : LinkState) → AreTold clock turn os states l m → List Step
+abbrev pub steps_told : (clock : BoardClock) (turn : ℕ) (os : List Orders) (states : List State) (l m : LinkState) → AreTold clock turn os states l m → List Step
 steps_told clock turn os states l m t = steps_of clock turn os l m (turns_told clock turn os states l m t)
 
-abbrev SettledTold : (stops : ℕ → Option ℕ) (front : List Sent) (clock : BoardClock) (turn : ℕ) (sent : List Sent) (os : List Orders) (states : List State) (l m : LinkState) → AreTold clock turn os states l m → Type 0
+abbrev pub SettledTold : (stops : ℕ → Option ℕ) (front : List Sent) (clock : BoardClock) (turn : ℕ) (sent : List Sent) (os : List Orders) (states : List State) (l m : LinkState) → AreTold clock turn os states l m → Type 0
 SettledTold stops front clock turn sent os states l m t = AreSettledOn stops front clock turn sent os l m (turns_told clock turn os states l m t)
 
 -- turns that are told, cut behind some of them, with what is settled

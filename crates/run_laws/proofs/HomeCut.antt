@@ -10,7 +10,7 @@ use Rattle.link_work.specs.Turn.{Orders}
 use Rattle.link_work.specs.Runs.{queued_in}
 use Rattle.run_laws.specs.Courses.{Course}
 use Rattle.run_laws.specs.Known.{AreQueued, Sent, sent_at, sent_in}
-use Rattle.run_laws.specs.Homes.{RunSection, IsSectionBy, AreInTurn, AreReleasedBy, AreSoonBy, AreSoon, BeginLeftOf, IsLeftOf}
+use Rattle.run_laws.specs.Homes.{RunSection, IsSectionBy, AreInTurn, AreReleasedBy, AreSoonBy, AreSoon, BeginLeftOf, IsLeftOf, lost_at}
 use Rattle.run_laws.proofs.HomeLimits.{released_by}
 use Rattle.run_laws.proofs.HomeSections.{split_from, split_on, split_over, split_until}
 use Rattle.run_laws.proofs.Lists.{up_append, up_at}
@@ -53,11 +53,6 @@ pub until_out : (turns : ℕ) (ss : List RunSection) (ready : ℕ) → AreInTurn
 until_out turns ss ready row m [] turn at long = λ _. released_later turns ready ss row (omega (arith, at, long))
 until_out turns ss ready row zero (o ∷ os) turn at long = sections_out turns ss ready row (o ∷ os) turn long (omega (arith, at))
 until_out turns ss ready row (suc m) (o ∷ os) turn at long = until_out turns ss ready row m os (turn + 1) (omega (arith, at)) (omega (arith, long))
-
--- the turn in which the first one was queued, or the end of so many turns where there is none
-abbrev pub lost_at : ℕ → List Sent → ℕ
-lost_at turns [] = turns
-lost_at turns (t ∷ tail) = t.turn
 
 -- by it all that stands before it was queued
 queued_up : (turn until : ℕ) (ss : List Sent) → turn ≤ until → AreQueued turn ss → AreQueued until ss

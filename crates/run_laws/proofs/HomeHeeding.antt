@@ -21,7 +21,7 @@ use Rattle.link_work.specs.Stands.{first_state}
 use Rattle.link_work.specs.Turn.{LinkState, Orders}
 use Rattle.run_laws.specs.Courses.{AllHeed, AreSettled, courses}
 use Rattle.run_laws.specs.Events.{AreOwn, AreTurnsOf, IsTurnOf}
-use Rattle.run_laws.specs.Homes.{AreSettledOn, IsHomeRun, IsSplitIn, RunSection}
+use Rattle.run_laws.specs.Homes.{AreSettledOn, IsHomeRun, IsSplitIn, RunSection, lost_at}
 use Rattle.run_laws.specs.Known.{Sent, orders_in, sent_at, sent_in}
 use Rattle.run_laws.specs.Links.{ends_of, steps_of}
 use Rattle.run_laws.specs.Runs.{AreSpilled}
@@ -31,7 +31,7 @@ use Rattle.run_laws.proofs.Coursed.{begins, settled_finds, settled_first, settle
 use Rattle.run_laws.proofs.HeededLinks.{enough_from, enough_owned, reach_more}
 use Rattle.run_laws.proofs.Heeding.{TakesEnough}
 use Rattle.run_laws.proofs.HomeBoards.{settled_head, settled_owned}
-use Rattle.run_laws.proofs.HomeCut.{lost_at, split_soon}
+use Rattle.run_laws.proofs.HomeCut.{split_soon}
 use Rattle.run_laws.proofs.HomeLimits.{home_few}
 use Rattle.run_laws.proofs.HomeTimes.{home_lasting}
 use Rattle.run_laws.proofs.Latest.{AreFew}

@@ -203,6 +203,11 @@ pub record IsSplitIn (own : ℕ → ℕ) (stops : ℕ → Option ℕ) (slots : �
   pub early : (oid : ℕ) (ps : List Pulse) → AreMadeFor own stops (parts_of (courses front oid)) ps → AreBeforeFirst own tail ps
   pub whole : AreReleasedIn ss → tail ≡ []
 
+-- the turn in which the first of some commands was queued, or the end of so many turns where there is none
+abbrev pub lost_at : ℕ → List Sent → ℕ
+lost_at turns [] = turns
+lost_at turns (t ∷ tail) = t.turn
+
 -- the next section, where there is one, starts behind a turn
 abbrev pub NextBehind : ℕ → List RunSection → Type 0
 NextBehind turn [] = Unit {0}

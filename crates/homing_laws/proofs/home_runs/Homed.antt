@@ -13,10 +13,10 @@ use Rattle.link_work.specs.Turn.{LinkState, Orders}
 use Rattle.board_world.specs.World.{start}
 use Rattle.run_laws.specs.Courses.{AllHeed, courses}
 use Rattle.run_laws.specs.Events.{AreOwn}
-use Rattle.run_laws.specs.Homes.{AreOrdersIn, AreSoon, BeginLeftOf, IsHomeBoard, IsHomeRun, IsSplitIn, RunSection}
+use Rattle.run_laws.specs.Homes.{AreOrdersIn, AreSoon, BeginLeftOf, IsHomeBoard, IsHomeRun, IsSplitIn, RunSection, lost_at}
 use Rattle.run_laws.specs.Links.{AreTold, steps_of, turns_told}
 use Rattle.run_laws.specs.Timely.{AllTimely}
-use Rattle.run_laws.proofs.HomeCut.{ended_by, front_queued, lost_at, split_soon}
+use Rattle.run_laws.proofs.HomeCut.{ended_by, front_queued, split_soon}
 use Rattle.trigger_group.specs.declared.order.End.TheVariants.{Endstop}
 use Rattle.trigger_group.specs.declared.order.Member.{Member}
 use Rattle.axis_homing.specs.Rising.{members_of}
@@ -102,7 +102,7 @@ one_homed m switches pins entries b freq slots ready end by own clocks stops pas
     told_homed m switches pins entries b start end from turns t begins (none_set m switches pins entries b freq slots ready end by own clocks stops past s later turns run out low homes at t from begins)
     (none_sent m switches pins entries b freq slots ready end by own clocks stops past s later turns run out (omega (arith, far, at, low)) t from begins)
 
-all_homed : (m : Machine) (switches : List Switch) (pins : List (List Level)) (entries : List Entry) (b freq slots ready : ℕ) (own : ℕ → ℕ) (clocks : Clocks) (stops : ℕ → Option ℕ) (ss : List RunSection) (turns : List BoardTurn)
+pub all_homed : (m : Machine) (switches : List Switch) (pins : List (List Level)) (entries : List Entry) (b freq slots ready : ℕ) (own : ℕ → ℕ) (clocks : Clocks) (stops : ℕ → Option ℕ) (ss : List RunSection) (turns : List BoardTurn)
     → IsHomeRun own clocks freq slots ready stops ss (orders_in turns) → (split : IsSplitIn own stops slots ss (orders_in turns)) → AreToldIn m switches pins entries b stops ss turns → AreHomed m switches pins entries b (lost_at (length (orders_in turns)) split.tail) stops turns
 all_homed m switches pins entries b freq slots ready own clocks stops ss turns run split told = λ turn end low is l.
     let x = told turn end is l in
@@ -124,7 +124,7 @@ all_homed m switches pins entries b freq slots ready own clocks stops ss turns r
       one_homed m switches pins entries b freq slots ready end by own clocks stops x.0 s x.2 turns run_is (subst (AreSoon by) x.3 clear) ended x.4 x.5 x.8,
     )
 
-pub home_board : (m : Machine) (switches : List Switch) (pins : List (List Level)) (entries : List Entry) (b ready : ℕ) (own : ℕ → ℕ) (clocks : Clocks) (stops : ℕ → Option ℕ) (ss : List RunSection) (turns : List BoardTurn) (states : List State) (end : LinkState)
+unfoldable pub home_board : (m : Machine) (switches : List Switch) (pins : List (List Level)) (entries : List Entry) (b ready : ℕ) (own : ℕ → ℕ) (clocks : Clocks) (stops : ℕ → Option ℕ) (ss : List RunSection) (turns : List BoardTurn) (states : List State) (end : LinkState)
     (told : AreTold (clock_of (board_at m b)) 0 (orders_in turns) states (first_state (board_at m b) pins b entries) end) → IsValidMachine m → b < length m.boards
     → AreBoardTurns (clock_of (board_at m b)) (first_state (board_at m b) pins b entries) turns
     → AreOwn (board_at m b) (length turns) own → IsHomeRun own clocks (board_at m b).freq (board_at m b).slots ready stops ss (orders_in turns) → (split : IsSplitIn own stops (board_at m b).slots ss (orders_in turns))

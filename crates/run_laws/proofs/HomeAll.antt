@@ -8,7 +8,6 @@ use Rattle.plan_types.specs.Lines.{Clocks, lines_tick}
 use Rattle.msg_code.specs.declared.cmd.Cmd.{Cmd}
 use Rattle.msg_code.specs.declared.cmd.Cmd.TheVariants as cmd
 use Rattle.board_world.specs.Orders.{plain, units_orders}
-use Rattle.board_world.specs.World.{Core, Step}
 use Rattle.step_feed.specs.Pacing.{units_of}
 use Rattle.section_units.specs.Sections.{BoardSection, base_of, of_stepper, section_steps}
 use Rattle.link_work.specs.Turn.{Orders}
@@ -28,7 +27,6 @@ use Rattle.run_laws.proofs.HomeControls.{now_of, none_sets}
 use Rattle.run_laws.proofs.HomeSections.{Sound, OrdersOn, bare, ahead_sound, orders_on, Promise, GoesBehind, EndsBy, no_fronts, none_later, set_next, Split, ahead, split_from, split_until, IsLeftOn, IsLostOf, LeftOn, LostOn}
 use Rattle.run_laws.proofs.HomeCut.{until_out}
 use Rattle.run_laws.proofs.HomeRuns.{Ground, section_on}
-use Rattle.run_laws.proofs.Stepping.{none_heed}
 use Rattle.link_work.specs.Runs.{queued_in}
 use Rattle.run_laws.proofs.Lists.{sent_append}
 
@@ -310,20 +308,9 @@ run_split own clocks freq slots ready stops ss os ticks r =
       whole = (x 0).whole;
     }
 
--- where all units are released soon, no unit is queued too late, and none finds its stepper halted
-pub split_heed : (own : ℕ → ℕ) (stops : ℕ → Option ℕ) (slots : ℕ) (ss : List RunSection) (os : List Orders) (x : IsSplitIn own stops slots ss os) → AreReleasedIn ss → (steps : List Step) (h : Core) → AllHeed x.front x.tail h steps
-split_heed own stops slots ss os x w steps h = none_heed x.front x.tail steps h (x.whole w)
-
--- and all that is queued is good
+-- where all units are released soon, all that is queued is good
 all_front : (own : ℕ → ℕ) (stops : ℕ → Option ℕ) (slots : ℕ) (ss : List RunSection) (os : List Orders) (x : IsSplitIn own stops slots ss os) → AreReleasedIn ss → x.front ≡ sent_in 0 os
 all_front own stops slots ss os x w = sym (append-nil x.front) ∙ ap (λ y. x.front ++ y) (sym (x.whole w)) ∙ x.are
-
-pub run_good : (own : ℕ → ℕ) (clocks : Clocks) (freq slots ready : ℕ) (stops : ℕ → Option ℕ) (ss : List RunSection) (os : List Orders) → AreTicks own → IsHomeRun own clocks freq slots ready stops ss os → AreReleasedIn ss
-    → AreAllGood own stops slots (sent_in 0 os)
-run_good own clocks freq slots ready stops ss os ticks r w =
-    let x = run_split own clocks freq slots ready stops ss os ticks r in
-    let At : List Sent → Type 0 = λ y. AreAllGood own stops slots y in
-    subst At (all_front own stops slots ss os x w) x.good
 
 pub run_fronts : (own : ℕ → ℕ) (clocks : Clocks) (freq slots ready : ℕ) (stops : ℕ → Option ℕ) (ss : List RunSection) (os : List Orders) → AreTicks own → IsHomeRun own clocks freq slots ready stops ss os → AreReleasedIn ss
     → (oid : ℕ) (ps : List Pulse) → AreMadeFor own stops (parts_of (courses (sent_in 0 os) oid)) ps → AreFrontsIn own oid ss ps

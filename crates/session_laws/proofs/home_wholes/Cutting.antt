@@ -13,7 +13,7 @@ use Rattle.run_laws.specs.Boards.{OnBoard}
 use Rattle.run_laws.specs.Courses.{AllHeed, AreSettled}
 use Rattle.run_laws.specs.Homes.{RunSection, IsHomeRun, IsHomeSpan, IsSplitIn, IsHomeBoard, lost_at}
 use Rattle.run_laws.specs.Known.{sent_in}
-use Rattle.run_laws.specs.Links.{AreTold, pulses_in, steps_of, turns_told}
+use Rattle.run_laws.specs.Links.{AreTold, pulses_in, turns_told}
 use Rattle.run_laws.specs.Timely.{AllTimely}
 use Rattle.run_laws.proofs.Linking.{own_first, told_made, turns_are, turns_owned}
 use Rattle.run_laws.proofs.Turning.{timely_front}

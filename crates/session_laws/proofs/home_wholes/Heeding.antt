@@ -1,10 +1,7 @@
 -- A unit of a section of moves that comes too late finds its stepper free, where the board is still in that section's turns.
-use Rattle.std.proofs.Common.{◌≡◌, ℕ, zero, suc, ◌+◌, ◌-◌, ◌<◌, ◌≤◌, List, [], ◌∷◌, ◌++◌, length, take, drop, refl, ap, sym, ◌∙◌, subst, arith, inl, inr, append_assoc, append-nil, length-append}
-use Rattle.std.specs.List.{flat_map}
+use Rattle.std.proofs.Common.{◌≡◌, ℕ, ◌+◌, ◌-◌, ◌≤◌, List, [], ◌∷◌, ◌++◌, length, take, drop, refl, ap, sym, ◌∙◌, subst, arith, inl, inr, append_assoc, append-nil, length-append}
 use Rattle.std.proofs.lemmas.List.{append_cancel_left, length-drop, length-take-le, take-append-drop}
 use Rattle.plan_types.specs.declared.clock.BoardClock.{BoardClock}
-use Rattle.plan_types.specs.declared.levels.Level.{Level}
-use Rattle.plan_types.specs.declared.machine.BoardDef.{BoardDef}
 use Rattle.plan_types.specs.declared.plan.BoardState.{BoardState}
 use Rattle.plan_types.specs.declared.plan.BoardState.TheVariants.{Running, Shut}
 use Rattle.plan_types.specs.Clock.{clock_of}
@@ -18,24 +15,24 @@ use Rattle.board_sim.proofs.RigShut.{passes_left}
 use Rattle.board_world.specs.declared.event.Event.{Event}
 use Rattle.board_world.specs.declared.event.Event.TheVariants.{Arrive, Control, Garble, Lose, LoseReply, Pass, Put, Repeat, Reply, Resend, Send}
 use Rattle.board_world.specs.Stands.{IsOrdered}
-use Rattle.board_world.specs.World.{Core, Step, Do, Turn, after, does, happens, run, start, takes_in}
+use Rattle.board_world.specs.World.{Core, Step, Do, Turn, after, happens, run, start, takes_in}
 use Rattle.board_world.proofs.Runs.{all_orders, ordered, start_ordered}
 use Rattle.section_units.specs.Sections.{BoardSection}
-use Rattle.link_work.specs.Runs.{AreTurns, queued_in}
+use Rattle.link_work.specs.Runs.{AreTurns}
 use Rattle.link_work.specs.Stands.{first_state}
 use Rattle.link_work.specs.Turn.{LinkState, Orders}
 use Rattle.link_work.proofs.Turns.{turns_are_steps}
 use Rattle.run_laws.specs.Boards.{OnBoard}
-use Rattle.run_laws.specs.Courses.{AllHeed, Course, FindsFree, HeedsAt, HeedsIn, courses, no_course}
+use Rattle.run_laws.specs.Courses.{AllHeed, Course, FindsFree, HeedsAt, courses, no_course}
 use Rattle.run_laws.specs.Homes.{IsBegunFor}
 use Rattle.run_laws.specs.Known.{Sent, orders_in, sent_in}
 use Rattle.run_laws.specs.Links.{steps_of, steps_of_turn}
 use Rattle.run_laws.proofs.Linking.{turns_are}
-use Rattle.run_laws.proofs.Lists.{cons_same, cuts, orders_append, sent_front}
+use Rattle.run_laws.proofs.Lists.{cuts, orders_append, sent_front}
 use Rattle.run_laws.proofs.Spans.{sent_in_append}
 use Rattle.run_laws.proofs.Wholes.{sent_orders}
 use Rattle.homing_laws.proofs.home_runs.Settled.{AllFrom, from_in}
-use Rattle.session_laws.specs.home_wholes.Still.{BringStill, IsStillAt, IsStillIn}
+use Rattle.session_laws.specs.home_wholes.Still.{BringStill, IsStillIn}
 use Rattle.session_laws.proofs.home_wholes.Phases.{AllBefore, AllStill, AreFree, StandsFree, before_front, no_since, none_since, ran_before, take_still}
 use Rattle.session_laws.proofs.home_wholes.Section.{among_before, among_from, before_in, orders_still}
 use Rattle.session_laws.proofs.home_wholes.Stages.{done_same}

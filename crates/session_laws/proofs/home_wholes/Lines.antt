@@ -30,7 +30,6 @@ use Rattle.session_work.specs.declared.table.ReactorTurn.{ReactorTurn}
 use Rattle.session_run.specs.Boards.{came_from}
 use Rattle.run_laws.specs.Boards.{IsWindow, OnBoard, told_in}
 use Rattle.run_laws.specs.Ends.{MayBe}
-use Rattle.link_work.specs.Turn.{Orders}
 use Rattle.run_laws.specs.Homes.{IsHomeBoard, RunSection, lost_at}
 use Rattle.run_laws.specs.Links.{pulses_in}
 use Rattle.run_laws.specs.Stops.{NeverStop}
@@ -44,7 +43,7 @@ use Rattle.run_plans.specs.Planned.{Plans}
 use Rattle.run_plans.proofs.Fitting.{between, plan_is}
 use Rattle.run_plans.proofs.Running.{started_in}
 use Rattle.session_laws.specs.run_headline.Timely.{AreSound, link_of}
-use Rattle.session_laws.proofs.run_headline.Boarded.{Ready, came_cut, came_long, ready, sound_of, took, valid_at}
+use Rattle.session_laws.proofs.run_headline.Boarded.{Ready, came_cut, ready, sound_of, took, valid_at}
 use Rattle.session_laws.proofs.run_headline.Showing.{Facts, all_lines, few, long_or, notes_before}
 use Rattle.homing_laws.specs.home_runs.Ended.{AreToldIn}
 use Rattle.homing_laws.specs.home_plans.Notes.{AreInARow}

@@ -164,8 +164,7 @@ one_still low done to_come s r runs on (may, off, free) = elim may [
         let first : s ≡ y = cons_same s y to_come (ys ++ new) e in
         let rest : to_come ≡ ys ++ new = cc in
         let mine : IsTame s.order.command = subst (λ (x : Sent). IsTame x.order.command) (sym first) tame.0 in
-        let moved : AllBefore low ((done ++ s ∷ []) ++ ys) = subst (λ (x : List Sent). AllBefore low x) (ap (λ (x : Sent). done ++ x ∷ ys) (sym first) ∙ sym (append_assoc done (s ∷ []) ys)) before in
-        (
+        let moved : AllBefore low ((done ++ s ∷ []) ++ ys) = subst (λ (x : List Sent). AllBefore low x) (ap (λ (x : Sent). done ++ x ∷ ys) (sym first) ∙ sym (append_assoc done (s ∷ []) ys)) before in (
           inr (ys, new, rest, tame.1, moved, fine),
           running_off r.controller.state r s.order.command mine off,
           λ oid since. absurd (none_since oid low no_course (done ++ s ∷ []) (before_front low (done ++ s ∷ []) ys moved) (no_since low) since),

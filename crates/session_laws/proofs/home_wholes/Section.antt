@@ -30,7 +30,7 @@ use Rattle.run_laws.proofs.Clocks.{ticks_rise}
 use Rattle.run_laws.proofs.Halted.{keeps_fronts, made_of_all}
 use Rattle.run_laws.proofs.HomeAll.{run_fronts}
 use Rattle.run_laws.proofs.HomeSpans.{before_early, fronts_early, script_of}
-use Rattle.run_laws.proofs.Lists.{cuts, orders_append, orders_at, own_up}
+use Rattle.run_laws.proofs.Lists.{cuts, orders_append, own_up}
 use Rattle.run_laws.proofs.Spans.{all_split, early_up, section_early, sent_in_append}
 use Rattle.run_laws.proofs.Releasing.{AreFrom}
 use Rattle.run_laws.proofs.Standing.{BoardStands, made_for}

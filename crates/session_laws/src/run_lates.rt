@@ -34,11 +34,13 @@ pub fn late_runs_tell_of_steps_that_came_late<F: Files, S: Sink>()
         ComesLateIn m s board first arrival spoiled spill r.runs.0 r.runs.1 r.runs.2 }
 {}
 
-/// The law of late units: in whatever threads a run went, in any scene, where it ends since steps came too late to a board, a unit of one of the
-/// sections that were begun has the first tick that is told. The spoiled turns that are told are those of the busy stretch up to the turn in which
-/// it is due, and the spill is its own; together they are more than the lead. This asks that each board holds nothing long (`AllHomeLittle`) and
-/// that units of moves are sent by four turns behind their section's end (`SendsOut`); or, in a run of moves, that each takes all near (`AllTakeNear`), and for the spoiled turns and the spill that the units of each turn of this board have
-/// at most 210 bytes.
+/// The law of late units: in whatever threads a run went, in any scene, where it ends since steps came too late to a
+/// board, a unit of one of the sections that were begun has the first tick that is told. The spoiled turns that are
+/// told are those of the busy stretch up to the turn in which it is due, and the spill is its own; together they are
+/// more than the lead. This asks that each board holds nothing long (`AllHomeLittle`) and that units of moves are sent
+/// by four turns behind their section's end (`SendsOut`); or, in a run of moves, that each takes all near
+/// (`AllTakeNear`), and for the spoiled turns and the spill that the units of each turn of this board have at most 210
+/// bytes.
 pub fn late_runs_tell_of_their_units<F: Files, S: Sink>()
     ensures homes { (m : Machine) (s : Scene) (name : List ℕ) (files files' : F) (out out' : S) (kept kept' : Kept) (t : Told Run) →
         (r : RunsOver F.Files S.Sink m s name files out kept t files' out' kept') → IsValidMachine m → HaveShortDictionaries m → (text : List ℕ) → F.told files name ≡ Some text → kept.at ≡ 0 →

@@ -131,8 +131,8 @@ pub released_with : (past : List RunSection) (s : RunSection) → AreReleasedIn 
 released_with [] s out mine = (mine, tt)
 released_with (t ∷ past) s out mine = (out.0, released_with past s out.1 mine)
 
--- Where the first triple stands that comes too late: before a section of moves starts, or in the fifth turn behind its end; or the section's units
--- are released soon. In these cases those of the sections before it are.
+-- Where the first triple stands that comes too late: before a section of moves starts, or in the fifth turn behind its
+-- end; or the section's units are released soon. In these cases those of the sections before it are.
 abbrev pub AreLostBy : ℕ → List Sent → Type 0
 AreLostBy turn [] = ⊥
 AreLostBy turn (t ∷ tail) = t.turn < turn

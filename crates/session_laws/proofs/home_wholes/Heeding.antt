@@ -38,8 +38,8 @@ use Rattle.session_laws.proofs.home_wholes.Section.{among_before, among_from, be
 use Rattle.session_laws.proofs.home_wholes.Stages.{done_same}
 use Rattle.session_laws.proofs.home_wholes.Still.{time_passes}
 
--- A running board that took some of the first of these commands: no trigger of it can trigger, and steppers whose part was begun in a turn or
--- later aren't halted.
+-- A running board that took some of the first of these commands: no trigger of it can trigger, and steppers whose part
+-- was begun in a turn or later aren't halted.
 abbrev pub IsFreeAt : ℕ → List Sent → Core → Type 0
 IsFreeAt low front h = h.board.controller.state ≡ Running → (done to_come : List Sent) → done ++ to_come ≡ front → orders_in done ≡ h.taken → StandsFree low done to_come h.board
 
@@ -159,7 +159,8 @@ still_first (x ∷ xs) ys a = (a.0, still_first xs ys a.1)
 head_same : (x y : Sent) (xs ys : List Sent) → x ∷ xs ≡ y ∷ ys → x ≡ y
 head_same x y xs ys e = cc
 
--- A board that is still in a section's turns, and the first command that was queued of those of a turn at most five turns behind its end.
+-- A board that is still in a section's turns, and the first command that was queued of those of a turn at most five
+-- turns behind its end.
 module _ (place : ℕ) (entries : List Entry) (x : OnBoard) (s : BoardSection) (still : IsStillIn place entries s x) (front tail : List Sent) (t : Sent) (are : front ++ t ∷ tail ≡ sent_in 0 x.orders) (at : t.turn ≡ s.end + 5) (order : s.start ≤ s.end)
     (begun : IsBegunFor (s.start - 250) (courses front) t.order.command) where
   abbrev Low : ℕ

@@ -14,7 +14,7 @@ use Rattle.link_work.specs.Turn.{Orders}
 use Rattle.run_laws.specs.Events.{AreTicks}
 use Rattle.run_laws.specs.Known.{Sent, sent_at, sent_in, AreBelow, IsLostFor}
 use Rattle.run_laws.specs.Parts.{AreTracked, IsMaking, Makes, MakesIn}
-use Rattle.run_laws.specs.Courses.{Course, parts_of, no_course, course_of, course_from, courses, AreBeforeTurn, AreMadeFor, IsGoodOn, AreGoodOn, AreAllGood, AllHeed, BeginLostOn}
+use Rattle.run_laws.specs.Courses.{Course, parts_of, no_course, course_of, course_from, courses, AreBeforeTurn, AreMadeFor, IsGoodOn, AreGoodOn, BeginLostOn}
 use Rattle.run_laws.specs.Courses as course
 use Rattle.run_laws.specs.Homes.{RunSection, IsMovesIn, IsSectionBy, AreInTurn, SetsClock, IsControlIn, AreSet, SetsAny, HasUnits, IsHomeRun, AreFrontsIn, AreBeforeFirst, AreReleasedBy, AreReleasedIn, BeginLeftOf, IsLeftOf, IsSplitIn}
 use Rattle.run_laws.proofs.Clocks.{ticks_rise}

@@ -13,7 +13,7 @@ use Rattle.section_units.specs.Sections.{AreBefore, BoardSection, section_steps,
 use Rattle.link_work.specs.Turn.{Orders}
 use Rattle.run_laws.specs.Known.{Sent, sent_in, AreBelow, sent_at}
 use Rattle.run_laws.specs.Runs.{Begins}
-use Rattle.run_laws.specs.Courses.{Part, Course, parts_of, no_course, course_of, course_from, courses, IsSince, IsStopped, AreBeforeStop, AreMadeFor, IsGoodOn, AreGoodOn}
+use Rattle.run_laws.specs.Courses.{Part, Course, parts_of, course_from, IsSince, IsStopped, AreBeforeStop, AreMadeFor, IsGoodOn, AreGoodOn}
 use Rattle.run_laws.specs.Courses as course
 use Rattle.run_laws.specs.Homes.{RunSection, AreInTurn, IsControlIn, AreOrdersIn, SetsIn, AreSet, SetsAny, HasUnits, AreFrontsIn, AreReleasedIn, AreBeforeFirst}
 use Rattle.run_laws.proofs.Stepping.{course_append}

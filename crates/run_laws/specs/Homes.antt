@@ -155,6 +155,7 @@ abbrev pub AreSoonBy : ℕ → ℕ → List Release → Type 0
 AreSoonBy turn end [] = Unit {0}
 AreSoonBy turn end (r ∷ rs) = (r.turn ≤ turn → r.turn ≤ end + 5) × AreSoonBy turn end rs
 
+-- the same for each of a board's sections
 abbrev pub AreSoon : ℕ → List RunSection → Type 0
 AreSoon turn [] = Unit {0}
 AreSoon turn (s ∷ ss) = AreSoonBy turn s.section.end s.section.releases × AreSoon turn ss

@@ -23,7 +23,6 @@ ghost use Rattle.plan_types.specs.Clock.{clock_of};
 ghost use Rattle.plan_types.specs.Plan.{Fits};
 ghost use Rattle.section_units.specs.Sections.{base_of};
 ghost use Rattle.run_laws.specs.Ends.{MayBe};
-ghost use Rattle.run_laws.specs.Known.{sent_in};
 
 /// The law of halts: where the commands that are queued for a board are good, up to one that is queued too late, whatever its triggers do, every
 /// unit is fair when a running board takes it; the board runs, or it shut down since a unit came too late or since it was told to stop; and the

@@ -32,7 +32,7 @@ use Rattle.motion_work.specs.Told.{Told as Heard}
 use Rattle.session_laws.specs.run_headline.Further.{AreNamed, BoardsFirst, TellsFurther}
 use Rattle.session_laws.specs.run_headline.Timely.{AllTakeNear, AreOfMoves, AreSound, HoldsNothingLong}
 use Rattle.session_laws.specs.run_lines.Due.{BoardsHave, StandApart}
-use Rattle.session_laws.specs.home_headline.Little.{AllHomeLittle, ShownHoldLittle}
+use Rattle.session_laws.specs.home_headline.Little.{AllHomeLittle, ShownHoldLittle, SendsOut}
 use Rattle.session_laws.specs.home_wholes.Own.{AllHearSoon, TellOwn}
 use Rattle.session_laws.specs.clear_homes.Closes.{AllClose, MissesSwitch, TellFirst}
 use Rattle.session_laws.specs.clear_homes.First.{IsFirstExpired}
@@ -92,7 +92,8 @@ pub record ShowsText (m : Machine) (text : List ℕ) (c : Cause) (said : List Re
 -- ended it, want of memory too, where no line holds a command for half a round of the 32-bit clock and each board takes the set-up of a homing
 -- section in time or its reports are read true (`ShowsFront`). And they show the file's text; of a run of moves that does not end for want of memory, where no line holds a
 -- command for half a round of the 32-bit clock; and of one of any text, where besides each board takes the set-up of a homing section in time or its
--- reports are read true. Where moreover the set-up is taken in time, and what a board's trigger does in a homing section is heard of within half a round (`AllHearSoon`), the tick that a turn tells of a switch is one at which this very section's readings are
+-- reports are read true. Where moreover the set-up is taken in time, and what a board's trigger does in a homing section is heard of within half a round (`AllHearSoon`), and units of moves
+-- are sent by four turns behind their section's end (`SendsOut`), the tick that a turn tells of a switch is one at which this very section's readings are
 -- complete (`TellOwn`). What suffices for these
 -- premises in a scene without entries is said by laws (`clear_links_hold_nothing_long`, `clear_scenes_hold_little`). Completeness: in a scene without entries, and where no line asks for a stop, a run of moves whose units are all sent soon (`SendsAllSoon`) ends as the reading
 -- of its text does, but for want of memory and for faults of files and output; and so does one of any text whose units are sent so, or a switch
@@ -100,8 +101,8 @@ pub record ShowsText (m : Machine) (text : List ℕ) (c : Cause) (said : List Re
 -- it closes (`TellFirst`), and where a run ends since no switch closed, none did in time (`MissesSwitch`). Causes: a run ends for a board that gives no
 -- answer, or whose clock line is too old, only where its askings in a row were hindered on its link (`GaveNoAnswer`, `IsStaleSince`), and for a board
 -- that expired only where, by what the members of the homing section's group told, it is the first of them (`IsFirstExpired`). It ends for steps that came too late only
--- where the board took them so in its link's last turn (`ComesLateIn`), and they are a unit's of its plan, with its spoiled turns and its spill
--- (`HasLateUnitIn`); no state tells of any other shutdown but the order to stop (`AllMayTell`). Sections start and end in their turns (`AreTimed`), and the
+-- where the board took them so in its link's last turn (`ComesLateIn`), and they are a unit's of its plan, with its spoiled turns and its spill,
+-- where units of moves are sent so (`HasLateUnitIn`); no state tells of any other shutdown but the order to stop (`AllMayTell`). Sections start and end in their turns (`AreTimed`), and the
 -- `board` lines are of clock lines that follow the boards' clocks (`TellKnownLines`). The turn that ends a run
 -- tells of no switch.
 pub record IsLinkReport {F S : Type 0} (f : Files F) (o : Sink S) (m : Machine) (s : Scene) (gcode : List ℕ) (files files' : F) (out out' : S) (c : Cause) (lines : List ReportLine) (counts : List ℕ) (links : List LinkLog) : Type 0 where
@@ -120,7 +121,7 @@ pub record IsLinkReport {F S : Type 0} (f : Files F) (o : Sink S) (m : Machine) 
       AllHomeLittle m s text reported.runs.runs.0 (reported.runs.runs.1 ++ reported.runs.runs.2 ∷ []) → ∥ ShowsHomes m s.switches text c reported.said ∥₁
   pub own : (text : List ℕ) → f.told files gcode ≡ Some text → (reported.told.cause ≡ cause.Memory → ⊥) →
       AllHomeLittle m s text reported.runs.runs.0 (reported.runs.runs.1 ++ reported.runs.runs.2 ∷ []) → AllHearSoon m s text reported.runs.runs.0 (reported.runs.runs.1 ++ reported.runs.runs.2 ∷ []) →
-      ∥ TellOwn m s.switches [] reported.runs.runs.1 ∥₁
+      SendsOut m text reported.runs.runs.0 → ∥ TellOwn m s.switches [] reported.runs.runs.1 ∥₁
   pub complete : (text : List ℕ) → f.told files gcode ≡ Some text → AreOfMoves (sections_over m text) → ((line : ℕ) → (program_end m text).stop ≡ read.Stop line → ⊥) → s.entries ≡ [] →
       SendsAllSoon m text reported.runs.runs.0 → IsCauseOf (cause_of (program_end m text).stop) c
   pub complete_homes : (text : List ℕ) → f.told files gcode ≡ Some text → ((line : ℕ) → (program_end m text).stop ≡ read.Stop line → ⊥) → s.entries ≡ [] → SendsAllSoon m text reported.runs.runs.0 →
@@ -139,7 +140,7 @@ pub record IsLinkReport {F S : Type 0} (f : Files F) (o : Sink S) (m : Machine) 
   pub late : (board first arrival spoiled spill : ℕ) → c ≡ cause.Late board first arrival spoiled spill →
       ComesLateIn m s board first arrival spoiled spill reported.runs.runs.0 reported.runs.runs.1 reported.runs.runs.2
   pub late_unit : (text : List ℕ) → f.told files gcode ≡ Some text → (board first arrival spoiled spill : ℕ) → c ≡ cause.Late board first arrival spoiled spill →
-      AllHomeLittle m s text reported.runs.runs.0 (reported.runs.runs.1 ++ reported.runs.runs.2 ∷ []) →
+      AllHomeLittle m s text reported.runs.runs.0 (reported.runs.runs.1 ++ reported.runs.runs.2 ∷ []) → SendsOut m text reported.runs.runs.0 →
       ∥ ((made : IsMade m s reported.runs.runs.0 reported.runs.runs.1) × (made.plans.seen.text ≡ text)
       × (x : ComesLateIn m s board first arrival spoiled spill reported.runs.runs.0 reported.runs.runs.1 reported.runs.runs.2)
       × ((heard : Heard) × (made.plans.seen.told ≡ Some heard)

@@ -12,7 +12,7 @@ ghost use Rattle.clock_line.specs.Kept.{AreKept};
 ghost use Rattle.link_work.specs.Turn.{Orders};
 ghost use Rattle.run_laws.specs.Boards.{AreEnded, IsWindow, NextStart, OnBoard};
 ghost use Rattle.run_laws.specs.Events.{AreTicks};
-ghost use Rattle.run_laws.specs.Homes.{AreOut, AreReleasedIn, AreSet, HasUnits, IsHomeRun, RunSection, SetsAny};
+ghost use Rattle.run_laws.specs.Homes.{AreOut, AreReleasedIn, AreSet, AreSoon, HasUnits, IsHomeRun, RunSection, SetsAny};
 ghost use Rattle.run_laws.specs.Parts.{AreTracked, MakesIn};
 ghost use Rattle.plan_types.specs.declared.levels.Level.{Level};
 ghost use Rattle.wire_scene.specs.declared.scene.Entry.{Entry};
@@ -97,11 +97,11 @@ pub fn begun_controls_are_control_commands()
         TookControlsIn (clocks_at t.clocks b) (cuts_on m t.clocks until p.seen.begun b) 0 (orders_in turns) }
 {}
 
-/// The law of a turn's units in a run in which axes home, where those of moves are released by four turns behind their sections' ends: they
-/// have 210 bytes at most.
+/// The law of a turn's units in a run in which axes home: they have 210 bytes at most, in each turn up to one by which what is released is so by
+/// the fifth turn behind the end of its section.
 pub fn homing_units_keep_their_limit()
-    ensures { (own : ℕ → ℕ) (clocks : Clocks) (freq slots ready : ℕ) (stops : ℕ → Option ℕ) (ss : List RunSection) (turns : List BoardTurn) →
-        IsHomeRun own clocks freq slots ready stops ss (orders_in turns) → AreReleasedIn ss → UnitsFit turns }
+    ensures { (own : ℕ → ℕ) (clocks : Clocks) (freq slots ready by : ℕ) (stops : ℕ → Option ℕ) (ss : List RunSection) (later turns : List BoardTurn) →
+        IsHomeRun own clocks freq slots ready stops ss (orders_in (later ++ turns)) → AreSoon by ss → length turns ≤ by + 1 → UnitsFit turns }
 {}
 
 /// The law of the report of a run in which axes home: the pulses that its lines tell of a stepper, from the turn of a section's start up to

@@ -34,14 +34,16 @@ ghost use Rattle.trigger_group.specs.declared.order.Member.{Member};
 ghost use Rattle.link_work.specs.Limits.{AllKeepLimits};
 ghost use Rattle.link_work.specs.Runs.{AreTurns};
 ghost use Rattle.link_work.specs.Turn.{LinkState};
+ghost use Rattle.run_laws.specs.Courses.{AllHeed};
 ghost use Rattle.run_laws.specs.Events.{AreOwn};
-ghost use Rattle.run_laws.specs.Homes.{AreInTurn, AreOrdersIn, AreReleasedIn, AreSettledOn, IsHomeBoard, IsHomeRun, IsSectionBy, RunSection, SetsIn};
+ghost use Rattle.run_laws.specs.Homes.{AreInTurn, AreOrdersIn, AreSettledOn, AreSoon, IsHomeBoard, IsHomeRun, IsSectionBy, IsSplitIn, RunSection, SetsIn};
 ghost use Rattle.plan_types.specs.Lines.{Clocks};
 ghost use Rattle.clock_runs.specs.Runs.{orders_in};
 ghost use Rattle.homing_laws.specs.home_runs.Settled.{AreHomed, IsHomed, SendNoneIn, SetNoClockFrom};
 ghost use Rattle.homing_laws.specs.home_runs.Told.{IsMember, TellFiredFrom};
 ghost use Rattle.board_world.specs.World.{start};
 ghost use Rattle.msg_code.specs.declared.talk.State.{State};
+ghost use Rattle.run_laws.specs.Known.{AreQueued, Sent, sent_in};
 ghost use Rattle.run_laws.specs.Links.{AreTold, steps_of, turns_told};
 ghost use Rattle.run_laws.specs.Timely.{AllTimely};
 ghost use Rattle.homing_laws.specs.home_runs.Words.{BeginsNone, IsBegunIn, TellsHomed};
@@ -111,12 +113,13 @@ pub fn answered_sections_are_halted()
 
 /// The law of parts that stop: where the parts of a board's steps stop with homing sections, it is settled as each of its turns begins: while it runs it
 /// has begun the parts that stop by then, and it halts their steppers by then or before it takes a step of the part. What it takes is that it took the
-/// set-up of each in time (`TakesSetUp`), or that what it tells is read as the ticks since which its trigger can't trigger (`IsReadSo`).
+/// set-up of each in time (`TakesSetUp`), or that what it tells is read as the ticks since which its trigger can't trigger (`IsReadSo`). It is asked
+/// only of those that are begun by a turn, where all that is queued by then stands in front of what a running board doesn't take.
 pub fn boards_settle_with_the_answer()
-    ensures { (m : Machine) (switches : List Switch) (pins : List (List Level)) (entries : List Entry) (b : ℕ) (turns : List BoardTurn) (stops : ℕ → Option ℕ) (end : LinkState)
+    ensures { (m : Machine) (switches : List Switch) (pins : List (List Level)) (entries : List Entry) (b until : ℕ) (front tail : List Sent) (turns : List BoardTurn) (stops : ℕ → Option ℕ) (end : LinkState)
         (t : AreTurns (clock_of (board_at m b)) 0 (orders_in turns) (first_state (board_at m b) pins b entries) end) → IsValidMachine m →
-        AreBoardTurns (clock_of (board_at m b)) (first_state (board_at m b) pins b entries) turns → AreHomed m switches pins entries b stops turns →
-        AreSettledOn stops (clock_of (board_at m b)) 0 [] (orders_in turns) (first_state (board_at m b) pins b entries) end t }
+        AreBoardTurns (clock_of (board_at m b)) (first_state (board_at m b) pins b entries) turns → AreQueued until front → front ++ tail ≡ sent_in 0 (orders_in turns) → AreHomed m switches pins entries b until stops turns →
+        AreSettledOn stops front (clock_of (board_at m b)) 0 [] (orders_in turns) (first_state (board_at m b) pins b entries) end t }
 {}
 
 /// The law of set clocks, in time: the clock of each stepper that moves in a homing section is set in one of the three turns from 254 turns
@@ -138,16 +141,17 @@ pub fn words_tell_of_answers()
         (answer_in (length before) h.start (hears_all (noted m c.note (known_by m switches before)).clocks c.states h).group ≡ Some (Endstop tick)) }
 {}
 
-/// The law of homing turns: where a board's orders are those of its sections, those of moves released by four turns behind their ends, no unit
-/// that is released from 254 turns before the start of one that homes up to its end sets a clock, and none is released in the first four of them.
+/// The law of homing turns: where a board's orders are those of its sections, and what is released by a turn is so by the fifth turn behind the
+/// end of its section, no unit that is released from 254 turns before the start of one that homes, and has ended by that turn, up to its end sets
+/// a clock, and none is released in the first four of them.
 pub fn homing_turns_set_no_clocks()
-    ensures sets { (clocks : Clocks) (freq slots until ready from : ℕ) (stops : ℕ → Option ℕ) (past : List RunSection) (s : RunSection) (later : List RunSection) (turns : List BoardTurn) →
-        AreInTurn ready (past ++ s ∷ later) → All (λ x. IsSectionBy x.homes clocks freq slots until stops x.section) (past ++ s ∷ later) → AreReleasedIn (past ++ s ∷ later) →
+    ensures sets { (clocks : Clocks) (freq slots until by ready from : ℕ) (stops : ℕ → Option ℕ) (past : List RunSection) (s : RunSection) (later : List RunSection) (turns : List BoardTurn) →
+        AreInTurn ready (past ++ s ∷ later) → All (λ x. IsSectionBy x.homes clocks freq slots until stops x.section) (past ++ s ∷ later) → AreSoon by (past ++ s ∷ later) → s.section.end ≤ by →
         AreOrdersIn clocks (past ++ s ∷ later) 0 (orders_in turns) →
         s.homes ≡ true → from + 254 ≡ s.section.start → length turns ≤ s.section.end → SetNoClockFrom from turns }
-    ensures sends { (clocks : Clocks) (freq slots until ready from : ℕ) (stops : ℕ → Option ℕ) (past : List RunSection) (s : RunSection) (later : List RunSection) (turns : List BoardTurn) →
-        AreInTurn ready (past ++ s ∷ later) → All (λ x. IsSectionBy x.homes clocks freq slots until stops x.section) (past ++ s ∷ later) → AreReleasedIn (past ++ s ∷ later) →
-        AreOrdersIn clocks (past ++ s ∷ later) 0 (orders_in turns) → s.homes ≡ true → from + 254 ≡ s.section.start → SendNoneIn from (from + 4) turns }
+    ensures sends { (clocks : Clocks) (freq slots until by ready from : ℕ) (stops : ℕ → Option ℕ) (past : List RunSection) (s : RunSection) (later : List RunSection) (turns : List BoardTurn) →
+        AreInTurn ready (past ++ s ∷ later) → All (λ x. IsSectionBy x.homes clocks freq slots until stops x.section) (past ++ s ∷ later) → AreSoon by (past ++ s ∷ later) → s.section.start ≤ by →
+        AreOrdersIn clocks (past ++ s ∷ later) 0 (orders_in turns) → from + 254 ≡ s.section.start → SendNoneIn from (from + 4) turns }
 {}
 
 /// The law of told sections: a homing section that a note began and a word told of, and whose set-up the board took in time or whose reports are
@@ -157,15 +161,17 @@ pub fn told_sections_are_homed()
         from + 254 ≡ start → SetNoClockFrom from t.past → SendNoneIn from (from + 4) t.past → IsHomed m switches pins entries b start end turns }
 {}
 
-/// The law of boards that home: a board of a run whose part of it is one in which axes home, whose units of moves are released by four turns
-/// behind their sections' ends, whose homing sections that have ended were told of, and which takes no unit half a round of the 32-bit clock after its first tick, is one of which `run_laws` says that it keeps its
-/// sections, by any ticks that are its own up to the run's end.
+/// The law of boards that home: a board of a run whose part of it is one in which axes home, whose homing sections that have ended were told of,
+/// which takes no unit half a round of the 32-bit clock after its first tick, and where it takes a first unit of moves that is queued too late finds
+/// that one's stepper not halted, is one of which `run_laws` says that it keeps its sections, by any ticks that are its own up to the run's end.
 pub fn told_boards_are_home_boards()
     ensures { (m : Machine) (switches : List Switch) (pins : List (List Level)) (entries : List Entry) (b ready : ℕ) (own : ℕ → ℕ) (clocks : Clocks) (stops : ℕ → Option ℕ) (ss : List RunSection) (turns : List BoardTurn) (states : List State) (end : LinkState)
         (told : AreTold (clock_of (board_at m b)) 0 (orders_in turns) states (first_state (board_at m b) pins b entries) end) → IsValidMachine m → b < length m.boards →
         AreBoardTurns (clock_of (board_at m b)) (first_state (board_at m b) pins b entries) turns →
-        AreOwn (board_at m b) (length turns) own → IsHomeRun own clocks (board_at m b).freq (board_at m b).slots ready stops ss (orders_in turns) → AreReleasedIn ss →
+        AreOwn (board_at m b) (length turns) own → IsHomeRun own clocks (board_at m b).freq (board_at m b).slots ready stops ss (orders_in turns) → (split : IsSplitIn own stops (board_at m b).slots ss (orders_in turns)) →
         AllTimely (start (board_at m b) pins) (steps_of (clock_of (board_at m b)) 0 (orders_in turns) (first_state (board_at m b) pins b entries) end
+        (turns_told (clock_of (board_at m b)) 0 (orders_in turns) states (first_state (board_at m b) pins b entries) end told)) →
+        AllHeed split.front split.tail (start (board_at m b) pins) (steps_of (clock_of (board_at m b)) 0 (orders_in turns) (first_state (board_at m b) pins b entries) end
         (turns_told (clock_of (board_at m b)) 0 (orders_in turns) states (first_state (board_at m b) pins b entries) end told)) →
         AreToldIn m switches pins entries b stops ss turns →
         IsHomeBoard b entries ready (length turns) ss (record { board = board_at m b; pins = pins; clocks = clocks; sections = map (λ s. s.section) ss; orders = orders_in turns; states = states }) }

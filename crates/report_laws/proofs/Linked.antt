@@ -1035,7 +1035,7 @@ module _ {F S : Type 0} (f : Files F) (o : Sink S) (m : Machine) (s : Scene) (gc
     shows = texts r;
     begun = begun_texts r;
     homes = home_texts r;
-    own = λ text told other little soon. run_own f o m s gcode files files' out r.behind r.kept r.kept' r.told r.runs v short text told r.fresh.at other little soon;
+    own = λ text told other little soon sends. run_own f o m s gcode files files' out r.behind r.kept r.kept' r.told r.runs v short text told r.fresh.at other little soon sends;
     complete = completes r;
     complete_homes = homes_complete r;
     complete_switches = switches_complete r;
@@ -1050,8 +1050,8 @@ module _ {F S : Type 0} (f : Files F) (o : Sink S) (m : Machine) (s : Scene) (gc
     expired = λ board turn e. run_first f o m s gcode files files' out r.behind r.kept r.kept' r.told r.runs board turn
         (of_run r (cause.Expired board turn) (λ g. let h : cause.Expired board turn ≡ cause.Memory = g in cc) (λ g. let h : cause.Expired board turn ≡ cause.WriteFault = g in cc) e);
     late = λ board first arrival spoiled spill e. run_late f o m s gcode files files' out r.behind r.kept r.kept' r.told r.runs v board first arrival spoiled spill (of_late r board first arrival spoiled spill e);
-    late_unit = λ text told board first arrival spoiled spill e little.
-        run_home_units f o m s gcode files files' out r.behind r.kept r.kept' r.told r.runs v short board first arrival spoiled spill text told r.fresh.at (of_late r board first arrival spoiled spill e) little;
+    late_unit = λ text told board first arrival spoiled spill e little sends.
+        run_home_units f o m s gcode files files' out r.behind r.kept r.kept' r.told r.runs v short board first arrival spoiled spill text told r.fresh.at (of_late r board first arrival spoiled spill e) little sends;
     shutdowns = λ text told other near. elim near [
       | inl little ↦ run_home_tells f o m s gcode files files' out r.behind r.kept r.kept' r.told r.runs v short text told r.fresh.at other little
       | inr x ↦ run_near_tells f o m s gcode files files' out r.behind r.kept r.kept' r.told r.runs v short text told r.fresh.at other x.0 x.1

@@ -29,7 +29,7 @@ use Rattle.motion_work.specs.Told.{Told as Heard}
 use Rattle.session_laws.specs.run_headline.Further.{AreNamed, BoardsFirst, TellsFurther}
 use Rattle.session_laws.specs.run_headline.Timely.{AllTakeNear, AreOfMoves, AreSound, HoldsNothingLong}
 use Rattle.session_laws.specs.run_lines.Due.{BoardsHave, StandApart}
-use Rattle.session_laws.specs.home_headline.Little.{AllHomeLittle, ShownHoldLittle}
+use Rattle.session_laws.specs.home_headline.Little.{AllHomeLittle, SendsOut, ShownHoldLittle}
 use Rattle.session_laws.specs.home_wholes.Own.{AllHearSoon, TellOwn}
 use Rattle.session_laws.specs.clear_homes.Closes.{AllClose, MissesSwitch, TellFirst}
 use Rattle.session_laws.specs.clear_homes.First.{IsFirstExpired}
@@ -127,7 +127,7 @@ pub record IsLinkReport {F S : Type 0} (f : Files F) (o : Sink S) (m : Machine) 
       AllHomeLittle m s text reported.runs.runs.0 (reported.runs.runs.1 ++ reported.runs.runs.2 ∷ []) → ∥ ShowsHomes m s.switches text c reported.said ∥₁
   pub own : (text : List ℕ) → f.told files gcode ≡ Some text → (reported.told.cause ≡ cause.Memory → ⊥) →
       AllHomeLittle m s text reported.runs.runs.0 (reported.runs.runs.1 ++ reported.runs.runs.2 ∷ []) → AllHearSoon m s text reported.runs.runs.0 (reported.runs.runs.1 ++ reported.runs.runs.2 ∷ []) →
-      ∥ TellOwn m s.switches [] reported.runs.runs.1 ∥₁
+      SendsOut m text reported.runs.runs.0 → ∥ TellOwn m s.switches [] reported.runs.runs.1 ∥₁
   pub complete : (text : List ℕ) → f.told files gcode ≡ Some text → AreOfMoves (sections_over m text) → ((line : ℕ) → (program_end m text).stop ≡ read.Stop line → ⊥) → s.entries ≡ [] →
       SendsAllSoon m text reported.runs.runs.0 → IsCauseOf (cause_of (program_end m text).stop) c
   pub complete_homes : (text : List ℕ) → f.told files gcode ≡ Some text → ((line : ℕ) → (program_end m text).stop ≡ read.Stop line → ⊥) → s.entries ≡ [] → SendsAllSoon m text reported.runs.runs.0 →
@@ -146,7 +146,7 @@ pub record IsLinkReport {F S : Type 0} (f : Files F) (o : Sink S) (m : Machine) 
   pub late : (board first arrival spoiled spill : ℕ) → c ≡ cause.Late board first arrival spoiled spill →
       ComesLateIn m s board first arrival spoiled spill reported.runs.runs.0 reported.runs.runs.1 reported.runs.runs.2
   pub late_unit : (text : List ℕ) → f.told files gcode ≡ Some text → (board first arrival spoiled spill : ℕ) → c ≡ cause.Late board first arrival spoiled spill →
-      AllHomeLittle m s text reported.runs.runs.0 (reported.runs.runs.1 ++ reported.runs.runs.2 ∷ []) →
+      AllHomeLittle m s text reported.runs.runs.0 (reported.runs.runs.1 ++ reported.runs.runs.2 ∷ []) → SendsOut m text reported.runs.runs.0 →
       ∥ ((made : IsMade m s reported.runs.runs.0 reported.runs.runs.1) × (made.plans.seen.text ≡ text)
       × (x : ComesLateIn m s board first arrival spoiled spill reported.runs.runs.0 reported.runs.runs.1 reported.runs.runs.2)
       × ((heard : Heard) × (made.plans.seen.told ≡ Some heard)

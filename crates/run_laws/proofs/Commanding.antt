@@ -12,7 +12,7 @@ use Rattle.board_sim.specs.Rig as rig
 use Rattle.board_sim.specs.Fair.{Meant, commands_of, IsFairCommand, IsFairRunning, AreFair}
 use Rattle.board_sim.proofs.RigShut.{all_left_by}
 use Rattle.board_sim.proofs.RigStates.{all_tick}
-use Rattle.run_laws.specs.Known.{Sent, orders_in, IsLostFor}
+use Rattle.run_laws.specs.Known.{AreQueued, Known, Sent, orders_in, IsLostFor}
 use Rattle.run_laws.specs.Timely.{IsTimely, AreTimely}
 use Rattle.run_laws.specs.Finds.{AllFindHalted, AllSetNot, FindsHalted, SetsNot}
 use Rattle.run_laws.specs.Courses.{Course, IsStopped, next_part, parts_of, course_of, course_behind, course_from, AreMadeFor, IsMadeBy, IsGoodOn, AreGoodOn, IsInTime, AreInTime, BeginLostOn, FindsFree}
@@ -154,11 +154,6 @@ one_stands own stops slots by queued turn cs r c ticks f h k good timely time fi
           (subst Fair (sym f.running) a.0, subst Then (sym (takes_acts r c f.running i)) a.1)
     ]
 
--- commands that were queued by a turn
-abbrev pub AreQueued : ℕ → List Sent → Type 0
-AreQueued turn [] = Unit {0}
-AreQueued turn (s ∷ ss) = (s.turn ≤ turn) × AreQueued turn ss
-
 -- The board takes good commands: all are fair. It runs on, and stands as is known then; or it shut down, behind some of them that it took.
 abbrev pub AllStand : (ℕ → ℕ) → (ℕ → Option ℕ) → ℕ → ℕ → ℕ → (ℕ → Course) → Rig → List Sent → Type 0
 AllStand own stops slots by turn cs r ss =
@@ -234,14 +229,19 @@ AllLost own stops cs r ss tail =
     AreFair r (orders_in (ss ++ tail)) × IsShutBy (takes_all r (commands_of (orders_in (ss ++ tail)))).rig.controller × ((done more : List Sent) × (ss ≡ done ++ more)
     × ((oid : ℕ) (m : List Pulse) → IsMadeBy own stops oid (stepper_at r.controller oid) (cs oid) m → AreMadeFor own stops (parts_of (course_from oid (cs oid) done)) m))
 
+-- which sets no clock
+lost_time : (own : ℕ → ℕ) (stops : ℕ → Option ℕ) (by turn : ℕ) (ks : ℕ → Known) (c : Cmd) (ticks : List ℕ) → IsLostFor own turn ks c ticks → IsInTime stops by turn c
+lost_time own stops by turn ks (cmd.ResetStepClock oid clock) ticks i = absurd i
+lost_time own stops by turn ks c ticks i = tt
+
 pub all_lost : (own : ℕ → ℕ) → ((j k : ℕ) → j ≤ k → own j ≤ own k) → (stops : ℕ → Option ℕ) (slots by turn : ℕ) (ss : List Sent) (s : Sent) (tail : List Sent) (cs : ℕ → Course) (r : Rig) → BoardStands own stops slots by turn cs r.controller
     → by ≤ turn → AreQueued by (ss ++ s ∷ tail) → ((oid : ℕ) → AreGoodOn own stops slots oid (cs oid) ss) → BeginLostOn own stops slots (λ oid. course_from oid (cs oid) ss) (s ∷ tail)
-    → AreTimely (own turn) (orders_in (ss ++ s ∷ tail)) → AreInTime stops by (ss ++ s ∷ tail)
+    → AreTimely (own turn) (orders_in (ss ++ s ∷ tail)) → AreInTime stops by ss
     → ((takes_all r (commands_of (orders_in ss))).rig.controller.state ≡ Running → FindsFree (takes_all r (commands_of (orders_in ss))).rig.controller s.order.command)
     → ((oid : ℕ) → IsStopped stops by (cs oid).since → AllFindHalted oid r (orders_in (ss ++ s ∷ tail))) → AllLost own stops cs r ss (s ∷ tail)
 all_lost own up stops slots by turn [] s tail cs r f le old good lost timely time free finds =
     let h = up s.turn turn (omega (arith, old.0, le)) in
-    let one = one_stands own stops slots by s.turn turn cs r s.order.command s.order.ticks f h old.0 lost.0 timely.0 time.0 (λ oid st. (finds oid st).0) in
+    let one = one_stands own stops slots by s.turn turn cs r s.order.command s.order.ticks f h old.0 lost.0 timely.0 (lost_time own stops by s.turn (λ oid. (cs oid).known) s.order.command s.order.ticks lost.1) (λ oid st. (finds oid st).0) in
     let (reason, t, first, state, may) = one_lost own stops slots by s.turn turn cs r s.order.command s.order.ticks f h lost.0 timely.0 lost.1 (free f.running) in
     let after = (takes r s.order.command).rig in
     let same = ap (λ (x : Controller). x.state) (all_left_by after (commands_of (orders_in tail)) (ap is_shut state)) ∙ state in

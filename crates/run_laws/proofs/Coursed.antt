@@ -1,12 +1,12 @@
 -- Turns keep what steps keep, and the pulses of a turn lie within it.
-use Rattle.std.proofs.Common.{◌≡◌, ℕ, ◌+◌, ◌≤◌, ◌⊎◌, List, [], ◌∷◌, ◌++◌, length, map, Option, refl, ap, sym, ◌∙◌, subst, arith, inl, inr, append_assoc, append-nil}
+use Rattle.std.proofs.Common.{◌≡◌, ℕ, ◌+◌, ◌≤◌, ◌⊎◌, List, [], ◌∷◌, ◌++◌, length, map, Option, Some, None, refl, ap, sym, ◌∙◌, subst, arith, inl, inr, append_assoc, append-nil}
 use Rattle.plan_types.specs.declared.levels.Level.{Level}
 use Rattle.plan_types.specs.declared.machine.BoardDef.{BoardDef}
 use Rattle.plan_types.specs.declared.plan.Pulse.{Pulse}
 use Rattle.msg_code.specs.declared.cmd.Cmd.{Cmd}
 use Rattle.msg_code.specs.declared.cmd.Cmd.TheVariants as cmd
 use Rattle.board_sim.specs.Board.{new_controller, is_shut, stepper_at}
-use Rattle.board_sim.specs.Fair.{Meant, only}
+use Rattle.board_sim.specs.Fair.{only}
 use Rattle.board_sim.proofs.HaltedTime.{time_keeps, whole_part}
 use Rattle.board_sim.proofs.Keeps.{first_kept}
 use Rattle.board_sim.proofs.RigShut.{passes_left}
@@ -23,14 +23,13 @@ use Rattle.run_laws.specs.Events.{AreQuiet, IsTurnOf, AreTurnsOf}
 use Rattle.run_laws.specs.Known.{Sent, sent_at, sent_in}
 use Rattle.run_laws.specs.Timely.{AllTimely}
 use Rattle.run_laws.specs.Courses.{courses, IsFrom, IsStopped, IsInTime, AreInTime, IsSettled, AreSettled, FindStopped, AllHeed}
-use Rattle.run_laws.proofs.Lists.{sent_append, own_up}
+use Rattle.run_laws.proofs.Lists.{up_at, up_later, sent_append, own_up}
 use Rattle.run_laws.proofs.Passes.{AreBetween, between_append, between_wide}
 use Rattle.run_laws.proofs.Turning.{fair_append, timely_front, timely_behind, none_at, places_length}
 use Rattle.run_laws.proofs.Windows.{quiet_made, Makes}
 use Rattle.run_laws.proofs.Moving.{SlotMoves, BoardMoves}
 use Rattle.run_laws.proofs.MovingRigs.{passes_move}
 use Rattle.run_laws.proofs.Standing.{slot_moved, held_moved, held_none, slot_between, stop_before, made_moved}
-use Rattle.run_laws.proofs.Commanding.{AreQueued}
 use Rattle.run_laws.proofs.Stepping.{Script, Finds, Going, Gone, Keeps, finds_first, finds_next, quiet_keeps, queues_on, heed_front, heed_behind}
 
 -- what a stepper's place makes of the time of a turn
@@ -126,16 +125,12 @@ pass_keeps p turn sent h k =
       next.1,
     )
 
-queued_up : (turn : ℕ) (ss : List Sent) → AreQueued turn ss → AreQueued (turn + 1) ss
-queued_up turn [] a = tt
-queued_up turn (s ∷ ss) a = (omega (arith, a.0), queued_up turn ss a.1)
-
 -- the next turn begins
-pub settles : (p : Script) (turn : ℕ) (sent : List Sent) (h : Core) → Keeps p turn (turn + 1) sent h → IsSettled p.stops (turn + 1) sent h → Keeps p (turn + 1) (turn + 1) sent h
+pub settles : (p : Script) (turn : ℕ) (sent : List Sent) (h : Core) → Keeps p turn (turn + 1) sent h → IsSettled p.stops p.front (turn + 1) sent h → Keeps p (turn + 1) (turn + 1) sent h
 settles p turn sent h k settled = record {
   ordered = k.ordered;
   queued = k.queued;
-  turns = queued_up turn sent k.turns;
+  turns = up_later turn sent k.turns;
   order = omega arith;
   rest = k.rest;
   all_is = k.all_is;
@@ -143,7 +138,7 @@ settles p turn sent h k settled = record {
   kept = k.kept;
   state = elim k.state [
     | inl r ↦
-        let s = settled r.stands.running r.done r.left (sym r.sent_is) r.taken in
+        let s = settled r.stands.running r.done r.left r.more (sym r.sent_is) r.front_is r.taken in
         inl (record {
           done = r.done;
           left = r.left;
@@ -167,8 +162,8 @@ settles p turn sent h k settled = record {
 }
 
 -- what is found as the next turn begins
-pub settled_finds : (p : Script) (turn : ℕ) (sent : List Sent) (h : Core) (steps : List Step) → FindStopped p.stops turn sent h steps → Finds p turn turn sent h steps
-settled_finds p turn sent h steps f = λ r oid st. f r.stands.running r.done r.left (sym r.sent_is) r.taken oid st
+pub settled_finds : (p : Script) (turn : ℕ) (sent : List Sent) (h : Core) (steps : List Step) → FindStopped p.stops p.front turn sent h steps → Finds p turn turn sent h steps
+settled_finds p turn sent h steps f = λ r oid st. f r.stands.running r.done r.left r.more (sym r.sent_is) r.front_is r.taken oid st
 
 abbrev QuietKeeps : Script → ℕ → ℕ → List Sent → List Step → List Step → Core → Type 0
 QuietKeeps p by turn sent steps rest h = AllFair h steps × Keeps p by turn sent (run steps h) × Finds p by turn sent (run steps h) rest
@@ -178,22 +173,22 @@ pub quiet_keep : (p : Script) (by turn : ℕ) (sent : List Sent) (steps rest : L
 quiet_keep p by turn sent [] rest h q k timely heed finds = (tt, k, finds)
 quiet_keep p by turn sent (s ∷ steps) rest h q k timely heed finds =
     let one = quiet_keeps p by turn sent h s q.0 k timely.0 heed.0 (finds_first p by turn sent h s (steps ++ rest) finds) in
-    let next = finds_next p by turn turn sent [] sent h s (steps ++ rest) (sym (append-nil sent)) k tt finds in
+    let next = finds_next p by turn turn sent sent h s (steps ++ rest) k finds in
     let more = quiet_keep p by turn sent steps rest (after h s) q.1 one.1 timely.1 heed.1 next in
     ((one.0, more.0), more.1, more.2)
 
--- what is queued in a turn is taken in time then
-pub time_of : (stops : ℕ → Option ℕ) (turn : ℕ) (c : Cmd) → (IsFrom turn (stops turn) → ⊥) → IsInTime stops turn turn c
-time_of stops turn (cmd.ResetStepClock oid clock) h = h
+-- before the first turn nothing is too late
+from_up : (o : Option ℕ) (turn : ℕ) → IsFrom 0 o → IsFrom turn o
+from_up None turn i = i
+from_up (Some stop) turn i = omega (arith, i)
+
+time_of : (stops : ℕ → Option ℕ) (turn : ℕ) (c : Cmd) → (IsFrom turn (stops turn) → ⊥) → IsInTime stops 0 turn c
+time_of stops turn (cmd.ResetStepClock oid clock) h = λ i. h (from_up (stops turn) turn i)
 time_of stops turn _ h = tt
 
-pub time_at : (stops : ℕ → Option ℕ) (turn : ℕ) (ms : List Meant) → (IsFrom turn (stops turn) → ⊥) → AreInTime stops turn (sent_at turn ms)
-time_at stops turn [] h = tt
-time_at stops turn (m ∷ ms) h = (time_of stops turn m.command h, time_at stops turn ms h)
-
-pub old_at : (turn : ℕ) (ms : List Meant) → AreQueued turn (sent_at turn ms)
-old_at turn [] = tt
-old_at turn (m ∷ ms) = (omega arith, old_at turn ms)
+time_first : (stops : ℕ → Option ℕ) (ss : List Sent) → ((turn : ℕ) → IsFrom turn (stops turn) → ⊥) → AreInTime stops 0 ss
+time_first stops [] h = tt
+time_first stops (s ∷ ss) h = (time_of stops s.turn s.order.command (h s.turn), time_first stops ss h)
 
 abbrev TurnKeeps : Script → ℕ → List Sent → Orders → Core → List Step → Type 0
 TurnKeeps p turn sent o h steps =
@@ -214,18 +209,17 @@ turn_steps_keep p turn sent rest o before rear h bq rq k all timely heed finds =
     let h1 = after h (Turn turn) in
     let others = before ++ pass ∷ rear in
     let k1 = (quiet_keeps p turn turn sent h (Turn turn) tt k tt tt (λ r oid st. tt)).1 in
-    let f1 = finds_next p turn turn turn sent [] sent h (Turn turn) (Do (Control o.control) ∷ Do (Put o.batch) ∷ others) (sym (append-nil sent)) k tt finds in
+    let f1 = finds_next p turn turn turn sent sent h (Turn turn) (Do (Control o.control) ∷ Do (Put o.batch) ∷ others) k finds in
     let h2 = happens h1 (Control o.control) in
     let whole : ((sent ++ sent_at turn cs) ++ sent_at turn us) ++ rest ≡ p.all =
     ap (λ x. x ++ rest) (append_assoc sent (sent_at turn cs) (sent_at turn us) ∙ ap (λ x. sent ++ x) (sym split)) ∙ all in
     let k2 : Keeps p turn turn (sent ++ sent_at turn cs) h2 =
-    queues_on p turn turn sent (sent_at turn us ++ rest) h1 (Control o.control) k1 (sym (append_assoc (sent ++ sent_at turn cs) (sent_at turn us) rest) ∙ whole) (time_at p.stops turn cs (p.ahead turn)) (old_at turn cs) refl refl refl in
-    let f2 = finds_next p turn turn turn sent (sent_at turn cs) (sent ++ sent_at turn cs) h1 (Do (Control o.control)) (Do (Put o.batch) ∷ others) refl k1 (time_at p.stops turn cs (p.ahead turn)) f1 in
+    queues_on p turn turn sent (sent_at turn us ++ rest) h1 (Control o.control) k1 (sym (append_assoc (sent ++ sent_at turn cs) (sent_at turn us) rest) ∙ whole) (up_at turn cs) refl refl refl in
+    let f2 = finds_next p turn turn turn sent (sent ++ sent_at turn cs) h1 (Do (Control o.control)) (Do (Put o.batch) ∷ others) k1 f1 in
     let h3 = happens h2 (Put o.batch) in
     let k3 : Keeps p turn turn ((sent ++ sent_at turn cs) ++ sent_at turn us) h3 =
-    queues_on p turn turn (sent ++ sent_at turn cs) rest h2 (Put o.batch) k2 whole (time_at p.stops turn us (p.ahead turn)) (old_at turn us) refl refl refl in
-    let f3 =
-    finds_next p turn turn turn (sent ++ sent_at turn cs) (sent_at turn us) ((sent ++ sent_at turn cs) ++ sent_at turn us) h2 (Do (Put o.batch)) others refl k2 (time_at p.stops turn us (p.ahead turn)) f2 in
+    queues_on p turn turn (sent ++ sent_at turn cs) rest h2 (Put o.batch) k2 whole (up_at turn us) refl refl refl in
+    let f3 = finds_next p turn turn turn (sent ++ sent_at turn cs) ((sent ++ sent_at turn cs) ++ sent_at turn us) h2 (Do (Put o.batch)) others k2 f2 in
     let q = quiet_keep p turn turn ((sent ++ sent_at turn cs) ++ sent_at turn us) before (pass ∷ rear) h3 bq k3 (timely_front before (pass ∷ rear) h3 timely.1.1.1) (heed_front p.front p.tail before (pass ∷ rear) h3 heed.1.1.1) f3 in
     let h4 = run before h3 in
     let k5 = pass_keeps p turn ((sent ++ sent_at turn cs) ++ sent_at turn us) h4 q.1 in
@@ -233,7 +227,7 @@ turn_steps_keep p turn sent rest o before rear h bq rq k all timely heed finds =
     let late = timely_behind before (pass ∷ rear) h3 timely.1.1.1 in
     let behind = heed_behind p.front p.tail before (pass ∷ rear) h3 heed.1.1.1 in
     let all_sent = (sent ++ sent_at turn cs) ++ sent_at turn us in
-    let f5 = finds_next p turn turn (turn + 1) all_sent [] all_sent h4 pass rear (sym (append-nil all_sent)) q.1 tt q.2 in
+    let f5 = finds_next p turn turn (turn + 1) all_sent all_sent h4 pass rear q.1 q.2 in
     let Found : List Step → Type 0 = λ x. Finds p turn (turn + 1) all_sent h5 x in
     let r = quiet_keep p turn (turn + 1) ((sent ++ sent_at turn cs) ++ sent_at turn us) rear [] h5 rq k5.0 late.1 behind.1 (subst Found (sym (append-nil rear)) f5) in
     let new = (does h4 (Pass (p.own (turn + 1)))).pulses in
@@ -248,7 +242,7 @@ turn_steps_keep p turn sent rest o before rear h bq rq k all timely heed finds =
       ),
     )
 
-turn_keeps : (p : Script) (turn : ℕ) (sent rest : List Sent) (o : Orders) (steps : List Step) (h : Core) → IsTurnOf p.own turn o steps → Keeps p turn turn sent h
+pub turn_keeps : (p : Script) (turn : ℕ) (sent rest : List Sent) (o : Orders) (steps : List Step) (h : Core) → IsTurnOf p.own turn o steps → Keeps p turn turn sent h
     → (sent ++ sent_at turn (queued_in o)) ++ rest ≡ p.all → AllTimely h steps → AllHeed p.front p.tail h steps → Finds p turn turn sent h steps → TurnKeeps p turn sent o h steps
 turn_keeps p turn sent rest o steps h t k all timely heed finds =
     let At : List Step → Type 0 = λ x. TurnKeeps p turn sent o h x in
@@ -256,6 +250,10 @@ turn_keeps p turn sent rest o steps h t k all timely heed finds =
     let Heed : List Step → Type 0 = λ x. AllHeed p.front p.tail h x in
     let Found : List Step → Type 0 = λ x. Finds p turn turn sent h x in
     subst At (sym t.are) (turn_steps_keep p turn sent rest o t.before t.after h t.before_quiet t.after_quiet k all (subst Timely t.are timely) (subst Heed t.are heed) (subst Found t.are finds))
+
+pub settled_first : (p : Script) (turn : ℕ) (sent : List Sent) (os : List Orders) (steps : List Step) (h : Core) (t : AreTurnsOf p.own turn os steps) → AreSettled p.stops p.front p.own turn sent os steps h t → IsSettled p.stops p.front turn sent h
+settled_first p turn sent [] steps h t s = s
+settled_first p turn sent (o ∷ os) steps h t s = s.0
 
 abbrev pub TurnsKeep : Script → ℕ → List Sent → List Orders → Core → List Step → Type 0
 TurnsKeep p turn sent os h steps =
@@ -272,7 +270,7 @@ makes_both p turn mid end a b c h k x y = (
 )
 
 pub turns_keep : (p : Script) (turn : ℕ) (sent rest : List Sent) (os : List Orders) (steps : List Step) (h : Core) (t : AreTurnsOf p.own turn os steps) → Keeps p turn turn sent h
-    → (sent ++ sent_in turn os) ++ rest ≡ p.all → AllTimely h steps → AreSettled p.stops p.own turn sent os steps h t → AllHeed p.front p.tail h steps → TurnsKeep p turn sent os h steps
+    → (sent ++ sent_in turn os) ++ rest ≡ p.all → AllTimely h steps → AreSettled p.stops p.front p.own turn sent os steps h t → AllHeed p.front p.tail h steps → TurnsKeep p turn sent os h steps
 turns_keep p turn sent rest [] steps h t k all timely settled heed =
     let At : List Step → Type 0 = λ x. TurnsKeep p turn sent [] h x in
     let zero_more : turn + 0 ≡ turn = omega arith in
@@ -291,7 +289,7 @@ turns_keep p turn sent rest (o ∷ os) steps h t k all timely settled heed =
     let whole : (mid ++ sent_in (turn + 1) os) ++ rest ≡ p.all = ap (λ x. x ++ rest) cut ∙ all in
     let a = turn_keeps p turn sent (sent_in (turn + 1) os ++ rest) o first h one k (sym (append_assoc mid (sent_in (turn + 1) os) rest) ∙ whole) (timely_front first later h all_timely) (heed_front p.front p.tail first later h all_heed)
     (settled_finds p turn sent h first settled.1) in
-    let next = settles p turn mid (run first h) a.1 (settled_first (turn + 1) mid os later (run first h) more settled.2) in
+    let next = settles p turn mid (run first h) a.1 (settled_first p (turn + 1) mid os later (run first h) more settled.2) in
     let b = turns_keep p (turn + 1) mid rest os later (run first h) more next whole (timely_behind first later h all_timely) settled.2 (heed_behind p.front p.tail first later h all_heed) in
     let n : turn + 1 + length os ≡ turn + length (o ∷ os) = omega arith in
     let To : Core → Type 0 = λ x. Keeps p (turn + length (o ∷ os)) (turn + length (o ∷ os)) (sent ++ sent_in turn (o ∷ os)) x in
@@ -304,10 +302,6 @@ turns_keep p turn sent rest (o ∷ os) steps h t k all timely settled heed =
       subst To (sym (run_append first later h)) (subst Here cut (subst On n b.1)),
       subst Made (sym (run_append first later h)) (subst Until n (makes_both p turn (turn + 1) (turn + 1 + length os) h.made (run first h).made (run later (run first h)).made (omega arith) (omega arith) a.2 b.2)),
     )
-  where
-    settled_first : (turn : ℕ) (sent : List Sent) (os : List Orders) (steps : List Step) (h : Core) (t : AreTurnsOf p.own turn os steps) → AreSettled p.stops p.own turn sent os steps h t → IsSettled p.stops turn sent h
-    settled_first turn sent [] steps h t s = s
-    settled_first turn sent (o ∷ os) steps h t s = s.0
 
 -- a board to which nothing was told
 pub begins : (p : Script) (b : BoardDef) (pins : List (List Level)) → p.own 0 ≡ b.start → p.slots ≡ b.slots → Keeps p 0 0 [] (start b pins)
@@ -336,7 +330,7 @@ begins p b pins first slots = record {
       each = λ oid. rw (none_at 256 oid) refl;
       stopped = λ oid i. absurd i;
     };
-    in_time = tt;
+    in_time = time_first p.stops p.front p.ahead;
     made = λ oid. rw (none_at 256 oid) (record { early = []; late = []; is = refl; past = refl; dropped = []; steps = refl; whole = λ _. refl; before = tt });
   });
 }

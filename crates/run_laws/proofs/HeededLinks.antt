@@ -54,7 +54,7 @@ few_front (suc j) (suc k) [] h f = tt
 few_front (suc j) (suc k) (o ∷ os) h f = (f.0, few_front j k os (omega (arith, h)) f.1)
 
 -- the turns up to that of the cut have more commands than stand before the cut
-reach_more : (count : ℕ) (os : List Orders) (front tail : List Sent) → sent_in 0 os ≡ front ++ tail → count < length os → Reaches (0 + count) (0 + length os) tail → length front < length (flat_map queued_in (take count os))
+pub reach_more : (count : ℕ) (os : List Orders) (front tail : List Sent) → sent_in 0 os ≡ front ++ tail → count < length os → Reaches (0 + count) (0 + length os) tail → length front < length (flat_map queued_in (take count os))
 reach_more count os front [] is short r = absurd (omega (arith, r, short))
 reach_more count os front (s ∷ tail) is short r =
     let xs = take count os in
@@ -77,7 +77,7 @@ abbrev ControlsSoFar : List Orders → Type 0
 ControlsSoFar all = (done : List Orders) (o : Orders) (os : List Orders) → all ≡ done ++ (o ∷ os) → ControlsKeep done
 
 -- turn by turn
-enough_from : (b : BoardDef) (pins : List (List Level)) (board : ℕ) (entries : List Entry) (clock : BoardClock) (n size last turn : ℕ) (all done os : List Orders) (l m : LinkState) (t : AreTurns clock turn os l m)
+pub enough_from : (b : BoardDef) (pins : List (List Level)) (board : ℕ) (entries : List Entry) (clock : BoardClock) (n size last turn : ℕ) (all done os : List Orders) (l m : LinkState) (t : AreTurns clock turn os l m)
     (past : List Ended) (h : Core) → h ≡ l.core → turn ≡ length done → all ≡ done ++ os → ControlsSoFar all → last ≤ length all → AreFew (take last all) → (last < length all → size < length (flat_map queued_in (take last all)))
     → EndSo clock 0 done (first_state b pins board entries) past
     → last_of (first_state b pins board entries) past ≡ l → ((k : ℕ) → spoiled (take k (past ++ ends_of clock turn os l m t)) ≤ n)
@@ -112,7 +112,7 @@ enough_from b pins board entries clock n size most turn all done (o ∷ os) l m 
     )
 
 -- so it is by other ticks that are the same by then
-enough_owned : (b : BoardDef) (n size : ℕ) (all : List Orders) (own : ℕ → ℕ) (last turn : ℕ) (os : List Orders) (steps : List Step) (h : Core) (o : AreOwn b last own) (within : turn + length os ≤ last)
+pub enough_owned : (b : BoardDef) (n size : ℕ) (all : List Orders) (own : ℕ → ℕ) (last turn : ℕ) (os : List Orders) (steps : List Step) (h : Core) (o : AreOwn b last own) (within : turn + length os ≤ last)
     (t : AreTurnsOf (board_tick (clock_of b)) turn os steps) → TakesEnough n size all (board_tick (clock_of b)) turn os steps h t
     → TakesEnough n size all own turn os steps h (turns_owned b own last turn os steps o within t)
 unfolding turns_owned

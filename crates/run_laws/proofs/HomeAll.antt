@@ -1,5 +1,5 @@
 -- All sections of a run, of moves or homing, from its first turn on.
-use Rattle.std.proofs.Common.{◌≡◌, ℕ, zero, suc, Bool, true, false, ◌+◌, ◌-◌, ◌*◌, ◌≤◌, ◌⊎◌, List, [], ◌∷◌, ◌++◌, All, length, map, take, Option, None, refl, ap, sym, ◌∙◌, subst, arith, inl, inr, append-nil}
+use Rattle.std.proofs.Common.{◌≡◌, ℕ, ℤ, zero, suc, Bool, true, false, ◌+◌, ◌-◌, ◌*◌, ◌≤◌, ◌⊎◌, List, [], ◌∷◌, ◌++◌, All, length, map, take, Option, None, refl, ap, sym, ◌∙◌, subst, arith, inl, inr, append-nil}
 use Rattle.std.proofs.lemmas.Bool.Decides.{eqb_tells}
 use Rattle.std.proofs.lemmas.List.Elements.{All-nil, All-cons, All-head, All-tail}
 use Rattle.plan_types.specs.declared.plan.Pulse.{Pulse}
@@ -14,9 +14,9 @@ use Rattle.link_work.specs.Turn.{Orders}
 use Rattle.run_laws.specs.Events.{AreTicks}
 use Rattle.run_laws.specs.Known.{Sent, sent_at, sent_in, AreBelow, IsLostFor}
 use Rattle.run_laws.specs.Parts.{AreTracked, IsMaking, Makes, MakesIn}
-use Rattle.run_laws.specs.Courses.{Course, parts_of, no_course, course_of, course_from, courses, AreBeforeTurn, AreMadeFor, IsGoodOn, AreGoodOn, AreAllGood, BeginLostOn}
+use Rattle.run_laws.specs.Courses.{Course, parts_of, no_course, course_of, course_from, courses, AreBeforeTurn, AreMadeFor, IsGoodOn, AreGoodOn, BeginLostOn}
 use Rattle.run_laws.specs.Courses as course
-use Rattle.run_laws.specs.Homes.{RunSection, IsMovesIn, IsSectionBy, AreInTurn, SetsClock, IsControlIn, AreSet, SetsAny, HasUnits, IsHomeRun, AreFrontsIn, AreReleasedIn, IsSplitIn}
+use Rattle.run_laws.specs.Homes.{RunSection, IsMovesIn, IsSectionBy, AreInTurn, SetsClock, IsControlIn, AreSet, SetsAny, HasUnits, IsHomeRun, AreFrontsIn, AreBeforeFirst, AreReleasedBy, AreReleasedIn, BeginLeftOf, IsLeftOf, IsSplitIn}
 use Rattle.run_laws.proofs.Clocks.{ticks_rise}
 use Rattle.run_laws.proofs.Entering.{AreEarly, all_inside, begun_inside, early_fits}
 use Rattle.run_laws.proofs.Spans.{section_early}
@@ -24,7 +24,8 @@ use Rattle.run_laws.proofs.Waiting.{Frame}
 use Rattle.run_laws.proofs.Releasing.{AreFrom, from_down, paced_from}
 use Rattle.run_laws.proofs.HomeTurns.{StageWith, empty_part}
 use Rattle.run_laws.proofs.HomeControls.{now_of, none_sets}
-use Rattle.run_laws.proofs.HomeSections.{Sound, OrdersOn, bare, ahead_sound, orders_on, Promise, GoesBehind, EndsBy, no_fronts, none_later, set_next, Split, all_of, ahead, split_from, IsLostOf, LostOn}
+use Rattle.run_laws.proofs.HomeSections.{Sound, OrdersOn, bare, ahead_sound, orders_on, Promise, GoesBehind, EndsBy, no_fronts, none_later, set_next, Split, ahead, split_from, split_until, IsLeftOn, IsLostOf, LeftOn, LostOn}
+use Rattle.run_laws.proofs.HomeCut.{until_out}
 use Rattle.run_laws.proofs.HomeRuns.{Ground, section_on}
 use Rattle.link_work.specs.Runs.{queued_in}
 use Rattle.run_laws.proofs.Lists.{sent_append}
@@ -82,10 +83,11 @@ same_sound own stops slots oid c d sent z ss made is x = record {
   are = x.are;
   good = x.good;
   lost = x.lost;
+  begun = x.begun;
   fronts = λ ps k.
-      let (early, late, are, old, rest) = x.fronts ps k in
+      let (early, late, are, old, rest, soon) = x.fronts ps k in
       let At : Course → Type 0 = λ y. AreMadeFor own stops (parts_of y) early in
-      (early, late, are, subst At is old, rest);
+      (early, late, are, subst At is old, rest, soon);
   whole = x.whole;
 }
 
@@ -94,7 +96,7 @@ no_set clocks turn clock x = x
 
 -- without sections
 controls_alone : (own : ℕ → ℕ) (clocks : Clocks) (stops : ℕ → Option ℕ) (slots oid : ℕ) (os : List Orders) (turn : ℕ) (c : Course) → OrdersOn clocks [] [] turn os → Sound own stops slots oid c c (sent_in turn os) (split_from [] turn os) []
-controls_alone own clocks stops slots oid [] turn c h = record { are = refl; good = tt; lost = tt; fronts = λ ps k. (ps, [], sym (append-nil ps), k, refl); whole = λ w. refl }
+controls_alone own clocks stops slots oid [] turn c h = record { are = refl; good = tt; lost = tt; begun = tt; fronts = λ ps k. (ps, [], sym (append-nil ps), k, refl, tt); whole = λ w. refl }
 controls_alone own clocks stops slots oid (o ∷ os) turn c h =
     let free = all_free own stops slots oid turn clocks [] o.control.commands c h.0 (no_set clocks turn) in
     let (good, made, is, keeps, makes) = flat free in
@@ -184,7 +186,7 @@ with_section x oid e true s ss low i rest after order row next = λ os turn c wi
     inl (record { none = refl; units = i.begun oid; all = refl; idle = λ n h. idle n (omega (arith, h, after)); same = refl; made = λ some. made (inl (inl some)) }, λ h some long. set.0 h some long) in
     section_on f x.stops oid true s (split_from ss) ss g os turn i.from c c [] s.releases (omega (arith, i.exact)) stage i.paced tt inside
     (from_down turn i.from s.releases (omega (arith, i.exact, within, after)) (paced_from x.clocks x.slots i.from [] s.releases i.paced)) (λ h. refl) (λ _. i.released) tt (inl (omega (arith, i.exact, i.order)))
-    (omega (arith, within, after, order)) (λ w. made (elim w [ inl a ↦ inl (inr a) | inr a ↦ inr a ])) orders set.1 (λ w. w)
+    (omega (arith, within, after, order)) (λ w. made (elim w [ inl a ↦ inl (inr a) | inr a ↦ inr a ])) orders set.1 (λ w. w) (λ w. w)
   where
     clash : true ≡ false → ⊥
     clash e = cc
@@ -208,7 +210,7 @@ with_section x oid e false s ss low i rest after order row next = λ os turn c w
     inl (record { none = refl; units = i.is.begun oid; all = refl; idle = λ n h. idle n (omega (arith, h, after)); same = refl; made = λ some. made (inl (inl some)) }, λ h. absurd (clash h)) in
     section_on f x.stops oid false s (split_from ss) ss g os turn i.is.from c c [] s.releases (omega (arith, i.is.exact)) stage i.is.paced tt inside
     (from_down turn i.is.from s.releases (omega (arith, i.is.exact, within, after)) (paced_from x.clocks x.slots i.is.from [] s.releases i.is.paced)) (λ h. refl) (λ e. absurd (clash e)) tt (inl (omega (arith, i.is.exact, order)))
-    (omega (arith, within, after, order)) (λ w. made (elim w [ inl a ↦ inl (inr a) | inr a ↦ inr a ])) orders set.1 (λ w. w)
+    (omega (arith, within, after, order)) (λ w. made (elim w [ inl a ↦ inl (inr a) | inr a ↦ inr a ])) orders set.1 (λ w. w) (λ w. w)
   where
     clash : false ≡ true → ⊥
     clash e = cc
@@ -228,14 +230,9 @@ made_now oid c os (inl e) = e
 made_now oid c os (inr e) = absurd e
 
 -- until the boards are ready only control commands are queued, and no clock is set
-abbrev split_until : List RunSection → ℕ → ℕ → List Orders → Split
-split_until ss m turn [] = all_of []
-split_until ss zero turn (o ∷ os) = split_from ss turn (o ∷ os)
-split_until ss (suc m) turn (o ∷ os) = ahead (sent_at turn (queued_in o)) (split_until ss m (turn + 1) os)
-
 until_sound : (x : Base) (oid : ℕ) (ss : List RunSection) → All (SectionIn x) ss → AreInTurn x.ready ss → (m : ℕ) (os : List Orders) (turn : ℕ) (c : Course) → turn + m ≡ x.ready → c.known.ends ≡ []
     → (m ≤ length os → HasUnits oid ss ⊎ SetsAny oid os → MadeBy oid c m os) → OrdersOn x.clocks ss (bare ss) turn os → AreSet oid ss turn os → Sound x.own x.stops x.slots oid c c (sent_in turn os) (split_until ss m turn os) ss
-until_sound x oid ss i row m [] turn c at ends made orders set = record { are = refl; good = tt; lost = tt; fronts = λ ps k. (ps, [], sym (append-nil ps), k, no_fronts x.own oid ss); whole = λ w. refl }
+until_sound x oid ss i row m [] turn c at ends made orders set = record { are = refl; good = tt; lost = tt; begun = tt; fronts = λ ps k. (ps, [], sym (append-nil ps), k, no_fronts x.own oid ss, tt); whole = λ w. refl }
 until_sound x oid ss i row zero (o ∷ os) turn c at ends made orders set =
     let Ends : ℕ → List ℕ → Type 0 = λ n y. AreBelow (x.own n) y in
     sections_sound x oid ss x.ready (omega arith) i row (o ∷ os) turn c (omega (arith, at)) (λ n h. inr (subst (Ends n) (sym ends) tt)) (λ w. made_now oid c (o ∷ os) (made (omega arith) w)) orders set
@@ -273,34 +270,47 @@ begin_lost : (own : ℕ → ℕ) (stops : ℕ → Option ℕ) (slots : ℕ) (cs 
 begin_lost own stops slots cs [] h = tt
 begin_lost own stops slots cs (s ∷ tail) h = (λ oid. (h oid).0, lost_of own s.turn cs s.order.command s.order.ticks (λ oid. (h oid).1))
 
+-- and left of a section of moves
+left_of : (ss : List RunSection) (cs : ℕ → Course) (turn other interval count : ℕ) (add : ℤ) → IsLeftOn ss other (cs other).since turn (cmd.QueueStep other interval count add) → IsLeftOf ss cs turn (cmd.QueueStep other interval count add)
+left_of [] cs turn other interval count add x = x
+left_of (s ∷ ss) cs turn other interval count add (inl x) = inl (x.0, x.1, x.2 refl)
+left_of (s ∷ ss) cs turn other interval count add (inr x) = inr (x.0, left_of ss cs turn other interval count add x.1)
+
+left_for : (own : ℕ → ℕ) (ss : List RunSection) (turn : ℕ) (cs : ℕ → Course) (c : Cmd) (ticks : List ℕ) → ((oid : ℕ) → IsLostOf own oid turn (cs oid) c ticks) → ((oid : ℕ) → IsLeftOn ss oid (cs oid).since turn c) → IsLeftOf ss cs turn c
+left_for own ss turn cs (cmd.QueueStep other interval count add) ticks lost h = left_of ss cs turn other interval count add (h other)
+left_for own ss turn cs _ ticks lost h = absurd (lost 0)
+
+begin_left : (own : ℕ → ℕ) (stops : ℕ → Option ℕ) (slots turns : ℕ) (ss : List RunSection) (cs : ℕ → Course) (tail : List Sent) → ((oid : ℕ) → LostOn own stops slots oid (cs oid) tail) → ((oid : ℕ) → LeftOn ss oid (cs oid).since tail)
+    → (tail ≡ [] → AreReleasedBy turns ss) → BeginLeftOf turns ss cs tail
+begin_left own stops slots turns ss cs [] lost h out = out refl
+begin_left own stops slots turns ss cs (s ∷ tail) lost h out = left_for own ss s.turn cs s.order.command s.order.ticks (λ oid. (lost oid).1) h
+
 pub run_split : (own : ℕ → ℕ) (clocks : Clocks) (freq slots ready : ℕ) (stops : ℕ → Option ℕ) (ss : List RunSection) (os : List Orders) → AreTicks own → IsHomeRun own clocks freq slots ready stops ss os → IsSplitIn own stops slots ss os
 run_split own clocks freq slots ready stops ss os ticks r =
     let z = split_until ss ready 0 os in
+    let last = length os in
     let x = λ (oid : ℕ). run_sound own clocks freq slots ready stops ss os ticks r oid in
+    let begun = begin_left own stops slots last ss (courses z.front) z.tail (λ oid. (x oid).lost) (λ oid. (x oid).begun) (until_out last ss ready r.row ready os 0 (omega arith) (omega arith)) in
+    let Fronts : ℕ → List Pulse → Type 0 = λ oid y. AreFrontsIn own oid ss y × AreBeforeFirst own z.tail y in
+    let fronts_of : (oid : ℕ) (ps : List Pulse) → AreMadeFor own stops (parts_of (courses z.front oid)) ps → Fronts oid ps = λ oid ps k.
+    (let (early, late, is, old, rest, soon) = (x oid).fronts ps k in
+    let none : early ≡ [] = empty_part own stops None [] [] early refl old in
+    subst (Fronts oid) (sym (is ∙ ap (λ y. y ++ late) none)) (rest, soon)) in
     record {
       front = z.front;
       tail = z.tail;
       are = (x 0).are;
       good = λ oid. (x oid).good;
       lost = begin_lost own stops slots (courses z.front) z.tail (λ oid. (x oid).lost);
-      fronts = λ oid ps k.
-          let (early, late, is, old, rest) = (x oid).fronts ps k in
-          let none : early ≡ [] = empty_part own stops None [] [] early refl old in
-          let At : List Pulse → Type 0 = λ y. AreFrontsIn own oid ss y in
-          subst At (sym (is ∙ ap (λ y. y ++ late) none)) rest;
+      begun = begun;
+      fronts = λ oid ps k. (fronts_of oid ps k).0;
+      early = λ oid ps k. (fronts_of oid ps k).1;
       whole = (x 0).whole;
     }
 
 -- where all units are released soon, all that is queued is good
 all_front : (own : ℕ → ℕ) (stops : ℕ → Option ℕ) (slots : ℕ) (ss : List RunSection) (os : List Orders) (x : IsSplitIn own stops slots ss os) → AreReleasedIn ss → x.front ≡ sent_in 0 os
 all_front own stops slots ss os x w = sym (append-nil x.front) ∙ ap (λ y. x.front ++ y) (sym (x.whole w)) ∙ x.are
-
-pub run_good : (own : ℕ → ℕ) (clocks : Clocks) (freq slots ready : ℕ) (stops : ℕ → Option ℕ) (ss : List RunSection) (os : List Orders) → AreTicks own → IsHomeRun own clocks freq slots ready stops ss os → AreReleasedIn ss
-    → AreAllGood own stops slots (sent_in 0 os)
-run_good own clocks freq slots ready stops ss os ticks r w =
-    let x = run_split own clocks freq slots ready stops ss os ticks r in
-    let At : List Sent → Type 0 = λ y. AreAllGood own stops slots y in
-    subst At (all_front own stops slots ss os x w) x.good
 
 pub run_fronts : (own : ℕ → ℕ) (clocks : Clocks) (freq slots ready : ℕ) (stops : ℕ → Option ℕ) (ss : List RunSection) (os : List Orders) → AreTicks own → IsHomeRun own clocks freq slots ready stops ss os → AreReleasedIn ss
     → (oid : ℕ) (ps : List Pulse) → AreMadeFor own stops (parts_of (courses (sent_in 0 os) oid)) ps → AreFrontsIn own oid ss ps

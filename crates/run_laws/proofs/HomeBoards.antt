@@ -16,9 +16,9 @@ use Rattle.link_work.specs.Stands.{first_state}
 use Rattle.link_work.specs.Turn.{LinkState, Orders}
 use Rattle.link_work.proofs.Sending.{run_append}
 use Rattle.run_laws.specs.Boards.{OnBoard, told_in}
-use Rattle.run_laws.specs.Courses.{IsSettled, AreSettled}
+use Rattle.run_laws.specs.Courses.{IsSettled, AreSettled, AllHeed}
 use Rattle.run_laws.specs.Events.{AreOwn, AreTurnsOf}
-use Rattle.run_laws.specs.Homes.{RunSection, IsHomeRun, NextBehind, AreOverBy, IsHomeSpan, AreSettledOn, IsHomeBoard}
+use Rattle.run_laws.specs.Homes.{RunSection, IsHomeRun, IsSplitIn, NextBehind, AreOverBy, IsHomeSpan, AreSettledOn, IsHomeBoard}
 use Rattle.run_laws.specs.Known.{Sent, sent_at, sent_in}
 use Rattle.run_laws.specs.Links.{AreTold, pulses_in, steps_of, steps_of_turn, turns_told}
 use Rattle.run_laws.specs.Runs.{Made}
@@ -26,37 +26,38 @@ use Rattle.run_laws.specs.Timely.{AllTimely}
 use Rattle.run_laws.proofs.Boarding.{states_between}
 use Rattle.run_laws.proofs.HomeSpans.{section_is, between_is}
 use Rattle.run_laws.proofs.Linking.{next_within, own_first, told_made, turn_runs, turns_are, turns_owned}
+use Rattle.run_laws.proofs.Stepping.{heed_front}
 use Rattle.run_laws.proofs.Turning.{timely_front}
 
 -- what is settled on a link is so over its steps
-pub settled_head : (stops : ℕ → Option ℕ) (clock : BoardClock) (turn : ℕ) (sent : List Sent) (os : List Orders) (l m : LinkState) (t : AreTurns clock turn os l m) → AreSettledOn stops clock turn sent os l m t
-    → AreSettled stops (board_tick clock) turn sent os (steps_of clock turn os l m t) l.core (turns_are clock turn os l m t).1
+pub settled_head : (stops : ℕ → Option ℕ) (front : List Sent) (clock : BoardClock) (turn : ℕ) (sent : List Sent) (os : List Orders) (l m : LinkState) (t : AreTurns clock turn os l m) → AreSettledOn stops front clock turn sent os l m t
+    → AreSettled stops front (board_tick clock) turn sent os (steps_of clock turn os l m t) l.core (turns_are clock turn os l m t).1
 unfolding turns_are
-settled_head stops clock turn sent [] l m t s = s
-settled_head stops clock turn sent (o ∷ os) l m t s =
+settled_head stops front clock turn sent [] l m t s = s
+settled_head stops front clock turn sent (o ∷ os) l m t s =
     let (mid, one, more) = t in
     let first = steps_of_turn clock turn o one.resent l in
     let later = steps_of clock (turn + 1) os mid m more in
     let is : mid.core ≡ run first l.core = ap (λ (x : LinkState). x.core) one.becomes ∙ turn_runs clock turn o one.resent l in
-    let At : Core → Type 0 = λ h. AreSettled stops (board_tick clock) (turn + 1) (sent ++ sent_at turn (queued_in o)) os later h (turns_are clock (turn + 1) os mid m more).1 in
-    (s.0, s.1, subst At is (settled_head stops clock (turn + 1) (sent ++ sent_at turn (queued_in o)) os mid m more s.2))
+    let At : Core → Type 0 = λ h. AreSettled stops front (board_tick clock) (turn + 1) (sent ++ sent_at turn (queued_in o)) os later h (turns_are clock (turn + 1) os mid m more).1 in
+    (s.0, s.1, subst At is (settled_head stops front clock (turn + 1) (sent ++ sent_at turn (queued_in o)) os mid m more s.2))
 
 -- so it is by other ticks that are the same by then
-pub settled_owned : (b : BoardDef) (stops : ℕ → Option ℕ) (own : ℕ → ℕ) (last turn : ℕ) (sent : List Sent) (os : List Orders) (steps : List Step) (h : Core) (o : AreOwn b last own) (within : turn + length os ≤ last)
-    (t : AreTurnsOf (board_tick (clock_of b)) turn os steps) → AreSettled stops (board_tick (clock_of b)) turn sent os steps h t → AreSettled stops own turn sent os steps h (turns_owned b own last turn os steps o within t)
+pub settled_owned : (b : BoardDef) (stops : ℕ → Option ℕ) (front : List Sent) (own : ℕ → ℕ) (last turn : ℕ) (sent : List Sent) (os : List Orders) (steps : List Step) (h : Core) (o : AreOwn b last own) (within : turn + length os ≤ last)
+    (t : AreTurnsOf (board_tick (clock_of b)) turn os steps) → AreSettled stops front (board_tick (clock_of b)) turn sent os steps h t → AreSettled stops front own turn sent os steps h (turns_owned b own last turn os steps o within t)
 unfolding turns_owned
-settled_owned b stops own last turn sent [] steps h o within t s = s
-settled_owned b stops own last turn sent (x ∷ os) steps h o within t s =
-    (s.0, s.1, settled_owned b stops own last (turn + 1) (sent ++ sent_at turn (queued_in x)) os t.1 (run t.0 h) o (next_within turn last x os within) t.4 s.2)
+settled_owned b stops front own last turn sent [] steps h o within t s = s
+settled_owned b stops front own last turn sent (x ∷ os) steps h o within t s =
+    (s.0, s.1, settled_owned b stops front own last (turn + 1) (sent ++ sent_at turn (queued_in x)) os t.1 (run t.0 h) o (next_within turn last x os within) t.4 s.2)
 
-abbrev steps_told : (clock : BoardClock) (turn : ℕ) (os : List Orders) (states : List State) (l m : LinkState) → AreTold clock turn os states l m → List Step
+abbrev pub steps_told : (clock : BoardClock) (turn : ℕ) (os : List Orders) (states : List State) (l m : LinkState) → AreTold clock turn os states l m → List Step
 steps_told clock turn os states l m t = steps_of clock turn os l m (turns_told clock turn os states l m t)
 
-abbrev SettledTold : (stops : ℕ → Option ℕ) (clock : BoardClock) (turn : ℕ) (sent : List Sent) (os : List Orders) (states : List State) (l m : LinkState) → AreTold clock turn os states l m → Type 0
-SettledTold stops clock turn sent os states l m t = AreSettledOn stops clock turn sent os l m (turns_told clock turn os states l m t)
+abbrev pub SettledTold : (stops : ℕ → Option ℕ) (front : List Sent) (clock : BoardClock) (turn : ℕ) (sent : List Sent) (os : List Orders) (states : List State) (l m : LinkState) → AreTold clock turn os states l m → Type 0
+SettledTold stops front clock turn sent os states l m t = AreSettledOn stops front clock turn sent os l m (turns_told clock turn os states l m t)
 
 -- turns that are told, cut behind some of them, with what is settled
-pub record Split (stops : ℕ → Option ℕ) (clock : BoardClock) (turn next : ℕ) (sent : List Sent) (xs ys : List Orders) (states : List State) (l m : LinkState) (t : AreTold clock turn (xs ++ ys) states l m) : Type 0 where
+pub record Split (stops : ℕ → Option ℕ) (front : List Sent) (clock : BoardClock) (turn next : ℕ) (sent : List Sent) (xs ys : List Orders) (states : List State) (l m : LinkState) (t : AreTold clock turn (xs ++ ys) states l m) : Type 0 where
   pub first : List State
   pub second : List State
   pub mid : LinkState
@@ -65,21 +66,21 @@ pub record Split (stops : ℕ → Option ℕ) (clock : BoardClock) (turn next : 
   pub one : AreTold clock turn xs first l mid
   pub two : AreTold clock next ys second mid m
   pub steps : steps_told clock turn (xs ++ ys) states l m t ≡ steps_told clock turn xs first l mid one ++ steps_told clock next ys second mid m two
-  pub settled_one : SettledTold stops clock turn sent xs first l mid one
-  pub settled_two : SettledTold stops clock next (sent ++ sent_in turn xs) ys second mid m two
+  pub settled_one : SettledTold stops front clock turn sent xs first l mid one
+  pub settled_two : SettledTold stops front clock next (sent ++ sent_in turn xs) ys second mid m two
 
-pub settled_now : (stops : ℕ → Option ℕ) (clock : BoardClock) (turn : ℕ) (sent : List Sent) (os : List Orders) (states : List State) (l m : LinkState) (t : AreTold clock turn os states l m) → SettledTold stops clock turn sent os states l m t
-    → IsSettled stops turn sent l.core
-settled_now stops clock turn sent [] states l m t s = s
-settled_now stops clock turn sent (o ∷ os) [] l m t s = absurd t
-settled_now stops clock turn sent (o ∷ os) (x ∷ states) l m t s = s.0
+pub settled_now : (stops : ℕ → Option ℕ) (front : List Sent) (clock : BoardClock) (turn : ℕ) (sent : List Sent) (os : List Orders) (states : List State) (l m : LinkState) (t : AreTold clock turn os states l m) → SettledTold stops front clock turn sent os states l m t
+    → IsSettled stops front turn sent l.core
+settled_now stops front clock turn sent [] states l m t s = s
+settled_now stops front clock turn sent (o ∷ os) [] l m t s = absurd t
+settled_now stops front clock turn sent (o ∷ os) (x ∷ states) l m t s = s.0
 
-pub split_at : (stops : ℕ → Option ℕ) (clock : BoardClock) (turn next : ℕ) (sent : List Sent) (xs ys : List Orders) (states : List State) (l m : LinkState) (t : AreTold clock turn (xs ++ ys) states l m) → turn + length xs ≡ next
-    → SettledTold stops clock turn sent (xs ++ ys) states l m t → Split stops clock turn next sent xs ys states l m t
-split_at stops clock turn next sent [] ys states l m t e s =
-    let At : ℕ → Type 0 = λ k. (b : AreTold clock k ys states l m) × (steps_told clock turn ys states l m t ≡ steps_told clock k ys states l m b) × SettledTold stops clock k (sent ++ []) ys states l m b in
+pub split_at : (stops : ℕ → Option ℕ) (front : List Sent) (clock : BoardClock) (turn next : ℕ) (sent : List Sent) (xs ys : List Orders) (states : List State) (l m : LinkState) (t : AreTold clock turn (xs ++ ys) states l m) → turn + length xs ≡ next
+    → SettledTold stops front clock turn sent (xs ++ ys) states l m t → Split stops front clock turn next sent xs ys states l m t
+split_at stops front clock turn next sent [] ys states l m t e s =
+    let At : ℕ → Type 0 = λ k. (b : AreTold clock k ys states l m) × (steps_told clock turn ys states l m t ≡ steps_told clock k ys states l m b) × SettledTold stops front clock k (sent ++ []) ys states l m b in
     let here : turn ≡ next = omega (arith, e) in
-    let Sent_is : List Sent → Type 0 = λ x. SettledTold stops clock turn x ys states l m t in
+    let Sent_is : List Sent → Type 0 = λ x. SettledTold stops front clock turn x ys states l m t in
     let same = subst At here (t, refl, subst Sent_is (sym (append-nil sent)) s) in
     record {
       first = [];
@@ -90,15 +91,15 @@ split_at stops clock turn next sent [] ys states l m t e s =
       one = (refl, refl);
       two = same.0;
       steps = same.1;
-      settled_one = settled_now stops clock turn sent ys states l m t s;
+      settled_one = settled_now stops front clock turn sent ys states l m t s;
       settled_two = same.2;
     }
-split_at stops clock turn next sent (x ∷ xs) ys [] l m t e s = absurd t
-split_at stops clock turn next sent (x ∷ xs) ys (y ∷ states) l m t e s =
+split_at stops front clock turn next sent (x ∷ xs) ys [] l m t e s = absurd t
+split_at stops front clock turn next sent (x ∷ xs) ys (y ∷ states) l m t e s =
     let (mid, is, told, more) = t in
-    let rest = split_at stops clock (turn + 1) next (sent ++ sent_at turn (queued_in x)) xs ys states mid m more (omega (arith, e)) s.2 in
+    let rest = split_at stops front clock (turn + 1) next (sent ++ sent_at turn (queued_in x)) xs ys states mid m more (omega (arith, e)) s.2 in
     let head = steps_of_turn clock turn x is.resent l in
-    let Sent_is : List Sent → Type 0 = λ z. SettledTold stops clock next z ys rest.second rest.mid m rest.two in
+    let Sent_is : List Sent → Type 0 = λ z. SettledTold stops front clock next z ys rest.second rest.mid m rest.two in
     record {
       first = y ∷ rest.first;
       second = rest.second;
@@ -129,9 +130,11 @@ cut_here : (x : OnBoard) (place : ℕ) (entries : List Entry) (ready from to : �
     → length before ≡ from → length before + length during ≡ to → length (before ++ (during ++ behind)) ≡ turns → IsHomeRun k.own x.clocks x.board.freq x.board.slots ready k.stops ss (before ++ (during ++ behind))
     → (t : AreTold (clock_of x.board) 0 (before ++ (during ++ behind)) x.states (first_state x.board x.pins place entries) k.end)
     → AllTimely (start x.board x.pins) (steps_told (clock_of x.board) 0 (before ++ (during ++ behind)) x.states (first_state x.board x.pins place entries) k.end t)
-    → SettledTold k.stops (clock_of x.board) 0 [] (before ++ (during ++ behind)) x.states (first_state x.board x.pins place entries) k.end t
+    → (split : IsSplitIn k.own k.stops x.board.slots ss (before ++ (during ++ behind)))
+    → SettledTold k.stops split.front (clock_of x.board) 0 [] (before ++ (during ++ behind)) x.states (first_state x.board x.pins place entries) k.end t
+    → AllHeed split.front split.tail (start x.board x.pins) (steps_told (clock_of x.board) 0 (before ++ (during ++ behind)) x.states (first_state x.board x.pins place entries) k.end t)
     → Cut x k.own ready from to k.stops ss
-cut_here x place entries ready from to ss turns k before during behind from_is to_is all_is r t timely settled =
+cut_here x place entries ready from to ss turns k before during behind from_is to_is all_is r t timely split settled heed =
     let clock = clock_of x.board in
     let own = k.own in
     let all = length-append before (during ++ behind) in
@@ -140,8 +143,8 @@ cut_here x place entries ready from to ss turns k before during behind from_is t
     let h = start x.board x.pins in
     let a = length before in
     let d = a + length during in
-    let s = split_at k.stops clock 0 a [] before (during ++ behind) x.states l k.end t (omega arith) settled in
-    let u = split_at k.stops clock a d (sent_in 0 before) during behind s.second s.mid k.end s.two refl s.settled_two in
+    let s = split_at k.stops split.front clock 0 a [] before (during ++ behind) x.states l k.end t (omega arith) settled in
+    let u = split_at k.stops split.front clock a d (sent_in 0 before) during behind s.second s.mid k.end s.two refl s.settled_two in
     let first = steps_told clock 0 before s.first l s.mid s.one in
     let second = steps_told clock a during u.first s.mid u.mid u.one in
     let third = steps_told clock d behind u.second u.mid k.end u.two in
@@ -152,10 +155,11 @@ cut_here x place entries ready from to ss turns k before during behind from_is t
     let early : s.mid.core ≡ run first h = t1.0 in
     let late : u.mid.core ≡ run (first ++ second) h = t2.0 ∙ ap (run second) t1.0 ∙ sym (run_append first second h) in
     let Timely : List Step → Type 0 = λ y. AllTimely h y in
+    let Heed : List Step → Type 0 = λ y. AllHeed split.front split.tail h y in
     let one_within : 0 + a ≤ turns = omega (arith, all, all_is) in
     let two_within : a + length during ≤ turns = omega (arith, all, both, all_is) in
     let two_turns = turns_owned x.board own turns a during second k.own_is two_within t2.1 in
-    let At : Core → Type 0 = λ y. AreSettled k.stops own a (sent_in 0 before) during second y two_turns in
+    let At : Core → Type 0 = λ y. AreSettled k.stops split.front own a (sent_in 0 before) during second y two_turns in
     let within : told_in from to x ≡ pulses_in u.first = ap pulses_in (states_between s.first u.first u.second x.states from to states (s.long ∙ from_is) (omega (arith, s.long, u.long, to_is))) in
     record {
       before = before;
@@ -167,14 +171,15 @@ cut_here x place entries ready from to ss turns k before during behind from_is t
         ticks = k.own_is.ticks;
         begin = own_first x.board turns own k.own_is;
         run_is = r;
-        released = k.released;
+        split = split;
         first_turns = turns_owned x.board own turns 0 before first k.own_is one_within t1.1;
         second_turns = two_turns;
         timely = timely_front (first ++ second) third h (subst Timely whole timely);
-        first_settled = settled_owned x.board k.stops own turns 0 [] before first h k.own_is one_within t1.1
-            (settled_head k.stops clock 0 [] before l s.mid (turns_told clock 0 before s.first l s.mid s.one) s.settled_one);
-        second_settled = subst At early (settled_owned x.board k.stops own turns a (sent_in 0 before) during second s.mid.core k.own_is two_within t2.1
-            (settled_head k.stops clock a (sent_in 0 before) during s.mid u.mid (turns_told clock a during u.first s.mid u.mid u.one) u.settled_one));
+        first_settled = settled_owned x.board k.stops split.front own turns 0 [] before first h k.own_is one_within t1.1
+            (settled_head k.stops split.front clock 0 [] before l s.mid (turns_told clock 0 before s.first l s.mid s.one) s.settled_one);
+        second_settled = subst At early (settled_owned x.board k.stops split.front own turns a (sent_in 0 before) during second s.mid.core k.own_is two_within t2.1
+            (settled_head k.stops split.front clock a (sent_in 0 before) during s.mid u.mid (turns_told clock a during u.first s.mid u.mid u.one) u.settled_one));
+        heed = heed_front split.front split.tail (first ++ second) third h (subst Heed whole heed);
       };
       from_is = from_is;
       to_is = to_is;
@@ -194,8 +199,9 @@ cut_at x place entries ready from to turns ss k order within =
     let one : length before ≡ from = length-take-le from x.orders (omega (arith, order, within, k.count)) in
     let two : length during ≡ to - from = length-take-le (to - from) rest (omega (arith, order, within, k.count, length-drop from x.orders)) in
     let At : List Orders → Type 0 = λ o. length o ≡ turns → IsHomeRun k.own x.clocks x.board.freq x.board.slots ready k.stops ss o → (t : AreTold clock 0 o x.states l k.end)
-    → AllTimely (start x.board x.pins) (steps_told clock 0 o x.states l k.end t) → SettledTold k.stops clock 0 [] o x.states l k.end t → Cut x k.own ready from to k.stops ss in
-    subst At (sym cut) (λ count r t timely settled. cut_here x place entries ready from to ss turns k before during behind one (omega (arith, one, two, order)) count r t timely settled) k.count k.run_is k.told k.timely k.settled
+    → AllTimely (start x.board x.pins) (steps_told clock 0 o x.states l k.end t)
+    → (split : IsSplitIn k.own k.stops x.board.slots ss o) → SettledTold k.stops split.front clock 0 [] o x.states l k.end t → AllHeed split.front split.tail (start x.board x.pins) (steps_told clock 0 o x.states l k.end t) → Cut x k.own ready from to k.stops ss in
+    subst At (sym cut) (cut_here x place entries ready from to ss turns k before during behind one (omega (arith, one, two, order))) k.count k.run_is k.told k.timely k.split k.settled k.heed
 
 same_made : (a b c : List Pulse) (h : List Pulse) → h ≡ a ++ b → h ≡ a ++ c → b ≡ c
 same_made a b c h e f = append_cancel_left a b c (sym e ∙ f)

@@ -29,6 +29,7 @@ begun_made f stops oid homes s c0 c ls us g = record {
   goes = record { made = λ _. refl; chain = g.goes.chain; ends = g.goes.ends; said = g.goes.said };
   turn = g.turn;
   since = g.since;
+  soon = g.soon;
   stop = g.stop;
   past = g.past;
   again = g.again;

@@ -1,5 +1,5 @@
 -- The sections of a run, of moves or homing, one behind the other: what is queued for a stepper is good, and its parts are those of the sections.
-use Rattle.std.proofs.Common.{◌≡◌, ◌≢◌, ℕ, Bool, true, ◌+◌, ◌-◌, ◌≤◌, ◌⊎◌, List, [], ◌∷◌, ◌++◌, All, length, map, Option, Some, refl, ap, sym, ◌∙◌, subst, arith, inl, inr, append_assoc, append-nil, ◌<◌, drop}
+use Rattle.std.proofs.Common.{◌≡◌, ◌≢◌, ℕ, zero, suc, Bool, true, false, ◌+◌, ◌-◌, ◌≤◌, ◌⊎◌, List, [], ◌∷◌, ◌++◌, All, length, map, Option, Some, refl, ap, sym, ◌∙◌, subst, arith, inl, inr, append_assoc, append-nil, ◌<◌, drop}
 use Rattle.std.proofs.lemmas.Bool.Decides.{eqb_tells}
 use Rattle.std.proofs.lemmas.List.Elements.{All-nil, All-cons, All-head, All-tail}
 use Rattle.std.specs.List.{flat_map}
@@ -9,13 +9,13 @@ use Rattle.msg_code.specs.declared.cmd.Cmd.{Cmd}
 use Rattle.msg_code.specs.declared.cmd.Cmd.TheVariants as cmd
 use Rattle.step_feed.specs.Units.{StepUnit}
 use Rattle.step_feed.specs.Pacing.{Release, batch_at}
-use Rattle.section_units.specs.Sections.{BoardSection, section_steps, steps_said}
+use Rattle.section_units.specs.Sections.{AreBefore, BoardSection, section_steps, steps_said}
 use Rattle.link_work.specs.Turn.{Orders}
 use Rattle.run_laws.specs.Known.{Sent, sent_in, AreBelow, sent_at}
 use Rattle.run_laws.specs.Runs.{Begins}
-use Rattle.run_laws.specs.Courses.{Part, Course, parts_of, no_course, course_of, course_from, courses, IsStopped, AreBeforeStop, AreMadeFor, IsGoodOn, AreGoodOn}
+use Rattle.run_laws.specs.Courses.{Part, Course, parts_of, course_from, IsSince, IsStopped, AreBeforeStop, AreMadeFor, IsGoodOn, AreGoodOn}
 use Rattle.run_laws.specs.Courses as course
-use Rattle.run_laws.specs.Homes.{RunSection, AreInTurn, IsControlIn, AreOrdersIn, SetsIn, AreSet, SetsAny, HasUnits, AreFrontsIn, AreReleasedIn}
+use Rattle.run_laws.specs.Homes.{RunSection, AreInTurn, IsControlIn, AreOrdersIn, SetsIn, AreSet, SetsAny, HasUnits, AreFrontsIn, AreReleasedIn, AreBeforeFirst}
 use Rattle.run_laws.proofs.Stepping.{course_append}
 use Rattle.run_laws.proofs.Waiting.{Frame}
 use Rattle.run_laws.proofs.Releasing.{AreFrom, pushed, from_down, none_at, after_turn}
@@ -46,14 +46,30 @@ abbrev pub LostOn : (ℕ → ℕ) → (ℕ → Option ℕ) → ℕ → ℕ → C
 LostOn own stops slots oid c [] = Unit {0}
 LostOn own stops slots oid c (s ∷ ss) = IsGoodOn own stops slots oid s.turn c s.order.command s.order.ticks × IsLostOf own oid s.turn c s.order.command s.order.ticks
 
+-- of a stepper, the first triple that is left of some sections of moves
+abbrev pub IsBegunOn : ℕ → ℕ → Option ℕ → Cmd → Type 0
+IsBegunOn oid turn since (cmd.QueueStep other interval count add) = other ≡ oid → IsSince turn since
+IsBegunOn oid turn since _ = Unit {0}
+
+abbrev pub IsLeftOn : List RunSection → ℕ → Option ℕ → ℕ → Cmd → Type 0
+IsLeftOn [] oid since turn c = ⊥
+IsLeftOn (s ∷ ss) oid since turn c =
+    ((s.homes ≡ false) × (turn ≡ s.section.end + 5) × IsBegunOn oid (s.section.start - 250) since c)
+    ⊎ ((s.homes ≡ false → AreBefore (s.section.end + 5) s.section.releases) × IsLeftOn ss oid since turn c)
+
+abbrev pub LeftOn : List RunSection → ℕ → Option ℕ → List Sent → Type 0
+LeftOn ss oid since [] = Unit {0}
+LeftOn ss oid since (t ∷ tail) = IsLeftOn ss oid since t.turn t.order.command
+
 -- what is queued for a stepper of this course is good, up to one that comes too late, and what is made for its parts then is made for those of
 -- a course before, and section by section
 pub record Sound (own : ℕ → ℕ) (stops : ℕ → Option ℕ) (slots oid : ℕ) (c0 c : Course) (sent : List Sent) (x : Split) (ss : List RunSection) : Type 0 where
   pub are : x.front ++ x.tail ≡ sent
   pub good : AreGoodOn own stops slots oid c x.front
   pub lost : LostOn own stops slots oid (course_from oid c x.front) x.tail
+  pub begun : LeftOn ss oid (course_from oid c x.front).since x.tail
   pub fronts : (ps : List Pulse) → AreMadeFor own stops (parts_of (course_from oid c x.front)) ps
-      → (early : List Pulse) × (late : List Pulse) × (ps ≡ early ++ late) × AreMadeFor own stops (parts_of c0) early × AreFrontsIn own oid ss late
+      → (early : List Pulse) × (late : List Pulse) × (ps ≡ early ++ late) × AreMadeFor own stops (parts_of c0) early × AreFrontsIn own oid ss late × AreBeforeFirst own x.tail late
   pub whole : AreReleasedIn ss → x.tail ≡ []
 
 -- what is queued of sections, turn by turn, up to the first unit that is left five turns behind the end of its section
@@ -72,6 +88,12 @@ abbrev pub split_from : List RunSection → ℕ → List Orders → Split
 split_from [] turn os = all_of (sent_in turn os)
 split_from (s ∷ ss) turn os = split_on (split_from ss) s.section.end s.section.releases turn os
 
+-- from a run's first turn on, where so many are left until the boards are ready
+abbrev pub split_until : List RunSection → ℕ → ℕ → List Orders → Split
+split_until ss m turn [] = all_of []
+split_until ss zero turn (o ∷ os) = split_from ss turn (o ∷ os)
+split_until ss (suc m) turn (o ∷ os) = ahead (sent_at turn (queued_in o)) (split_until ss m (turn + 1) os)
+
 -- good commands ahead of others
 pub ahead_sound : (own : ℕ → ℕ) (stops : ℕ → Option ℕ) (slots oid : ℕ) (c0 c d : Course) (first sent : List Sent) (ss : List RunSection) → AreGoodOn own stops slots oid c first → course_from oid c first ≡ d
     → (z : Split) → Sound own stops slots oid c0 d sent z ss → Sound own stops slots oid c0 c (first ++ sent) (ahead first z) ss
@@ -84,6 +106,7 @@ ahead_sound own stops slots oid c0 c d first sent ss good is z x =
       are = append_assoc first z.front z.tail ∙ ap (λ y. first ++ y) x.are;
       good = good_on_append own stops slots oid c first z.front good (subst At (sym is) x.good);
       lost = subst Lost (sym same) x.lost;
+      begun = (let Left : Course → Type 0 = λ y. LeftOn ss oid y.since z.tail in subst Left (sym same) x.begun);
       fronts = λ ps k. x.fronts ps (subst (Made ps) same k);
       whole = x.whole;
     }

@@ -24,10 +24,9 @@ use Rattle.run_laws.proofs.Spans.{AreLate, between_early, between_late, early_ap
 use Rattle.run_laws.proofs.Turning.{timely_front, timely_behind}
 use Rattle.run_laws.proofs.Windows.{Makes}
 use Rattle.run_laws.proofs.Wholes.{first_of_own, late_front}
-use Rattle.run_laws.proofs.Stepping.{Script, Keeps, none_heed}
+use Rattle.run_laws.proofs.Stepping.{Script, Keeps, heed_front, heed_behind}
 use Rattle.run_laws.proofs.Coursed.{begins, turns_keep}
 use Rattle.run_laws.proofs.Halted.{keeps_fronts}
-use Rattle.run_laws.proofs.HomeAll.{run_good, run_fronts}
 use Rattle.run_laws.proofs.Standing.{no_front}
 
 -- what a run is made of
@@ -38,13 +37,13 @@ script_of b pins own clocks ready stops ss before during behind first second r =
   stops = stops;
   slots = b.slots;
   all = sent_in 0 (before ++ (during ++ behind));
-  front = sent_in 0 (before ++ (during ++ behind));
-  tail = [];
-  are = append-nil (sent_in 0 (before ++ (during ++ behind)));
+  front = r.split.front;
+  tail = r.split.tail;
+  are = r.split.are;
   up = ticks_up own r.ticks;
   ahead = r.run_is.ahead;
-  good = run_good own clocks b.freq b.slots ready stops ss (before ++ (during ++ behind)) r.ticks r.run_is r.released;
-  lost = tt;
+  good = r.split.good;
+  lost = r.split.lost;
 }
 
 -- the two parts of a run, with their pulses
@@ -71,18 +70,17 @@ halves b pins own clocks ready stops ss before during behind first second r =
     sent_in_append 0 before (during ++ behind) ∙ ap (λ n. s1 ++ sent_in n (during ++ behind)) zero_more in
     let whole : s1 ++ (s2 ++ s3) ≡ p.all = ap (λ x. s1 ++ x) (sym cut_two) ∙ sym cut_one in
     let more : (s1 ++ s2) ++ s3 ≡ p.all = append_assoc s1 s2 s3 ∙ whole in
-    let k1 = turns_keep p 0 [] (s2 ++ s3) before first h0 r.first_turns (begins p b pins r.begin refl) whole (timely_front first second h0 r.timely) r.first_settled (none_heed p.front [] first h0 refl) in
+    let k1 = turns_keep p 0 [] (s2 ++ s3) before first h0 r.first_turns (begins p b pins r.begin refl) whole (timely_front first second h0 r.timely) r.first_settled (heed_front p.front p.tail first second h0 r.heed) in
     let At : ℕ → Type 0 = λ n. Keeps p n n s1 h1 in
     let To : ℕ → Type 0 = λ n. Makes (own 0) (own n) [] h1.made in
-    let k2 = turns_keep p a s1 s3 during second h1 r.second_turns (subst At zero_more k1.1) more (timely_behind first second h0 r.timely) r.second_settled (none_heed p.front [] second h1 refl) in
+    let k2 = turns_keep p a s1 s3 during second h1 r.second_turns (subst At zero_more k1.1) more (timely_behind first second h0 r.timely) r.second_settled (heed_behind p.front p.tail first second h0 r.heed) in
     let Last : Core → Type 0 = λ h. Makes (own a) (own d) h1.made h.made in
     let Front : Core → Type 0 = λ h. (oid : ℕ) → AreFrontsIn own oid ss (only oid h.made) in
     let late = sym (run_append first second h0) in
     record {
       sofar = subst To zero_more k1.2;
       new = subst Last late k2.2;
-      fronts = subst Front late (λ oid. run_fronts own clocks b.freq b.slots ready stops ss (before ++ (during ++ behind)) r.ticks r.run_is r.released oid (only oid (run second h1).made)
-          (keeps_fronts p d (s1 ++ s2) (run second h1) k2.1 oid));
+      fronts = subst Front late (λ oid. r.split.fronts oid (only oid (run second h1).made) (keeps_fronts p d (s1 ++ s2) (run second h1) k2.1 oid));
     }
 
 -- pulses before a tick

@@ -1,37 +1,26 @@
 -- Units of a run in which axes home are timely for some turns.
-use Rattle.std.proofs.Common.{◌≡◌, ℕ, Bool, true, false, ◌+◌, ◌*◌, ◌^◌, ◌<◌, ◌≤◌, List, [], ◌∷◌, ◌++◌, length, map, take, All, Option, ap, sym, ◌∙◌, subst, arith, length-append}
+use Rattle.std.proofs.Common.{◌≡◌, ℕ, Bool, true, false, ◌+◌, ◌*◌, ◌^◌, ◌<◌, ◌≤◌, List, [], ◌∷◌, ◌++◌, length, map, All, Option, ap, sym, ◌∙◌, subst, arith, length-append}
 use Rattle.std.proofs.lemmas.List.Elements.{All-head, All-tail}
 use Rattle.std.specs.List.{flat_map}
-use Rattle.plan_types.specs.declared.levels.Level.{Level}
-use Rattle.plan_types.specs.declared.machine.BoardDef.{BoardDef}
-use Rattle.plan_types.specs.Clock.{clock_of, turn_ns}
+use Rattle.plan_types.specs.Clock.{turn_ns}
 use Rattle.plan_types.specs.Lines.{Clocks, lines_tick}
 use Rattle.msg_code.specs.declared.cmd.Cmd.{Cmd}
 use Rattle.msg_code.specs.declared.cmd.Cmd.TheVariants as cmd
 use Rattle.board_world.specs.Orders.{plain, units_orders}
-use Rattle.board_world.specs.World.{start}
 use Rattle.step_feed.specs.Units.{StepUnit}
 use Rattle.step_feed.specs.Pacing.{batch_at, units_of}
-use Rattle.wire_scene.specs.declared.scene.Entry.{Entry}
-use Rattle.link_work.specs.Ends.{spoiled}
-use Rattle.link_work.specs.Runs.{AreTurns, queued_in}
-use Rattle.link_work.specs.Stands.{first_state}
-use Rattle.link_work.specs.Turn.{LinkState, Orders}
+use Rattle.link_work.specs.Runs.{queued_in}
+use Rattle.link_work.specs.Turn.{Orders}
 use Rattle.section_units.specs.Sections.{BoardSection, base_of, of_stepper, section_steps}
-use Rattle.run_laws.specs.Events.{AreOwn, AreTicks}
-use Rattle.run_laws.specs.Homes.{AreInTurn, AreOrdersIn, IsControlIn, IsHomeRun, IsSectionBy, RunSection, AreReleasedIn}
-use Rattle.run_laws.specs.Links.{ends_of, steps_of}
+use Rattle.run_laws.specs.Events.{AreTicks}
+use Rattle.run_laws.specs.Homes.{AreInTurn, AreOrdersIn, IsControlIn, IsHomeRun, IsSectionBy, RunSection}
 use Rattle.run_laws.specs.Parts.{AreTracked}
 use Rattle.run_laws.specs.Runs.{AreSpilled, IsSpilled}
-use Rattle.run_laws.specs.Timely.{AllTimely, AreTimely, ControlsKeep, IsTimely}
+use Rattle.run_laws.specs.Timely.{AreTimely, IsTimely}
 use Rattle.run_laws.proofs.Entering.{early_fits, begun_inside, all_inside}
-use Rattle.run_laws.proofs.HeededLinks.{keep_limits}
-use Rattle.run_laws.proofs.HomeLimits.{few_front, home_few}
 use Rattle.run_laws.proofs.Lasting.{Lasting, lasting_append, batch_lasts, units_timely}
-use Rattle.run_laws.proofs.Latest.{AreFew}
 use Rattle.run_laws.proofs.Seeking.{begun_tell}
 use Rattle.run_laws.proofs.Soon.{timely_append}
-use Rattle.run_laws.proofs.Spoiled.{few_spoiled}
 use Rattle.run_laws.proofs.Timing.{AreLasting}
 use Rattle.run_laws.proofs.Waiting.{Frame}
 
@@ -93,7 +82,7 @@ orders_before : (clocks : Clocks) (ss : List RunSection) (k : ℕ) (xs ys : List
 orders_before clocks ss k [] ys h = tt
 orders_before clocks ss k (x ∷ xs) ys h = (h.0, h.1, orders_before clocks ss (k + 1) xs ys h.2)
 
-home_lasting : (own : ℕ → ℕ) (clocks : Clocks) (freq slots ready n m turns : ℕ) (stops : ℕ → Option ℕ) (ss : List RunSection) (all : List Orders) → AreTicks own → IsHomeRun own clocks freq slots ready stops ss all
+pub home_lasting : (own : ℕ → ℕ) (clocks : Clocks) (freq slots ready n m turns : ℕ) (stops : ℕ → Option ℕ) (ss : List RunSection) (all : List Orders) → AreTicks own → IsHomeRun own clocks freq slots ready stops ss all
     → AreSpilled turns m (map (λ s. s.section) ss) → length all ≤ turns → ((k : ℕ) → own (k + (n + m + 2)) < own k + 2 ^ 31) → AreLasting own n all
 home_lasting own clocks freq slots ready n m turns stops ss all ticks r spilled few far xs seg os top joined near =
     let Ordered : List Orders → Type 0 = λ x. AreOrdersIn clocks ss 0 x in
@@ -101,14 +90,3 @@ home_lasting own clocks freq slots ready n m turns stops ss all ticks r spilled 
     let long = ap length joined ∙ length-append xs (seg ++ os) in
     let more = length-append seg os in
     seg_lasts own clocks freq slots ready n m turns top stops ss all ticks r spilled far (0 + length xs) seg placed (omega (arith, few, long, more)) (omega (arith, near))
-
-pub home_timely : (b : BoardDef) (pins : List (List Level)) (board : ℕ) (entries : List Entry) (own : ℕ → ℕ) (clocks : Clocks) (ready n m turns : ℕ) (stops : ℕ → Option ℕ) (ss : List RunSection) (os : List Orders) (l : LinkState)
-    (t : AreTurns (clock_of b) 0 os (first_state b pins board entries) l) → AreOwn b (length os) own → IsHomeRun own clocks b.freq b.slots ready stops ss os → AreReleasedIn ss → AreSpilled turns m (map (λ s. s.section) ss) → length os ≤ turns
-    → ((done : List Orders) (o : Orders) (rest : List Orders) → os ≡ done ++ (o ∷ rest) → ControlsKeep done)
-    → ((k : ℕ) → spoiled (take k (ends_of (clock_of b) 0 os (first_state b pins board entries) l t)) ≤ n) → ((k : ℕ) → own (k + (n + m + 2)) < own k + 2 ^ 31)
-    → AllTimely (start b pins) (steps_of (clock_of b) 0 os (first_state b pins board entries) l t)
-home_timely b pins board entries own clocks ready n m turns stops ss os l t o r soon spilled within controls few far =
-    let units = home_few own clocks b.freq b.slots ready stops ss os r soon in
-    let Few : List Orders → Type 0 = λ x. AreFew x in
-    few_spoiled b pins board entries own n os l t o (home_lasting own clocks b.freq b.slots ready n m turns stops ss os o.ticks r spilled within far)
-    (λ done x rest cut. keep_limits done (controls done x rest cut) (few_front done (x ∷ rest) (subst Few cut units))) few

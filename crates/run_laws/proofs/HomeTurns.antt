@@ -37,6 +37,7 @@ pub record Begun (f : Frame) (stops : ℕ → Option ℕ) (oid : ℕ) (homes : B
   pub goes : Goes f oid (section_steps oid s) c.known ls us
   pub turn : ℕ
   pub since : c.since ≡ Some turn
+  pub soon : homes ≡ false → f.start ≤ turn + 250
   pub stop : stops turn ≡ stop_of homes s
   pub past : (ps : List Pulse) → AreMadeFor f.own stops c.past ps → AreMadeFor f.own stops (parts_of c0) ps
   pub again : ls ≡ [] → homes ≡ true → AreBegunBy true f.clocks (base f) us × (steps_said oid false us ≡ section_steps oid s) × (c.known.steps ≡ [])
@@ -89,6 +90,7 @@ begins_apart f stops oid s c0 c us turn units all made stop past = record {
   };
   turn = turn;
   since = refl;
+  soon = λ e. absurd (true_false e);
   stop = stop;
   past = past;
   again = λ _ _. (units, all, refl);
@@ -147,6 +149,7 @@ first_unit f stops oid s c0 turn c ls u us own n i soon due slots goes_on =
         goes = subst Lasts (sym n.none) next;
         turn = turn;
         since = refl;
+        soon = λ _. soon;
         stop = goes_on;
         past = subst Same n.same (λ ps k. k);
         again = λ none. absurd (no_list u.last ls none);
@@ -163,7 +166,7 @@ next_unit f stops oid homes s c0 Q turn c ls u us early own (inr g) i soon due r
     let (good, is, next) = unit_on f stops oid (section_steps oid s) turn c ls u us own g.goes i soon due room in
     let Then : Course → Type 0 = λ x. Begun f stops oid homes s c0 x (u.last ∷ ls) us in (
       good,
-      subst Then (sym is) (record { goes = next; turn = g.turn; since = g.since; stop = g.stop; past = g.past; again = λ none. absurd (no_list u.last ls none) }),
+      subst Then (sym is) (record { goes = next; turn = g.turn; since = g.since; soon = g.soon; stop = g.stop; past = g.past; again = λ none. absurd (no_list u.last ls none) }),
     )
 
 -- the units of a turn

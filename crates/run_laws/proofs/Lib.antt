@@ -55,6 +55,7 @@ pub mod HomeUnits
 pub mod HomeTurns
 pub mod HomeControls
 pub mod HomeSections
+pub mod HomeCut
 pub mod HomeLate
 pub mod HomeRuns
 pub mod HomeAll
@@ -62,3 +63,4 @@ pub mod HomeSpans
 pub mod HomeLimits
 pub mod HomeTimes
 pub mod HomeBoards
+pub mod HomeHeeding

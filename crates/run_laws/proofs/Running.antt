@@ -17,11 +17,11 @@ use Rattle.board_world.specs.World.{Core, Step, Do, Turn, takes_in, orders_of, d
 use Rattle.board_world.proofs.Runs.{ordered_by, ordered_turn}
 use Rattle.link_work.proofs.Steps.{tick_held}
 use Rattle.run_laws.specs.Events.{IsQuiet}
-use Rattle.run_laws.specs.Known.{Sent, sent_at, orders_in, Known, unknown, known_from, known, AreGood, BeginLost}
+use Rattle.run_laws.specs.Known.{AreQueued, Sent, sent_at, orders_in, Known, unknown, known_from, known, AreGood, BeginLost}
 use Rattle.run_laws.specs.Timely.{AreTimely, IsTimelyAt}
 use Rattle.run_laws.proofs.Fits.{IsShutBy}
 use Rattle.run_laws.proofs.Taking.{IsFront, RigFits, meant_by_all, meant_is, front_front, all_grow, all_go, shut_fair, shut_finds, shut_means}
-use Rattle.run_laws.proofs.Lists.{cuts, sent_front, orders_append, orders_at, known_append, good_front, good_behind, lost_same, AreUpTo, up_append, up_front, up_behind, up_at, old_up}
+use Rattle.run_laws.proofs.Lists.{cuts, sent_front, orders_append, orders_at, known_append, good_front, good_behind, lost_same, up_append, up_front, up_behind, up_at, old_up}
 
 -- what is to be known of a run: a board's ticks, its slots, and the commands: good ones, and perhaps others behind them of
 -- which the first is lost
@@ -53,7 +53,7 @@ pub record Ended (p : Plan) (h : Core) : Type 0 where
 pub record Holds (p : Plan) (turn : ℕ) (sent : List Sent) (h : Core) : Type 0 where
   pub ordered : IsOrdered h
   pub queued : orders_in sent ≡ h.queued
-  pub turns : AreUpTo turn sent
+  pub turns : AreQueued turn sent
   pub rest : List Sent
   pub all : sent ++ rest ≡ p.front ++ p.tail
   pub tick : h.board.controller.tick ≡ p.own turn
@@ -89,7 +89,7 @@ front_of_all p done more ss m e f oid =
 
 -- the first of the commands that are left are taken
 takes_these : (p : Plan) (turn : ℕ) (sent : List Sent) (h g : Core) (r : RunsOn p turn sent h) (ss t m others : List Sent) → r.more ≡ ss ++ m → r.left ≡ (ss ++ t) ++ others
-    → BeginLost p.own p.slots (λ oid. known_from oid (known r.done oid) ss) t → AreUpTo turn (ss ++ t) → AreTimely (p.own turn) (orders_in (ss ++ t))
+    → BeginLost p.own p.slots (λ oid. known_from oid (known r.done oid) ss) t → AreQueued turn (ss ++ t) → AreTimely (p.own turn) (orders_in (ss ++ t))
     → g.taken ≡ h.taken ++ orders_in (ss ++ t) → g.board ≡ (takes_all h.board (commands_of (orders_in (ss ++ t)))).rig → g.meant ≡ meant_behind h.board h.made h.meant (orders_in (ss ++ t))
     → Took p turn sent h g (orders_in (ss ++ t))
 takes_these p turn sent h g r ss t m others more left lost up timely taken board meant =
@@ -134,13 +134,13 @@ as_orders p turn sent h g ss ms e k =
     → g.meant ≡ meant_behind h.board h.made h.meant x → Took p turn sent h g x in
     subst At e k
 
-runs_took : (p : Plan) (turn : ℕ) (sent rest : List Sent) (h g : Core) (ms later : List Meant) (r : RunsOn p turn sent h) → sent ++ rest ≡ p.front ++ p.tail → AreUpTo turn sent
+runs_took : (p : Plan) (turn : ℕ) (sent rest : List Sent) (h g : Core) (ms later : List Meant) (r : RunsOn p turn sent h) → sent ++ rest ≡ p.front ++ p.tail → AreQueued turn sent
     → (h.taken ++ ms) ++ later ≡ orders_in sent → AreTimely (p.own turn) ms → g.taken ≡ h.taken ++ ms → g.board ≡ (takes_all h.board (commands_of ms)).rig
     → g.meant ≡ meant_behind h.board h.made h.meant ms → Took p turn sent h g ms
 runs_took p turn sent rest h g ms later r all up queued =
     let firsts = left_first r.done r.left ms later (rw (r.taken, ← r.sent_is) queued) in
     let (l, others, left, is) = firsts in
-    let now_up : AreUpTo turn (l ++ others) = rw left at (up_behind turn r.done r.left (rw r.sent_is at up)) in
+    let now_up : AreQueued turn (l ++ others) = rw left at (up_behind turn r.done r.left (rw r.sent_is at up)) in
     let here : l ++ (others ++ rest) ≡ r.more ++ p.tail =
     append_cancel_left r.done (l ++ (others ++ rest)) (r.more ++ p.tail)
     (ap (λ x. r.done ++ x) (sym (append_assoc l others rest)) ∙ sym (append_assoc r.done (l ++ others) rest) ∙ ap (λ x. (r.done ++ x) ++ rest) (sym left) ∙ ap (λ x. x ++ rest) (sym r.sent_is)

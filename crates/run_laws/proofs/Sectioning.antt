@@ -111,6 +111,13 @@ pub before_down : (n k : ℕ) (rs : List Release) → AreBefore n rs → AreBefo
 before_down n k [] a = tt
 before_down n k (r ∷ rs) a = elim (eqb_tells r.turn k) [ inl p ↦ rw p.0 (before_down n k rs a.1) | inr p ↦ rw p.0 a ]
 
+pub before_back : (n k : ℕ) (rs : List Release) → k < n → AreBefore n (after_turn k rs) → AreBefore n rs
+before_back n k [] l a = tt
+before_back n k (r ∷ rs) l a = elim (eqb_tells r.turn k) [
+  | inl p ↦ let e = p.1 in (omega (arith, e, l), before_back n k rs l (rw p.0 at a))
+  | inr p ↦ rw p.0 at a
+]
+
 pub nothing_left : (n : ℕ) (rs : List Release) → AreBefore n rs → AreFrom n rs → rs ≡ []
 nothing_left n [] b a = refl
 nothing_left n (r ∷ rs) b a = absurd (omega (arith, b.0, a.0))

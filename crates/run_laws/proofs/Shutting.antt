@@ -7,12 +7,12 @@ use Rattle.msg_code.specs.declared.cmd.Cmd.TheVariants as cmd
 use Rattle.board_sim.specs.Fair.{Meant}
 use Rattle.link_work.specs.Turn.{Orders}
 use Rattle.link_work.specs.Runs.{queued_in}
-use Rattle.run_laws.specs.Known.{Sent, sent_at, sent_in, orders_in, Known, unknown, knows, knows_of, known_from, known, AreBelow, IsGoodFor, AreGoodFrom, IsLostFor, BeginLost}
+use Rattle.run_laws.specs.Known.{AreQueued, Sent, sent_at, sent_in, orders_in, Known, unknown, knows, knows_of, known_from, known, AreBelow, IsGoodFor, AreGoodFrom, IsLostFor, BeginLost}
 use Rattle.run_laws.specs.Timely.{AreTimely}
 use Rattle.run_laws.proofs.Counts.{last_any}
 use Rattle.run_laws.proofs.Entering.{first_last}
 use Rattle.run_laws.proofs.Latest.{AllLast, BeginPast, IsCut, IsPast}
-use Rattle.run_laws.proofs.Lists.{AreUpTo, cuts, good_behind, good_front, orders_append, own_up}
+use Rattle.run_laws.proofs.Lists.{cuts, good_behind, good_front, orders_append, own_up}
 use Rattle.run_laws.proofs.Soon.{all_before, one_before, timely_append}
 
 -- the last ticks of a stepper's triples are not behind its clock, or before a tick
@@ -54,7 +54,7 @@ one_keeps own slots oid turn x k (cmd.SetNextStepDir other dir) ticks h good a =
 one_keeps own slots oid turn x k (cmd.ConfigStepper other step dir invert width) ticks h good a = elim (eqb_tells other oid) [ inl p ↦ rw p.0 a | inr p ↦ rw p.0 a ]
 one_keeps own slots oid turn x k _ ticks h good a = a
 
-keeps_ends : (own : ℕ → ℕ) → ((k : ℕ) → own k ≤ own (k + 1)) → (slots oid turn : ℕ) (k : Known) (ss : List Sent) → AreGoodFrom own slots oid k ss → AreUpTo turn ss → KeepsEnds (own turn) k → KeepsEnds (own turn) (known_from oid k ss)
+keeps_ends : (own : ℕ → ℕ) → ((k : ℕ) → own k ≤ own (k + 1)) → (slots oid turn : ℕ) (k : Known) (ss : List Sent) → AreGoodFrom own slots oid k ss → AreQueued turn ss → KeepsEnds (own turn) k → KeepsEnds (own turn) (known_from oid k ss)
 keeps_ends own up slots oid turn k [] good to a = a
 keeps_ends own up slots oid turn k (s ∷ ss) good to a =
     keeps_ends own up slots oid turn (knows oid k s.order) ss good.1 to.1
@@ -98,7 +98,7 @@ since_in k [] = tt
 since_in k (o ∷ os) = since_append k (sent_at k (queued_in o)) (sent_in (k + 1) os) (since_at k (queued_in o)) (since_down k (k + 1) (sent_in (k + 1) os) (omega arith) (since_in (k + 1) os))
 
 -- those that stand before one were sent by its turn
-abbrev AreSorted : List Sent → Type 0
+abbrev pub AreSorted : List Sent → Type 0
 AreSorted [] = Unit {0}
 AreSorted (s ∷ ss) = AreSince s.turn ss × AreSorted ss
 
@@ -106,11 +106,11 @@ sorted_at : (k : ℕ) (ms : List Meant) (ss : List Sent) → AreSince k ss → A
 sorted_at k [] ss a b = b
 sorted_at k (m ∷ ms) ss a b = (since_append k (sent_at k ms) ss (since_at k ms) a, sorted_at k ms ss a b)
 
-sorted_in : (k : ℕ) (os : List Orders) → AreSorted (sent_in k os)
+pub sorted_in : (k : ℕ) (os : List Orders) → AreSorted (sent_in k os)
 sorted_in k [] = tt
 sorted_in k (o ∷ os) = sorted_at k (queued_in o) (sent_in (k + 1) os) (since_down k (k + 1) (sent_in (k + 1) os) (omega arith) (since_in (k + 1) os)) (sorted_in (k + 1) os)
 
-up_to : (front : List Sent) (s : Sent) (tail : List Sent) → AreSorted (front ++ s ∷ tail) → AreUpTo s.turn front
+pub up_to : (front : List Sent) (s : Sent) (tail : List Sent) → AreSorted (front ++ s ∷ tail) → AreQueued s.turn front
 up_to [] s tail a = tt
 up_to (f ∷ front) s tail a = ((since_behind f.turn front (s ∷ tail) a.0).0, up_to front s tail a.1)
 

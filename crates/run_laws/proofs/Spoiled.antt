@@ -30,7 +30,7 @@ use Rattle.run_laws.proofs.Lists.{cons_same}
 use Rattle.run_laws.proofs.Timing.{AreLasting, lasting_timely, run_lasting}
 
 -- a list that begins another one, by its length
-begins : {X : Type 0} (ps qs ts rest : List X) → ts ++ rest ≡ ps ++ qs → length ps ≤ length ts → (more : List X) × (ps ++ more ≡ ts)
+pub begins : {X : Type 0} (ps qs ts rest : List X) → ts ++ rest ≡ ps ++ qs → length ps ≤ length ts → (more : List X) × (ps ++ more ≡ ts)
 begins [] qs ts rest e h = (ts, refl)
 begins (p ∷ ps) qs [] rest e h = absurd (omega (arith, h))
 begins (p ∷ ps) qs (t ∷ ts) rest e h =

@@ -15,15 +15,15 @@ use Rattle.board_world.specs.World.{Core, Step, Do, Turn, takes_in, orders_of, d
 use Rattle.board_world.proofs.Runs.{ordered_by, ordered_turn}
 use Rattle.link_work.proofs.Steps.{tick_held}
 use Rattle.run_laws.specs.Events.{IsQuiet}
-use Rattle.run_laws.specs.Known.{Sent, sent_at, orders_in}
+use Rattle.run_laws.specs.Known.{AreQueued, Sent, sent_at, orders_in}
 use Rattle.run_laws.specs.Timely.{AreTimely, IsTimelyAt}
 use Rattle.run_laws.specs.Finds.{AllFindHalted, AllSetNot, StepsFindHalted}
 use Rattle.run_laws.specs.Courses.{Course, parts_of, IsFrom, IsStopped, no_course, course_behind, course_from, courses, AreMadeFor, IsMadeBy, AreGoodOn, AreAllGood, AreInTime, BeginLostOn, FindsFree, HeedsIn, HeedsAt, AllHeed, IsGoodOn}
 use Rattle.run_laws.proofs.Fits.{IsShutBy}
 use Rattle.run_laws.proofs.Taking.{shut_fair}
-use Rattle.run_laws.proofs.Lists.{sent_front, orders_append, orders_at, own_up, cuts, longer, lost_for}
+use Rattle.run_laws.proofs.Lists.{up_append, up_behind, up_front, sent_front, orders_append, orders_at, own_up, cuts, longer, lost_for}
 use Rattle.run_laws.proofs.Standing.{BoardStands}
-use Rattle.run_laws.proofs.Commanding.{AreQueued, all_stand, since_all, stands_same, all_lost}
+use Rattle.run_laws.proofs.Commanding.{all_stand, since_all, stands_same, all_lost}
 
 -- what is to be known of a run: a board's ticks, where parts of its steppers' steps stop, its slots, and the commands: good ones, and
 -- perhaps others behind them of which the first comes too late
@@ -53,7 +53,7 @@ pub record Going (p : Script) (by turn : ℕ) (sent : List Sent) (h : Core) : Ty
   pub front_is : done ++ more ≡ p.front
   pub taken : orders_in done ≡ h.taken
   pub stands : BoardStands p.own p.stops p.slots by turn (courses done) h.board.controller
-  pub in_time : AreInTime p.stops by left
+  pub in_time : AreInTime p.stops by more
   pub made : (oid : ℕ) → IsMadeBy p.own p.stops oid (stepper_at h.board.controller oid) (courses done oid) (only oid h.made)
 
 -- or it shut down, behind some of them
@@ -76,18 +76,6 @@ pub record Keeps (p : Script) (by turn : ℕ) (sent : List Sent) (h : Core) : Ty
   pub state : Going p by turn sent h ⊎ Gone p h
 
 -- lists of commands
-pub queued_front : (turn : ℕ) (ss ts : List Sent) → AreQueued turn (ss ++ ts) → AreQueued turn ss
-queued_front turn [] ts a = tt
-queued_front turn (s ∷ ss) ts a = (a.0, queued_front turn ss ts a.1)
-
-pub queued_behind : (turn : ℕ) (ss ts : List Sent) → AreQueued turn (ss ++ ts) → AreQueued turn ts
-queued_behind turn [] ts a = a
-queued_behind turn (s ∷ ss) ts a = queued_behind turn ss ts a.1
-
-pub queued_append : (turn : ℕ) (ss ts : List Sent) → AreQueued turn ss → AreQueued turn ts → AreQueued turn (ss ++ ts)
-queued_append turn [] ts a b = b
-queued_append turn (s ∷ ss) ts a b = (a.0, queued_append turn ss ts a.1 b)
-
 pub time_front : (stops : ℕ → Option ℕ) (turn : ℕ) (ss ts : List Sent) → AreInTime stops turn (ss ++ ts) → AreInTime stops turn ss
 time_front stops turn [] ts a = tt
 time_front stops turn (s ∷ ss) ts a = (a.0, time_front stops turn ss ts a.1)
@@ -95,10 +83,6 @@ time_front stops turn (s ∷ ss) ts a = (a.0, time_front stops turn ss ts a.1)
 pub time_behind : (stops : ℕ → Option ℕ) (turn : ℕ) (ss ts : List Sent) → AreInTime stops turn (ss ++ ts) → AreInTime stops turn ts
 time_behind stops turn [] ts a = a
 time_behind stops turn (s ∷ ss) ts a = time_behind stops turn ss ts a.1
-
-pub time_append : (stops : ℕ → Option ℕ) (turn : ℕ) (ss ts : List Sent) → AreInTime stops turn ss → AreInTime stops turn ts → AreInTime stops turn (ss ++ ts)
-time_append stops turn [] ts a b = b
-time_append stops turn (s ∷ ss) ts a b = (a.0, time_append stops turn ss ts a.1 b)
 
 pub course_append : (oid : ℕ) (c : Course) (ss ts : List Sent) → course_from oid c (ss ++ ts) ≡ course_from oid (course_from oid c ss) ts
 course_append oid c [] ts = refl
@@ -141,9 +125,9 @@ takes_these p by turn sent h g r first m others le old more left timely finds ta
     let good = λ (oid : ℕ). good_front p.own p.stops p.slots oid (courses r.done oid) first m (good_behind p.own p.stops p.slots oid no_course r.done (first ++ m) (subst Good (sym whole) p.good oid)) in
     let Old : List Sent → Type 0 = λ x. AreQueued by x in
     let Time : List Sent → Type 0 = λ x. AreInTime p.stops by x in
-    let time = subst Time left r.in_time in
-    let now = queued_front by first others (queued_behind by r.done (first ++ others) (subst Old (r.sent_is ∙ ap (λ x. r.done ++ x) left) old)) in
-    let went = all_stand p.own (λ j k le. own_up p.own p.up j k le) p.stops p.slots by turn first (courses r.done) h.board r.stands le now good timely (time_front p.stops by first others time) finds in
+    let time = subst Time more r.in_time in
+    let now = up_front by first others (up_behind by r.done (first ++ others) (subst Old (r.sent_is ∙ ap (λ x. r.done ++ x) left) old)) in
+    let went = all_stand p.own (λ j k le. own_up p.own p.up j k le) p.stops p.slots by turn first (courses r.done) h.board r.stands le now good timely (time_front p.stops by first m time) finds in
     let e : (oid : ℕ) → courses (r.done ++ first) oid ≡ course_from oid (courses r.done oid) first = λ oid. course_append oid no_course r.done first in
     let At : Rig → Type 0 = λ x. BoardStands p.own p.stops p.slots by turn (courses (r.done ++ first)) x.controller in
     let To : Rig → Type 0 = λ x. IsShutBy x.controller in (
@@ -157,7 +141,7 @@ takes_these p by turn sent h g r first m others le old more left timely finds ta
           front_is = append_assoc r.done first m ∙ whole;
           taken = orders_append r.done first ∙ ap (λ x. x ++ orders_in first) r.taken ∙ sym taken;
           stands = subst At (sym board) (stands_same p.own p.stops p.slots by turn (λ oid. course_from oid (courses r.done oid) first) (courses (r.done ++ first)) _ e w.0);
-          in_time = time_behind p.stops by first others time;
+          in_time = time_behind p.stops by first m time;
           made = λ oid. rw (board, made, e oid) (w.1 oid (only oid h.made) (r.made oid));
         })
         | inr w ↦
@@ -183,7 +167,6 @@ takes_lost p by turn sent h g r s m others behind le old tail left timely finds 
     let Good : List Sent → Type 0 = λ x. AreAllGood p.own p.stops p.slots x in
     let Lost : List Sent → Type 0 = λ x. BeginLostOn p.own p.stops p.slots (courses p.front) x in
     let Old : List Sent → Type 0 = λ x. AreQueued by x in
-    let Time : List Sent → Type 0 = λ x. AreInTime p.stops by x in
     let To : Rig → Type 0 = λ x. IsShutBy x.controller in
     let good = λ (oid : ℕ). good_behind p.own p.stops p.slots oid no_course r.done r.more (subst Good (sym r.front_is) p.good oid) in
     let was : BeginLostOn p.own p.stops p.slots (courses p.front) (s ∷ behind) = subst Lost tail p.lost in
@@ -191,9 +174,8 @@ takes_lost p by turn sent h g r s m others behind le old tail left timely finds 
     let fine : (oid : ℕ) → IsGoodOn p.own p.stops p.slots oid s.turn (course_from oid (courses r.done oid) r.more) s.order.command s.order.ticks = λ oid.
     (let At : Course → Type 0 = λ c. IsGoodOn p.own p.stops p.slots oid s.turn c s.order.command s.order.ticks in subst At (e oid) (was.0 oid)) in
     let late = lost_for p.own s.turn (λ oid. (courses p.front oid).known) (λ oid. (course_from oid (courses r.done oid) r.more).known) s.order.command s.order.ticks (λ oid. ap (λ (c : Course). c.known) (e oid)) was.1 in
-    let now = queued_front by l others (queued_behind by r.done (l ++ others) (subst Old (r.sent_is ∙ ap (λ x. r.done ++ x) left) old)) in
-    let time = time_front p.stops by l others (subst Time left r.in_time) in
-    let (fair, shut, stop) = all_lost p.own (λ j k le. own_up p.own p.up j k le) p.stops p.slots by turn r.more s m (courses r.done) h.board r.stands le now good (fine, late) timely time free finds in
+    let now = up_front by l others (up_behind by r.done (l ++ others) (subst Old (r.sent_is ∙ ap (λ x. r.done ++ x) left) old)) in
+    let (fair, shut, stop) = all_lost p.own (λ j k le. own_up p.own p.up j k le) p.stops p.slots by turn r.more s m (courses r.done) h.board r.stands le now good (fine, late) timely r.in_time free finds in
     let (done, more, is, to) = stop in (
       fair,
       inr (record {
@@ -314,9 +296,9 @@ quiet_keeps p by turn sent h (Do Repeat) q k timely heed finds = event_keeps p b
 quiet_keeps p by turn sent h (Do e) q k timely heed finds = event_keeps p by turn sent h e refl k refl refl refl timely heed finds
 
 -- what is queued in a turn
-pub queues_on : (p : Script) (by turn : ℕ) (sent rest : List Sent) (h : Core) (e : Event) → Keeps p by turn sent h → (sent ++ sent_at by (orders_of e)) ++ rest ≡ p.all → AreInTime p.stops by (sent_at by (orders_of e))
+pub queues_on : (p : Script) (by turn : ℕ) (sent rest : List Sent) (h : Core) (e : Event) → Keeps p by turn sent h → (sent ++ sent_at by (orders_of e)) ++ rest ≡ p.all
     → AreQueued by (sent_at by (orders_of e)) → takes_in h e ≡ [] → (does h e).board ≡ h.board → (does h e).pulses ≡ [] → Keeps p by turn (sent ++ sent_at by (orders_of e)) (happens h e)
-queues_on p by turn sent rest h e k all time old none board made =
+queues_on p by turn sent rest h e k all old none board made =
     let new = sent_at by (orders_of e) in
     let taken : h.taken ++ takes_in h e ≡ h.taken = ap (λ x. h.taken ++ x) none ∙ append-nil h.taken in
     let same : meant_behind h.board h.made h.meant (takes_in h e) ≡ h.meant = ap (meant_behind h.board h.made h.meant) none in
@@ -324,7 +306,7 @@ queues_on p by turn sent rest h e k all time old none board made =
     record {
       ordered = ordered_by h e k.ordered;
       queued = orders_append sent new ∙ ap (λ x. orders_in sent ++ x) (orders_at by (orders_of e)) ∙ ap (λ x. x ++ orders_of e) k.queued;
-      turns = queued_append by sent new k.turns old;
+      turns = up_append by sent new k.turns old;
       order = k.order;
       rest = rest;
       all_is = all;
@@ -339,7 +321,7 @@ queues_on p by turn sent rest h e k all time old none board made =
           sent_is = ap (λ x. x ++ new) r.sent_is ∙ append_assoc r.done r.left new;
           taken = r.taken ∙ sym taken;
           stands = (let At : Rig → Type 0 = λ b. BoardStands p.own p.stops p.slots by turn (courses r.done) b.controller in subst At (sym board) r.stands);
-          in_time = time_append p.stops by r.left new r.in_time time;
+          in_time = r.in_time;
           made = λ oid. rw (board, does_make) (r.made oid);
         })
         | inr d ↦ inr (record {
@@ -401,24 +383,22 @@ shut_event h Repeat k = ap (λ (x : Controller). x.state) (all_left_by h.board (
 shut_event h (Pass t) k = (passes_left h.board t k).1
 shut_event h e k = refl
 
-shut_step : (h : Core) (s : Step) → is_shut h.board.controller.state ≡ true → (after h s).board.controller.state ≡ h.board.controller.state
+pub shut_step : (h : Core) (s : Step) → is_shut h.board.controller.state ≡ true → (after h s).board.controller.state ≡ h.board.controller.state
 shut_step h (Do e) k = shut_event h e k
 shut_step h (Turn turn) k = refl
 
 not_both : (r t f : ℕ) → Shut r t f ≡ Running → ⊥
 not_both r t f e = cc
 
-pub finds_next : (p : Script) (by turn next : ℕ) (sent new all : List Sent) (h : Core) (s : Step) (steps : List Step) → all ≡ sent ++ new → Keeps p by turn sent h → AreInTime p.stops by new → Finds p by turn sent h (s ∷ steps)
-    → Finds p by next all (after h s) steps
-finds_next p by turn next sent new all h s steps are k time f = λ r oid st.
+pub finds_next : (p : Script) (by turn next : ℕ) (sent all : List Sent) (h : Core) (s : Step) (steps : List Step) → Keeps p by turn sent h → Finds p by turn sent h (s ∷ steps) → Finds p by next all (after h s) steps
+finds_next p by turn next sent all h s steps k f = λ r oid st.
     elim k.state [
       | inl was ↦
           let ms = takes_at h s in
           let took : orders_in r.done ≡ orders_in was.done ++ ms = r.taken ∙ took_at h s ∙ ap (λ x. x ++ ms) (sym was.taken) in
-          let cut : r.done ++ r.left ≡ was.done ++ (was.left ++ new) = sym r.sent_is ∙ are ∙ ap (λ x. x ++ new) was.sent_is ∙ append_assoc was.done was.left new in
-          let (mid, done, left) = longer r.done r.left was.done (was.left ++ new) ms cut took in
+          let (mid, done, more) = longer r.done r.more was.done was.more ms (r.front_is ∙ sym was.front_is) took in
           let Time : List Sent → Type 0 = λ x. AreInTime p.stops by x in
-          let in_time = time_front p.stops by mid r.left (subst Time (sym left) (time_append p.stops by was.left new was.in_time time)) in
+          let in_time = time_front p.stops by mid r.more (subst Time (sym more) was.in_time) in
           let course : courses r.done oid ≡ course_from oid (courses was.done oid) mid = ap (λ x. courses x oid) done ∙ course_append oid no_course was.done mid in
           let Stopped : Course → Type 0 = λ c. IsStopped p.stops by c.since in
           let old = since_all p.stops by oid (courses was.done oid) mid in_time (subst Stopped course st) in

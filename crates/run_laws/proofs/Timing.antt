@@ -89,12 +89,12 @@ quiet_same (Do Repeat ∷ steps) h q =
 quiet_same (Do e ∷ steps) h q = let r = quiet_same steps (happens h e) q.1 in (r.0 ∙ append-nil h.queued, r.1)
 
 -- a board between two turns, with what was queued so far
-record IsBetween (own : ℕ → ℕ) (turn : ℕ) (sofar : List Orders) (h : Core) : Type 0 where
-  ordered : IsOrdered h
-  queued : h.queued ≡ flat_map queued_in sofar
-  tick : h.board.controller.tick ≡ own turn
+pub record IsBetween (own : ℕ → ℕ) (turn : ℕ) (sofar : List Orders) (h : Core) : Type 0 where
+  pub ordered : IsOrdered h
+  pub queued : h.queued ≡ flat_map queued_in sofar
+  pub tick : h.board.controller.tick ≡ own turn
 
-turn_steps_soon : (own : ℕ → ℕ) (turn : ℕ) (sofar : List Orders) (o : Orders) (before rear : List Step) (h : Core) (first others more : List Meant) → own turn ≤ own (turn + 1) → AreQuiet before → AreQuiet rear
+pub turn_steps_soon : (own : ℕ → ℕ) (turn : ℕ) (sofar : List Orders) (o : Orders) (before rear : List Step) (h : Core) (first others more : List Meant) → own turn ≤ own (turn + 1) → AreQuiet before → AreQuiet rear
     → IsBetween own turn sofar h → first ++ more ≡ h.taken → flat_map queued_in sofar ++ queued_in o ≡ first ++ others → AreTimely (own (turn + 1)) others
     → AllTimely h (Turn turn ∷ Do (Control o.control) ∷ Do (Put o.batch) ∷ before ++ Do (Pass (own (turn + 1))) ∷ rear)
     × IsBetween own (turn + 1) (sofar ++ o ∷ []) (run (Turn turn ∷ Do (Control o.control) ∷ Do (Put o.batch) ∷ before ++ Do (Pass (own (turn + 1))) ∷ rear) h)

@@ -67,6 +67,11 @@ course_from oid c (s ∷ ss) = course_from oid (course_behind oid c s) ss
 abbrev pub courses : List Sent → ℕ → Course
 courses ss oid = course_from oid no_course ss
 
+-- a stepper's present part was begun in a turn or later
+abbrev pub IsSince : ℕ → Option ℕ → Type 0
+IsSince turn None = ⊥
+IsSince turn (Some since) = turn ≤ since
+
 -- a turn is not before another, where there is one
 abbrev pub IsFrom : ℕ → Option ℕ → Type 0
 IsFrom turn None = ⊥
@@ -171,25 +176,30 @@ abbrev pub AreInTime : (ℕ → Option ℕ) → ℕ → List Sent → Type 0
 AreInTime stops turn [] = Unit {0}
 AreInTime stops turn (s ∷ ss) = IsInTime stops turn s.turn s.order.command × AreInTime stops turn ss
 
--- As a turn begins, a board that runs has taken the first of some commands, with which each part began that is stopped by now, and each
--- stepper whose part is stopped is halted, or no step of that part was taken.
-abbrev pub IsSettled : (ℕ → Option ℕ) → ℕ → List Sent → Core → Type 0
-IsSettled stops turn sent h =
-    h.board.controller.state ≡ Running → (done left : List Sent) → done ++ left ≡ sent → orders_in done ≡ h.taken →
-    AreInTime stops turn left
+-- As a turn begins, a board that runs, and took none behind a front of what is queued, has taken those commands of the
+-- front with which each part began that is stopped by now, and each stepper whose part is stopped is halted, or no step
+-- of that part was taken.
+abbrev pub IsSettled : (ℕ → Option ℕ) → List Sent → ℕ → List Sent → Core → Type 0
+IsSettled stops front turn sent h =
+    h.board.controller.state ≡ Running →
+    (done left more : List Sent) → done ++ left ≡ sent → done ++ more ≡ front → orders_in done ≡ h.taken →
+    AreInTime stops turn more
     × ((oid : ℕ) → IsStopped stops turn (courses done oid).since → (is_halted (stepper_at h.board.controller oid) ≡ true) ⊎ ((courses done oid).known.ends ≡ []))
 
 -- And in some steps that follow such a stepper is halted before the board takes a step of it.
-abbrev pub FindStopped : (ℕ → Option ℕ) → ℕ → List Sent → Core → List Step → Type 0
-FindStopped stops turn sent h steps =
-    h.board.controller.state ≡ Running → (done left : List Sent) → done ++ left ≡ sent → orders_in done ≡ h.taken →
+abbrev pub FindStopped : (ℕ → Option ℕ) → List Sent → ℕ → List Sent → Core → List Step → Type 0
+FindStopped stops front turn sent h steps =
+    h.board.controller.state ≡ Running →
+    (done left more : List Sent) → done ++ left ≡ sent → done ++ more ≡ front → orders_in done ≡ h.taken →
     (oid : ℕ) → IsStopped stops turn (courses done oid).since → StepsFindHalted oid h steps
 
 -- so as each of some turns begins, before which some commands were queued, and in its steps
-abbrev pub AreSettled : (stops : ℕ → Option ℕ) (own : ℕ → ℕ) (turn : ℕ) (sent : List Sent) (os : List Orders) (steps : List Step) (h : Core) → AreTurnsOf own turn os steps → Type 0
-AreSettled stops own turn sent [] steps h t = IsSettled stops turn sent h
-AreSettled stops own turn sent (o ∷ os) steps h t =
-    IsSettled stops turn sent h × FindStopped stops turn sent h t.0 × AreSettled stops own (turn + 1) (sent ++ sent_at turn (queued_in o)) os t.1 (run t.0 h) t.4
+abbrev pub AreSettled : (stops : ℕ → Option ℕ) (front : List Sent) (own : ℕ → ℕ) (turn : ℕ) (sent : List Sent)
+    (os : List Orders) (steps : List Step) (h : Core) → AreTurnsOf own turn os steps → Type 0
+AreSettled stops front own turn sent [] steps h t = IsSettled stops front turn sent h
+AreSettled stops front own turn sent (o ∷ os) steps h t =
+    IsSettled stops front turn sent h × FindStopped stops front turn sent h t.0
+    × AreSettled stops front own (turn + 1) (sent ++ sent_at turn (queued_in o)) os t.1 (run t.0 h) t.4
 
 -- What happens on a board and its link in some turns, where the commands that are queued are good, up to one that is queued too late, and
 -- triggers may halt steppers: no unit is taken half a round of the 32-bit clock after its first tick; where a part of a stepper's steps
@@ -206,5 +216,5 @@ pub record IsGoodRun (b : BoardDef) (pins : List (List Level)) (own : ℕ → �
   pub lost : BeginLostOn own stops b.slots (courses front) tail
   pub turns : AreTurnsOf own 0 os steps
   pub timely : AllTimely (start b pins) steps
-  pub settled : AreSettled stops own 0 [] os steps (start b pins) turns
+  pub settled : AreSettled stops front own 0 [] os steps (start b pins) turns
   pub heed : AllHeed front tail (start b pins) steps

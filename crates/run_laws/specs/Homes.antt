@@ -1,5 +1,5 @@
 -- A board's part of a run in which axes home.
-use Rattle.std.specs.Prelude.{◌≡◌, ◌≢◌, ℕ, ◌+◌, ◌*◌, ◌%◌, ◌^◌, ◌<◌, ◌≤◌, ◌⊎◌, ◌++◌, Bool, true, false, List, [], ◌∷◌, All, length, take, Option, Some, None}
+use Rattle.std.specs.Prelude.{◌≡◌, ◌≢◌, ℕ, ◌+◌, ◌-◌, ◌*◌, ◌%◌, ◌^◌, ◌<◌, ◌≤◌, ◌⊎◌, ◌++◌, Bool, true, false, List, [], ◌∷◌, All, length, take, Option, Some, None}
 use Rattle.std.specs.List.{flat_map}
 use Rattle.plan_types.specs.declared.clock.BoardClock.{BoardClock}
 use Rattle.plan_types.specs.declared.levels.Level.{Level}
@@ -19,7 +19,7 @@ use Rattle.link_work.specs.Runs.{AreTurns, queued_in}
 use Rattle.link_work.specs.Stands.{first_state}
 use Rattle.link_work.specs.Turn.{LinkState, Orders}
 use Rattle.run_laws.specs.Boards.{OnBoard}
-use Rattle.run_laws.specs.Courses.{IsFrom, IsSettled, AreSettled, FindStopped, AreAllGood, BeginLostOn, AreMadeFor, courses, parts_of}
+use Rattle.run_laws.specs.Courses.{IsFrom, IsSince, IsSettled, AreSettled, FindStopped, AllHeed, AreAllGood, BeginLostOn, AreMadeFor, Course, courses, parts_of}
 use Rattle.run_laws.specs.Courses as course
 use Rattle.run_laws.specs.Events.{AreOwn, AreTicks, AreTurnsOf}
 use Rattle.run_laws.specs.Known.{Sent, sent_at, sent_in}
@@ -150,16 +150,64 @@ AreFrontsIn own oid [] ps = ps ≡ []
 AreFrontsIn own oid (s ∷ ss) ps =
     (first rest : List Pulse) × (ps ≡ first ++ rest) × Begins first (section_steps oid s.section) × course.AreBefore (own (s.section.end + 5)) first × AreFrontsIn own oid ss rest
 
--- What is queued in a run in which axes home: commands that are good, of whose parts pulses are made section by section, and perhaps others
--- behind them, of which the first is a triple that is queued too late; none where all units of moves are released soon.
+-- Of each section what is released by a turn is released by the fifth turn behind its end.
+abbrev pub AreSoonBy : ℕ → ℕ → List Release → Type 0
+AreSoonBy turn end [] = Unit {0}
+AreSoonBy turn end (r ∷ rs) = (r.turn ≤ turn → r.turn ≤ end + 5) × AreSoonBy turn end rs
+
+-- the same for each of a board's sections
+abbrev pub AreSoon : ℕ → List RunSection → Type 0
+AreSoon turn [] = Unit {0}
+AreSoon turn (s ∷ ss) = AreSoonBy turn s.section.end s.section.releases × AreSoon turn ss
+
+-- a triple of a stepper whose present part was begun in a turn or later
+abbrev pub IsBegunFor : ℕ → (ℕ → Course) → Cmd → Type 0
+IsBegunFor turn cs (cmd.QueueStep oid interval count add) = IsSince turn (cs oid).since
+IsBegunFor turn cs _ = ⊥
+
+-- The first triple that is left of some sections of moves five turns behind their end: it is queued in that turn, and its
+-- stepper's clock was set 250 turns before the section's start or later; of the sections of moves before it all units are
+-- released by four turns behind their end.
+abbrev pub IsLeftOf : List RunSection → (ℕ → Course) → ℕ → Cmd → Type 0
+IsLeftOf [] cs turn c = ⊥
+IsLeftOf (s ∷ ss) cs turn c =
+    ((s.homes ≡ false) × (turn ≡ s.section.end + 5) × IsBegunFor (s.section.start - 250) cs c)
+    ⊎ ((s.homes ≡ false → AreBefore (s.section.end + 5) s.section.releases) × IsLeftOf ss cs turn c)
+
+-- of each section of moves that is over five turns before the end of so many turns all units are released by four turns
+-- behind its end
+abbrev pub AreReleasedBy : ℕ → List RunSection → Type 0
+AreReleasedBy turns [] = Unit {0}
+AreReleasedBy turns (s ∷ ss) = (s.homes ≡ false → s.section.end + 5 < turns → AreBefore (s.section.end + 5) s.section.releases) × AreReleasedBy turns ss
+
+-- commands of so many turns of which the first is that one; or there are none, and so no triple is left
+abbrev pub BeginLeftOf : ℕ → List RunSection → (ℕ → Course) → List Sent → Type 0
+BeginLeftOf turns ss cs [] = AreReleasedBy turns ss
+BeginLeftOf turns ss cs (t ∷ tail) = IsLeftOf ss cs t.turn t.order.command
+
+-- pulses before the board's tick of the turn in which the first of some commands was queued, where there is one
+abbrev pub AreBeforeFirst : (ℕ → ℕ) → List Sent → List Pulse → Type 0
+AreBeforeFirst own [] ps = Unit {0}
+AreBeforeFirst own (t ∷ tail) ps = course.AreBefore (own t.turn) ps
+
+-- What is queued in a run in which axes home: commands that are good, of whose parts pulses are made section by section,
+-- and perhaps others behind them, of which the first is a triple of a section of moves that is queued too late, the first
+-- that is left so, and by whose turn the pulses are over. There is none where all units of moves are released soon.
 pub record IsSplitIn (own : ℕ → ℕ) (stops : ℕ → Option ℕ) (slots : ℕ) (ss : List RunSection) (os : List Orders) : Type 0 where
   pub front : List Sent
   pub tail : List Sent
   pub are : front ++ tail ≡ sent_in 0 os
   pub good : AreAllGood own stops slots front
   pub lost : BeginLostOn own stops slots (courses front) tail
+  pub begun : BeginLeftOf (length os) ss (courses front) tail
   pub fronts : (oid : ℕ) (ps : List Pulse) → AreMadeFor own stops (parts_of (courses front oid)) ps → AreFrontsIn own oid ss ps
+  pub early : (oid : ℕ) (ps : List Pulse) → AreMadeFor own stops (parts_of (courses front oid)) ps → AreBeforeFirst own tail ps
   pub whole : AreReleasedIn ss → tail ≡ []
+
+-- the turn in which the first of some commands was queued, or the end of so many turns where there is none
+abbrev pub lost_at : ℕ → List Sent → ℕ
+lost_at turns [] = turns
+lost_at turns (t ∷ tail) = t.turn
 
 -- the next section, where there is one, starts behind a turn
 abbrev pub NextBehind : ℕ → List RunSection → Type 0
@@ -171,42 +219,52 @@ abbrev pub AreOverBy : ℕ → List RunSection → Type 0
 AreOverBy turn [] = Unit {0}
 AreOverBy turn (s ∷ ss) = (s.section.end + 5 ≤ turn) × AreOverBy turn ss
 
--- What happens on a board and its link in some turns of a run in which axes home, up to a turn, and on to another: no unit is taken
--- half a round of the 32-bit clock after its first tick; and as each turn begins, a board that runs has begun the parts that stop by then, and
--- halted their steppers.
+-- What happens on a board and its link in some turns of a run in which axes home, up to a turn, and on to another: no
+-- unit is taken half a round of the 32-bit clock after its first tick; as each turn begins, a board that runs and took
+-- no unit that is queued too late has begun the parts that stop by then, and halted their steppers; and where it takes
+-- the first of those, that one's stepper isn't halted.
 pub record IsHomeSpan (b : BoardDef) (pins : List (List Level)) (own : ℕ → ℕ) (clocks : Clocks) (ready : ℕ) (stops : ℕ → Option ℕ) (ss : List RunSection) (before during behind : List Orders) (first second : List Step) : Type 0 where
   pub ticks : AreTicks own
   pub begin : own 0 ≡ b.start
   pub run_is : IsHomeRun own clocks b.freq b.slots ready stops ss (before ++ (during ++ behind))
-  pub released : AreReleasedIn ss
+  pub split : IsSplitIn own stops b.slots ss (before ++ (during ++ behind))
   pub first_turns : AreTurnsOf own 0 before first
   pub second_turns : AreTurnsOf own (length before) during second
   pub timely : AllTimely (start b pins) (first ++ second)
-  pub first_settled : AreSettled stops own 0 [] before first (start b pins) first_turns
-  pub second_settled : AreSettled stops own (length before) (sent_in 0 before) during second (run first (start b pins)) second_turns
+  pub first_settled : AreSettled stops split.front own 0 [] before first (start b pins) first_turns
+  pub second_settled : AreSettled stops split.front own (length before) (sent_in 0 before) during second
+      (run first (start b pins)) second_turns
+  pub heed : AllHeed split.front split.tail (start b pins) (first ++ second)
 
--- As each of some turns of a link begins, its board has begun the parts that stop by then, and it halts their steppers by then or before it
--- takes a step of the part.
-abbrev pub AreSettledOn : (stops : ℕ → Option ℕ) (clock : BoardClock) (turn : ℕ) (sent : List Sent) (os : List Orders) (l m : LinkState) → AreTurns clock turn os l m → Type 0
-AreSettledOn stops clock turn sent [] l m t = IsSettled stops turn sent l.core
-AreSettledOn stops clock turn sent (o ∷ os) l m t =
-    IsSettled stops turn sent l.core × FindStopped stops turn sent l.core (steps_of_turn clock turn o t.1.resent l)
-    × AreSettledOn stops clock (turn + 1) (sent ++ sent_at turn (queued_in o)) os t.0 m t.2
+-- As each of some turns of a link begins, its board, where it took none behind a front of what is queued, has begun the
+-- parts that stop by then, and it halts their steppers by then or before it takes a step of the part.
+abbrev pub AreSettledOn : (stops : ℕ → Option ℕ) (front : List Sent) (clock : BoardClock) (turn : ℕ) (sent : List Sent)
+    (os : List Orders) (l m : LinkState) → AreTurns clock turn os l m → Type 0
+AreSettledOn stops front clock turn sent [] l m t = IsSettled stops front turn sent l.core
+AreSettledOn stops front clock turn sent (o ∷ os) l m t =
+    IsSettled stops front turn sent l.core
+    × FindStopped stops front turn sent l.core (steps_of_turn clock turn o t.1.resent l)
+    × AreSettledOn stops front clock (turn + 1) (sent ++ sent_at turn (queued_in o)) os t.0 m t.2
 
 -- A board of a run of so many turns in which axes home, at a place among the boards, with its sections and which of them home: its link took
--- what it was given and told the states, its orders are those of its sections, no unit is taken half a round of the 32-bit clock after its
--- first tick, and what stops is halted. Its ticks go on somehow behind the run.
+-- what it was given and told the states, its orders are those of its sections, no unit is taken half a round of the
+-- 32-bit clock after its first tick, what stops is halted, and where the board takes a first unit of moves that is
+-- queued too late, that one's stepper isn't halted. Its ticks go on somehow behind the run.
 pub record IsHomeBoard (place : ℕ) (entries : List Entry) (ready turns : ℕ) (ss : List RunSection) (x : OnBoard) : Type 0 where
   pub valid : IsValidBoard x.board
   pub stops : ℕ → Option ℕ
   pub own : ℕ → ℕ
   pub own_is : AreOwn x.board turns own
   pub run_is : IsHomeRun own x.clocks x.board.freq x.board.slots ready stops ss x.orders
-  pub released : AreReleasedIn ss
+  pub split : IsSplitIn own stops x.board.slots ss x.orders
   pub count : length x.orders ≡ turns
   pub end : LinkState
   pub told : AreTold (clock_of x.board) 0 x.orders x.states (first_state x.board x.pins place entries) end
   pub timely : AllTimely (start x.board x.pins) (steps_of (clock_of x.board) 0 x.orders (first_state x.board x.pins place entries) end
       (turns_told (clock_of x.board) 0 x.orders x.states (first_state x.board x.pins place entries) end told))
-  pub settled : AreSettledOn stops (clock_of x.board) 0 [] x.orders (first_state x.board x.pins place entries) end
+  pub settled : AreSettledOn stops split.front (clock_of x.board) 0 [] x.orders
+      (first_state x.board x.pins place entries) end
       (turns_told (clock_of x.board) 0 x.orders x.states (first_state x.board x.pins place entries) end told)
+  pub heed : AllHeed split.front split.tail (start x.board x.pins)
+      (steps_of (clock_of x.board) 0 x.orders (first_state x.board x.pins place entries) end
+      (turns_told (clock_of x.board) 0 x.orders x.states (first_state x.board x.pins place entries) end told))

@@ -26,6 +26,11 @@ abbrev pub sent_in : ℕ → List Orders → List Sent
 sent_in turn [] = []
 sent_in turn (o ∷ os) = sent_at turn (queued_in o) ++ sent_in (turn + 1) os
 
+-- commands that were queued by a turn
+abbrev pub AreQueued : ℕ → List Sent → Type 0
+AreQueued turn [] = Unit {0}
+AreQueued turn (s ∷ ss) = (s.turn ≤ turn) × AreQueued turn ss
+
 -- the commands without their turns
 abbrev pub orders_in : List Sent → List Meant
 orders_in [] = []

@@ -8,9 +8,9 @@ ghost use Rattle.board_world.specs.World.{Step, AllFair, run, start};
 ghost use Rattle.link_work.specs.Turn.{LinkState, Orders};
 ghost use Rattle.plan_types.specs.declared.plan.Pulse.{Pulse};
 ghost use Rattle.plan_types.specs.Lines.{Clocks};
-ghost use Rattle.run_laws.specs.Courses.{AreMadeFor, IsGoodRun, courses, parts_of};
+ghost use Rattle.run_laws.specs.Courses.{AllHeed, AreMadeFor, IsGoodRun, courses, parts_of};
 ghost use Rattle.run_laws.specs.Events.{AreOwn, AreTicks};
-ghost use Rattle.run_laws.specs.Homes.{AreOverBy, AreReleasedIn, IsHomeBoard, IsHomeRun, IsHomeSpan, IsSplitIn, NextBehind, RunSection};
+ghost use Rattle.run_laws.specs.Homes.{AreOverBy, AreSettledOn, IsHomeBoard, IsHomeRun, IsHomeSpan, IsSplitIn, NextBehind, RunSection};
 ghost use Rattle.run_laws.specs.Boards.{OnBoard, told_in};
 ghost use Rattle.wire_scene.specs.declared.scene.Entry.{Entry};
 ghost use Rattle.run_laws.specs.Runs.{AreSpilled, Made};
@@ -23,7 +23,6 @@ ghost use Rattle.plan_types.specs.Clock.{clock_of};
 ghost use Rattle.plan_types.specs.Plan.{Fits};
 ghost use Rattle.section_units.specs.Sections.{base_of};
 ghost use Rattle.run_laws.specs.Ends.{MayBe};
-ghost use Rattle.run_laws.specs.Known.{sent_in};
 
 /// The law of halts: where the commands that are queued for a board are good, up to one that is queued too late, whatever its triggers do, every
 /// unit is fair when a running board takes it; the board runs, or it shut down since a unit came too late or since it was told to stop; and the
@@ -39,8 +38,9 @@ pub fn halted_steppers_keep_fronts()
 {}
 
 /// The law of homing commands: what is queued for a board in a run in which axes home is good, up to the first unit that is left of a section
-/// of moves five turns behind its end, which is queued too late; and pulses of a stepper that are made part by part for the good ones are made
-/// section by section. Where all units of moves are released by four turns behind the ends of their sections, all is good.
+/// of moves five turns behind its end, which is queued too late; pulses of a stepper that are made part by part for the good ones are made
+/// section by section, and are over by the turn of the late one. Where all units of moves are released by four turns behind the ends of their
+/// sections, all is good.
 pub fn homing_commands_are_good()
     ensures { (own : ℕ → ℕ) (clocks : Clocks) (freq slots ready : ℕ) (stops : ℕ → Option ℕ) (ss : List RunSection) (os : List Orders) →
         AreTicks own → IsHomeRun own clocks freq slots ready stops ss os → IsSplitIn own stops slots ss os }
@@ -48,8 +48,9 @@ pub fn homing_commands_are_good()
 
 /// The law of a section's turns, in a run in which axes home: the pulses that a board makes from the turn before a section's start up
 /// to the second one before the start of the next are, for each stepper, made for the first steps of that section's plan, in
-/// order, each once, at most the tolerance before its planned tick and never after it; of moves or homing, whatever its triggers do. From
-/// the fifth turn behind a section's end on it makes none, up to the second turn before the start of the next.
+/// order, each once, at most the tolerance before its planned tick and never after it; of moves or homing, whatever its triggers do, and
+/// however late units of moves are queued. From the fifth turn behind a section's end on it makes none, up to the second turn before the
+/// start of the next.
 pub fn homing_sections_keep_their_turns()
     ensures section { (b : BoardDef) (pins : List (List Level)) (own : ℕ → ℕ) (clocks : Clocks) (ready : ℕ) (stops : ℕ → Option ℕ) (past : List RunSection) (s : RunSection) (later : List RunSection)
         (before during behind : List Orders) (first second : List Step) → IsHomeSpan b pins own clocks ready stops (past ++ s ∷ later) before during behind first second →
@@ -72,13 +73,16 @@ pub fn homing_boards_keep_their_sections()
         AreOverBy from past → from ≤ to → to ≤ turns → NextBehind to later → told_in from to x ≡ [] }
 {}
 
-/// The law of few spoiled turns, in a run in which axes home: where the control commands before the last turn keep the limits, all units of moves
-/// are released by four turns behind their section's end, at the end of each turn at most n turns of a link's busy stretch were spoiled, and no unit that is due in the run's turns is released more than m turns behind its due one, no
-/// unit is taken half a round of the 32-bit clock after its first tick, for every n and m for which n + m + 2 turns have fewer than 2^31 of the
-/// board's ticks: for all with n + m up to 10,700 turns, whatever its frequency.
+/// The law of few spoiled turns, in a run in which axes home: where what stops is halted, and the stepper of the first unit of moves that is queued
+/// too late isn't, the control commands before the last turn keep the limits, at the end of each turn at most n turns of a link's busy stretch were
+/// spoiled, and no unit that is due in the run's turns is released more than m turns behind its due one, no unit is taken half a round of the 32-bit
+/// clock after its first tick, for every n and m for which n + m + 2 turns have fewer than 2^31 of the board's ticks: for all with n + m up to
+/// 10,700 turns, whatever its frequency.
 pub fn homing_links_are_timely()
     ensures timely { (b : BoardDef) (pins : List (List Level)) (board : ℕ) (entries : List Entry) (own : ℕ → ℕ) (clocks : Clocks) (ready n m turns : ℕ) (stops : ℕ → Option ℕ) (ss : List RunSection) (os : List Orders) (l : LinkState)
-        (t : AreTurns (clock_of b) 0 os (first_state b pins board entries) l) → AreOwn b (length os) own → IsHomeRun own clocks b.freq b.slots ready stops ss os → AreReleasedIn ss → AreSpilled turns m (map (λ s. s.section) ss) → length os ≤ turns →
+        (t : AreTurns (clock_of b) 0 os (first_state b pins board entries) l) → AreOwn b (length os) own → IsHomeRun own clocks b.freq b.slots ready stops ss os →
+        (split : IsSplitIn own stops b.slots ss os) → AreSettledOn stops split.front (clock_of b) 0 [] os (first_state b pins board entries) l t →
+        AllHeed split.front split.tail (start b pins) (steps_of (clock_of b) 0 os (first_state b pins board entries) l t) → AreSpilled turns m (map (λ s. s.section) ss) → length os ≤ turns →
         ((done : List Orders) (o : Orders) (rest : List Orders) → os ≡ done ++ (o ∷ rest) → ControlsKeep done) →
         ((k : ℕ) → spoiled (take k (ends_of (clock_of b) 0 os (first_state b pins board entries) l t)) ≤ n) → ((k : ℕ) → own (k + (n + m + 2)) < own k + 2 ^ 31) →
         AllTimely (start b pins) (steps_of (clock_of b) 0 os (first_state b pins board entries) l t) }

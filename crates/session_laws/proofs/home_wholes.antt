@@ -9,10 +9,11 @@ pub mod Counts
 pub mod Board
 pub mod Starting
 pub mod Resting
-pub mod Told
 pub mod Going
 pub mod Places
 pub mod Between
+pub mod Heeding
+pub mod Lost
 pub mod Axes
 pub mod Own
 pub mod Lines

@@ -18,7 +18,7 @@ ghost use Rattle.board_sim.specs.Board.{timer_too_close};
 ghost use Rattle.board_sim.specs.Fair.{only};
 ghost use Rattle.section_units.specs.Sections.{AreBefore, BoardSection};
 ghost use Rattle.run_laws.specs.Boards.{OnBoard, told_in};
-ghost use Rattle.run_laws.specs.Homes.{IsHomeBoard, NextBehind, RunSection};
+ghost use Rattle.run_laws.specs.Homes.{IsHomeBoard, NextBehind, RunSection, lost_at};
 ghost use Rattle.run_laws.specs.Stops.{NeverStop};
 ghost use Rattle.host_reactor.specs.Reactor.{Run};
 ghost use Rattle.host_reactor.specs.Runs.{Came};
@@ -36,7 +36,7 @@ ghost use Rattle.session_laws.specs.run_headline.Made.{IsMade};
 ghost use Rattle.session_laws.specs.run_headline.Timely.{clocks_heard, ready_heard};
 ghost use Rattle.session_laws.specs.home_headline.Cuts.{TellEnds};
 ghost use Rattle.session_laws.specs.home_headline.Follow.{AllShowHomes};
-ghost use Rattle.session_laws.specs.home_headline.Little.{AllHomeLittle};
+ghost use Rattle.session_laws.specs.home_headline.Little.{AllHomeLittle, SendsOut};
 ghost use Rattle.session_laws.specs.home_wholes.Own.{AllHearSoon, TellOwn};
 ghost use Rattle.session_laws.specs.home_wholes.Still.{IsStillIn};
 ghost use Rattle.session_laws.specs.home_wholes.Whole.{AllWholeHomes};
@@ -44,29 +44,32 @@ ghost use Rattle.session_laws.specs.home_wholes.Whole.{AllWholeHomes};
 use io_core::{Files, Sink};
 use plan_types::Cause;
 
-/// The law of whole sections on a board where axes home: where a board is still in the turns of a section of moves, it tells of each stepper as
-/// many pulses as its plan of the section has steps, where by some turn, five turns or more behind the section's end, all units were released,
-/// the board wasn't told to stop, and its state tells that the link is idle and of no shutdown for a unit that came too late; or where it has
-/// told any pulse behind the section's turns.
+/// The law of whole sections on a board where axes home: where a board is still in the turns of a section of moves,
+/// unless a unit came too late before it (`IsSplitIn`), it tells of each stepper as many pulses as its plan of the
+/// section has steps, where by some turn, five turns or more behind the section's end, all units were released, the
+/// board wasn't told to stop, and its state tells that the link is idle and of no shutdown for a unit that came too
+/// late; or where it has told any pulse behind the section's turns.
 pub fn homing_boards_make_whole_sections()
     ensures idle { (place : ℕ) (entries : List Entry) (ready turns from to n : ℕ) (x : OnBoard) (past : List RunSection) (s : RunSection) (later : List RunSection) (states others : List State) (last : State) →
-        IsHomeBoard place entries ready turns (past ++ s ∷ later) x → s.homes ≡ false → IsStillIn place entries s.section x → from + 1 ≡ s.section.start → from ≤ to → NextBehind to later → s.section.end + 5 ≤ to →
+        (k : IsHomeBoard place entries ready turns (past ++ s ∷ later) x) → s.homes ≡ false → (s.section.start ≤ lost_at turns k.split.tail → IsStillIn place entries s.section x) → from + 1 ≡ s.section.start → from ≤ to → NextBehind to later → s.section.end + 5 ≤ to →
         to ≤ n → n ≤ turns → AreBefore n s.section.releases → x.states ≡ (states ++ last ∷ []) ++ others → length (states ++ last ∷ []) ≡ n → NeverStop (take n x.orders) →
         ((news : ShutNews) → last.shut ≡ Some news → news.reason ≡ timer_too_close → ⊥) → last.idle ≡ true →
         (oid : ℕ) → length (only oid (told_in from to x)) ≡ length (s.section.plan oid) }
     ensures passed { (place : ℕ) (entries : List Entry) (ready turns from to : ℕ) (x : OnBoard) (past : List RunSection) (s : RunSection) (later : List RunSection) →
-        IsHomeBoard place entries ready turns (past ++ s ∷ later) x → s.homes ≡ false → IsStillIn place entries s.section x → from + 1 ≡ s.section.start → from ≤ to → NextBehind to later → s.section.end + 5 ≤ to →
+        (k : IsHomeBoard place entries ready turns (past ++ s ∷ later) x) → s.homes ≡ false → (s.section.start ≤ lost_at turns k.split.tail → IsStillIn place entries s.section x) → from + 1 ≡ s.section.start → from ≤ to → NextBehind to later → s.section.end + 5 ≤ to →
         told_in to turns x ≢ [] →
         (oid : ℕ) → length (only oid (told_in from to x)) ≡ length (s.section.plan oid) }
 {}
 
-/// The law of still boards: where the homing sections of a board that have ended in some turns of a run were told of, the board is still in the
-/// turns of each section of moves that was begun by then: what was set up for a homing section before it has answered, and behind it none is set
-/// up before the section is long over.
+/// The law of still boards: where the homing sections of a board that have ended in some turns of a run, whose parts
+/// were begun by a turn, were told of, the board is still in the turns of each section of moves that was begun by then,
+/// and whose units are released from that turn on at the latest: what was set up for a homing section before it has
+/// answered, and behind it none is set up before the section is long over.
 pub fn boards_are_still_in_sections_of_moves()
-    ensures { (m : Machine) (switches : List Switch) (pins : List (List Level)) (entries : List Entry) (b ready : ℕ) (begun past : List Started) (x : Started) (later : List Started) (came : List Came) (turns : List BoardTurn)
+    ensures { (m : Machine) (switches : List Switch) (pins : List (List Level)) (entries : List Entry) (b ready until : ℕ) (begun past : List Started) (x : Started) (later : List Started) (came : List Came) (turns : List BoardTurn)
         (clocks : Clocks) (sections : List BoardSection) (plan : ℕ → List Planned) (releases : List Release) (states : List State) → IsValidMachine m → IsInRun m switches pins entries b came turns →
-        CameNotes begun came → 260 ≤ ready → AreInARow ready begun → AreHomed m switches pins entries b (stops_of begun) turns → begun ≡ past ++ x ∷ later → x.section.kind ≡ Moves → x.start ≤ length turns + 250 →
+        CameNotes begun came → 260 ≤ ready → AreInARow ready begun → AreHomed m switches pins entries b until (stops_of begun) turns → begun ≡ past ++ x ∷ later → x.section.kind ≡ Moves → x.start ≤ length turns + 250 →
+        x.start ≤ until + 250 →
         IsStillIn b entries (record { start = x.start; end = x.end; plan = plan; releases = releases })
         (record { board = board_at m b; pins = pins; clocks = clocks; sections = sections; orders = orders_in turns; states = states }) }
 {}
@@ -90,11 +93,13 @@ pub fn homing_runs_are_whole<F: Files, S: Sink>()
 /// one that tells that the switch of a homing section closed tells of a tick at which this very section's readings of its axis's endstop are
 /// complete (`TellOwn`), whatever happens on the lines.
 ///
-/// It is asked of each board that it holds nothing long (`AllHomeLittle`), and of the endstop's that in a scene with entries it takes the set-up in
-/// time, and that what its trigger does in the section is heard of within half a round of its 32-bit clock (`AllHearSoon`).
+/// It is asked of each board that it holds nothing long (`AllHomeLittle`), that units of moves are sent by four turns
+/// behind their section's end (`SendsOut`), and of the endstop's that in a scene with entries it takes the set-up in
+/// time, and that what its trigger does in the section is heard of within half a round of its 32-bit clock
+/// (`AllHearSoon`).
 pub fn homing_runs_are_cut_by_their_own_readings<F: Files, S: Sink>()
     ensures { (m : Machine) (s : Scene) (name : List ℕ) (files files' : F) (out out' : S) (kept kept' : Kept) (t : Told Run) →
         (r : RunsOver F.Files S.Sink m s name files out kept t files' out' kept') → IsValidMachine m → HaveShortDictionaries m → (text : List ℕ) → F.told files name ≡ Some text → kept.at ≡ 0 →
         (t.cause ≡ Cause.Memory → ⊥) → AllHomeLittle m s text r.runs.0 (r.runs.1 ++ r.runs.2 ∷ []) → AllHearSoon m s text r.runs.0 (r.runs.1 ++ r.runs.2 ∷ []) →
-        ∥ TellOwn m s.switches [] r.runs.1 ∥₁ }
+        SendsOut m text r.runs.0 → ∥ TellOwn m s.switches [] r.runs.1 ∥₁ }
 {}

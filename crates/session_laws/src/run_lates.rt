@@ -17,7 +17,7 @@ ghost use Rattle.motion_work.specs.Told.{Told as Heard};
 ghost use Rattle.run_laws.specs.Late.{IsLateUnit};
 ghost use Rattle.session_laws.specs.run_headline.Made.{IsMade};
 ghost use Rattle.session_laws.specs.run_headline.Timely.{AllTakeNear, AreOfMoves};
-ghost use Rattle.session_laws.specs.home_headline.Little.{AllHomeLittle};
+ghost use Rattle.session_laws.specs.home_headline.Little.{AllHomeLittle, SendsOut};
 ghost use Rattle.session_laws.specs.run_lates.Late.{AllMayTell, ComesLateIn, HasFewUnits, HasLateUnitIn};
 
 use io_core::{Files, Sink};
@@ -34,15 +34,17 @@ pub fn late_runs_tell_of_steps_that_came_late<F: Files, S: Sink>()
         ComesLateIn m s board first arrival spoiled spill r.runs.0 r.runs.1 r.runs.2 }
 {}
 
-/// The law of late units: in whatever threads a run went, in any scene, where it ends since steps came too late to a board, a unit of one of the
-/// sections that were begun has the first tick that is told. The spoiled turns that are told are those of the busy stretch up to the turn in which
-/// it is due, and the spill is its own; together they are more than the lead. This asks that each board holds nothing long (`AllHomeLittle`); or, in
-/// a run of moves, that each takes all near (`AllTakeNear`), and for the spoiled turns and the spill that the units of each turn of this board have
-/// at most 210 bytes.
+/// The law of late units: in whatever threads a run went, in any scene, where it ends since steps came too late to a
+/// board, a unit of one of the sections that were begun has the first tick that is told. The spoiled turns that are
+/// told are those of the busy stretch up to the turn in which it is due, and the spill is its own; together they are
+/// more than the lead. This asks that each board holds nothing long (`AllHomeLittle`) and that units of moves are sent
+/// by four turns behind their section's end (`SendsOut`); or, in a run of moves, that each takes all near
+/// (`AllTakeNear`), and for the spoiled turns and the spill that the units of each turn of this board have at most 210
+/// bytes.
 pub fn late_runs_tell_of_their_units<F: Files, S: Sink>()
     ensures homes { (m : Machine) (s : Scene) (name : List ℕ) (files files' : F) (out out' : S) (kept kept' : Kept) (t : Told Run) →
         (r : RunsOver F.Files S.Sink m s name files out kept t files' out' kept') → IsValidMachine m → HaveShortDictionaries m → (text : List ℕ) → F.told files name ≡ Some text → kept.at ≡ 0 →
-        (board first arrival spoiled spill : ℕ) → t.cause ≡ Cause.Late board first arrival spoiled spill → AllHomeLittle m s text r.runs.0 (r.runs.1 ++ r.runs.2 ∷ []) →
+        (board first arrival spoiled spill : ℕ) → t.cause ≡ Cause.Late board first arrival spoiled spill → AllHomeLittle m s text r.runs.0 (r.runs.1 ++ r.runs.2 ∷ []) → SendsOut m text r.runs.0 →
         ∥ ((made : IsMade m s r.runs.0 r.runs.1) × (made.plans.seen.text ≡ text) × (c : ComesLateIn m s board first arrival spoiled spill r.runs.0 r.runs.1 r.runs.2) ×
         ((heard : Heard) × (made.plans.seen.told ≡ Some heard) × HasLateUnitIn m s board first arrival spoiled spill r.runs.0 r.runs.1 r.runs.2 heard.clocks made.plans.seen.begun c)) ∥₁ }
     ensures moves { (m : Machine) (s : Scene) (name : List ℕ) (files files' : F) (out out' : S) (kept kept' : Kept) (t : Told Run) →

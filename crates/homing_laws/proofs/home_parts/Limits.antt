@@ -1,15 +1,17 @@
 -- The units of a turn keep their limit in a run in which axes home.
-use Rattle.std.proofs.Common.{ℕ, List, [], ◌∷◌, ◌++◌, Option, arith}
+use Rattle.std.proofs.Common.{ℕ, ◌+◌, ◌≤◌, List, [], ◌∷◌, ◌++◌, length, Option, subst, arith}
 use Rattle.plan_types.specs.Lines.{Clocks}
 use Rattle.link_work.specs.Stands.{orders}
 use Rattle.link_work.specs.Turn.{Orders}
 use Rattle.link_work.proofs.Limits.{units_bytes}
 use Rattle.board_runs.specs.Turns.{BoardTurn}
 use Rattle.clock_runs.specs.Runs.{UnitsFit, orders_in}
-use Rattle.run_laws.specs.Homes.{IsHomeRun, RunSection, AreReleasedIn}
+use Rattle.clock_runs.proofs.Orders.{order_length}
+use Rattle.run_laws.specs.Homes.{AreSoon, IsHomeRun, RunSection}
 use Rattle.run_laws.proofs.HomeLimits.{home_few}
 use Rattle.run_laws.proofs.Latest.{AreFew}
 use Rattle.run_laws.proofs.Limiting.{text_sum}
+use Rattle.homing_laws.proofs.home_runs.Settled.{later_orders}
 
 few_both : (xs ys : List Orders) → AreFew (xs ++ ys) → AreFew xs × AreFew ys
 few_both [] ys a = (tt, a)
@@ -22,5 +24,9 @@ fit_of (t ∷ before) a =
     let us = t.batch.units in
     ((let few = r.1.0 in omega (arith, few, units_bytes us, text_sum us)), fit_of before r.0)
 
-pub turns_fit : (own : ℕ → ℕ) (clocks : Clocks) (freq slots ready : ℕ) (stops : ℕ → Option ℕ) (ss : List RunSection) (turns : List BoardTurn) → IsHomeRun own clocks freq slots ready stops ss (orders_in turns) → AreReleasedIn ss → UnitsFit turns
-turns_fit own clocks freq slots ready stops ss turns h soon = fit_of turns (home_few own clocks freq slots ready stops ss (orders_in turns) h soon)
+pub turns_fit : (own : ℕ → ℕ) (clocks : Clocks) (freq slots ready by : ℕ) (stops : ℕ → Option ℕ) (ss : List RunSection) (later turns : List BoardTurn) → IsHomeRun own clocks freq slots ready stops ss (orders_in (later ++ turns)) → AreSoon by ss
+    → length turns ≤ by + 1 → UnitsFit turns
+turns_fit own clocks freq slots ready by stops ss later turns h soon low =
+    let more = later_orders later turns in
+    let long = order_length turns in
+    fit_of turns (home_few own clocks freq slots ready by stops ss (orders_in turns) more.0 (subst (λ (os : List Orders). IsHomeRun own clocks freq slots ready stops ss os) more.1 h) soon (omega (arith, long, low)))

@@ -1,5 +1,5 @@
 -- A board in a run is settled as each of its turns begins.
-use Rattle.std.proofs.Common.{◌≡◌, ℕ, ◌+◌, Bool, List, [], ◌∷◌, ◌++◌, length, Option, refl, ap, sym, ◌∙◌, subst, arith, inl, inr, append_assoc, length-append}
+use Rattle.std.proofs.Common.{◌≡◌, ℕ, ◌+◌, Bool, List, [], ◌∷◌, ◌++◌, length, Option, refl, ap, sym, ◌∙◌, subst, arith, inl, inr, append_assoc, append-nil, length-append}
 use Rattle.plan_types.specs.declared.clock.BoardClock.{BoardClock}
 use Rattle.plan_types.specs.declared.levels.Level.{Level}
 use Rattle.plan_types.specs.declared.machine.Machine.{Machine}
@@ -15,10 +15,10 @@ use Rattle.clock_runs.specs.Runs.{orders_in}
 use Rattle.run_laws.specs.Courses.{FindStopped, IsSettled}
 use Rattle.run_laws.specs.Links.{steps_of_turn}
 use Rattle.run_laws.specs.Homes.{AreSettledOn}
-use Rattle.run_laws.specs.Known.{Sent, sent_at, sent_in}
+use Rattle.run_laws.specs.Known.{AreQueued, Sent, sent_at, sent_in}
 use Rattle.run_laws.proofs.Lists.{cuts}
 use Rattle.homing_laws.specs.home_runs.Settled.{AreHomed}
-use Rattle.homing_laws.proofs.home_runs.Settled.{finds_stopped, sent_turn, settled}
+use Rattle.homing_laws.proofs.home_runs.Settled.{finds_stopped, sent_by, sent_parts, sent_turn, settled}
 use Rattle.homing_laws.proofs.home_runs.Windows.{begun}
 use Rattle.run_laws.proofs.Linking.{same_bool}
 
@@ -59,11 +59,11 @@ one_end clock turn o l m n x y =
     x.becomes ∙ ap (λ (r : Bool). after_replies turn (after_board clock turn (after_host turn o r l))) (same_bool x.resent y.resent _ x.due y.due) ∙ sym y.becomes
 
 -- the sections that have ended by an earlier turn
-pub homed_before : (m : Machine) (switches : List Switch) (pins : List (List Level)) (entries : List Entry) (b : ℕ) (stops : ℕ → Option ℕ) (later turns : List BoardTurn) → AreHomed m switches pins entries b stops (later ++ turns)
-    → AreHomed m switches pins entries b stops turns
-homed_before m switches pins entries b stops later turns homed = λ turn end is l.
+pub homed_before : (m : Machine) (switches : List Switch) (pins : List (List Level)) (entries : List Entry) (b until : ℕ) (stops : ℕ → Option ℕ) (later turns : List BoardTurn) → AreHomed m switches pins entries b until stops (later ++ turns)
+    → AreHomed m switches pins entries b until stops turns
+homed_before m switches pins entries b until stops later turns homed = λ turn end low is l.
     let more = length-append later turns in
-    let x = homed turn end is (omega (arith, l, more)) in
+    let x = homed turn end low is (omega (arith, l, more)) in
     let hm = x.4 in
     let long = hm.long in (
       x.0,
@@ -91,48 +91,52 @@ homed_before m switches pins entries b stops later turns homed = λ turn end is 
       ],
     )
 
-along : (m : Machine) (switches : List Switch) (pins : List (List Level)) (entries : List Entry) (b : ℕ) (stops : ℕ → Option ℕ) (turns made : List BoardTurn) (n : ℕ) (sent : List Sent) (l end : LinkState) (t : AreTurns (clock_of (board_at m b)) n (orders_of made) l end)
-    → IsValidMachine m → AreBoardTurns (clock_of (board_at m b)) (first_state (board_at m b) pins b entries) (Pushed turns made) → AreHomed m switches pins entries b stops (Pushed turns made)
+along : (m : Machine) (switches : List Switch) (pins : List (List Level)) (entries : List Entry) (b until : ℕ) (front tail : List Sent) (stops : ℕ → Option ℕ) (turns made : List BoardTurn) (n : ℕ) (sent : List Sent) (l end : LinkState) (t : AreTurns (clock_of (board_at m b)) n (orders_of made) l end)
+    → IsValidMachine m → AreBoardTurns (clock_of (board_at m b)) (first_state (board_at m b) pins b entries) (Pushed turns made) → AreQueued until front → front ++ tail ≡ sent_by (Pushed turns made) → AreHomed m switches pins entries b until stops (Pushed turns made)
     → n ≡ length turns → sent ≡ sent_in 0 (orders_in turns) → l ≡ stands_after (first_state (board_at m b) pins b entries) turns
-    → AreSettledOn stops (clock_of (board_at m b)) n sent (orders_of made) l end t
-along m switches pins entries b stops turns [] n sent l end t v are homed long same stand =
+    → AreSettledOn stops front (clock_of (board_at m b)) n sent (orders_of made) l end t
+along m switches pins entries b until front tail stops turns [] n sent l end t v are by all homed long same stand =
     let first = first_state (board_at m b) pins b entries in
-    subst (λ (k : ℕ). IsSettled stops k sent l.core) (sym long) (subst (λ (x : List Sent). IsSettled stops (length turns) x l.core) (sym same)
-    (subst (λ (x : LinkState). IsSettled stops (length turns) (sent_in 0 (orders_in turns)) x.core) (sym stand) (settled m switches pins entries b turns stops v are homed)))
-along m switches pins entries b stops turns (x ∷ made) n sent l end t v are homed long same stand =
+    subst (λ (k : ℕ). IsSettled stops front k sent l.core) (sym long) (subst (λ (x : List Sent). IsSettled stops front (length turns) x l.core) (sym same)
+    (subst (λ (x : LinkState). IsSettled stops front (length turns) (sent_in 0 (orders_in turns)) x.core) (sym stand)
+    (settled m switches pins entries b until turns stops v are homed front tail [] by (all ∙ sym (append-nil (sent_by turns))) tt)))
+along m switches pins entries b until front tail stops turns (x ∷ made) n sent l end t v are by all homed long same stand =
     let d = board_at m b in
     let clock = clock_of d in
     let first = first_state d pins b entries in
     let parts = pushed_parts turns (x ∷ made) in
     let next = pushed_parts (x ∷ turns) made in
     let here : AreBoardTurns clock first (x ∷ turns) = begun clock first next.0 (x ∷ turns) (subst (λ (k : List BoardTurn). AreBoardTurns clock first k) next.1 are) in
-    let before : AreHomed m switches pins entries b stops turns = homed_before m switches pins entries b stops parts.0 turns (subst (λ (k : List BoardTurn). AreHomed m switches pins entries b stops k) parts.1 homed) in
+    let before : AreHomed m switches pins entries b until stops turns = homed_before m switches pins entries b until stops parts.0 turns (subst (λ (k : List BoardTurn). AreHomed m switches pins entries b until stops k) parts.1 homed) in
+    let (rest, cut, later) = sent_parts parts.0 turns in
+    let whole : front ++ tail ≡ sent_by turns ++ rest = all ∙ ap sent_by parts.1 ∙ cut in
     let o = orders x.control x.batch in
     let mine : IsTurn clock n o l x.after = subst (λ (k : ℕ). IsTurn clock k o l x.after) (sym long) (subst (λ (k : LinkState). IsTurn clock (length turns) o k x.after) (sym stand) here.0.0) in
     let steps = steps_of_turn clock n o t.1.resent l in
     let after : t.0 ≡ x.after = one_end clock n o l t.0 x.after t.1 mine in
     let sends : sent ++ sent_at n (queued_in o) ≡ sent_in 0 (orders_in (x ∷ turns)) =
     ap (λ (k : List Sent). k ++ sent_at n (queued_in o)) same ∙ ap (λ (k : ℕ). sent_in 0 (orders_in turns) ++ sent_at k (queued_in o)) long ∙ sym (sent_turn x turns) in (
-      subst (λ (k : ℕ). IsSettled stops k sent l.core) (sym long) (subst (λ (k : List Sent). IsSettled stops (length turns) k l.core) (sym same)
-          (subst (λ (k : LinkState). IsSettled stops (length turns) (sent_in 0 (orders_in turns)) k.core) (sym stand) (settled m switches pins entries b turns stops v here.1 before))),
-      subst (λ (k : ℕ). FindStopped stops k sent l.core steps) (sym long) (subst (λ (k : List Sent). FindStopped stops (length turns) k l.core steps) (sym same)
-          (subst (λ (k : LinkState). FindStopped stops (length turns) (sent_in 0 (orders_in turns)) k.core steps) (sym stand) (finds_stopped m switches pins entries b turns stops v here.1 before steps))),
-      along m switches pins entries b stops (x ∷ turns) made (n + 1) (sent ++ sent_at n (queued_in o)) t.0 end t.2 v are homed (omega (arith, long)) sends after,
+      subst (λ (k : ℕ). IsSettled stops front k sent l.core) (sym long) (subst (λ (k : List Sent). IsSettled stops front (length turns) k l.core) (sym same)
+          (subst (λ (k : LinkState). IsSettled stops front (length turns) (sent_in 0 (orders_in turns)) k.core) (sym stand) (settled m switches pins entries b until turns stops v here.1 before front tail rest by whole later))),
+      subst (λ (k : ℕ). FindStopped stops front k sent l.core steps) (sym long) (subst (λ (k : List Sent). FindStopped stops front (length turns) k l.core steps) (sym same)
+          (subst (λ (k : LinkState). FindStopped stops front (length turns) (sent_in 0 (orders_in turns)) k.core steps) (sym stand)
+          (finds_stopped m switches pins entries b until turns stops v here.1 before front tail rest by whole later steps))),
+      along m switches pins entries b until front tail stops (x ∷ turns) made (n + 1) (sent ++ sent_at n (queued_in o)) t.0 end t.2 v are by all homed (omega (arith, long)) sends after,
     )
 
-by_orders : (stops : ℕ → Option ℕ) (clock : BoardClock) (os ps : List Orders) (l end : LinkState) → os ≡ ps → ((t : AreTurns clock 0 os l end) → AreSettledOn stops clock 0 [] os l end t)
-    → (t : AreTurns clock 0 ps l end) → AreSettledOn stops clock 0 [] ps l end t
-by_orders stops clock os ps l end e f = subst (λ (x : List Orders). (t : AreTurns clock 0 x l end) → AreSettledOn stops clock 0 [] x l end t) e f
+by_orders : (stops : ℕ → Option ℕ) (front : List Sent) (clock : BoardClock) (os ps : List Orders) (l end : LinkState) → os ≡ ps → ((t : AreTurns clock 0 os l end) → AreSettledOn stops front clock 0 [] os l end t)
+    → (t : AreTurns clock 0 ps l end) → AreSettledOn stops front clock 0 [] ps l end t
+by_orders stops front clock os ps l end e f = subst (λ (x : List Orders). (t : AreTurns clock 0 x l end) → AreSettledOn stops front clock 0 [] x l end t) e f
 
-pub all_settled : (m : Machine) (switches : List Switch) (pins : List (List Level)) (entries : List Entry) (b : ℕ) (turns : List BoardTurn) (stops : ℕ → Option ℕ) (end : LinkState)
+pub all_settled : (m : Machine) (switches : List Switch) (pins : List (List Level)) (entries : List Entry) (b until : ℕ) (front tail : List Sent) (turns : List BoardTurn) (stops : ℕ → Option ℕ) (end : LinkState)
     (t : AreTurns (clock_of (board_at m b)) 0 (orders_in turns) (first_state (board_at m b) pins b entries) end) → IsValidMachine m
-    → AreBoardTurns (clock_of (board_at m b)) (first_state (board_at m b) pins b entries) turns → AreHomed m switches pins entries b stops turns
-    → AreSettledOn stops (clock_of (board_at m b)) 0 [] (orders_in turns) (first_state (board_at m b) pins b entries) end t
-all_settled m switches pins entries b turns stops end t v are homed =
+    → AreBoardTurns (clock_of (board_at m b)) (first_state (board_at m b) pins b entries) turns → AreQueued until front → front ++ tail ≡ sent_by turns → AreHomed m switches pins entries b until stops turns
+    → AreSettledOn stops front (clock_of (board_at m b)) 0 [] (orders_in turns) (first_state (board_at m b) pins b entries) end t
+all_settled m switches pins entries b until front tail turns stops end t v are by all homed =
     let d = board_at m b in
     let clock = clock_of d in
     let first = first_state d pins b entries in
     let x = in_order turns in
-    by_orders stops clock (orders_of x.0) (orders_in turns) first end x.2
-    (λ k. along m switches pins entries b stops [] x.0 0 [] first end k v (subst (λ (y : List BoardTurn). AreBoardTurns clock first y) (sym x.1) are)
-    (subst (λ (y : List BoardTurn). AreHomed m switches pins entries b stops y) (sym x.1) homed) refl refl refl) t
+    by_orders stops front clock (orders_of x.0) (orders_in turns) first end x.2
+    (λ k. along m switches pins entries b until front tail stops [] x.0 0 [] first end k v (subst (λ (y : List BoardTurn). AreBoardTurns clock first y) (sym x.1) are) by (all ∙ ap sent_by (sym x.1))
+    (subst (λ (y : List BoardTurn). AreHomed m switches pins entries b until stops y) (sym x.1) homed) refl refl refl) t

@@ -1,5 +1,5 @@
 -- A homing section that a word tells of is one whose set-up each board took in time.
-use Rattle.std.proofs.Common.{◌≡◌, ℕ, ◌+◌, ◌-◌, ◌<◌, true, List, [], ◌∷◌, ◌++◌, length, map, Option, ap, sym, ◌∙◌, subst, arith}
+use Rattle.std.proofs.Common.{◌≡◌, ℕ, ◌+◌, ◌-◌, ◌<◌, ◌≤◌, true, List, [], ◌∷◌, ◌++◌, length, map, Option, ap, sym, ◌∙◌, subst, arith}
 use Rattle.plan_types.specs.declared.levels.Level.{Level}
 use Rattle.plan_types.specs.declared.machine.Machine.{Machine}
 use Rattle.plan_types.specs.Clock.{clock_of}
@@ -11,10 +11,12 @@ use Rattle.wire_scene.specs.declared.scene.Switch.{Switch}
 use Rattle.link_work.specs.Stands.{first_state}
 use Rattle.link_work.specs.Turn.{LinkState, Orders}
 use Rattle.board_world.specs.World.{start}
+use Rattle.run_laws.specs.Courses.{AllHeed, courses}
 use Rattle.run_laws.specs.Events.{AreOwn}
-use Rattle.run_laws.specs.Homes.{AreOrdersIn, IsHomeBoard, IsHomeRun, RunSection, AreReleasedIn}
+use Rattle.run_laws.specs.Homes.{AreOrdersIn, AreSoon, BeginLeftOf, IsHomeBoard, IsHomeRun, IsSplitIn, RunSection, lost_at}
 use Rattle.run_laws.specs.Links.{AreTold, steps_of, turns_told}
 use Rattle.run_laws.specs.Timely.{AllTimely}
+use Rattle.run_laws.proofs.HomeCut.{ended_by, front_queued, split_soon}
 use Rattle.trigger_group.specs.declared.order.End.TheVariants.{Endstop}
 use Rattle.trigger_group.specs.declared.order.Member.{Member}
 use Rattle.axis_homing.specs.Rising.{members_of}
@@ -68,59 +70,71 @@ orders_front clocks ss turn [] ps a = tt
 orders_front clocks ss turn (o ∷ os) ps a = (a.0, a.1, orders_front clocks ss (turn + 1) os ps a.2)
 
 -- no unit sets a clock from 254 turns before the start of one on
-pub none_set : (m : Machine) (switches : List Switch) (pins : List (List Level)) (entries : List Entry) (b freq slots ready end : ℕ) (own : ℕ → ℕ) (clocks : Clocks) (stops : ℕ → Option ℕ) (past : List RunSection) (s : RunSection) (later : List RunSection)
-    (turns : List BoardTurn) → IsHomeRun own clocks freq slots ready stops (past ++ s ∷ later) (orders_in turns) → AreReleasedIn (past ++ s ∷ later) → s.homes ≡ true → s.section.end ≡ end → (t : IsToldIn m switches pins entries b s.section.start end turns)
-    → (from : ℕ) → from + 254 ≡ s.section.start → SetNoClockFrom from t.past
-none_set m switches pins entries b freq slots ready end own clocks stops past s later turns run out homes at t from begins =
+pub none_set : (m : Machine) (switches : List Switch) (pins : List (List Level)) (entries : List Entry) (b freq slots ready end by : ℕ) (own : ℕ → ℕ) (clocks : Clocks) (stops : ℕ → Option ℕ) (past : List RunSection) (s : RunSection) (later : List RunSection)
+    (turns : List BoardTurn) → IsHomeRun own clocks freq slots ready stops (past ++ s ∷ later) (orders_in turns) → AreSoon by (past ++ s ∷ later) → s.section.end ≤ by → s.homes ≡ true → s.section.end ≡ end
+    → (t : IsToldIn m switches pins entries b s.section.start end turns) → (from : ℕ) → from + 254 ≡ s.section.start → SetNoClockFrom from t.past
+none_set m switches pins entries b freq slots ready end by own clocks stops past s later turns run out low homes at t from begins =
     let ss = past ++ s ∷ later in
     let long = t.long in
     let more = later_orders t.later t.past in
     let all : AreOrdersIn clocks ss 0 (orders_in t.past ++ more.0) = subst (λ (os : List Orders). AreOrdersIn clocks ss 0 os) (ap orders_in t.are ∙ more.1) run.orders in
-    none_from clocks freq slots run.tracked.until ready from stops past s later t.past run.row run.sections out (orders_front clocks ss 0 (orders_in t.past) more.0 all) homes begins (omega (arith, long, at))
+    none_from clocks freq slots run.tracked.until by ready from stops past s later t.past run.row run.sections out low (orders_front clocks ss 0 (orders_in t.past) more.0 all) homes begins (omega (arith, long, at))
 
 -- nor is any sent in the four turns of its set-up
-pub none_sent : (m : Machine) (switches : List Switch) (pins : List (List Level)) (entries : List Entry) (b freq slots ready end : ℕ) (own : ℕ → ℕ) (clocks : Clocks) (stops : ℕ → Option ℕ) (past : List RunSection) (s : RunSection) (later : List RunSection)
-    (turns : List BoardTurn) → IsHomeRun own clocks freq slots ready stops (past ++ s ∷ later) (orders_in turns) → AreReleasedIn (past ++ s ∷ later) → s.homes ≡ true → (t : IsToldIn m switches pins entries b s.section.start end turns)
+pub none_sent : (m : Machine) (switches : List Switch) (pins : List (List Level)) (entries : List Entry) (b freq slots ready end by : ℕ) (own : ℕ → ℕ) (clocks : Clocks) (stops : ℕ → Option ℕ) (past : List RunSection) (s : RunSection) (later : List RunSection)
+    (turns : List BoardTurn) → IsHomeRun own clocks freq slots ready stops (past ++ s ∷ later) (orders_in turns) → AreSoon by (past ++ s ∷ later) → s.section.start ≤ by → (t : IsToldIn m switches pins entries b s.section.start end turns)
     → (from : ℕ) → from + 254 ≡ s.section.start → SendNoneIn from (from + 4) t.past
-none_sent m switches pins entries b freq slots ready end own clocks stops past s later turns run out homes t from begins =
+none_sent m switches pins entries b freq slots ready end by own clocks stops past s later turns run out low t from begins =
     let ss = past ++ s ∷ later in
     let more = later_orders t.later t.past in
     let all : AreOrdersIn clocks ss 0 (orders_in t.past ++ more.0) = subst (λ (os : List Orders). AreOrdersIn clocks ss 0 os) (ap orders_in t.are ∙ more.1) run.orders in
-    sends_none clocks freq slots run.tracked.until ready from stops past s later t.past run.row run.sections out (orders_front clocks ss 0 (orders_in t.past) more.0 all) homes begins
+    sends_none clocks freq slots run.tracked.until by ready from stops past s later t.past run.row run.sections out low (orders_front clocks ss 0 (orders_in t.past) more.0 all) begins
 
-one_homed : (m : Machine) (switches : List Switch) (pins : List (List Level)) (entries : List Entry) (b freq slots ready end : ℕ) (own : ℕ → ℕ) (clocks : Clocks) (stops : ℕ → Option ℕ) (past : List RunSection) (s : RunSection) (later : List RunSection)
-    (turns : List BoardTurn) → IsHomeRun own clocks freq slots ready stops (past ++ s ∷ later) (orders_in turns) → AreReleasedIn (past ++ s ∷ later) → s.homes ≡ true → s.section.end ≡ end → IsToldIn m switches pins entries b s.section.start end turns
+one_homed : (m : Machine) (switches : List Switch) (pins : List (List Level)) (entries : List Entry) (b freq slots ready end by : ℕ) (own : ℕ → ℕ) (clocks : Clocks) (stops : ℕ → Option ℕ) (past : List RunSection) (s : RunSection) (later : List RunSection)
+    (turns : List BoardTurn) → IsHomeRun own clocks freq slots ready stops (past ++ s ∷ later) (orders_in turns) → AreSoon by (past ++ s ∷ later) → s.section.end ≤ by → s.homes ≡ true → s.section.end ≡ end → IsToldIn m switches pins entries b s.section.start end turns
     → IsHomed m switches pins entries b s.section.start end turns
-one_homed m switches pins entries b freq slots ready end own clocks stops past s later turns run out homes at t =
+one_homed m switches pins entries b freq slots ready end by own clocks stops past s later turns run out low homes at t =
     let start = s.section.start in
     let from = start - 254 in
     let soon = t.soon in
+    let far = t.far in
     let begins : from + 254 ≡ start = omega (arith, soon) in
-    told_homed m switches pins entries b start end from turns t begins (none_set m switches pins entries b freq slots ready end own clocks stops past s later turns run out homes at t from begins)
-    (none_sent m switches pins entries b freq slots ready end own clocks stops past s later turns run out homes t from begins)
+    told_homed m switches pins entries b start end from turns t begins (none_set m switches pins entries b freq slots ready end by own clocks stops past s later turns run out low homes at t from begins)
+    (none_sent m switches pins entries b freq slots ready end by own clocks stops past s later turns run out (omega (arith, far, at, low)) t from begins)
 
-all_homed : (m : Machine) (switches : List Switch) (pins : List (List Level)) (entries : List Entry) (b freq slots ready : ℕ) (own : ℕ → ℕ) (clocks : Clocks) (stops : ℕ → Option ℕ) (ss : List RunSection) (turns : List BoardTurn)
-    → IsHomeRun own clocks freq slots ready stops ss (orders_in turns) → AreReleasedIn ss → AreToldIn m switches pins entries b stops ss turns → AreHomed m switches pins entries b stops turns
-all_homed m switches pins entries b freq slots ready own clocks stops ss turns run out told = λ turn end is l.
+pub all_homed : (m : Machine) (switches : List Switch) (pins : List (List Level)) (entries : List Entry) (b freq slots ready : ℕ) (own : ℕ → ℕ) (clocks : Clocks) (stops : ℕ → Option ℕ) (ss : List RunSection) (turns : List BoardTurn)
+    → IsHomeRun own clocks freq slots ready stops ss (orders_in turns) → (split : IsSplitIn own stops slots ss (orders_in turns)) → AreToldIn m switches pins entries b stops ss turns → AreHomed m switches pins entries b (lost_at (length (orders_in turns)) split.tail) stops turns
+all_homed m switches pins entries b freq slots ready own clocks stops ss turns run split told = λ turn end low is l.
     let x = told turn end is l in
     let s = x.1 in
-    let far = x.8.far in (
+    let far = x.8.far in
+    let soon = x.6 in
+    let at = x.5 in
+    let long = order_length turns in
+    let run_is = subst (λ (y : List RunSection). IsHomeRun own clocks freq slots ready stops y (orders_in turns)) x.3 run in
+    let last = length (orders_in turns) in
+    let by = lost_at last split.tail in
+    let begun = subst (λ (y : List RunSection). BeginLeftOf last y (courses split.front) split.tail) x.3 split.begun in
+    let ended = ended_by last ready x.0 s x.2 (courses split.front) split.tail run_is.row begun x.4 (omega (arith, soon, low)) (omega (arith, at, l, long)) in
+    let clear = split_soon clocks freq slots run.tracked.until last ready stops ss (courses split.front) split.tail run.row run.sections split.begun in (
       s.section.start,
       x.6,
       x.7,
       far,
-      one_homed m switches pins entries b freq slots ready end own clocks stops x.0 s x.2 turns (subst (λ (y : List RunSection). IsHomeRun own clocks freq slots ready stops y (orders_in turns)) x.3 run) (subst AreReleasedIn x.3 out) x.4 x.5 x.8,
+      one_homed m switches pins entries b freq slots ready end by own clocks stops x.0 s x.2 turns run_is (subst (AreSoon by) x.3 clear) ended x.4 x.5 x.8,
     )
 
-pub home_board : (m : Machine) (switches : List Switch) (pins : List (List Level)) (entries : List Entry) (b ready : ℕ) (own : ℕ → ℕ) (clocks : Clocks) (stops : ℕ → Option ℕ) (ss : List RunSection) (turns : List BoardTurn) (states : List State) (end : LinkState)
+unfoldable pub home_board : (m : Machine) (switches : List Switch) (pins : List (List Level)) (entries : List Entry) (b ready : ℕ) (own : ℕ → ℕ) (clocks : Clocks) (stops : ℕ → Option ℕ) (ss : List RunSection) (turns : List BoardTurn) (states : List State) (end : LinkState)
     (told : AreTold (clock_of (board_at m b)) 0 (orders_in turns) states (first_state (board_at m b) pins b entries) end) → IsValidMachine m → b < length m.boards
     → AreBoardTurns (clock_of (board_at m b)) (first_state (board_at m b) pins b entries) turns
-    → AreOwn (board_at m b) (length turns) own → IsHomeRun own clocks (board_at m b).freq (board_at m b).slots ready stops ss (orders_in turns) → AreReleasedIn ss
+    → AreOwn (board_at m b) (length turns) own → IsHomeRun own clocks (board_at m b).freq (board_at m b).slots ready stops ss (orders_in turns) → (split : IsSplitIn own stops (board_at m b).slots ss (orders_in turns))
     → AllTimely (start (board_at m b) pins) (steps_of (clock_of (board_at m b)) 0 (orders_in turns) (first_state (board_at m b) pins b entries) end
+    (turns_told (clock_of (board_at m b)) 0 (orders_in turns) states (first_state (board_at m b) pins b entries) end told))
+    → AllHeed split.front split.tail (start (board_at m b) pins) (steps_of (clock_of (board_at m b)) 0 (orders_in turns) (first_state (board_at m b) pins b entries) end
     (turns_told (clock_of (board_at m b)) 0 (orders_in turns) states (first_state (board_at m b) pins b entries) end told))
     → AreToldIn m switches pins entries b stops ss turns
     → IsHomeBoard b entries ready (length turns) ss (record { board = board_at m b; pins = pins; clocks = clocks; sections = map (λ s. s.section) ss; orders = orders_in turns; states = states })
-home_board m switches pins entries b ready own clocks stops ss turns states end told v l are own_is run out timely sections =
+home_board m switches pins entries b ready own clocks stops ss turns states end told v l are own_is run split timely heed sections =
     let d = board_at m b in
     let clock = clock_of d in
     let first = first_state d pins b entries in
@@ -130,11 +144,13 @@ home_board m switches pins entries b ready own clocks stops ss turns states end 
       own = own;
       own_is = own_is;
       run_is = run;
-      released = out;
+      split = split;
       count = order_length turns;
       end = end;
       told = told;
       timely = timely;
-      settled = all_settled m switches pins entries b turns stops end (turns_told clock 0 (orders_in turns) states first end told) v are
-          (all_homed m switches pins entries b d.freq d.slots ready own clocks stops ss turns run out sections);
+      settled = all_settled m switches pins entries b (lost_at (length (orders_in turns)) split.tail) split.front split.tail turns stops end (turns_told clock 0 (orders_in turns) states first end told) v are
+          (front_queued (orders_in turns) split.front split.tail split.are) split.are
+          (all_homed m switches pins entries b d.freq d.slots ready own clocks stops ss turns run split sections);
+      heed = heed;
     }

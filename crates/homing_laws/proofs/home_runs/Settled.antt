@@ -36,7 +36,7 @@ use Rattle.clock_runs.proofs.Lines.{as_long, run_before}
 use Rattle.clock_runs.proofs.Orders.{order_length}
 use Rattle.run_laws.specs.Courses.{AreInTime, Course, IsFrom, FindStopped, IsInTime, IsSettled, IsStopped, course_behind, course_from, course_of, courses, next_part, no_course}
 use Rattle.run_laws.specs.Finds.{AllSetNot, SetsNot, StepsFindHalted}
-use Rattle.run_laws.specs.Known.{Known, Sent, more_steps, orders_in, sent_at, sent_in}
+use Rattle.run_laws.specs.Known.{AreQueued, Known, Sent, more_steps, orders_in, sent_at, sent_in}
 use Rattle.run_laws.proofs.Lists.{cons_same, cuts, orders_append, orders_at, orders_long, shorter}
 use Rattle.homing_laws.specs.home_runs.Sections.{HomesFrom, IsMoved, SetNone, SetNoneFrom, TakesSetUp, queued_by}
 use Rattle.homing_laws.specs.home_runs.Settled.{AreHomed, IsHomed, SendNoneIn, SetNoClock, SetNoClockFrom}
@@ -92,7 +92,7 @@ later_orders (t ∷ later) past =
 abbrev pub sent_by : List BoardTurn → List Sent
 sent_by turns = sent_in 0 (clock_runs.orders_in turns)
 
-sent_parts : (later past : List BoardTurn) → (rest : List Sent) × (sent_by (later ++ past) ≡ sent_by past ++ rest) × AllFrom (length past) rest
+pub sent_parts : (later past : List BoardTurn) → (rest : List Sent) × (sent_by (later ++ past) ≡ sent_by past ++ rest) × AllFrom (length past) rest
 sent_parts later past =
     let more = later_orders later past in
     let n = length (clock_runs.orders_in past) in
@@ -589,39 +589,60 @@ module _ (m : Machine) (switches : List Switch) (pins : List (List Level)) (entr
       let queued = t.queued in
       omega (arith, low, late, queued)
 
-module _ (m : Machine) (switches : List Switch) (pins : List (List Level)) (entries : List Entry) (b : ℕ) (turns : List BoardTurn) (stops : ℕ → Option ℕ) (v : IsValidMachine m)
-    (are : AreBoardTurns (clock_of (board_at m b)) (first_state (board_at m b) pins b entries) turns) (homed : AreHomed m switches pins entries b stops turns) where
+queued_at : (turn : ℕ) (xs : List Sent) (s : Sent) (ys : List Sent) → AreQueued turn (xs ++ s ∷ ys) → s.turn ≤ turn
+queued_at turn [] s ys a = a.0
+queued_at turn (x ∷ xs) s ys a = queued_at turn xs s ys a.1
+
+-- of a board that took none behind a front of what was queued, all of which was queued by a turn
+module _ (m : Machine) (switches : List Switch) (pins : List (List Level)) (entries : List Entry) (b until : ℕ) (turns : List BoardTurn) (stops : ℕ → Option ℕ) (v : IsValidMachine m)
+    (are : AreBoardTurns (clock_of (board_at m b)) (first_state (board_at m b) pins b entries) turns) (homed : AreHomed m switches pins entries b until stops turns)
+    (front tail rest : List Sent) (by : AreQueued until front) (all_is : front ++ tail ≡ sent_by turns ++ rest) (later : AllFrom (length turns) rest) where
   abbrev Here : Core
   Here = (stands_after (first_state (board_at m b) pins b entries) turns).core
 
   abbrev Stands : ℕ → List Sent → Type 0
   Stands oid done = ((is_halted (board.stepper_at Here.board.controller oid) ≡ true) ⊎ ((courses done oid).known.ends ≡ [])) × ((steps : List Step) → StepsFindHalted oid Here steps)
 
-  stopped_stands : (oid : ℕ) (done left : List Sent) (since : Option ℕ) → Here.board.controller.state ≡ Running → done ++ left ≡ sent_by turns → orders_in done ≡ Here.taken → (courses done oid).since ≡ since → IsStopped stops (length turns) since
-      → Stands oid done
-  stopped_stands oid done left None runs cut taken e st = absurd st
-  stopped_stands oid done left (Some q) runs cut taken e st = by_stop (stops q) refl st
+  stopped_stands : (oid : ℕ) (done left more : List Sent) (since : Option ℕ) → Here.board.controller.state ≡ Running → done ++ left ≡ sent_by turns → done ++ more ≡ front → orders_in done ≡ Here.taken → (courses done oid).since ≡ since
+      → IsStopped stops (length turns) since → Stands oid done
+  stopped_stands oid done left more None runs cut ahead taken e st = absurd st
+  stopped_stands oid done left more (Some q) runs cut ahead taken e st = by_stop (stops q) refl st
     where
+      last : LastSet oid q done
+      last = last_set oid q done e
+
+      low : q ≤ until
+      low =
+          let whole : last.front ++ last.set ∷ (last.behind ++ more) ≡ front = sym (append_assoc last.front (last.set ∷ last.behind) more) ∙ ap (λ (x : List Sent). x ++ more) (sym last.are) ∙ ahead in
+          let soon = queued_at until last.front last.set (last.behind ++ more) (subst (λ (x : List Sent). AreQueued until x) (sym whole) by) in
+          let at = last.at in
+          omega (arith, soon, at)
+
       by_stop : (o : Option ℕ) → stops q ≡ o → IsFrom (length turns) o → Stands oid done
       by_stop None is f = absurd f
       by_stop (Some end) is f =
-          let x = homed q end is f in
-          section_settles m switches pins entries b x.0 end turns v are x.4 x.3 q oid done left x.1 x.2 runs cut taken (last_set oid q done e)
+          let x = homed q end low is f in
+          section_settles m switches pins entries b x.0 end turns v are x.4 x.3 q oid done left x.1 x.2 runs cut taken last
 
-  left_stops : (done front : List Sent) (s : Sent) (behind : List Sent) (oid clock : ℕ) (o : Option ℕ) → done ++ (front ++ s ∷ behind) ≡ sent_by turns → orders_in done ≡ Here.taken → s.order.command ≡ cmd.ResetStepClock oid clock → stops s.turn ≡ o
+  left_stops : (done first : List Sent) (s : Sent) (behind : List Sent) (oid clock : ℕ) (o : Option ℕ) → done ++ (first ++ s ∷ behind) ≡ front → orders_in done ≡ Here.taken → s.order.command ≡ cmd.ResetStepClock oid clock → stops s.turn ≡ o
       → IsFrom (length turns) o → ⊥
-  left_stops done front s behind oid clock None cut taken is e st = st
-  left_stops done front s behind oid clock (Some end) cut taken is e st =
-      let x = homed s.turn end e st in
-      none_left m switches pins entries b x.0 end turns v are x.4 x.3 done front s behind oid clock x.1 x.2 cut taken is
+  left_stops done first s behind oid clock None ahead taken is e st = st
+  left_stops done first s behind oid clock (Some end) ahead taken is e st =
+      let here : (done ++ first) ++ s ∷ behind ≡ front = append_assoc done first (s ∷ behind) ∙ ahead in
+      let x = homed s.turn end (queued_at until (done ++ first) s behind (subst (λ (y : List Sent). AreQueued until y) (sym here) by)) e st in
+      let whole : (done ++ first) ++ s ∷ (behind ++ tail) ≡ sent_by turns ++ rest = sym (append_assoc (done ++ first) (s ∷ behind) tail) ∙ ap (λ (y : List Sent). y ++ tail) here ∙ all_is in
+      let late = x.2 in
+      let order = x.3 in
+      let in_turns = placed (done ++ first) s (behind ++ tail) (sent_by turns) rest (length turns) whole later (omega (arith, late, order, st)) in
+      none_left m switches pins entries b x.0 end turns v are x.4 x.3 done first s in_turns.0 oid clock x.1 x.2 (sym (append_assoc done first (s ∷ in_turns.0)) ∙ sym in_turns.1) taken is
 
-  pub settled : IsSettled stops (length turns) (sent_in 0 (clock_runs.orders_in turns)) Here
-  settled = λ runs done left cut taken. (
-    all_in_time stops (length turns) left (λ front s behind oid clock e is st.
-        left_stops done front s behind oid clock (stops s.turn) (subst (λ (x : List Sent). done ++ x ≡ sent_by turns) e cut) taken is refl st),
-    λ oid st. (stopped_stands oid done left (courses done oid).since runs cut taken refl st).0,
+  pub settled : IsSettled stops front (length turns) (sent_in 0 (clock_runs.orders_in turns)) Here
+  settled = λ runs done left more cut ahead taken. (
+    all_in_time stops (length turns) more (λ first s behind oid clock e is st.
+        left_stops done first s behind oid clock (stops s.turn) (subst (λ (x : List Sent). done ++ x ≡ front) e ahead) taken is refl st),
+    λ oid st. (stopped_stands oid done left more (courses done oid).since runs cut ahead taken refl st).0,
   )
 
   -- and in whatever follows
-  pub finds_stopped : (steps : List Step) → FindStopped stops (length turns) (sent_in 0 (clock_runs.orders_in turns)) Here steps
-  finds_stopped steps = λ runs done left cut taken oid st. (stopped_stands oid done left (courses done oid).since runs cut taken refl st).1 steps
+  pub finds_stopped : (steps : List Step) → FindStopped stops front (length turns) (sent_in 0 (clock_runs.orders_in turns)) Here steps
+  finds_stopped steps = λ runs done left more cut ahead taken oid st. (stopped_stands oid done left more (courses done oid).since runs cut ahead taken refl st).1 steps

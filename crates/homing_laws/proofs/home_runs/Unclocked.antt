@@ -1,19 +1,19 @@
 -- In the turns of a homing section no unit sets a clock.
-use Rattle.std.proofs.Common.{◌≡◌, ℕ, suc, ◌+◌, ◌<◌, ◌≤◌, ◌==◌, Bool, true, false, cond, List, [], ◌∷◌, ◌++◌, length, Option, None, refl, ap, sym, ◌∙◌, subst, arith, inl, inr}
+use Rattle.std.proofs.Common.{◌≡◌, ℕ, suc, ◌+◌, ◌<◌, ◌≤◌, ◌==◌, Bool, true, false, cond, List, [], ◌∷◌, ◌++◌, length, Option, None, refl, ap, sym, ◌∙◌, subst, arith}
 use Rattle.std.specs.List.{All, flat_map}
 use Rattle.std.proofs.lemmas.Bool.{eq-eqb}
-use Rattle.std.proofs.lemmas.Bool.Decides.{eqb_tells}
 use Rattle.std.proofs.lemmas.List.Elements.{All-head, All-tail}
 use Rattle.plan_types.specs.Lines.{Clocks}
 use Rattle.msg_code.specs.declared.unit.Unit.{Unit as StepUnit}
 use Rattle.step_feed.specs.Pacing.{Release, batch_at, units_of}
-use Rattle.section_units.specs.Sections.{AreBefore, AreBegunBy, AreChained, base_of, of_stepper}
+use Rattle.section_units.specs.Sections.{AreBegunBy, AreChained, base_of, of_stepper}
 use Rattle.link_work.specs.Stands.{orders}
 use Rattle.link_work.specs.Turn.{Orders}
 use Rattle.board_runs.specs.Turns.{BoardTurn}
 use Rattle.clock_runs.specs.Runs.{orders_in}
 use Rattle.clock_runs.proofs.Orders.{order_length}
-use Rattle.run_laws.specs.Homes.{AreInTurn, AreOrdersIn, IsHomingIn, IsSectionBy, RunSection, AreReleasedIn}
+use Rattle.run_laws.specs.Homes.{AreInTurn, AreOrdersIn, AreSoon, IsHomingIn, IsSectionBy, RunSection}
+use Rattle.run_laws.proofs.HomeLimits.{past_empty}
 use Rattle.run_laws.proofs.Releasing.{AreFrom, from_down, none_at, paced_from}
 use Rattle.homing_laws.specs.home_runs.Settled.{SendNoneIn, SetNoClock, SetNoClockFrom}
 
@@ -51,29 +51,16 @@ batch_none : (k : ℕ) (rs : List Release) → SetNoClock (units_of rs) → SetN
 batch_none k [] n = tt
 batch_none k (r ∷ rs) n = either_none (r.turn == k) r.unit (batch_at k rs) n.0 (batch_none k rs n.1)
 
--- released before a turn
-early_none : (n k : ℕ) (rs : List Release) → AreBefore n rs → n ≤ k → batch_at k rs ≡ []
-early_none n k [] b l = refl
-early_none n k (r ∷ rs) b l = elim (eqb_tells r.turn k) [
-  | inl p ↦ let e = p.1 in let a = b.0 in absurd (omega (arith, e, a, l))
-  | inr p ↦ rw p.0 (early_none n k rs b.1 l)
-]
-
 set_none : (us : List StepUnit) → us ≡ [] → SetNoClock us
 set_none us e = subst SetNoClock (sym e) tt
 
--- a section that is over, one that is to come, and one that homes
-past_none : (homes : Bool) (clocks : Clocks) (freq slots until k : ℕ) (stops : ℕ → Option ℕ) (x : RunSection) → x.homes ≡ homes → IsSectionBy homes clocks freq slots until stops x.section → (x.homes ≡ false → AreBefore (x.section.end + 5) x.section.releases)
-    → x.section.end + 6 ≤ k → SetNoClock (batch_at k x.section.releases)
-past_none true clocks freq slots until k stops x e i soon l = set_none _ (early_none x.section.end k x.section.releases i.released (omega (arith, l)))
-past_none false clocks freq slots until k stops x e i soon l = set_none _ (early_none (x.section.end + 5) k x.section.releases (soon e) (omega (arith, l)))
-
+-- of one that is to come, and one that homes
 late_none : (clocks : Clocks) (slots from start k : ℕ) (rs : List Release) → AreFrom from rs → from + 250 ≡ start → k + 251 ≤ start → batch_at k rs ≡ []
 late_none clocks slots from start k rs a soon l = none_at k rs (from_down (k + 1) from rs (omega (arith, soon, l)) a)
 
-next_none : (homes : Bool) (clocks : Clocks) (freq slots until k : ℕ) (stops : ℕ → Option ℕ) (x : RunSection) → x.homes ≡ homes → IsSectionBy homes clocks freq slots until stops x.section → k + 251 ≤ x.section.start → SetNoClock (batch_at k x.section.releases)
-next_none true clocks freq slots until k stops x e i l = set_none _ (late_none clocks slots i.from x.section.start k x.section.releases (paced_from clocks slots i.from [] x.section.releases i.paced) i.exact l)
-next_none false clocks freq slots until k stops x e i l = set_none _ (late_none clocks slots i.is.from x.section.start k x.section.releases (paced_from clocks slots i.is.from [] x.section.releases i.is.paced) i.is.exact l)
+next_empty : (homes : Bool) (clocks : Clocks) (freq slots until k : ℕ) (stops : ℕ → Option ℕ) (x : RunSection) → x.homes ≡ homes → IsSectionBy homes clocks freq slots until stops x.section → k + 251 ≤ x.section.start → batch_at k x.section.releases ≡ []
+next_empty true clocks freq slots until k stops x e i l = late_none clocks slots i.from x.section.start k x.section.releases (paced_from clocks slots i.from [] x.section.releases i.paced) i.exact l
+next_empty false clocks freq slots until k stops x e i l = late_none clocks slots i.is.from x.section.start k x.section.releases (paced_from clocks slots i.is.from [] x.section.releases i.is.paced) i.is.exact l
 
 home_none : (clocks : Clocks) (freq slots until k : ℕ) (stops : ℕ → Option ℕ) (x : RunSection) → IsHomingIn clocks freq slots until stops x.section → SetNoClock (batch_at k x.section.releases)
 home_none clocks freq slots until k stops x i =
@@ -85,63 +72,8 @@ Units k ss = flat_map (λ x. batch_at k x.section.releases) ss
 abbrev By : Clocks → ℕ → ℕ → ℕ → (ℕ → Option ℕ) → RunSection → Type 0
 By clocks freq slots until stops x = IsSectionBy x.homes clocks freq slots until stops x.section
 
-all_later : (clocks : Clocks) (freq slots until k turn : ℕ) (stops : ℕ → Option ℕ) (ss : List RunSection) → AreInTurn turn ss → All (λ x. By clocks freq slots until stops x) ss → k < turn → SetNoClock (Units k ss)
-all_later clocks freq slots until k turn stops [] row all l = tt
-all_later clocks freq slots until k turn stops (x ∷ ss) row all l =
-    let a = row.0 in
-    let b = row.1 in
-    none_both (batch_at k x.section.releases) (Units k ss) (next_none x.homes clocks freq slots until k stops x refl (All-head (λ y. By clocks freq slots until stops y) x ss all) (omega (arith, a, l)))
-    (all_later clocks freq slots until k x.section.end stops ss row.2 (All-tail (λ y. By clocks freq slots until stops y) x ss all) (omega (arith, a, b, l)))
-
-start_behind : (turn : ℕ) (past : List RunSection) (s : RunSection) (later : List RunSection) → AreInTurn turn (past ++ s ∷ later) → turn + 260 ≤ s.section.start
-start_behind turn [] s later row = row.0
-start_behind turn (x ∷ past) s later row = let a = row.0 in let b = row.1 in let c = start_behind x.section.end past s later row.2 in omega (arith, a, b, c)
-
-turn_none : (clocks : Clocks) (freq slots until k turn : ℕ) (stops : ℕ → Option ℕ) (past : List RunSection) (s : RunSection) (later : List RunSection) → AreInTurn turn (past ++ s ∷ later)
-    → All (λ x. By clocks freq slots until stops x) (past ++ s ∷ later) → AreReleasedIn (past ++ s ∷ later) → s.homes ≡ true → s.section.start ≤ k + 254 → k < s.section.end → SetNoClock (Units k (past ++ s ∷ later))
-turn_none clocks freq slots until k turn stops [] s later row all out homes soon early =
-    let own : IsSectionBy true clocks freq slots until stops s.section = subst (λ (t : Bool). IsSectionBy t clocks freq slots until stops s.section) homes (All-head (λ y. By clocks freq slots until stops y) s later all) in
-    none_both (batch_at k s.section.releases) (Units k later) (home_none clocks freq slots until k stops s own)
-    (all_later clocks freq slots until k s.section.end stops later row.2 (All-tail (λ y. By clocks freq slots until stops y) s later all) early)
-turn_none clocks freq slots until k turn stops (x ∷ past) s later row all out homes soon early =
-    let rest = past ++ s ∷ later in
-    let a = start_behind x.section.end past s later row.2 in
-    none_both (batch_at k x.section.releases) (Units k rest) (past_none x.homes clocks freq slots until k stops x refl (All-head (λ y. By clocks freq slots until stops y) x rest all) out.0 (omega (arith, a, soon)))
-    (turn_none clocks freq slots until k x.section.end stops past s later row.2 (All-tail (λ y. By clocks freq slots until stops y) x rest all) out.1 homes soon early)
-
--- over turns
-orders_last : (clocks : Clocks) (ss : List RunSection) (turn : ℕ) (os : List Orders) (o : Orders) → AreOrdersIn clocks ss turn (os ++ o ∷ []) → AreOrdersIn clocks ss turn os × (o.batch.units ≡ Units (turn + length os) ss)
-orders_last clocks ss turn [] o a = (tt, a.1 ∙ ap (λ (k : ℕ). Units k ss) (omega arith))
-orders_last clocks ss turn (x ∷ os) o a =
-    let rest = orders_last clocks ss (turn + 1) os o a.2 in
-    let e : turn + 1 + length os ≡ turn + suc (length os) = omega arith in
-    ((a.0, a.1, rest.0), rest.1 ∙ ap (λ (k : ℕ). Units k ss) e)
-
-pub none_from : (clocks : Clocks) (freq slots until ready from : ℕ) (stops : ℕ → Option ℕ) (past : List RunSection) (s : RunSection) (later : List RunSection) (turns : List BoardTurn) → AreInTurn ready (past ++ s ∷ later)
-    → All (λ x. IsSectionBy x.homes clocks freq slots until stops x.section) (past ++ s ∷ later) → AreReleasedIn (past ++ s ∷ later) → AreOrdersIn clocks (past ++ s ∷ later) 0 (orders_in turns) → s.homes ≡ true → from + 254 ≡ s.section.start
-    → length turns ≤ s.section.end → SetNoClockFrom from turns
-none_from clocks freq slots until ready from stops past s later [] row all out a homes e l = tt
-none_from clocks freq slots until ready from stops past s later (t ∷ before) row all out a homes e l =
-    let ss = past ++ s ∷ later in
-    let both = orders_last clocks ss 0 (orders_in before) (orders t.control t.batch) a in
-    let n = order_length before in
-    let at : 0 + length (orders_in before) ≡ length before = omega (arith, n) in (
-      λ far. subst SetNoClock (sym (both.1 ∙ ap (λ (k : ℕ). Units k ss) at)) (turn_none clocks freq slots until (length before) ready stops past s later row all out homes (omega (arith, far, e)) (omega (arith, l))),
-      none_from clocks freq slots until ready from stops past s later before row all out both.0 homes e (omega (arith, l)),
-    )
-
--- In the turns of its set-up no unit is sent.
 empty_both : (xs ys : List StepUnit) → xs ≡ [] → ys ≡ [] → xs ++ ys ≡ []
 empty_both xs ys a b = ap (λ (l : List StepUnit). l ++ ys) a ∙ b
-
-past_empty : (homes : Bool) (clocks : Clocks) (freq slots until k : ℕ) (stops : ℕ → Option ℕ) (x : RunSection) → x.homes ≡ homes → IsSectionBy homes clocks freq slots until stops x.section → (x.homes ≡ false → AreBefore (x.section.end + 5) x.section.releases)
-    → x.section.end + 6 ≤ k → batch_at k x.section.releases ≡ []
-past_empty true clocks freq slots until k stops x e i soon l = early_none x.section.end k x.section.releases i.released (omega (arith, l))
-past_empty false clocks freq slots until k stops x e i soon l = early_none (x.section.end + 5) k x.section.releases (soon e) (omega (arith, l))
-
-next_empty : (homes : Bool) (clocks : Clocks) (freq slots until k : ℕ) (stops : ℕ → Option ℕ) (x : RunSection) → x.homes ≡ homes → IsSectionBy homes clocks freq slots until stops x.section → k + 251 ≤ x.section.start → batch_at k x.section.releases ≡ []
-next_empty true clocks freq slots until k stops x e i l = late_none clocks slots i.from x.section.start k x.section.releases (paced_from clocks slots i.from [] x.section.releases i.paced) i.exact l
-next_empty false clocks freq slots until k stops x e i l = late_none clocks slots i.is.from x.section.start k x.section.releases (paced_from clocks slots i.is.from [] x.section.releases i.is.paced) i.is.exact l
 
 later_empty : (clocks : Clocks) (freq slots until k turn : ℕ) (stops : ℕ → Option ℕ) (ss : List RunSection) → AreInTurn turn ss → All (λ x. By clocks freq slots until stops x) ss → k < turn → Units k ss ≡ []
 later_empty clocks freq slots until k turn stops [] row all l = refl
@@ -151,27 +83,65 @@ later_empty clocks freq slots until k turn stops (x ∷ ss) row all l =
     empty_both (batch_at k x.section.releases) (Units k ss) (next_empty x.homes clocks freq slots until k stops x refl (All-head (λ y. By clocks freq slots until stops y) x ss all) (omega (arith, a, l)))
     (later_empty clocks freq slots until k x.section.end stops ss row.2 (All-tail (λ y. By clocks freq slots until stops y) x ss all) (omega (arith, a, b, l)))
 
-turn_empty : (clocks : Clocks) (freq slots until k turn : ℕ) (stops : ℕ → Option ℕ) (past : List RunSection) (s : RunSection) (later : List RunSection) → AreInTurn turn (past ++ s ∷ later)
-    → All (λ x. By clocks freq slots until stops x) (past ++ s ∷ later) → AreReleasedIn (past ++ s ∷ later) → s.section.start ≤ k + 254 → k + 251 ≤ s.section.start → Units k (past ++ s ∷ later) ≡ []
-turn_empty clocks freq slots until k turn stops [] s later row all out soon early =
-    let b = row.1 in
-    empty_both (batch_at k s.section.releases) (Units k later) (next_empty s.homes clocks freq slots until k stops s refl (All-head (λ y. By clocks freq slots until stops y) s later all) early)
-    (later_empty clocks freq slots until k s.section.end stops later row.2 (All-tail (λ y. By clocks freq slots until stops y) s later all) (omega (arith, early, b)))
-turn_empty clocks freq slots until k turn stops (x ∷ past) s later row all out soon early =
+start_behind : (turn : ℕ) (past : List RunSection) (s : RunSection) (later : List RunSection) → AreInTurn turn (past ++ s ∷ later) → turn + 260 ≤ s.section.start
+start_behind turn [] s later row = row.0
+start_behind turn (x ∷ past) s later row = let a = row.0 in let b = row.1 in let c = start_behind x.section.end past s later row.2 in omega (arith, a, b, c)
+
+turn_none : (clocks : Clocks) (freq slots until by k turn : ℕ) (stops : ℕ → Option ℕ) (past : List RunSection) (s : RunSection) (later : List RunSection) → AreInTurn turn (past ++ s ∷ later)
+    → All (λ x. By clocks freq slots until stops x) (past ++ s ∷ later) → AreSoon by (past ++ s ∷ later) → k ≤ by → s.homes ≡ true → s.section.start ≤ k + 254 → k < s.section.end → SetNoClock (Units k (past ++ s ∷ later))
+turn_none clocks freq slots until by k turn stops [] s later row all out low homes soon early =
+    let own : IsSectionBy true clocks freq slots until stops s.section = subst (λ (t : Bool). IsSectionBy t clocks freq slots until stops s.section) homes (All-head (λ y. By clocks freq slots until stops y) s later all) in
+    none_both (batch_at k s.section.releases) (Units k later) (home_none clocks freq slots until k stops s own)
+    (set_none (Units k later) (later_empty clocks freq slots until k s.section.end stops later row.2 (All-tail (λ y. By clocks freq slots until stops y) s later all) early))
+turn_none clocks freq slots until by k turn stops (x ∷ past) s later row all out low homes soon early =
     let rest = past ++ s ∷ later in
     let a = start_behind x.section.end past s later row.2 in
-    empty_both (batch_at k x.section.releases) (Units k rest) (past_empty x.homes clocks freq slots until k stops x refl (All-head (λ y. By clocks freq slots until stops y) x rest all) out.0 (omega (arith, a, soon)))
-    (turn_empty clocks freq slots until k x.section.end stops past s later row.2 (All-tail (λ y. By clocks freq slots until stops y) x rest all) out.1 soon early)
+    none_both (batch_at k x.section.releases) (Units k rest) (set_none (batch_at k x.section.releases) (past_empty by x.section.end k x.section.releases out.0 low (omega (arith, a, soon))))
+    (turn_none clocks freq slots until by k x.section.end stops past s later row.2 (All-tail (λ y. By clocks freq slots until stops y) x rest all) out.1 low homes soon early)
 
-pub sends_none : (clocks : Clocks) (freq slots until ready from : ℕ) (stops : ℕ → Option ℕ) (past : List RunSection) (s : RunSection) (later : List RunSection) (turns : List BoardTurn) → AreInTurn ready (past ++ s ∷ later)
-    → All (λ x. IsSectionBy x.homes clocks freq slots until stops x.section) (past ++ s ∷ later) → AreReleasedIn (past ++ s ∷ later) → AreOrdersIn clocks (past ++ s ∷ later) 0 (orders_in turns) → s.homes ≡ true → from + 254 ≡ s.section.start
-    → SendNoneIn from (from + 4) turns
-sends_none clocks freq slots until ready from stops past s later [] row all out a homes e = tt
-sends_none clocks freq slots until ready from stops past s later (t ∷ before) row all out a homes e =
+-- over turns
+orders_last : (clocks : Clocks) (ss : List RunSection) (turn : ℕ) (os : List Orders) (o : Orders) → AreOrdersIn clocks ss turn (os ++ o ∷ []) → AreOrdersIn clocks ss turn os × (o.batch.units ≡ Units (turn + length os) ss)
+orders_last clocks ss turn [] o a = (tt, a.1 ∙ ap (λ (k : ℕ). Units k ss) (omega arith))
+orders_last clocks ss turn (x ∷ os) o a =
+    let rest = orders_last clocks ss (turn + 1) os o a.2 in
+    let e : turn + 1 + length os ≡ turn + suc (length os) = omega arith in
+    ((a.0, a.1, rest.0), rest.1 ∙ ap (λ (k : ℕ). Units k ss) e)
+
+pub none_from : (clocks : Clocks) (freq slots until by ready from : ℕ) (stops : ℕ → Option ℕ) (past : List RunSection) (s : RunSection) (later : List RunSection) (turns : List BoardTurn) → AreInTurn ready (past ++ s ∷ later)
+    → All (λ x. IsSectionBy x.homes clocks freq slots until stops x.section) (past ++ s ∷ later) → AreSoon by (past ++ s ∷ later) → s.section.end ≤ by → AreOrdersIn clocks (past ++ s ∷ later) 0 (orders_in turns) → s.homes ≡ true → from + 254 ≡ s.section.start
+    → length turns ≤ s.section.end → SetNoClockFrom from turns
+none_from clocks freq slots until by ready from stops past s later [] row all out low a homes e l = tt
+none_from clocks freq slots until by ready from stops past s later (t ∷ before) row all out low a homes e l =
     let ss = past ++ s ∷ later in
     let both = orders_last clocks ss 0 (orders_in before) (orders t.control t.batch) a in
     let n = order_length before in
     let at : 0 + length (orders_in before) ≡ length before = omega (arith, n) in (
-      λ far near. both.1 ∙ ap (λ (k : ℕ). Units k ss) at ∙ turn_empty clocks freq slots until (length before) ready stops past s later row all out (omega (arith, far, e)) (omega (arith, near, e)),
-      sends_none clocks freq slots until ready from stops past s later before row all out both.0 homes e,
+      λ far. subst SetNoClock (sym (both.1 ∙ ap (λ (k : ℕ). Units k ss) at)) (turn_none clocks freq slots until by (length before) ready stops past s later row all out (omega (arith, l, low)) homes (omega (arith, far, e)) (omega (arith, l))),
+      none_from clocks freq slots until by ready from stops past s later before row all out low both.0 homes e (omega (arith, l)),
+    )
+
+-- In the turns of its set-up no unit is sent.
+turn_empty : (clocks : Clocks) (freq slots until by k turn : ℕ) (stops : ℕ → Option ℕ) (past : List RunSection) (s : RunSection) (later : List RunSection) → AreInTurn turn (past ++ s ∷ later)
+    → All (λ x. By clocks freq slots until stops x) (past ++ s ∷ later) → AreSoon by (past ++ s ∷ later) → k ≤ by → s.section.start ≤ k + 254 → k + 251 ≤ s.section.start → Units k (past ++ s ∷ later) ≡ []
+turn_empty clocks freq slots until by k turn stops [] s later row all out low soon early =
+    let b = row.1 in
+    empty_both (batch_at k s.section.releases) (Units k later) (next_empty s.homes clocks freq slots until k stops s refl (All-head (λ y. By clocks freq slots until stops y) s later all) early)
+    (later_empty clocks freq slots until k s.section.end stops later row.2 (All-tail (λ y. By clocks freq slots until stops y) s later all) (omega (arith, early, b)))
+turn_empty clocks freq slots until by k turn stops (x ∷ past) s later row all out low soon early =
+    let rest = past ++ s ∷ later in
+    let a = start_behind x.section.end past s later row.2 in
+    empty_both (batch_at k x.section.releases) (Units k rest) (past_empty by x.section.end k x.section.releases out.0 low (omega (arith, a, soon)))
+    (turn_empty clocks freq slots until by k x.section.end stops past s later row.2 (All-tail (λ y. By clocks freq slots until stops y) x rest all) out.1 low soon early)
+
+pub sends_none : (clocks : Clocks) (freq slots until by ready from : ℕ) (stops : ℕ → Option ℕ) (past : List RunSection) (s : RunSection) (later : List RunSection) (turns : List BoardTurn) → AreInTurn ready (past ++ s ∷ later)
+    → All (λ x. IsSectionBy x.homes clocks freq slots until stops x.section) (past ++ s ∷ later) → AreSoon by (past ++ s ∷ later) → s.section.start ≤ by → AreOrdersIn clocks (past ++ s ∷ later) 0 (orders_in turns) → from + 254 ≡ s.section.start
+    → SendNoneIn from (from + 4) turns
+sends_none clocks freq slots until by ready from stops past s later [] row all out low a e = tt
+sends_none clocks freq slots until by ready from stops past s later (t ∷ before) row all out low a e =
+    let ss = past ++ s ∷ later in
+    let both = orders_last clocks ss 0 (orders_in before) (orders t.control t.batch) a in
+    let n = order_length before in
+    let at : 0 + length (orders_in before) ≡ length before = omega (arith, n) in (
+      λ far near. both.1 ∙ ap (λ (k : ℕ). Units k ss) at ∙ turn_empty clocks freq slots until by (length before) ready stops past s later row all out (omega (arith, near, e, low)) (omega (arith, far, e)) (omega (arith, near, e)),
+      sends_none clocks freq slots until by ready from stops past s later before row all out low both.0 e,
     )

@@ -48,8 +48,8 @@ pub record IsHomed (m : Machine) (switches : List Switch) (pins : List (List Lev
   pub sends_none : SendNoneIn answered.from (answered.from + 4) past
   pub fires : TakesSetUp (first_state (board_at m b) pins b entries) start past ⊎ IsReadSo m switches b came before past
 
--- The parts of a board's steps that are begun in some turns stop with homing sections that have ended by a turn: each such part is begun
--- 254 to 252 turns before the start of one.
-abbrev pub AreHomed : Machine → List Switch → List (List Level) → List Entry → ℕ → (ℕ → Option ℕ) → List BoardTurn → Type 0
-AreHomed m switches pins entries b stops turns =
-    (turn end : ℕ) → stops turn ≡ Some end → end ≤ length turns → (start : ℕ) × (start ≤ turn + 254) × (turn + 252 ≤ start) × (start ≤ end) × IsHomed m switches pins entries b start end turns
+-- The parts of a board's steps that are begun by a turn stop with homing sections that have ended by the end of some turns: each such part is
+-- begun 254 to 252 turns before the start of one.
+abbrev pub AreHomed : Machine → List Switch → List (List Level) → List Entry → ℕ → ℕ → (ℕ → Option ℕ) → List BoardTurn → Type 0
+AreHomed m switches pins entries b until stops turns =
+    (turn end : ℕ) → turn ≤ until → stops turn ≡ Some end → end ≤ length turns → (start : ℕ) × (start ≤ turn + 254) × (turn + 252 ≤ start) × (start ≤ end) × IsHomed m switches pins entries b start end turns

@@ -9,14 +9,15 @@ use Rattle.wire_scene.specs.declared.scene.Scene.{Scene}
 use Rattle.link_work.specs.Switches.{pins_of}
 use Rattle.host_reactor.specs.Runs.{Came}
 use Rattle.board_runs.specs.Turns.{BoardTurn}
-use Rattle.clock_runs.specs.Runs.{IsInRun}
+use Rattle.clock_runs.specs.Runs.{IsInRun, UnitsFit}
 use Rattle.clock_runs.proofs.Orders.{order_length}
 use Rattle.motion_work.specs.Told.{Told}
 use Rattle.session_work.specs.declared.table.MotionTurn.{MotionTurn}
 use Rattle.session_work.specs.declared.table.ReactorTurn.{ReactorTurn}
 use Rattle.session_run.specs.Boards.{came_from}
 use Rattle.run_laws.specs.Boards.{OnBoard}
-use Rattle.run_laws.specs.Homes.{IsHomeBoard}
+use Rattle.run_laws.specs.Homes.{AreOut, IsHomeBoard}
+use Rattle.run_plans.specs.Homed.{runs_on}
 use Rattle.run_boards.specs.Boards.{IsInWhole, behind}
 use Rattle.run_boards.specs.Turns.{came_before}
 use Rattle.run_plans.specs.Lines.{TellTurns, TookNotes}
@@ -35,7 +36,7 @@ use Rattle.session_laws.specs.clock_ages.Renewed.{StayYoung}
 use Rattle.session_laws.proofs.clock_ages.Own.{Own}
 use Rattle.session_laws.proofs.clock_ages.Renews.{renews}
 use Rattle.session_laws.specs.home_headline.Little.{HomesLittle}
-use Rattle.session_laws.proofs.home_headline.Board.{Followed, boarded, here, lines_of}
+use Rattle.session_laws.proofs.home_headline.Board.{Followed, boarded, here, homing_in, lines_of}
 use Rattle.session_laws.proofs.home_headline.Clocks.{run_knows}
 use Rattle.session_laws.proofs.home_headline.Planned.{planned_by}
 use Rattle.session_laws.proofs.home_headline.Ranges.{may_all, on_small, range_all, starts_soon}
@@ -97,6 +98,11 @@ module _ (m : Machine) (v : IsValidMachine m) (s : Scene) (ts : List MotionTurn)
 
   pub on : (b : ℕ) (h : b < length m.boards) → IsHomeBoard b s.entries By N (cuts_on m t.clocks N p.seen.begun b) (Here b h)
   on b h = boarded m v s ts p t first rest end told f.ahead b f.words_left (whole b h) turn h f.turns f.words notes long (little b h (whole b h)) (lines b h) sound formed (range b h)
+
+  -- and what it was sent
+  pub fits : (b : ℕ) (h : b < length m.boards) → AreOut (length p.made) (runs_on m t.clocks p.seen.begun b) → UnitsFit (Turns_of b h)
+  fits b h out =
+      (homing_in m v s ts p t first rest end told f.ahead b f.words_left (whole b h) turn h f.turns f.words notes long (little b h (whole b h)) (lines b h) sound formed (range b h)).fits out
 
   pub run_of : (b : ℕ) (h : b < length m.boards) → IsInRun m s.switches (pins_of (board_at m b) b s.switches) s.entries b Came_all (Turns_of b h)
   run_of b h =

@@ -80,21 +80,22 @@ use Rattle.plan_types.specs.declared.machine.BoardDef.{BoardDef}
 use Rattle.plan_types.specs.declared.levels.Level.{Level}
 use Rattle.plan_types.specs.declared.plan.SectionKind.TheVariants.{Moves}
 use Rattle.clock_runs.specs.Runs.{orders_in}
-use Rattle.run_laws.specs.Homes.{IsHomeBoard}
+use Rattle.run_laws.specs.Homes.{AreOut, IsHomeBoard}
+use Rattle.run_plans.specs.Homed.{runs_on}
 use Rattle.session_laws.proofs.run_headline.Boarded.{Ready, came_cut, came_split, lined, ready, took, took_long, valid_at}
 use Rattle.session_laws.proofs.run_headline.Plain.{all_moves}
 use Rattle.session_laws.proofs.run_headline.Showing.{came_long, cut_last, front_notes, in_none, long_own, not_told, took_notes, turns_cut}
 use Rattle.homing_laws.specs.home_plans.Notes.{CameNotes, WasBegun}
 use Rattle.homing_laws.proofs.home_plans.Knowing.{now_was}
 use Rattle.homing_laws.specs.home_parts.Cuts.{cuts_on}
-use Rattle.homing_laws.proofs.home_parts.Limits.{turns_fit}
 use Rattle.session_laws.specs.home_headline.Little.{HomesLittle, SendsAllInTime}
 use Rattle.session_laws.proofs.home_headline.Board.{here}
-use Rattle.session_laws.proofs.home_headline.Clear.{clear_little}
+use Rattle.session_laws.proofs.home_headline.Clear.{clear_little, time_out}
 use Rattle.session_laws.proofs.home_headline.Planned.{all_notes}
 use Rattle.cause_runs.specs.Short.{HaveShortDictionaries}
 use Rattle.session_laws.specs.clear_runs.Clear.{SendsAllSoon}
 use Rattle.session_laws.proofs.clear_homes.Boards.{on}
+use Rattle.session_laws.proofs.clear_homes.Boards as boards
 use Rattle.session_laws.proofs.clear_homes.Expired.{expired_of, missed_of}
 use Rattle.session_laws.proofs.clear_homes.Punctual.{RunsLed, cuts_led, soon_not_late}
 use Rattle.session_laws.proofs.clear_homes.Whole.{closes_first, never_expired, never_missed}
@@ -202,6 +203,9 @@ module _ (m : Machine) (v : IsValidMachine m) (short : HaveShortDictionaries m) 
         → HomesLittle m s b ts first (rest ++ end ∷ []) (length p.made) t p.seen.begun x
     little t told b low x = clear_little m s p.seen.text ts (first ∷ (rest ++ end ∷ [])) clear (soon_all m p.seen.text ts sends) p t b refl told low x
 
+    outs : (t : Told) → p.seen.told ≡ Some t → (b : ℕ) → b < length m.boards → AreOut (length p.made) (runs_on m t.clocks p.seen.begun b)
+    outs t told b low = (time_out m p.seen.text ts (soon_all m p.seen.text ts sends) p t b refl told low).0
+
     -- where the planner was told no clock lines, none homes
     none_moves : p.seen.told ≡ None → AllMoves All_came
     none_moves e =
@@ -276,8 +280,8 @@ module _ (m : Machine) (v : IsValidMachine m) (short : HaveShortDictionaries m) 
         home = on m v s ts p t first rest end c told f long short (little t told) b low
 
         told_fits : UnitsFit (behind [] w.made)
-        told_fits =
-            turns_fit home.own (clocks_at t.clocks b) (board_at m b).freq (board_at m b).slots (length (came_from [] Ready_in.past)) home.stops (cuts_on m t.clocks (length (rest ++ end ∷ [])) p.seen.begun b) (behind [] w.made) home.run_is home.released
+        unfolding w
+        told_fits = boards.fits m v s ts p t first rest end c told f long short (little t told) b low (outs t told b low)
 
         -- the line of an exact clock
         exact : (board_at m b).drift ≡ pos 0 → (k : ℕ) → length (came_from [] Ready_in.past) ≤ k → board_tick (clock_of (board_at m b)) k ≤ lines_tick (clocks_at t.clocks b) ((k + 0) * turn_ns)
@@ -439,7 +443,7 @@ module _ (m : Machine) (v : IsValidMachine m) (short : HaveShortDictionaries m) 
             in_none begun.0 begun.1 begun.2 p.seen.begun (not_told m v s ts p end c none) begun.4
         by (Some t) some =
             let is = expired_of Now.clocks (length All_came) board turn end.states Now.homing e in
-            never_expired m v s ts p t first rest end c some f long short (little t some) clear not_stopping (have 0 v.boards_some) (λ b low. in_time b low) notes is.0 is.1 board turn is.2
+            never_expired m v s ts p t first rest end c some f long short (little t some) clear not_stopping (have 0 v.boards_some) (λ b low. in_time b low) notes (outs t some) is.0 is.1 board turn is.2
 
     -- where one answers that no switch closed, none did in time
     missed_so : (section : ℕ) → (homing_turn Now.clocks (length All_came) end.states Now.homing).end ≡ Some (cause.NoSwitch section) → MissesSwitch m s p.seen section
@@ -456,7 +460,7 @@ module _ (m : Machine) (v : IsValidMachine m) (short : HaveShortDictionaries m) 
                 → WasBegun p.seen.begun (Some h) → MissesSwitch m s p.seen section
             by_told None told h is answers number was = absurd (in_none was.0 was.1 was.2 p.seen.begun (not_told m v s ts p end c told) was.4)
             by_told (Some t) told h is answers number was =
-                let late = never_missed m v s ts p t first rest end c told f long short (little t told) clear not_stopping (have 0 v.boards_some) (λ b low. in_time b low) notes h is answers in
+                let late = never_missed m v s ts p t first rest end c told f long short (little t told) clear not_stopping (have 0 v.boards_some) (λ b low. in_time b low) notes (outs t told) h is answers in
                 let Late : ℕ → ℕ → ℕ → Type 0 = λ axis start last. (tick : ℕ) → IsSwitchTick m (pins_of (board_at m (axis_at m axis).board) (axis_at m axis).board s.switches) (axis_at m axis).board (axis_at m axis)
                 (lines_tick (clocks_at t.clocks (axis_at m axis).board) (start * turn_ns)) tick → lines_tick (clocks_at t.clocks (axis_at m axis).board) ((last + 1) * turn_ns) ≤ tick in
                 let at_last : Late h.axis h.start was.1.last = subst (λ (n : ℕ). Late h.axis h.start n) was.10 late in
@@ -507,7 +511,7 @@ module _ (m : Machine) (v : IsValidMachine m) (short : HaveShortDictionaries m) 
           subst (λ (n : ℕ). HearSoon m s.switches (axis_at m h.axis).board n (y ∷ before) turns) (sym was.6)
           (soon p (axis_at m h.axis).board refl low (f.boards (axis_at m h.axis).board first rest low refl) was.0 was.1 was.2 was.3 was.4 was.5 (ap (λ (n : ℕ). (axis_at m n).board) (sym was.9))
           (came_in end ∷ ahead) y before later turns (came_snoc (came_in first ∷ []) rest end ∙ at_end) made (sym ends) (long_so ∙ sym ends)).1) in
-          let closes = closes_first m v s ts p t first rest end c told f long short (little t told) clear not_stopping (have 0 v.boards_some) (λ b low. in_time b low) notes (came_in end ∷ ahead) y before at_end h x.known hear x.tick x.answer in
+          let closes = closes_first m v s ts p t first rest end c told f long short (little t told) clear not_stopping (have 0 v.boards_some) (λ b low. in_time b low) notes (outs t told) (came_in end ∷ ahead) y before at_end h x.known hear x.tick x.answer in
           let At : ℕ → ℕ → Type 0 = λ axis start. IsSwitchTick m (pins_of (board_at m (axis_at m axis).board) (axis_at m axis).board s.switches) (axis_at m axis).board (axis_at m axis)
           (lines_tick (clocks_at t.clocks (axis_at m axis).board) (start * turn_ns)) x.tick in
           let at_start : At h.axis was.1.start = subst (λ (n : ℕ). At h.axis n) was.6 closes in

@@ -39,7 +39,8 @@ use Rattle.session_laws.proofs.run_headline.Showing.{Facts, came_long}
 use Rattle.homing_laws.specs.home_plans.Notes.{CameNotes, WasBegun}
 use Rattle.homing_laws.specs.home_parts.Cuts.{cuts_on}
 use Rattle.motion_work.specs.Known.{lines_by}
-use Rattle.homing_laws.proofs.home_parts.Limits.{turns_fit}
+use Rattle.run_laws.specs.Homes.{AreOut}
+use Rattle.run_plans.specs.Homed.{runs_on}
 use Rattle.session_laws.specs.home_headline.Little.{HomesLittle}
 use Rattle.session_laws.proofs.home_headline.Clocks.{end_knows}
 use Rattle.session_laws.proofs.home_headline.Planned.{all_notes}
@@ -123,7 +124,7 @@ module _ (m : Machine) (v : IsValidMachine m) (s : Scene) (ts : List MotionTurn)
     (long : length (rest ++ end ∷ []) ≤ length p.made) (short : HaveShortDictionaries m)
     (little : (b : ℕ) → b < length m.boards → (w : IsInWhole m s.switches b (clock_of (board_at m b)) (link_of m s b) ts first (rest ++ end ∷ [])) → HomesLittle m s b ts first (rest ++ end ∷ []) (length p.made) t p.seen.begun w)
     (clear : s.entries ≡ []) (stop : (line : ℕ) → (known_by m s.switches (came_from [] (first ∷ rest))).phase ≡ Stopping line → ⊥) (have : HaveStates m (came_in end ∷ came_from [] (first ∷ rest)))
-    (in_time : (b : ℕ) → b < length m.boards → (state : State) (n : ShutNews) → item b end.states ≡ state ∷ [] → state.shut ≡ Some n → n.reason ≡ 1 → ⊥) (notes : TookNotes (map (λ d. d.note) p.made) (first ∷ (rest ++ end ∷ []))) where
+    (in_time : (b : ℕ) → b < length m.boards → (state : State) (n : ShutNews) → item b end.states ≡ state ∷ [] → state.shut ≡ Some n → n.reason ≡ 1 → ⊥) (notes : TookNotes (map (λ d. d.note) p.made) (first ∷ (rest ++ end ∷ []))) (outs : (b : ℕ) → b < length m.boards → AreOut (length p.made) (runs_on m t.clocks p.seen.begun b)) where
   abbrev Came_all : List Came
   Came_all = came_from [] (first ∷ rest)
 
@@ -158,7 +159,7 @@ module _ (m : Machine) (v : IsValidMachine m) (s : Scene) (ts : List MotionTurn)
   plain b h =
       let run = boards.run_of m v s ts p t first rest end c told f long short little b h in
       let home = boards.on m v s ts p t first rest end c told f long short little b h in
-      let units = turns_fit home.own (clocks_at t.clocks b) (board_at m b).freq (board_at m b).slots From home.stops (cuts_on m t.clocks (length (rest ++ end ∷ [])) p.seen.begun b) (Turns b h) home.run_is home.released in
+      let units = boards.fits m v s ts p t first rest end c told f long short little b h (outs b h) in
       let limits = all_limits m s.switches (Pins b) s.entries b Came_all (Turns b h) v run stop units in
       let none = end_none b s.entries From (length (rest ++ end ∷ [])) (cuts_on m t.clocks (length (rest ++ end ∷ [])) p.seen.begun b) (boards.Here m v s ts p t first rest end c told f long short little b h) home (last b h).front (last b h).last (last b h).are
       (never_stop m s.switches (Pins b) s.entries b Came_all (Turns b h) run stop) (λ n shut one. in_time b h (last b h).last n (last b h).at shut one) in

@@ -1,5 +1,5 @@
 -- Each board of a whole run in which axes home, as the law of its lines asks for it.
-use Rattle.std.proofs.Common.{◌≡◌, ℕ, ◌+◌, ◌-◌, ◌*◌, ◌<◌, ◌≤◌, ◌⊎◌, List, [], ◌∷◌, ◌++◌, All, map, take, length, Some, ap, sym, ◌∙◌, subst, arith, inl, inr, length-append}
+use Rattle.std.proofs.Common.{◌≡◌, ℕ, ◌+◌, ◌-◌, ◌*◌, ◌<◌, ◌≤◌, ◌⊎◌, List, [], ◌∷◌, ◌++◌, All, map, take, length, Some, refl, ap, sym, ◌∙◌, subst, arith, inl, inr, length-append}
 use Rattle.std.proofs.lemmas.List.Elements.{All-cons, All-nil}
 use Rattle.plan_types.specs.declared.clock.BoardClock.{BoardClock}
 use Rattle.plan_types.specs.declared.machine.Machine.{Machine}
@@ -17,7 +17,7 @@ use Rattle.link_work.specs.Switches.{pins_of}
 use Rattle.link_work.specs.Turn.{LinkState, Orders}
 use Rattle.host_reactor.specs.Runs.{Came}
 use Rattle.board_runs.specs.Turns.{AreBoardTurns, BoardTurn, stands_after}
-use Rattle.clock_runs.specs.Runs.{IsInRun, orders_in}
+use Rattle.clock_runs.specs.Runs.{IsInRun, UnitsFit, orders_in}
 use Rattle.clock_runs.proofs.Lines.{as_long}
 use Rattle.clock_runs.proofs.Orders.{order_length}
 use Rattle.motion_work.specs.Boards.{parts_on}
@@ -30,14 +30,17 @@ use Rattle.session_work.specs.Rows.{gather}
 use Rattle.session_run.specs.Boards.{AreReactorTurns, came_from, came_in}
 use Rattle.run_laws.specs.Boards.{OnBoard}
 use Rattle.run_laws.specs.Ends.{MayBe}
-use Rattle.run_laws.specs.Homes.{HasUnits, IsHomeBoard, IsHomeRun, RunSection, SetsAny, AreReleasedIn}
+use Rattle.run_laws.specs.Homes.{AreOut, AreSoon, HasUnits, IsHomeBoard, IsHomeRun, IsSplitIn, RunSection, SetsAny, lost_at}
 use Rattle.board_world.specs.World.{start}
 use Rattle.run_laws.specs.Links.{AreTold, ends_of, steps_of, turns_told}
 use Rattle.run_laws.specs.Timely.{AllTimely, ControlsKeep}
 use Rattle.run_laws.specs.Parts.{AreTracked, MakesIn}
 use Rattle.run_laws.specs.Runs.{AreSpilled}
 use Rattle.run_laws.proofs.Calm.{calm_links}
-use Rattle.run_laws.proofs.HomeTimes.{home_timely}
+use Rattle.run_laws.proofs.HomeAll.{run_split}
+use Rattle.run_laws.proofs.HomeCut.{front_queued}
+use Rattle.run_laws.proofs.HomeHeeding.{home_timely}
+use Rattle.run_laws.proofs.HomeLimits.{released_soon}
 use Rattle.run_laws.proofs.Spoiled.{ten_seconds}
 use Rattle.run_laws.proofs.Released.{out_before, spilled_before}
 use Rattle.run_parts.proofs.Going.{own_on}
@@ -52,8 +55,9 @@ use Rattle.session_laws.proofs.run_headline.Boarded.{Ready, came_cut, lines_rene
 use Rattle.session_laws.proofs.run_headline.Fronts.{controls_limited, front_of, limited, one_less, stepper_made}
 use Rattle.session_laws.proofs.run_headline.Showing.{came_long}
 use Rattle.homing_laws.specs.home_runs.Ended.{AreToldIn}
-use Rattle.homing_laws.proofs.home_runs.Homed.{home_board}
-use Rattle.homing_laws.specs.home_plans.Notes.{AreInARow}
+use Rattle.homing_laws.proofs.home_runs.Along.{all_settled}
+use Rattle.homing_laws.proofs.home_runs.Homed.{all_homed, home_board}
+use Rattle.homing_laws.specs.home_plans.Notes.{AreInARow, CameNotes}
 use Rattle.homing_laws.proofs.home_plans.Noting.{begun_row}
 use Rattle.homing_laws.specs.home_parts.Answers.{ArePastConnecting, IsPlannedBy, MayHome, TakeSetUps}
 use Rattle.homing_laws.specs.home_parts.Cuts.{AreOverBefore, cut_on, cuts_on, over_in}
@@ -74,6 +78,7 @@ use Rattle.session_laws.proofs.home_headline.Clocks.{run_knows}
 use Rattle.session_laws.proofs.home_headline.Good.{may_at}
 use Rattle.session_laws.proofs.home_headline.Made.{IsOwn, set_own, units_own}
 use Rattle.session_laws.proofs.home_headline.Planned.{planned_by}
+use Rattle.session_laws.proofs.home_wholes.Lost.{board_heeds}
 
 -- the sections start behind connecting
 late_all : (m : Machine) (clocks : List Clocks) (until b ready at : ℕ) (begun : List Started) → ready + 260 ≤ at → AreInARow at begun → All (λ s. ready + 260 ≤ s.section.start) (cuts_on m clocks until begun b)
@@ -105,11 +110,14 @@ followed m b turns ready clocks begun r =
     let y = follow_on m b turns ready (0 + Total m clocks begun) (clocks_at clocks b) r in
     record { tracked = y.0; over = subst Until (sym y.1) (plans_before m clocks begun 0) }
 
--- a board in turns that its link told of, where few of them were spoiled
+-- a board in turns that its link told of, where few of them were spoiled, or no unit is taken late
 module _ (m : Machine) (v : IsValidMachine m) (s : Scene) (b ready until lasts : ℕ) (ts : List MotionTurn) (p : Plans m (length m.boards) ts) (t : Told) (turns : List BoardTurn) (states : List State) (end : LinkState) (small : b < length m.boards)
-    (ss : List RunSection) (are : AreBoardTurns (clock_of (board_at m b)) (link_of m s b) turns) (upto : length turns ≤ lasts + 349) (run : IsHomeRun (Own m b lasts) (clocks_at t.clocks b) (board_at m b).freq (board_at m b).slots ready (stops_of p.seen.begun) ss (orders_in turns))
-    (soon : AreReleasedIn ss) (controls : (done : List Orders) (o : Orders) (more : List Orders) → orders_in turns ≡ done ++ (o ∷ more) → ControlsKeep done)
-    (sections : AreToldIn m s.switches (pins_of (board_at m b) b s.switches) s.entries b (stops_of p.seen.begun) ss turns) where
+    (are : AreBoardTurns (clock_of (board_at m b)) (link_of m s b) turns) (upto : length turns ≤ lasts + 349)
+    (run : IsHomeRun (Own m b lasts) (clocks_at t.clocks b) (board_at m b).freq (board_at m b).slots ready (stops_of p.seen.begun) (cuts_on m t.clocks until p.seen.begun b) (orders_in turns))
+    (split : IsSplitIn (Own m b lasts) (stops_of p.seen.begun) (board_at m b).slots (cuts_on m t.clocks until p.seen.begun b) (orders_in turns))
+    (controls : (done : List Orders) (o : Orders) (more : List Orders) → orders_in turns ≡ done ++ (o ∷ more) → ControlsKeep done)
+    (sections : AreToldIn m s.switches (pins_of (board_at m b) b s.switches) s.entries b (stops_of p.seen.begun) (cuts_on m t.clocks until p.seen.begun b) turns)
+    (came : List Came) (in_run : IsInRun m s.switches (pins_of (board_at m b) b s.switches) s.entries b came turns) (notes : CameNotes p.seen.begun came) (far : 260 ≤ t.first) (row : AreInARow t.first p.seen.begun) where
   abbrev Clock : BoardClock
   Clock = clock_of (board_at m b)
 
@@ -118,34 +126,41 @@ module _ (m : Machine) (v : IsValidMachine m) (s : Scene) (b ready until lasts :
 
   abbrev Near : (os : List Orders) → AreTold Clock 0 os states (link_of m s b) end → Type 0
   Near os told =
-      ((late : ℕ) × (late ≤ 10_700) × AreSpilled (length (orders_in turns)) late (map (λ x. x.section) ss) × Few late os told)
+      ((late : ℕ) × (late ≤ 10_700) × AreSpilled (length (orders_in turns)) late (map (λ x. x.section) (cuts_on m t.clocks until p.seen.begun b)) × Few late os told)
       ⊎ AllTimely (start (board_at m b) (pins_of (board_at m b) b s.switches)) (steps_of Clock 0 os (link_of m s b) end (turns_told Clock 0 os states (link_of m s b) end told))
 
   abbrev Result : Type 0
-  Result = IsHomeBoard b s.entries ready (length turns) ss (record {
+  Result = (k : IsHomeBoard b s.entries ready (length turns) (cuts_on m t.clocks until p.seen.begun b) (record {
     board = board_at m b;
     pins = pins_of (board_at m b) b s.switches;
     clocks = clocks_at t.clocks b;
-    sections = map (λ (x : RunSection). x.section) ss;
+    sections = map (λ (x : RunSection). x.section) (cuts_on m t.clocks until p.seen.begun b);
     orders = orders_in turns;
     states = states;
-  })
+  })) × (k.split.tail ≡ split.tail)
 
   home_here : (told : AreTold Clock 0 (orders_in turns) states (link_of m s b) end) → Near (orders_in turns) told → Result
+  unfolding home_board
   home_here told near =
       let def = board_at m b in
       let pins = pins_of def b s.switches in
+      let ss = cuts_on m t.clocks until p.seen.begun b in
       let valid = valid_at m.boards b small v.boards in
-      let Timely : Type 0 = AllTimely (start def pins) (steps_of Clock 0 (orders_in turns) (link_of m s b) end (turns_told Clock 0 (orders_in turns) states (link_of m s b) end told)) in
+      let link = turns_told Clock 0 (orders_in turns) states (link_of m s b) end told in
+      let heed = board_heeds m v s.switches pins s.entries b def.freq def.slots ready t.first until (Own m b lasts) (clocks_at t.clocks b) t.clocks p.seen.begun came turns run split sections in_run notes far row end link in
+      let homed = all_homed m s.switches pins s.entries b def.freq def.slots ready (Own m b lasts) (clocks_at t.clocks b) (stops_of p.seen.begun) ss turns run split sections in
+      let settled = all_settled m s.switches pins s.entries b (lost_at (length (orders_in turns)) split.tail) split.front split.tail turns (stops_of p.seen.begun) end link v are
+      (front_queued (orders_in turns) split.front split.tail split.are) split.are homed in
+      let Timely : Type 0 = AllTimely (start def pins) (steps_of Clock 0 (orders_in turns) (link_of m s b) end link) in
       let timely : Timely = elim near [
         | inr t ↦ t
         | inl x ↦
             let (late, most, spills, few) = x in
             let own = own_on def (length (orders_in turns)) (lasts + 349) valid (let size = order_length turns in omega (arith, size, upto)) in
-            home_timely def pins b s.entries (Own m b lasts) (clocks_at t.clocks b) ready (10_700 - late) late (length (orders_in turns)) (stops_of p.seen.begun) ss (orders_in turns) end (turns_told Clock 0 (orders_in turns) states (link_of m s b) end told) own run soon
+            home_timely def pins b s.entries (Own m b lasts) (clocks_at t.clocks b) ready (10_700 - late) late (length (orders_in turns)) (stops_of p.seen.begun) ss (orders_in turns) end link own run split settled heed
             spills (omega arith) controls few (ten_seconds def (length (orders_in turns)) (Own m b lasts) (10_700 - late) late own (omega (arith, most)))
       ] in
-      home_board m s.switches pins s.entries b ready (Own m b lasts) (clocks_at t.clocks b) (stops_of p.seen.begun) ss turns states end told v small are (own_on def (length turns) (lasts + 349) valid upto) run soon timely sections
+      (home_board m s.switches pins s.entries b ready (Own m b lasts) (clocks_at t.clocks b) (stops_of p.seen.begun) ss turns states end told v small are (own_on def (length turns) (lasts + 349) valid upto) run split timely heed sections, refl)
 
   home_by : (os : List Orders) → orders_in turns ≡ os → (told : AreTold Clock 0 os states (link_of m s b) end) → Near os told → Result
   home_by os same told near =
@@ -175,12 +190,12 @@ starts_behind m v b turns ready first clocks begun there l row early past x late
 -- Homing sections are told of: in a scene without entries, or where the board takes the set-ups in time, or where its reports are read true.
 pub told_by : (m : Machine) (v : IsValidMachine m) (s : Scene) (ts : List MotionTurn) (p : Plans m (length m.boards) ts) (t : Told) (b turns ready : ℕ) (whole : List Came) (made : List BoardTurn) → b < length m.boards → Followed m b turns t.clocks ready p.seen.begun
     → ready + 260 ≤ t.first → AreInARow t.first p.seen.begun → IsPlannedBy m s.switches (length m.boards) ts p whole → KnowsLately m s.switches t.clocks whole → ArePastConnecting m s.switches ready whole → length whole ≤ turns + 1
-    → AreBoardTurns (clock_of (board_at m b)) (link_of m s b) made → ((done : List Orders) (o : Orders) (more : List Orders) → orders_in made ≡ done ++ (o ∷ more) → AllKeepLimits done)
-    → (s.entries ≡ []) ⊎ (TakeSetUps m (pins_of (board_at m b) b s.switches) s.entries b p.seen.begun made ⊎ AllReadTrue m s.switches b whole made)
+    → AreBoardTurns (clock_of (board_at m b)) (link_of m s b) made
+    → ((s.entries ≡ []) × ((done : List Orders) (o : Orders) (more : List Orders) → orders_in made ≡ done ++ (o ∷ more) → AllKeepLimits done)) ⊎ (TakeSetUps m (pins_of (board_at m b) b s.switches) s.entries b p.seen.begun made ⊎ AllReadTrue m s.switches b whole made)
     → TakeSetUps m (pins_of (board_at m b) b s.switches) s.entries b p.seen.begun made ⊎ AreReadSo m s.switches b whole made
-told_by m v s ts p t b turns ready whole made there l early row by knows connected long are limits (inl none) = inl (clear_set_ups m (pins_of (board_at m b) b s.switches) s.entries b made none are limits t.first p.seen.begun (omega (arith, early)) row)
-told_by m v s ts p t b turns ready whole made there l early row by knows connected long are limits (inr (inl takes)) = inl takes
-told_by m v s ts p t b turns ready whole made there l early row by knows connected long are limits (inr (inr reads)) =
+told_by m v s ts p t b turns ready whole made there l early row by knows connected long are (inl clear) = inl (clear_set_ups m (pins_of (board_at m b) b s.switches) s.entries b made clear.0 are clear.1 t.first p.seen.begun (omega (arith, early)) row)
+told_by m v s ts p t b turns ready whole made there l early row by knows connected long are (inr (inl takes)) = inl takes
+told_by m v s ts p t b turns ready whole made there l early row by knows connected long are (inr (inr reads)) =
     inr (read_so m s.switches b ts p ready t.first t.clocks whole made early row by connected l.tracked.kept knows
     (λ past x later axis cut home low. starts_behind m v b turns ready t.first t.clocks p.seen.begun there l row early past x later cut (omega (arith, low, long))) reads)
 
@@ -214,9 +229,11 @@ module _ (m : Machine) (v : IsValidMachine m) (s : Scene) (ts : List MotionTurn)
     pub count : length (orders_in turns) ≡ length (rest ++ end ∷ [])
     pub home : IsHomeRun (Own m b (length rest)) (clocks_at t.clocks b) (board_at m b).freq (board_at m b).slots (length (came_from [] r.past)) (stops_of p.seen.begun)
         (cuts_on m t.clocks until p.seen.begun b) (orders_in turns)
-    pub released : AreReleasedIn (cuts_on m t.clocks until p.seen.begun b)
+    pub split : IsSplitIn (Own m b (length rest)) (stops_of p.seen.begun) (board_at m b).slots (cuts_on m t.clocks until p.seen.begun b) (orders_in turns)
     pub controls : (done : List Orders) (o : Orders) (more : List Orders) → orders_in turns ≡ done ++ (o ∷ more) → ControlsKeep done
-    pub limits : (done : List Orders) (o : Orders) (more : List Orders) → orders_in turns ≡ done ++ (o ∷ more) → AllKeepLimits done
+    pub soon : AreOut (length p.made) (runs_on m t.clocks p.seen.begun b) → (n : ℕ) → AreSoon n (cuts_on m t.clocks until p.seen.begun b)
+    pub fits : AreOut (length p.made) (runs_on m t.clocks p.seen.begun b) → UnitsFit turns
+    pub limits : AreOut (length p.made) (runs_on m t.clocks p.seen.begun b) → (done : List Orders) (o : Orders) (more : List Orders) → orders_in turns ≡ done ++ (o ∷ more) → AllKeepLimits done
     pub set_ups : TakeSetUps m (pins_of (board_at m b) b s.switches) s.entries b p.seen.begun turns ⊎ AreReadSo m s.switches b (came_from [] (first ∷ rest)) turns
 
   -- a turn up to which the planner made all turns of the run, and behind it none
@@ -260,36 +277,45 @@ module _ (m : Machine) (v : IsValidMachine m) (s : Scene) (ts : List MotionTurn)
         let At : ℕ → Type 0 = λ k. MakesIn k (take (length before) (orders_in turns)) in
         subst At own.oid_is (made_here own.stepper own.there own.on)) in
         let Batches : List Orders → Type 0 = λ os. TookBatches b ts os in
-        let outs = out_before until (length p.made) (runs_on m t.clocks p.seen.begun b) low little.out in
         let behind_all : (length (orders_in turns) ≤ until) ⊎ (length p.made ≤ until) = elim far [ inl a ↦ inl (omega (arith, a, count)) | inr a ↦ inr a ] in
         let home = home_run m ts p t b (length before) until (Own m b (length rest)) (orders_in turns) h told low behind_all (subst Batches (sym w.in_order) w.batches) controls (own_on (board_at m b) 0 (length rest + 349) valid (omega arith)).ticks lines.tracked r.early lines.over set (λ ready_by. used) in
-        let soon = cuts_soon m (Own m b (length rest)) t.clocks b (length before) t.first until until p.seen.begun (own_on (board_at m b) 0 (length rest + 349) valid (omega arith)).ticks lines.tracked r.early (started_in m ts p t told) h lines.over outs (omega arith) in
-        let units = turns_fit (Own m b (length rest)) (clocks_at t.clocks b) (board_at m b).freq (board_at m b).slots (length before) (stops_of p.seen.begun) (cuts_on m t.clocks until p.seen.begun b) turns home soon in
-        let limits = limited m v s.switches pins s.entries b whole turns run units in
-        let Reads : List Came → Type 0 = λ z. (s.entries ≡ []) ⊎ (TakeSetUps m pins s.entries b p.seen.begun turns ⊎ AllReadTrue m s.switches b z turns) in
-        let set_ups = told_by m v s ts p t b (length rest) (length before) whole turns h lines r.early row by known.0 known.1 (let d = came_long [] (first ∷ rest) in omega (arith, d)) w.turns_are limits (subst Reads (came_cut [] first rest end) little.set_up) in
-        record { by = by; known = known; run = run; count = count; home = home; released = soon; controls = controls_limited m v s.switches pins s.entries b whole turns run; limits = limits; set_ups = set_ups }
+        let ticks = (own_on (board_at m b) 0 (length rest + 349) valid (omega arith)).ticks in
+        let split = run_split (Own m b (length rest)) (clocks_at t.clocks b) (board_at m b).freq (board_at m b).slots (length before) (stops_of p.seen.begun) (cuts_on m t.clocks until p.seen.begun b) (orders_in turns) ticks home in
+        let Out : Type 0 = AreOut (length p.made) (runs_on m t.clocks p.seen.begun b) in
+        let soon : Out → (n : ℕ) → AreSoon n (cuts_on m t.clocks until p.seen.begun b) = λ out n.
+        released_soon (clocks_at t.clocks b) (board_at m b).freq (board_at m b).slots home.tracked.until n (stops_of p.seen.begun) (cuts_on m t.clocks until p.seen.begun b) home.sections
+        (cuts_soon m (Own m b (length rest)) t.clocks b (length before) t.first until until p.seen.begun ticks lines.tracked r.early (started_in m ts p t told) h lines.over (out_before until (length p.made) (runs_on m t.clocks p.seen.begun b) low out) (omega arith)) in
+        let fits : Out → UnitsFit turns = λ out.
+        turns_fit (Own m b (length rest)) (clocks_at t.clocks b) (board_at m b).freq (board_at m b).slots (length before) (length turns) (stops_of p.seen.begun) (cuts_on m t.clocks until p.seen.begun b) [] turns home (soon out (length turns)) (omega arith) in
+        let Limits : Type 0 = (done : List Orders) (o : Orders) (more : List Orders) → orders_in turns ≡ done ++ (o ∷ more) → AllKeepLimits done in
+        let limits : Out → Limits = λ out. limited m v s.switches pins s.entries b whole turns run (fits out) in
+        let Reads : List Came → Type 0 = λ z. TakeSetUps m pins s.entries b p.seen.begun turns ⊎ AllReadTrue m s.switches b z turns in
+        let Ups : Type 0 = ((s.entries ≡ []) × Limits) ⊎ Reads whole in
+        let ups : Ups = elim little.sets_up [ inl x ↦ inl (x.0, limits x.1) | inr x ↦ inr (subst Reads (came_cut [] first rest end) x) ] in
+        let set_ups = told_by m v s ts p t b (length rest) (length before) whole turns h lines r.early row by known.0 known.1 (let d = came_long [] (first ∷ rest) in omega (arith, d)) w.turns_are ups in
+        record { by = by; known = known; run = run; count = count; home = home; split = split; controls = controls_limited m v s.switches pins s.entries b whole turns run; soon = soon; fits = fits; limits = limits; set_ups = set_ups }
 
     -- so it is a board of such a run
-    pub boarded_by : IsHomeBoard b s.entries (length (came_from [] r.past)) (length (rest ++ end ∷ [])) (cuts_on m t.clocks until p.seen.begun b) (here_by until b w)
-    boarded_by =
+    pub boarded_until : (k : IsHomeBoard b s.entries (length (came_from [] r.past)) (length (rest ++ end ∷ [])) (cuts_on m t.clocks until p.seen.begun b) (here_by until b w)) × (k.split.tail ≡ homing_by.split.tail)
+    boarded_until =
         let clock = clock_of (board_at m b) in
         let pins = pins_of (board_at m b) b s.switches in
         let turns = behind [] w.made in
         let before = came_from [] r.past in
         let whole = came_from [] (first ∷ rest) in
+        let told_is = told in
         let x = homing_by in
         let count = x.count in
         let sections = all_told m s.switches pins s.entries b (length before) until ts p t whole turns x.by told r.early x.known.1 formed x.run x.set_ups in
         let many : length turns ≡ length (rest ++ end ∷ []) = (let a = order_length turns in omega (arith, a, count)) in
-        let Long : ℕ → Type 0 = λ k. IsHomeBoard b s.entries (length before) k (cuts_on m t.clocks until p.seen.begun b) (here_by until b w) in
+        let Long : ℕ → Type 0 = λ n. (k : IsHomeBoard b s.entries (length before) n (cuts_on m t.clocks until p.seen.begun b) (here_by until b w)) × (k.split.tail ≡ homing_by.split.tail) in
         let after = stands_after (link_of m s b) turns in
         let told = turns_told clock 0 (orders_of w.made) (states_of w.made) (link_of m s b) after w.told in
         let Few : ℕ → Type 0 = λ late. (k : ℕ) → spoiled (take k (ends_of clock 0 (orders_of w.made) (link_of m s b) after told)) ≤ 10_700 - late in
         let Timely : Type 0 = AllTimely (start (board_at m b) pins) (steps_of clock 0 (orders_of w.made) (link_of m s b) after told) in
         let ss = cuts_on m t.clocks until p.seen.begun b in
         let Near : Type 0 = ((late : ℕ) × (late ≤ 10_700) × AreSpilled (length (orders_in turns)) late (map (λ (y : RunSection). y.section) ss) × Few late) ⊎ Timely in
-        let near : Near = elim little.few [
+        let near : Near = elim little.timely [
           | inl g ↦
               let (late, most, spilled, spoils) = g in
               let spills = spilled_before until (length p.made) late (parts_on m t.clocks p.seen.begun b) low spilled in
@@ -297,8 +323,12 @@ module _ (m : Machine) (v : IsValidMachine m) (s : Scene) (ts : List MotionTurn)
               inl (late, most, cuts_spilled m t.clocks (length (orders_in turns)) until late b p.seen.begun spills, few)
           | inr g ↦ inr g
         ] in
-        subst Long many (home_by m v s b (length before) until (length rest) ts p t turns (states_of w.made) (stands_after (link_of m s b) turns) h (cuts_on m t.clocks until p.seen.begun b) w.turns_are (let size = length-append rest (end ∷ []) in omega (arith, many, size)) x.home x.released x.controls
-        sections (orders_of w.made) w.in_order w.told near)
+        let early = r.early in
+        subst Long many (home_by m v s b (length before) until (length rest) ts p t turns (states_of w.made) (stands_after (link_of m s b) turns) h w.turns_are (let size = length-append rest (end ∷ []) in omega (arith, many, size)) x.home x.split x.controls
+        sections whole x.run x.by.notes (omega (arith, early)) (begun_row m t.clocks t.first p.seen.begun (started_in m ts p t told_is)) (orders_of w.made) w.in_order w.told near)
+
+    pub boarded_by : IsHomeBoard b s.entries (length (came_from [] r.past)) (length (rest ++ end ∷ [])) (cuts_on m t.clocks until p.seen.begun b) (here_by until b w)
+    boarded_by = boarded_until.0
 
     -- behind its last turn it runs, or shut down for one of the two reasons
     pub may_by : MayBe (stands_after (link_of m s b) (behind [] w.made)).core.board.controller.state
@@ -310,6 +340,13 @@ module _ (m : Machine) (v : IsValidMachine m) (s : Scene) (ts : List MotionTurn)
         (subst Turns (sym w.in_order) (turns_told clock 0 (orders_of w.made) (states_of w.made) (link_of m s b) end_is w.told))
 
   -- where the planner made as many turns as the run has
+  pub homing_in : (n b : ℕ) (left : List WordMsg) (w : IsInWhole m s.switches b (clock_of (board_at m b)) (link_of m s b) ts first (rest ++ end ∷ [])) (r : Ready m v s ts p t first rest end told) → b < length m.boards → AreReactorTurns m s.switches [] (first ∷ rest)
+      → gather (λ x. x.word ∷ []) (first ∷ rest) ++ last_words (length (first ∷ rest)) n ≡ gather (λ x. x.words) ts ++ left → TookNotes (map (λ d. d.note) p.made) (first ∷ rest) → length (rest ++ end ∷ []) ≤ length p.made
+      → HomesLittle m s b ts first (rest ++ end ∷ []) (length p.made) t p.seen.begun w → Followed m b (length rest) t.clocks (length (came_from [] r.past)) p.seen.begun → AreSound m t.clocks t.first → MayHome m p.seen.begun → StartInRange (clocks_at t.clocks b) p.seen.begun
+      → Homing (length (rest ++ end ∷ [])) b r (behind [] w.made)
+  homing_in n b left w r h turns_are words notes long little lines sound formed range =
+      homing_by (length (rest ++ end ∷ [])) n b left w r h turns_are words notes long (inl (omega arith)) (omega (arith, long)) little lines sound formed range
+
   pub boarded : (n b : ℕ) (left : List WordMsg) (w : IsInWhole m s.switches b (clock_of (board_at m b)) (link_of m s b) ts first (rest ++ end ∷ [])) (r : Ready m v s ts p t first rest end told) → b < length m.boards → AreReactorTurns m s.switches [] (first ∷ rest)
       → gather (λ x. x.word ∷ []) (first ∷ rest) ++ last_words (length (first ∷ rest)) n ≡ gather (λ x. x.words) ts ++ left → TookNotes (map (λ d. d.note) p.made) (first ∷ rest) → length (rest ++ end ∷ []) ≤ length p.made
       → HomesLittle m s b ts first (rest ++ end ∷ []) (length p.made) t p.seen.begun w → Followed m b (length rest) t.clocks (length (came_from [] r.past)) p.seen.begun → AreSound m t.clocks t.first → MayHome m p.seen.begun → StartInRange (clocks_at t.clocks b) p.seen.begun

@@ -1,5 +1,5 @@
 -- A board of a run in which axes home keeps what the laws of a run ask for, so it may shut down for two reasons alone.
-use Rattle.std.proofs.Common.{◌≡◌, ℕ, ◌+◌, ◌≤◌, List, [], ◌∷◌, length, sym, ◌∙◌, subst, arith, refl, append-nil}
+use Rattle.std.proofs.Common.{◌≡◌, ℕ, ◌+◌, ◌≤◌, List, [], ◌∷◌, length, sym, ◌∙◌, subst, arith}
 use Rattle.plan_types.specs.declared.clock.BoardClock.{BoardClock}
 use Rattle.plan_types.specs.Clock.{clock_of}
 use Rattle.wire_scene.specs.declared.scene.Entry.{Entry}
@@ -13,12 +13,9 @@ use Rattle.run_laws.specs.Ends.{MayBe}
 use Rattle.run_laws.specs.Homes.{IsHomeBoard, RunSection}
 use Rattle.run_laws.specs.Links.{steps_of, turns_told}
 use Rattle.run_laws.proofs.Halted.{reason_is}
-use Rattle.run_laws.proofs.HomeAll.{run_good}
 use Rattle.run_laws.proofs.Linking.{own_first, turns_are, turns_owned}
 use Rattle.run_laws.proofs.HomeBoards.{settled_head, settled_owned}
 use Rattle.homing_laws.proofs.home_runs.Along.{one_end}
-use Rattle.run_laws.proofs.Stepping.{none_heed}
-use Rattle.run_laws.specs.Known.{sent_in}
 
 -- a board of such a run
 pub board_good : (place : ℕ) (entries : List Entry) (ready turns : ℕ) (ss : List RunSection) (x : OnBoard) (k : IsHomeBoard place entries ready turns ss x)
@@ -37,15 +34,15 @@ board_good place entries ready turns ss x k =
       ticks = k.own_is.ticks;
       first = own_first x.board turns own k.own_is;
       ahead = k.run_is.ahead;
-      front = sent_in 0 x.orders;
-      tail = [];
-      are = append-nil (sent_in 0 x.orders);
-      good = run_good own x.clocks x.board.freq x.board.slots ready k.stops ss x.orders k.own_is.ticks k.run_is k.released;
-      lost = tt;
+      front = k.split.front;
+      tail = k.split.tail;
+      are = k.split.are;
+      good = k.split.good;
+      lost = k.split.lost;
       turns = turns_owned x.board own turns 0 x.orders steps k.own_is within taken;
       timely = k.timely;
-      settled = settled_owned x.board k.stops own turns 0 [] x.orders steps (start x.board x.pins) k.own_is within taken (settled_head k.stops clock 0 [] x.orders l k.end t k.settled);
-      heed = none_heed (sent_in 0 x.orders) [] steps (start x.board x.pins) refl;
+      settled = settled_owned x.board k.stops k.split.front own turns 0 [] x.orders steps (start x.board x.pins) k.own_is within taken (settled_head k.stops k.split.front clock 0 [] x.orders l k.end t k.settled);
+      heed = k.heed;
     }
 
 -- so at its end it runs, or shut down as a unit came too late or as it was told to stop

@@ -30,16 +30,16 @@ use Rattle.session_laws.proofs.home_wholes.Resting.{rests_at}
 use Rattle.homing_laws.proofs.home_runs.Along.{homed_before}
 
 module _ (m : Machine) (switches : List Switch) (pins : List (List Level)) (entries : List Entry) (b ready : ℕ) (begun past : List Started) (x : Started) (later : List Started) (came : List Came) (turns : List BoardTurn) (v : IsValidMachine m)
-    (run : IsInRun m switches pins entries b came turns) (notes : CameNotes begun came) (far : 260 ≤ ready) (row : AreInARow ready begun) (homed : AreHomed m switches pins entries b (stops_of begun) turns) (cut : begun ≡ past ++ x ∷ later)
-    (moves : x.section.kind ≡ Moves) (upto : x.start ≤ length turns + 250) where
+    (run : IsInRun m switches pins entries b came turns) (notes : CameNotes begun came) (far : 260 ≤ ready) (row : AreInARow ready begun) (until : ℕ) (homed : AreHomed m switches pins entries b until (stops_of begun) turns) (cut : begun ≡ past ++ x ∷ later)
+    (moves : x.section.kind ≡ Moves) (upto : x.start ≤ length turns + 250) (soon : x.start ≤ until + 250) where
   front : Prefix m switches pins entries b (x.start - 250) begun turns
   front = prefix_of m switches pins entries b (x.start - 250) begun came turns run notes (omega (arith, upto))
 
   rests : IsStillAt (stands_after (first_state (board_at m b) pins b entries) front.past).core
   rests =
-      let AreAt : List BoardTurn → Type 0 = λ z. AreHomed m switches pins entries b (stops_of begun) z in
+      let AreAt : List BoardTurn → Type 0 = λ z. AreHomed m switches pins entries b until (stops_of begun) z in
       let Row : List Started → Type 0 = λ z. AreInARow ready z in
-      let before = homed_before m switches pins entries b (stops_of begun) front.later front.past (subst AreAt front.are homed) in
+      let before = homed_before m switches pins entries b until (stops_of begun) front.later front.past (subst AreAt front.are homed) in
       let r = front.run_is in
       let size = as_long m switches b front.came front.past r.both in
       let long = front.long in
@@ -47,7 +47,7 @@ module _ (m : Machine) (switches : List Switch) (pins : List (List Level)) (entr
       let start = starts.0 in
       let order = starts.1 in
       let all = answered m switches pins entries b ready begun past x later far row cut moves front.came (length front.past) r.goes_on front.notes (omega (arith, size)) (omega (arith, long, order)) (omega (arith, long, start, far)) in
-      rests_at m switches pins entries b (stops_of begun) front.came front.past v r before all
+      rests_at m switches pins entries b until (stops_of begun) front.came front.past (omega (arith, long, soon)) v r before all
 
   pub still_between : (clocks : Clocks) (sections : List BoardSection) (plan : ℕ → List Planned) (releases : List Release) (states : List State)
       → IsStillIn b entries (record { start = x.start; end = x.end; plan = plan; releases = releases }) (record { board = board_at m b; pins = pins; clocks = clocks; sections = sections; orders = orders_in turns; states = states })

@@ -1,5 +1,5 @@
 -- What a board tells of a section of moves in a run in which axes home: all its steps.
-use Rattle.std.proofs.Common.{◌≡◌, ◌≢◌, ℕ, true, false, ◌+◌, ◌-◌, ◌*◌, ◌≤◌, ◌⊎◌, Bool, List, [], ◌∷◌, ◌++◌, length, take, drop, Some, refl, ap, sym, ◌∙◌, subst, arith, inl, inr, append_assoc, length-append}
+use Rattle.std.proofs.Common.{◌≡◌, ◌≢◌, ℕ, true, false, ◌+◌, ◌-◌, ◌*◌, ◌<◌, ◌≤◌, ◌⊎◌, Bool, List, [], ◌∷◌, ◌++◌, length, take, drop, Some, refl, ap, sym, ◌∙◌, subst, arith, inl, inr, append_assoc, length-append}
 use Rattle.std.proofs.lemmas.Bool.Decides.{leb_tells}
 use Rattle.std.proofs.lemmas.Grind.{flat_map-append}
 use Rattle.std.proofs.lemmas.List.{append_cancel_left, length-drop, length-take-le, take-append-drop, take-append-le, take_all}
@@ -21,9 +21,11 @@ use Rattle.link_work.specs.Runs.{AreTurns}
 use Rattle.link_work.specs.Stands.{first_state}
 use Rattle.link_work.specs.Turn.{LinkState, Orders}
 use Rattle.run_laws.specs.Boards.{OnBoard, told_in}
+use Rattle.run_laws.specs.Courses.{courses}
 use Rattle.run_laws.specs.Ends.{MayBe}
+use Rattle.run_laws.specs.Known.{Sent}
 use Rattle.run_laws.specs.Stops.{NeverStop}
-use Rattle.run_laws.specs.Homes.{IsHomeBoard, IsMovesIn, IsSectionBy, NextBehind, RunSection}
+use Rattle.run_laws.specs.Homes.{AreReleasedIn, IsHomeBoard, IsMovesIn, IsSectionBy, NextBehind, RunSection, lost_at}
 use Rattle.run_laws.specs.Links.{AreTold, pulses_in}
 use Rattle.run_laws.proofs.Boarding.{last_told, runs_on, states_between, told_count}
 use Rattle.run_laws.proofs.Clocks.{ticks_rise}
@@ -37,9 +39,9 @@ use Rattle.run_laws.proofs.Wholes.{first_of_own}
 use Rattle.session_laws.specs.home_wholes.Still.{BringStill, IsStillAt, IsStillIn}
 use Rattle.session_laws.proofs.home_wholes.Counts.{fits_many, middle_many}
 use Rattle.session_laws.proofs.home_wholes.Cutting.{cut_board}
-use Rattle.session_laws.proofs.home_wholes.Front.{row_later, released_at}
+use Rattle.session_laws.proofs.home_wholes.Front.{AreLostAt, AreLostBy, row_later, where_left}
 use Rattle.session_laws.proofs.home_wholes.Phases.{Holds}
-use Rattle.session_laws.proofs.home_wholes.Section.{made_or_early, made_where_taken, never_last, reason_last}
+use Rattle.session_laws.proofs.home_wholes.Section.{lost_early, lost_taken, made_or_early, made_where_taken, never_last, reason_last}
 use Rattle.run_laws.proofs.Passing.{last_runs, tells}
 use Rattle.session_laws.proofs.home_headline.Stop.{runs_so}
 
@@ -104,6 +106,15 @@ none_early low from to (p ∷ ps) qs all some split early late order =
     let two = subst Late own (late o) in
     omega (arith, one.0, two.0, order)
 
+-- where the first triple that comes too late was queued
+lost_up : (j k : ℕ) (tail : List Sent) → j ≤ k → AreLostBy j tail → AreLostBy k tail
+lost_up j k [] h l = l
+lost_up j k (t ∷ tail) h l = omega (arith, l, h)
+
+lost_here : (j k : ℕ) (tail : List Sent) → j < k → AreLostAt j tail → AreLostBy k tail
+lost_here j k [] h l = l
+lost_here j k (t ∷ tail) h l = omega (arith, l, h)
+
 -- a section of moves on a board
 module _ (place : ℕ) (entries : List Entry) (ready turns from to : ℕ) (x : OnBoard) (past : List RunSection) (s : RunSection) (later : List RunSection) (k : IsHomeBoard place entries ready turns (past ++ s ∷ later) x) (moves : s.homes ≡ false)
     (begins : from + 1 ≡ s.section.start) (order : from ≤ to) (next : NextBehind to later) (over : s.section.end + 5 ≤ to) where
@@ -146,7 +157,7 @@ module _ (place : ℕ) (entries : List Entry) (ready turns from to : ℕ) (x : O
       omega (arith, least, most, whole)
 
   -- where the board is still in its turns
-  module _ (still : IsStillIn place entries s.section x) where
+  module _ (still : s.section.start ≤ lost_at turns k.split.tail → IsStillIn place entries s.section x) where
     abbrev First : ℕ
     First = s.section.start - 250
 
@@ -190,16 +201,21 @@ module _ (place : ℕ) (entries : List Entry) (ready turns from to : ℕ) (x : O
           three = omega (arith, both, ml, ol, one, two);
         }
 
-    -- what a board has made by a turn
-    record Ran (e n : ℕ) : Type 0 where
+    -- what a board has made by a turn: it took a triple that was queued too late in that section's turns or before, and so shut down; or not
+    abbrev Here : List State → LinkState → Type 0
+    Here front last =
+        ((last.core.board.controller.state ≡ Running → last.core.taken ≡ last.core.queued → ⊥) × ((oid : ℕ) → AreEarly (Own (s.section.end + 5)) (only oid (pulses_in front))))
+        ⊎ ((last.core.board.controller.state ≡ Running → ((oid : ℕ) → Holds (section_steps oid s.section) (only oid (pulses_in front))) ⊎ ((oid : ℕ) → AreEarly (Own (s.section.end + 5)) (only oid (pulses_in front))))
+        × (last.core.board.controller.state ≡ Running → last.core.taken ≡ last.core.queued → (oid : ℕ) → Holds (section_steps oid s.section) (only oid (pulses_in front))) × AreBefore (s.section.end + 5) s.section.releases)
+
+    record Ran (n : ℕ) : Type 0 where
       front : List State
       others : List State
       last : LinkState
       are : x.states ≡ front ++ others
       long : length front ≡ n
       told : AreTold (clock_of x.board) 0 (take n x.orders) front (first_state x.board x.pins place entries) last
-      either : last.core.board.controller.state ≡ Running → ((oid : ℕ) → Holds (section_steps oid s.section) (only oid (pulses_in front))) ⊎ ((oid : ℕ) → AreEarly (Own (s.section.end + 5)) (only oid (pulses_in front)))
-      taken : last.core.board.controller.state ≡ Running → last.core.taken ≡ last.core.queued → (oid : ℕ) → Holds (section_steps oid s.section) (only oid (pulses_in front))
+      here : Here front last
       reason : MayBe last.core.board.controller.state
       never : (tick first : ℕ) → NeverStop (take n x.orders) → last.core.board.controller.state ≡ Shut 5 tick first → ⊥
       idle : last.core.link.waiting ≡ [] → last.core.link.acked ≡ sent last.core.link → last.core.taken ≡ last.core.queued
@@ -214,27 +230,50 @@ module _ (place : ℕ) (entries : List Entry) (ready turns from to : ℕ) (x : O
         let size : length (p.before ++ (p.mine ++ p.others)) ≡ n = omega (arith, both, one, three) in
         sym (ap (take n) flat ∙ take-append-le n (p.before ++ (p.mine ++ p.others)) p.behind (omega (arith, size)) ∙ take_all n (p.before ++ (p.mine ++ p.others)) (omega (arith, size)))
 
-    ran : (e n : ℕ) → s.section.end + 5 ≤ e → e ≤ s.section.end + 6 → AreBefore e s.section.releases → e ≤ n → n ≤ turns → Ran e n
-    ran e n low high released upto within =
+    abbrev E : ℕ
+    E = s.section.end + 5
+
+    ran : (n : ℕ) → E ≤ n → n ≤ turns → (E < n) ⊎ AreBefore E s.section.releases → Ran n
+    ran n upto within known =
         let row = row_later ready past s later k.run_is.row in
-        let p = parts e n (omega (arith, low, row.2)) upto within in
+        let p = parts E n (omega (arith, row.2)) upto within in
         let c = cut_board x place entries ready turns (past ++ s ∷ later) k p.before (p.mine ++ p.others) p.behind p.are in
         let one = p.one in
         let two = p.two in
         let three = p.three in
         let start_at : length p.before + 250 ≡ s.section.start = omega (arith, one, row.1) in
-        let end_at : length p.before + length p.mine ≡ e = omega (arith, one, two) in
+        let end_at : length p.before + length p.mine ≡ E = omega (arith, one, two) in
+        let stop_at : length p.before + length (p.mine ++ p.others) ≡ n = omega (arith, one, three) in
         let Turns_at : List Orders → Type 0 = λ t. AreTurns (clock_of x.board) 0 t (first_state x.board x.pins place entries) c.mid in
-        let calm = subst IsStillAt c.mid_is (still.begins c.mid (subst Turns_at p.before_is c.mid_turns)) in
-        let bring = subst BringStill (sym p.mine_is) (still.goes_on e (omega (arith, low, row.2)) high) in
-        let out = subst (λ (n : ℕ). AreBefore n s.section.releases) (sym end_at) released in
-        let Holding : Type 0 = (oid : ℕ) → Holds (section_steps oid s.section) (only oid (pulses_in c.states)) in
         let same = c.made in
         let last_run = c.last_is in
-        let go = made_or_early x.board x.pins Own x.clocks ready k.stops past s later p.before p.mine p.others p.behind c.first c.second c.span moves start_at (omega (arith, end_at, low)) (omega (arith, end_at, high)) out calm bring in
-        let took = made_where_taken x.board x.pins Own x.clocks ready k.stops past s later p.before p.mine p.others p.behind c.first c.second c.span moves start_at (omega (arith, end_at, low)) (omega (arith, end_at, high)) out calm bring in
-        let why = reason_last x.board x.pins Own x.clocks ready k.stops past s later p.before p.mine p.others p.behind c.first c.second c.span moves start_at (omega (arith, end_at, low)) (omega (arith, end_at, high)) out calm bring in
-        let stop = never_last x.board x.pins Own x.clocks ready k.stops past s later p.before p.mine p.others p.behind c.first c.second c.span moves start_at (omega (arith, end_at, low)) (omega (arith, end_at, high)) out calm bring in
+        let total : length (p.before ++ ((p.mine ++ p.others) ++ p.behind)) ≡ turns = ap length (sym p.are) ∙ k.count in
+        let left = where_left ready (length (p.before ++ ((p.mine ++ p.others) ++ p.behind))) past s later (courses c.span.split.front) c.span.split.tail k.run_is.row moves (omega (arith, total, row.2, upto, within)) c.span.split.begun in
+        let until = c.until_is ∙ ap (λ (t : ℕ). lost_at t k.split.tail) k.count in
+        let took = lost_taken x.board x.pins Own x.clocks ready k.stops (past ++ s ∷ later) p.before (p.mine ++ p.others) p.behind c.first c.second c.span in
+        let soon = lost_early x.board x.pins Own x.clocks ready k.stops (past ++ s ∷ later) p.before (p.mine ++ p.others) p.behind c.first c.second c.span E in
+        let lost : AreLostBy n c.span.split.tail → AreLostBy (E + 1) c.span.split.tail → Here c.states c.last = λ then early. inl (
+          λ running all. took (subst (λ (t : ℕ). AreLostBy t c.span.split.tail) (sym stop_at) then) (ap (λ (h : Core). h.board.controller.state) (sym last_run) ∙ running) (ap (λ (h : Core). h.taken) (sym last_run) ∙ all ∙ ap (λ (h : Core). h.queued) last_run),
+          λ oid. subst (λ (t : List Pulse). AreEarly (Own E) (only oid t)) same (soon early oid),
+        ) in
+        let made : AreReleasedIn past → s.section.start ≤ lost_at (length (p.before ++ ((p.mine ++ p.others) ++ p.behind))) c.span.split.tail → AreBefore E s.section.releases → Here c.states c.last = λ out first released.
+        (let now = still (omega (arith, first, until)) in
+        let calm = subst IsStillAt c.mid_is (now.begins c.mid (subst Turns_at p.before_is c.mid_turns)) in
+        let bring = subst BringStill (sym p.mine_is) (now.goes_on E (omega (arith, row.2)) (omega arith)) in
+        let go = made_or_early x.board x.pins Own x.clocks ready k.stops past s later p.before p.mine p.others p.behind c.first c.second c.span moves start_at end_at out released calm bring in
+        let all_took = made_where_taken x.board x.pins Own x.clocks ready k.stops past s later p.before p.mine p.others p.behind c.first c.second c.span moves start_at end_at out released calm bring in
+        inr (
+          λ running. elim (go (ap (λ (h : Core). h.board.controller.state) (sym last_run) ∙ running)) [
+            | inl m ↦ inl (λ oid. subst (λ (t : List Pulse). Holds (section_steps oid s.section) (only oid t)) same (m oid))
+            | inr m ↦ inr (λ oid. subst (λ (t : List Pulse). AreEarly (Own E) (only oid t)) same (m oid))
+          ],
+          λ running all oid.
+              let took_all = all_took (ap (λ (h : Core). h.board.controller.state) (sym last_run) ∙ running) (ap (λ (h : Core). h.taken) (sym last_run) ∙ all ∙ ap (λ (h : Core). h.queued) last_run) in
+              subst (λ (t : List Pulse). Holds (section_steps oid s.section) (only oid t)) same (took_all oid),
+          released,
+        )) in
+        let why = reason_last x.board x.pins Own x.clocks ready k.stops (past ++ s ∷ later) p.before (p.mine ++ p.others) p.behind c.first c.second c.span in
+        let stop = never_last x.board x.pins Own x.clocks ready k.stops (past ++ s ∷ later) p.before (p.mine ++ p.others) p.behind c.first c.second c.span in
         let long = c.long in
         record {
           front = c.states;
@@ -242,44 +281,44 @@ module _ (place : ℕ) (entries : List Entry) (ready turns from to : ℕ) (x : O
           last = c.last;
           are = c.states_are;
           long = omega (arith, long, one, three);
-          told = subst (λ (t : List Orders). AreTold (clock_of x.board) 0 t c.states (first_state x.board x.pins place entries) c.last) (front_orders e n p) c.told;
-          either = λ running. elim (go (ap (λ (h : Core). h.board.controller.state) (sym last_run) ∙ running)) [
-            | inl m ↦ inl (λ oid. subst (λ (t : List Pulse). Holds (section_steps oid s.section) (only oid t)) same (m oid))
-            | inr m ↦ inr (λ oid. subst (λ (t : List Pulse). AreEarly (Own (s.section.end + 5)) (only oid t)) same (m oid))
+          told = subst (λ (t : List Orders). AreTold (clock_of x.board) 0 t c.states (first_state x.board x.pins place entries) c.last) (front_orders E n p) c.told;
+          here = elim left [
+            | inl early ↦ lost (lost_up s.section.start n c.span.split.tail (omega (arith, row.2, upto)) early) (lost_up s.section.start (E + 1) c.span.split.tail (omega (arith, row.2)) early)
+            | inr y ↦ elim y.2 [
+              | inl at ↦ elim known [ inl far ↦ lost (lost_here E n c.span.split.tail far at) (lost_here E (E + 1) c.span.split.tail (omega arith) at) | inr released ↦ made y.0 y.1 released ]
+              | inr soon_by ↦ elim known [ inl far ↦ made y.0 y.1 (soon_by (omega (arith, far, within, total))) | inr released ↦ made y.0 y.1 released ]
+            ]
           ];
-          taken = λ running all oid.
-              let now = took (ap (λ (h : Core). h.board.controller.state) (sym last_run) ∙ running) (ap (λ (h : Core). h.taken) (sym last_run) ∙ all ∙ ap (λ (h : Core). h.queued) last_run) in
-              subst (λ (t : List Pulse). Holds (section_steps oid s.section) (only oid t)) same (now oid);
           reason = (let At : Core → Type 0 = λ h. MayBe h.board.controller.state in subst At (sym last_run) why);
           never = λ tick first never shut.
               let Never : List Orders → Type 0 = λ t. NeverStop t in
-              stop tick first (subst Never (sym (front_orders e n p)) never) (ap (λ (h : Core). h.board.controller.state) (sym last_run) ∙ shut);
+              stop tick first (subst Never (sym (front_orders E n p)) never) (ap (λ (h : Core). h.board.controller.state) (sym last_run) ∙ shut);
           idle = (let At : Core → Type 0 = λ h. h.link.waiting ≡ [] → h.link.acked ≡ sent h.link → h.taken ≡ h.queued in subst At (sym last_run) (idle_took x.board x.pins (c.first ++ c.second)));
         }
 
-    idle_at : (e n : ℕ) (rest others : List State) (last : State) → s.section.end + 5 ≤ e → e ≤ s.section.end + 6 → AreBefore e s.section.releases → e ≤ n → to ≤ n → n ≤ turns
-        → x.states ≡ (rest ++ last ∷ []) ++ others → length (rest ++ last ∷ []) ≡ n → NeverStop (take n x.orders) → ((t : ShutNews) → last.shut ≡ Some t → t.reason ≡ timer_too_close → ⊥) → last.idle ≡ true
-        → (oid : ℕ) → length (only oid (told_in from to x)) ≡ length (s.section.plan oid)
-    idle_at e n rest others last low high released upto reach within cut size never in_time quiet oid =
-        let r = ran e n low high released upto within in
+    -- where the state of a turn by which all units are released tells no shutdown that was not asked for, and that the link is idle
+    pub idle_whole : (n : ℕ) (rest others : List State) (last : State) → to ≤ n → n ≤ turns → (E < n) ⊎ AreBefore E s.section.releases → x.states ≡ (rest ++ last ∷ []) ++ others → length (rest ++ last ∷ []) ≡ n → NeverStop (take n x.orders)
+        → ((t : ShutNews) → last.shut ≡ Some t → t.reason ≡ timer_too_close → ⊥) → last.idle ≡ true → AreBefore E s.section.releases × ((oid : ℕ) → length (only oid (told_in from to x)) ≡ length (s.section.plan oid))
+    idle_whole n rest others last reach within known cut size never in_time quiet =
+        let r = ran n (omega (arith, over, reach)) within known in
         let same : r.front ≡ rest ++ last ∷ [] = front_is r.front r.others (rest ++ last ∷ []) others (sym r.are ∙ cut) (r.long ∙ sym size) in
         let Told : List State → Type 0 = λ t. AreTold (clock_of x.board) 0 (take n x.orders) t (first_state x.board x.pins place entries) r.last in
         let end = last_told (clock_of x.board) 0 (take n x.orders) rest last (first_state x.board x.pins place entries) r.last (subst Told same r.told) in
         let idle = end.0 quiet in
         let running = runs_so r.last.core.board.controller.state last.shut r.reason end.1 in_time (λ tick first shut. r.never tick first never shut) in
-        many n reach within r.front r.others r.are r.long oid (r.taken running (r.idle idle.0 idle.1) oid)
+        let took = r.idle idle.0 idle.1 in
+        elim r.here [ inl lost ↦ absurd (lost.0 running took) | inr made ↦ (made.2, λ oid. many n reach within r.front r.others r.are r.long oid (made.1 running took oid)) ]
 
-    -- where the state of a turn by which all units are released tells no shutdown that was not asked for, and that the link is idle
-    pub whole_idle : (n : ℕ) (rest others : List State) (last : State) → to ≤ n → n ≤ turns → AreBefore n s.section.releases → x.states ≡ (rest ++ last ∷ []) ++ others → length (rest ++ last ∷ []) ≡ n → NeverStop (take n x.orders)
-        → ((t : ShutNews) → last.shut ≡ Some t → t.reason ≡ timer_too_close → ⊥) → last.idle ≡ true → (oid : ℕ) → length (only oid (told_in from to x)) ≡ length (s.section.plan oid)
-    whole_idle n rest others last reach within released cut size never in_time quiet oid = elim (leb_tells (s.section.end + 6) n) [
-      | inl p ↦ let late = p.1 in idle_at (s.section.end + 5) n rest others last (omega arith) (omega arith) (released_at past s later k.released moves) (omega (arith, late)) reach within cut size never in_time quiet oid
-      | inr p ↦ let low = p.1 in idle_at n n rest others last (omega (arith, over, reach)) (omega (arith, low)) released (omega arith) reach within cut size never in_time quiet oid
+    -- as where all are released by then
+    pub known_by : (n : ℕ) → to ≤ n → AreBefore n s.section.releases → (E < n) ⊎ AreBefore E s.section.releases
+    known_by n reach released = elim (leb_tells (E + 1) n) [
+      | inl p ↦ (let late = p.1 in inl (omega (arith, late)))
+      | inr p ↦ (let low = p.1 in let same : n ≡ E = omega (arith, low, over, reach) in inr (subst (λ (t : ℕ). AreBefore t s.section.releases) same released))
     ]
 
     -- or where it told any pulse behind these turns
-    pub whole_passed : told_in to turns x ≢ [] → (oid : ℕ) → length (only oid (told_in from to x)) ≡ length (s.section.plan oid)
-    whole_passed some oid =
+    pub passed_whole : told_in to turns x ≢ [] → AreBefore E s.section.releases × ((oid : ℕ) → length (only oid (told_in from to x)) ≡ length (s.section.plan oid))
+    passed_whole some =
         let count = told_count (clock_of x.board) 0 x.orders x.states (first_state x.board x.pins place entries) k.end k.told in
         let size = k.count in
         let rest = length-drop to x.states in
@@ -290,22 +329,23 @@ module _ (place : ℕ) (entries : List Entry) (ready turns from to : ℕ) (x : O
         let size_n : length front ≡ n = length-append y.front (y.state ∷ []) in
         let are : x.states ≡ front ++ y.behind = y.are ∙ sym (append_assoc y.front (y.state ∷ []) y.behind) in
         let few : n ≤ turns = (let e = ap length are in omega (arith, e, length-append front y.behind, size_n, count, size)) in
-        let r = ran (s.section.end + 5) n (omega arith) (omega arith) (released_at past s later k.released moves) (omega (arith, late, over)) few in
+        let r = ran n (omega (arith, late, over)) few (inl (omega (arith, late, over))) in
         let same : r.front ≡ front = front_is r.front r.others front y.behind (sym r.are ∙ are) (r.long ∙ sym size_n) in
         let Told : List State → Type 0 = λ t. AreTold (clock_of x.board) 0 (take n x.orders) t (first_state x.board x.pins place entries) r.last in
         let told = subst Told same r.told in
         let none = last_runs (clock_of x.board) 0 (take n x.orders) y.front y.state (first_state x.board x.pins place entries) r.last told y.some in
         let ended = last_told (clock_of x.board) 0 (take n x.orders) y.front y.state (first_state x.board x.pins place entries) r.last told in
         let running = runs_on r.last.core.board.controller.state y.state.shut ended.1 none in
-        elim (r.either running) [
-          | inl m ↦ many n (omega (arith, late)) few r.front r.others r.are r.long oid (m oid)
-          | inr early ↦
-              let At : List State → Type 0 = λ t. (o : ℕ) → AreEarly (Own (s.section.end + 5)) (only o (pulses_in t)) in
-              let all = subst At same early in
-              let split : pulses_in front ≡ pulses_in y.front ++ (y.state.pulses ++ []) = flat_map-append (λ (t : State). t.pulses) y.front (y.state ∷ []) in
-              let one : pulses_in (take (n - length y.front) (drop (length y.front) x.states)) ≡ y.state.pulses ++ [] =
-              ap pulses_in (states_between y.front (y.state ∷ []) y.behind x.states (length y.front) n y.are refl (omega arith)) in
-              absurd (none_early (Own (s.section.end + 5)) (Own (length y.front)) (Own n) y.state.pulses (pulses_in y.front) (pulses_in front) y.some split all
-              (λ o. subst (λ (t : List Pulse). AreBetween (Own (length y.front)) (Own n) (only o t)) one (between_told place entries ready turns (length y.front) n x (past ++ s ∷ later) k (omega arith) few o))
-              (ticks_rise Own (k.own_is.ticks) (s.section.end + 5) (length y.front) (omega (arith, late, over))))
+        let none_of : ((oid : ℕ) → AreEarly (Own E) (only oid (pulses_in r.front))) → ⊥ = λ early.
+        (let At : List State → Type 0 = λ t. (o : ℕ) → AreEarly (Own E) (only o (pulses_in t)) in
+        let all = subst At same early in
+        let split : pulses_in front ≡ pulses_in y.front ++ (y.state.pulses ++ []) = flat_map-append (λ (t : State). t.pulses) y.front (y.state ∷ []) in
+        let one : pulses_in (take (n - length y.front) (drop (length y.front) x.states)) ≡ y.state.pulses ++ [] =
+        ap pulses_in (states_between y.front (y.state ∷ []) y.behind x.states (length y.front) n y.are refl (omega arith)) in
+        none_early (Own E) (Own (length y.front)) (Own n) y.state.pulses (pulses_in y.front) (pulses_in front) y.some split all
+        (λ o. subst (λ (t : List Pulse). AreBetween (Own (length y.front)) (Own n) (only o t)) one (between_told place entries ready turns (length y.front) n x (past ++ s ∷ later) k (omega arith) few o))
+        (ticks_rise Own (k.own_is.ticks) E (length y.front) (omega (arith, late, over)))) in
+        elim r.here [
+          | inl lost ↦ absurd (none_of lost.1)
+          | inr made ↦ elim (made.0 running) [ inl m ↦ (made.2, λ oid. many n (omega (arith, late)) few r.front r.others r.are r.long oid (m oid)) | inr early ↦ absurd (none_of early) ]
         ]

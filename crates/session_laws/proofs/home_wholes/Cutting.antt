@@ -10,26 +10,22 @@ use Rattle.link_work.specs.Stands.{first_state}
 use Rattle.link_work.specs.Turn.{LinkState, Orders}
 use Rattle.link_work.proofs.Sending.{run_append}
 use Rattle.run_laws.specs.Boards.{OnBoard}
-use Rattle.run_laws.specs.Courses.{AreSettled}
-use Rattle.run_laws.specs.Homes.{RunSection, IsHomeRun, IsHomeSpan, AreSettledOn, IsHomeBoard}
-use Rattle.run_laws.specs.Known.{Sent, sent_in}
-use Rattle.run_laws.specs.Links.{AreTold, pulses_in, steps_of, turns_told}
+use Rattle.run_laws.specs.Courses.{AllHeed, AreSettled}
+use Rattle.run_laws.specs.Homes.{RunSection, IsHomeRun, IsHomeSpan, IsSplitIn, IsHomeBoard, lost_at}
+use Rattle.run_laws.specs.Known.{sent_in}
+use Rattle.run_laws.specs.Links.{AreTold, pulses_in, turns_told}
 use Rattle.run_laws.specs.Timely.{AllTimely}
 use Rattle.run_laws.proofs.Linking.{own_first, told_made, turns_are, turns_owned}
 use Rattle.run_laws.proofs.Turning.{timely_front}
-use Rattle.run_laws.proofs.HomeBoards.{settled_head, settled_owned, split_at}
-
-abbrev steps_told : (clock : BoardClock) (turn : ℕ) (os : List Orders) (states : List State) (l m : LinkState) → AreTold clock turn os states l m → List Step
-steps_told clock turn os states l m t = steps_of clock turn os l m (turns_told clock turn os states l m t)
-
-abbrev SettledTold : (stops : ℕ → Option ℕ) (clock : BoardClock) (turn : ℕ) (sent : List Sent) (os : List Orders) (states : List State) (l m : LinkState) → AreTold clock turn os states l m → Type 0
-SettledTold stops clock turn sent os states l m t = AreSettledOn stops clock turn sent os l m (turns_told clock turn os states l m t)
+use Rattle.run_laws.proofs.HomeBoards.{SettledTold, settled_head, settled_owned, split_at, steps_told}
+use Rattle.run_laws.proofs.Stepping.{heed_front}
 
 -- a board's turns before one, and on to another, with its link there
-pub record Cut (x : OnBoard) (own : ℕ → ℕ) (place : ℕ) (entries : List Entry) (ready : ℕ) (stops : ℕ → Option ℕ) (ss : List RunSection) (before during behind : List Orders) : Type 0 where
+pub record Cut (x : OnBoard) (own : ℕ → ℕ) (place : ℕ) (entries : List Entry) (ready until : ℕ) (stops : ℕ → Option ℕ) (ss : List RunSection) (before during behind : List Orders) : Type 0 where
   pub first : List Step
   pub second : List Step
   pub span : IsHomeSpan x.board x.pins own x.clocks ready stops ss before during behind first second
+  pub until_is : lost_at (length (before ++ (during ++ behind))) span.split.tail ≡ until
   pub mid : LinkState
   pub mid_turns : AreTurns (clock_of x.board) 0 before (first_state x.board x.pins place entries) mid
   pub mid_is : mid.core ≡ run first (start x.board x.pins)
@@ -57,9 +53,11 @@ cut_here : (x : OnBoard) (place : ℕ) (entries : List Entry) (ready : ℕ) (ss 
     → length (before ++ (during ++ behind)) ≡ turns → IsHomeRun k.own x.clocks x.board.freq x.board.slots ready k.stops ss (before ++ (during ++ behind))
     → (t : AreTold (clock_of x.board) 0 (before ++ (during ++ behind)) x.states (first_state x.board x.pins place entries) k.end)
     → AllTimely (start x.board x.pins) (steps_told (clock_of x.board) 0 (before ++ (during ++ behind)) x.states (first_state x.board x.pins place entries) k.end t)
-    → SettledTold k.stops (clock_of x.board) 0 [] (before ++ (during ++ behind)) x.states (first_state x.board x.pins place entries) k.end t
-    → Cut x k.own place entries ready k.stops ss before during behind
-cut_here x place entries ready ss turns k before during behind all_is r t timely settled =
+    → (split : IsSplitIn k.own k.stops x.board.slots ss (before ++ (during ++ behind)))
+    → SettledTold k.stops split.front (clock_of x.board) 0 [] (before ++ (during ++ behind)) x.states (first_state x.board x.pins place entries) k.end t
+    → AllHeed split.front split.tail (start x.board x.pins) (steps_told (clock_of x.board) 0 (before ++ (during ++ behind)) x.states (first_state x.board x.pins place entries) k.end t)
+    → (until : ℕ) → lost_at (length (before ++ (during ++ behind))) split.tail ≡ until → Cut x k.own place entries ready until k.stops ss before during behind
+cut_here x place entries ready ss turns k before during behind all_is r t timely split settled heed until until_is =
     let clock = clock_of x.board in
     let own = k.own in
     let all = length-append before (during ++ behind) in
@@ -68,8 +66,8 @@ cut_here x place entries ready ss turns k before during behind all_is r t timely
     let h = start x.board x.pins in
     let a = length before in
     let d = a + length during in
-    let s = split_at k.stops clock 0 a [] before (during ++ behind) x.states l k.end t (omega arith) settled in
-    let u = split_at k.stops clock a d (sent_in 0 before) during behind s.second s.mid k.end s.two refl s.settled_two in
+    let s = split_at k.stops split.front clock 0 a [] before (during ++ behind) x.states l k.end t (omega arith) settled in
+    let u = split_at k.stops split.front clock a d (sent_in 0 before) during behind s.second s.mid k.end s.two refl s.settled_two in
     let first = steps_told clock 0 before s.first l s.mid s.one in
     let second = steps_told clock a during u.first s.mid u.mid u.one in
     let third = steps_told clock d behind u.second u.mid k.end u.two in
@@ -80,10 +78,11 @@ cut_here x place entries ready ss turns k before during behind all_is r t timely
     let early : s.mid.core ≡ run first h = t1.0 in
     let late : u.mid.core ≡ run (first ++ second) h = t2.0 ∙ ap (run second) t1.0 ∙ sym (run_append first second h) in
     let Timely : List Step → Type 0 = λ y. AllTimely h y in
+    let Heed : List Step → Type 0 = λ y. AllHeed split.front split.tail h y in
     let one_within : 0 + a ≤ turns = omega (arith, all, all_is) in
     let two_within : a + length during ≤ turns = omega (arith, all, rest, all_is) in
     let two_turns = turns_owned x.board own turns a during second k.own_is two_within t2.1 in
-    let At : Core → Type 0 = λ y. AreSettled k.stops own a (sent_in 0 before) during second y two_turns in
+    let At : Core → Type 0 = λ y. AreSettled k.stops split.front own a (sent_in 0 before) during second y two_turns in
     let both = told_both clock 0 a before during s.first u.first l s.mid u.mid (omega arith) s.one u.one in
     let one = s.long in
     let two = u.long in
@@ -95,15 +94,17 @@ cut_here x place entries ready ss turns k before during behind all_is r t timely
         ticks = k.own_is.ticks;
         begin = own_first x.board turns own k.own_is;
         run_is = r;
-        released = k.released;
+        split = split;
         first_turns = turns_owned x.board own turns 0 before first k.own_is one_within t1.1;
         second_turns = two_turns;
         timely = timely_front (first ++ second) third h (subst Timely whole timely);
-        first_settled = settled_owned x.board k.stops own turns 0 [] before first h k.own_is one_within t1.1
-            (settled_head k.stops clock 0 [] before l s.mid (turns_told clock 0 before s.first l s.mid s.one) s.settled_one);
-        second_settled = subst At early (settled_owned x.board k.stops own turns a (sent_in 0 before) during second s.mid.core k.own_is two_within t2.1
-            (settled_head k.stops clock a (sent_in 0 before) during s.mid u.mid (turns_told clock a during u.first s.mid u.mid u.one) u.settled_one));
+        first_settled = settled_owned x.board k.stops split.front own turns 0 [] before first h k.own_is one_within t1.1
+            (settled_head k.stops split.front clock 0 [] before l s.mid (turns_told clock 0 before s.first l s.mid s.one) s.settled_one);
+        second_settled = subst At early (settled_owned x.board k.stops split.front own turns a (sent_in 0 before) during second s.mid.core k.own_is two_within t2.1
+            (settled_head k.stops split.front clock a (sent_in 0 before) during s.mid u.mid (turns_told clock a during u.first s.mid u.mid u.one) u.settled_one));
+        heed = heed_front split.front split.tail (first ++ second) third h (subst Heed whole heed);
       };
+      until_is = until_is;
       mid = s.mid;
       mid_turns = turns_told clock 0 before s.first l s.mid s.one;
       mid_is = early;
@@ -118,10 +119,11 @@ cut_here x place entries ready ss turns k before during behind all_is r t timely
     }
 
 pub cut_board : (x : OnBoard) (place : ℕ) (entries : List Entry) (ready turns : ℕ) (ss : List RunSection) (k : IsHomeBoard place entries ready turns ss x) (before during behind : List Orders) → x.orders ≡ before ++ (during ++ behind)
-    → Cut x k.own place entries ready k.stops ss before during behind
+    → Cut x k.own place entries ready (lost_at (length x.orders) k.split.tail) k.stops ss before during behind
 cut_board x place entries ready turns ss k before during behind cut =
     let clock = clock_of x.board in
     let l = first_state x.board x.pins place entries in
     let At : List Orders → Type 0 = λ o. length o ≡ turns → IsHomeRun k.own x.clocks x.board.freq x.board.slots ready k.stops ss o → (t : AreTold clock 0 o x.states l k.end)
-    → AllTimely (start x.board x.pins) (steps_told clock 0 o x.states l k.end t) → SettledTold k.stops clock 0 [] o x.states l k.end t → Cut x k.own place entries ready k.stops ss before during behind in
-    subst At (sym cut) (λ count r t timely settled. cut_here x place entries ready ss turns k before during behind count r t timely settled) k.count k.run_is k.told k.timely k.settled
+    → AllTimely (start x.board x.pins) (steps_told clock 0 o x.states l k.end t) → (split : IsSplitIn k.own k.stops x.board.slots ss o) → SettledTold k.stops split.front clock 0 [] o x.states l k.end t
+    → AllHeed split.front split.tail (start x.board x.pins) (steps_told clock 0 o x.states l k.end t) → (until : ℕ) → lost_at (length o) split.tail ≡ until → Cut x k.own place entries ready until k.stops ss before during behind in
+    subst At (sym cut) (cut_here x place entries ready ss turns k before during behind) k.count k.run_is k.told k.timely k.split k.settled k.heed (lost_at (length x.orders) k.split.tail) refl

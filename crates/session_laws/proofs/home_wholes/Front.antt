@@ -1,5 +1,5 @@
 -- The first turns of a board's part of a run in which axes home, up to the end of a section: a run of the sections up to this one.
-use Rattle.std.proofs.Common.{◌≡◌, ℕ, ◌+◌, ◌≤◌, ◌⊎◌, List, [], ◌∷◌, ◌++◌, All, length, Option, refl, ap, sym, ◌∙◌, subst, arith, inl, inr, append_assoc, append-nil, length-append, false}
+use Rattle.std.proofs.Common.{◌≡◌, ℕ, ◌+◌, ◌<◌, ◌≤◌, ◌⊎◌, List, [], ◌∷◌, ◌++◌, All, length, Option, refl, ap, sym, ◌∙◌, subst, arith, inl, inr, append_assoc, append-nil, length-append, false}
 use Rattle.std.proofs.lemmas.List.{take-append-le}
 use Rattle.std.proofs.lemmas.List.Elements.{All-cons, All-head, All-nil, All-tail}
 use Rattle.plan_types.specs.Lines.{Clocks}
@@ -8,7 +8,9 @@ use Rattle.msg_code.specs.declared.cmd.Cmd.TheVariants as cmd
 use Rattle.step_feed.specs.Pacing.{batch_at}
 use Rattle.section_units.specs.Sections.{BoardSection, AreBefore}
 use Rattle.link_work.specs.Turn.{Orders}
-use Rattle.run_laws.specs.Homes.{AreInTurn, AreOrdersIn, AreOverBy, AreSet, HasUnits, IsControlIn, IsHomeRun, IsSectionBy, RunSection, SetsAny, SetsClock, SetsIn, AreReleasedIn}
+use Rattle.run_laws.specs.Courses.{Course}
+use Rattle.run_laws.specs.Known.{Sent}
+use Rattle.run_laws.specs.Homes.{AreInTurn, AreOrdersIn, AreOverBy, AreSet, BeginLeftOf, HasUnits, IsLeftOf, IsControlIn, IsHomeRun, IsSectionBy, RunSection, SetsAny, SetsClock, SetsIn, AreReleasedIn, lost_at}
 use Rattle.run_laws.specs.Parts.{MakesIn}
 use Rattle.run_laws.proofs.HomeControls.{none_sets}
 use Rattle.run_laws.proofs.Spans.{all_split}
@@ -125,10 +127,47 @@ over_front e n (t ∷ past) s later row h =
     (omega (arith, rest.1, rest.2, h), over_front t.section.end n past s later row.2 h)
 
 -- what is released by four turns behind the ends
-pub released_front : (past : List RunSection) (s : RunSection) (later : List RunSection) → AreReleasedIn (past ++ s ∷ later) → AreReleasedIn (past ++ s ∷ [])
-released_front [] s later w = (w.0, tt)
-released_front (t ∷ past) s later w = (w.0, released_front past s later w.1)
+pub released_with : (past : List RunSection) (s : RunSection) → AreReleasedIn past → (s.homes ≡ false → AreBefore (s.section.end + 5) s.section.releases) → AreReleasedIn (past ++ s ∷ [])
+released_with [] s out mine = (mine, tt)
+released_with (t ∷ past) s out mine = (out.0, released_with past s out.1 mine)
 
-pub released_at : (past : List RunSection) (s : RunSection) (later : List RunSection) → AreReleasedIn (past ++ s ∷ later) → s.homes ≡ false → AreBefore (s.section.end + 5) s.section.releases
-released_at [] s later w moves = w.0 moves
-released_at (t ∷ past) s later w moves = released_at past s later w.1 moves
+-- Where the first triple stands that comes too late: before a section of moves starts, or in the fifth turn behind its
+-- end; or the section's units are released soon. In these cases those of the sections before it are.
+abbrev pub AreLostBy : ℕ → List Sent → Type 0
+AreLostBy turn [] = ⊥
+AreLostBy turn (t ∷ tail) = t.turn < turn
+
+abbrev pub AreLostAt : ℕ → List Sent → Type 0
+AreLostAt turn [] = ⊥
+AreLostAt turn (t ∷ tail) = t.turn ≡ turn
+
+abbrev pub WhereLeft : ℕ → List RunSection → RunSection → List Sent → Type 0
+WhereLeft turns past s tail =
+    AreLostBy s.section.start tail
+    ⊎ (AreReleasedIn past × (s.section.start ≤ lost_at turns tail) × (AreLostAt (s.section.end + 5) tail ⊎ (s.section.end + 5 < turns → AreBefore (s.section.end + 5) s.section.releases)))
+
+with_first : (turns : ℕ) (p : RunSection) (past : List RunSection) (s : RunSection) (tail : List Sent) → (p.homes ≡ false → AreBefore (p.section.end + 5) p.section.releases) → WhereLeft turns past s tail → WhereLeft turns (p ∷ past) s tail
+with_first turns p past s tail mine (inl lost) = inl lost
+with_first turns p past s tail mine (inr x) = inr ((mine, x.0), x.1, x.2)
+
+left_later : (e turn : ℕ) (ss : List RunSection) (cs : ℕ → Course) (c : Cmd) → AreInTurn e ss → IsLeftOf ss cs turn c → e ≤ turn
+left_later e turn [] cs c row x = absurd x
+left_later e turn (s ∷ ss) cs c row (inl x) = omega (arith, x.1, row.0, row.1)
+left_later e turn (s ∷ ss) cs c row (inr x) = omega (arith, left_later s.section.end turn ss cs c row.2 x.1, row.0, row.1)
+
+pub where_left : (e turns : ℕ) (past : List RunSection) (s : RunSection) (later : List RunSection) (cs : ℕ → Course) (tail : List Sent) → AreInTurn e (past ++ s ∷ later) → s.homes ≡ false → s.section.start ≤ turns → BeginLeftOf turns (past ++ s ∷ later) cs tail
+    → WhereLeft turns past s tail
+where_left e turns [] s later cs [] row moves far x = inr (tt, far, inr (x.0 moves))
+where_left e turns [] s later cs (t ∷ tail) row moves far (inl l) = (let turn = l.1 in let order = row.1 in inr (tt, omega (arith, turn, order), inl turn))
+where_left e turns [] s later cs (t ∷ tail) row moves far (inr l) =
+    let behind = left_later s.section.end t.turn later cs t.order.command row.2 l.1 in
+    let order = row.1 in
+    inr (tt, omega (arith, behind, order), inr (λ _. l.0 moves))
+where_left e turns (p ∷ past) s later cs [] row moves far x =
+    let place = row_later p.section.end past s later row.2 in
+    with_first turns p past s [] (λ h. x.0 h (omega (arith, place.1, far))) (where_left p.section.end turns past s later cs [] row.2 moves far x.1)
+where_left e turns (p ∷ past) s later cs (t ∷ tail) row moves far (inl l) =
+    let place = row_later p.section.end past s later row.2 in
+    let turn = l.1 in
+    inl (omega (arith, turn, place.1))
+where_left e turns (p ∷ past) s later cs (t ∷ tail) row moves far (inr l) = with_first turns p past s (t ∷ tail) l.0 (where_left p.section.end turns past s later cs (t ∷ tail) row.2 moves far l.1)

@@ -38,9 +38,10 @@ use Rattle.session_work.specs.declared.table.ReactorTurn.{ReactorTurn}
 use Rattle.session_run.specs.Boards.{came_from, came_in}
 use Rattle.session_run.specs.Runs.{RunsOver}
 use Rattle.run_laws.specs.Ends.{MayBe}
-use Rattle.run_laws.specs.Homes.{IsHomeRun, RunSection, AreReleasedIn}
+use Rattle.run_laws.specs.Homes.{AreSoon, IsHomeRun, RunSection}
 use Rattle.run_boards.specs.Boards.{IsInWhole}
-use Rattle.run_plans.specs.Homed.{is_home}
+use Rattle.run_plans.specs.Homed.{is_home, stops_of}
+use Rattle.session_laws.proofs.clock_ages.Own.{Own}
 use Rattle.run_plans.specs.Planned.{Plans}
 use Rattle.session_laws.specs.run_headline.Timely.{link_of}
 use Rattle.session_laws.proofs.run_headline.Boarded.{came_long}
@@ -64,13 +65,13 @@ use Rattle.homing_laws.specs.switch_runs.Reports.{HearSoon, WasReported}
 use Rattle.homing_laws.specs.switch_runs.Runs.{IsReadIn}
 use Rattle.session_laws.specs.home_headline.Cuts.{EndsIn, TellEnds, TellsAnswer}
 use Rattle.cause_runs.specs.Short.{HaveShortDictionaries}
-use Rattle.session_laws.specs.home_headline.Little.{AllHomeLittle, HomesLittle}
+use Rattle.session_laws.specs.home_headline.Little.{AllHomeLittle, HomesLittle, SendsOut}
 use Rattle.session_laws.proofs.home_headline.Ended.{goes_behind, notes_behind}
 use Rattle.session_laws.proofs.home_headline.Switches.{all_ends, came_ahead, came_snoc}
 use Rattle.session_laws.specs.home_wholes.Own.{AllHearSoon, IsOwnReading, TellOwn}
 use Rattle.session_laws.proofs.home_wholes.Going.{goes_running, may_front}
 use Rattle.session_laws.proofs.home_wholes.Axes.{axis_low}
-use Rattle.session_laws.proofs.home_wholes.Lines.{By, Came_all, Made, Turns_of, by, connected, formed, knows, limits_of, lines, may_end, on, row, run_of, set_ups, turn, whole}
+use Rattle.session_laws.proofs.home_wholes.Lines.{By, Came_all, Made, Turns_of, by, connected, formed, homing_of, knows, lines, may_end, row, run_of, set_ups, turn, whole}
 use Rattle.session_laws.proofs.home_wholes.Own.{one_axis, own_told}
 use Rattle.run_laws.proofs.Lists.{one_place}
 
@@ -97,7 +98,7 @@ ends_front m switches begun k (x ∷ xs) ys ends = (ends.0, ends_front m switche
 module _ (m : Machine) (v : IsValidMachine m) (s : Scene) (ts : List MotionTurn) (p : Plans m (length m.boards) ts) (t : Told) (first : ReactorTurn) (rest : List ReactorTurn) (end : ReactorTurn) (c : Cause) (told : p.seen.told ≡ Some t) (f : Facts m s ts (first ∷ rest) end c)
     (short : HaveShortDictionaries m)
     (little : (b : ℕ) → b < length m.boards → (w : IsInWhole m s.switches b (clock_of (board_at m b)) (link_of m s b) ts first (rest ++ end ∷ [])) → HomesLittle m s b ts first (rest ++ end ∷ []) (length p.made) t p.seen.begun w)
-    (soon : AllHearSoon m s p.seen.text ts (first ∷ (rest ++ end ∷ []))) where
+    (soon : AllHearSoon m s p.seen.text ts (first ∷ (rest ++ end ∷ []))) (sends : SendsOut m p.seen.text ts) where
   abbrev Came_by : List Came
   Came_by = Came_all m v s ts p t first rest end c told f short little
 
@@ -130,14 +131,14 @@ module _ (m : Machine) (v : IsValidMachine m) (s : Scene) (ts : List MotionTurn)
 
     unset : (from : ℕ) → from + 254 ≡ st.start → SetNoClockFrom from section.0.past
     unset =
-        let k = on m v s ts p t first rest end c told f short little Board there in
+        let g = homing_of m v s ts p t first rest end c told f short little Board there in
         let Upto = Made m v s ts p t first rest end c told f short little in
         let From = By m v s ts p t first rest end c told f short little in
-        let Run : List RunSection → Type 0 = λ ss. IsHomeRun k.own (clocks_at t.clocks Board) (board_at m Board).freq (board_at m Board).slots From k.stops ss (orders_in Turns) in
+        let Run : List RunSection → Type 0 = λ ss. IsHomeRun (Own m Board (length rest)) (clocks_at t.clocks Board) (board_at m Board).freq (board_at m Board).slots From (stops_of p.seen.begun) ss (orders_in Turns) in
         let parts = ap (map (cut_on m t.clocks Upto Board)) cut ∙ map-append (cut_on m t.clocks Upto Board) past (st ∷ later) in
-        none_set m s.switches Pins s.entries Board (board_at m Board).freq (board_at m Board).slots From st.end k.own (clocks_at t.clocks Board) k.stops
+        none_set m s.switches Pins s.entries Board (board_at m Board).freq (board_at m Board).slots From st.end st.end (Own m Board (length rest)) (clocks_at t.clocks Board) (stops_of p.seen.begun)
         (cuts_on m t.clocks Upto past Board) (cut_on m t.clocks Upto Board st) (cuts_on m t.clocks Upto later Board) Turns
-        (subst Run parts k.run_is) (subst AreReleasedIn parts k.released) (ap is_home home) refl section.0
+        (subst Run parts g.home) (subst (AreSoon st.end) parts (g.soon (sends p t Board refl told there) st.end)) (omega arith) (ap is_home home) refl section.0
 
     runs : (stands_after (link_of m s Board) section.0.past).core.board.controller.state ≡ Running
     runs =
@@ -164,7 +165,7 @@ module _ (m : Machine) (v : IsValidMachine m) (s : Scene) (ts : List MotionTurn)
         let Set_ups : List Started → Type 0 = λ ss. TakeSetUps m Pins s.entries Board ss Turns in
         elim hears.0 [
           | inl none ↦
-              let all = clear_set_ups m Pins s.entries Board Turns none (whole m v s ts p t first rest end c told f short little Board there).turns_are (limits_of m v s ts p t first rest end c told f short little Board there) t.first p.seen.begun (omega (arith, early))
+              let all = clear_set_ups m Pins s.entries Board Turns none (whole m v s ts p t first rest end c told f short little Board there).turns_are ((homing_of m v s ts p t first rest end c told f short little Board there).limits (sends p t Board refl told there)) t.first p.seen.begun (omega (arith, early))
               (row m v s ts p t first rest end c told f short little) in
               take_at m Pins s.entries Board past st later axis Turns home (subst Set_ups cut all) x.later x.past x.are x.long
           | inr took ↦ took
@@ -247,21 +248,22 @@ none_own m switches begun k before (r ∷ rs) none ends = (
 
 module _ (m : Machine) (v : IsValidMachine m) (s : Scene) (ts : List MotionTurn) (p : Plans m (length m.boards) ts) (end : ReactorTurn) (c : Cause) where
   own_by : HaveShortDictionaries m → (o : Option Told) (first : ReactorTurn) (rest : List ReactorTurn) → Facts m s ts (first ∷ rest) end c → p.seen.told ≡ o → AllHomeLittle m s p.seen.text ts (first ∷ (rest ++ end ∷ [])) → AllHearSoon m s p.seen.text ts (first ∷ (rest ++ end ∷ []))
-      → TellEnds m s.switches p.seen.begun 0 (first ∷ rest) → TellOwn m s.switches [] (first ∷ rest)
-  own_by short None first rest f told little soon ends = none_own m s.switches p.seen.begun 0 [] (first ∷ rest) (not_told m v s ts p end c told) ends
-  own_by short (Some t) first rest f told little soon ends = own_turns m v s ts p t first rest end c told f short (λ b h w. little p t b refl told h w) soon [] (first ∷ rest) refl ends
+      → SendsOut m p.seen.text ts → TellEnds m s.switches p.seen.begun 0 (first ∷ rest) → TellOwn m s.switches [] (first ∷ rest)
+  own_by short None first rest f told little soon sends ends = none_own m s.switches p.seen.begun 0 [] (first ∷ rest) (not_told m v s ts p end c told) ends
+  own_by short (Some t) first rest f told little soon sends ends = own_turns m v s ts p t first rest end c told f short (λ b h w. little p t b refl told h w) soon sends [] (first ∷ rest) refl ends
 
-  all_own : HaveShortDictionaries m → (rs : List ReactorTurn) → Ended m s ts rs end c → AllHomeLittle m s p.seen.text ts (rs ++ end ∷ []) → AllHearSoon m s p.seen.text ts (rs ++ end ∷ []) → TellOwn m s.switches [] rs
-  all_own short [] e little soon = tt
-  all_own short (first ∷ rest) e little soon =
+  all_own : HaveShortDictionaries m → (rs : List ReactorTurn) → Ended m s ts rs end c → AllHomeLittle m s p.seen.text ts (rs ++ end ∷ []) → AllHearSoon m s p.seen.text ts (rs ++ end ∷ []) → SendsOut m p.seen.text ts → TellOwn m s.switches [] rs
+  all_own short [] e little soon sends = tt
+  all_own short (first ∷ rest) e little soon sends =
       let ends = ends_front m s.switches p.seen.begun 0 (first ∷ rest) (end ∷ []) (all_ends m v s ts p end c (first ∷ rest) e) in
-      own_by short p.seen.told first rest e.facts refl little soon ends
+      own_by short p.seen.told first rest e.facts refl little soon sends ends
 
 pub run_own : {F S : Type 0} (f : Files F) (o : Sink S) (m : Machine) (s : Scene) (name : List ℕ) (files files' : F) (out out' : S) (kept kept' : Kept) (t : near.Told Run) (r : RunsOver f o m s name files out kept t files' out' kept') → IsValidMachine m → HaveShortDictionaries m → (text : List ℕ)
-    → f.told files name ≡ Some text → kept.at ≡ 0 → (t.cause ≡ cause.Memory → ⊥) → AllHomeLittle m s text r.runs.0 (r.runs.1 ++ r.runs.2 ∷ []) → AllHearSoon m s text r.runs.0 (r.runs.1 ++ r.runs.2 ∷ []) → ∥ TellOwn m s.switches [] r.runs.1 ∥₁
-run_own f o m s name files files' out out' kept kept' t r v short text told at other little soon =
+    → f.told files name ≡ Some text → kept.at ≡ 0 → (t.cause ≡ cause.Memory → ⊥) → AllHomeLittle m s text r.runs.0 (r.runs.1 ++ r.runs.2 ∷ []) → AllHearSoon m s text r.runs.0 (r.runs.1 ++ r.runs.2 ∷ []) → SendsOut m text r.runs.0 → ∥ TellOwn m s.switches [] r.runs.1 ∥₁
+run_own f o m s name files files' out out' kept kept' t r v short text told at other little soon sends =
     ∥∥₁_map (run_made f o m s name files files' out out' kept kept' t r text told at) (λ w.
     let made = w.0 in
     let Little : List ℕ → Type 0 = λ z. AllHomeLittle m s z r.runs.0 (r.runs.1 ++ r.runs.2 ∷ []) in
     let Soon : List ℕ → Type 0 = λ z. AllHearSoon m s z r.runs.0 (r.runs.1 ++ r.runs.2 ∷ []) in
-    all_own m v s r.runs.0 made.plans r.runs.2 t.cause short r.runs.1 (run_ended f o m s name files files' out out' kept kept' t r other) (subst Little (sym w.1) little) (subst Soon (sym w.1) soon))
+    let Sends : List ℕ → Type 0 = λ z. SendsOut m z r.runs.0 in
+    all_own m v s r.runs.0 made.plans r.runs.2 t.cause short r.runs.1 (run_ended f o m s name files files' out out' kept kept' t r other) (subst Little (sym w.1) little) (subst Soon (sym w.1) soon) (subst Sends (sym w.1) sends))

@@ -1,5 +1,6 @@
 -- What the lines of a whole run tell of a section of moves, where the board of the stepper ran on behind it.
-use Rattle.std.proofs.Common.{◌≡◌, ◌⊎◌, ◌≢◌, ℕ, true, ◌+◌, ◌<◌, ◌≤◌, List, [], ◌∷◌, ◌++◌, length, map, take, None, Some, refl, ap, sym, ◌∙◌, subst, arith, inl, inr, length-append}
+use Rattle.std.proofs.Common.{◌≡◌, ◌⊎◌, ◌≢◌, ℕ, true, ◌+◌, ◌-◌, ◌<◌, ◌≤◌, List, [], ◌∷◌, ◌++◌, length, map, drop, take, None, Some, refl, ap, sym, ◌∙◌, subst, arith, inl, inr, length-append}
+use Rattle.std.proofs.lemmas.Bool.Decides.{leb_tells}
 use Rattle.std.proofs.lemmas.List.{length-map, map-append}
 use Rattle.plan_types.specs.declared.cause.Cause.{Cause}
 use Rattle.plan_types.specs.declared.machine.Machine.{Machine}
@@ -29,45 +30,41 @@ use Rattle.session_work.specs.declared.table.ReactorTurn.{ReactorTurn}
 use Rattle.session_run.specs.Boards.{came_from}
 use Rattle.run_laws.specs.Boards.{IsWindow, OnBoard, told_in}
 use Rattle.run_laws.specs.Ends.{MayBe}
-use Rattle.link_work.specs.Limits.{AllKeepLimits}
-use Rattle.link_work.specs.Turn.{Orders}
-use Rattle.run_laws.specs.Homes.{AreOut, IsHomeBoard, RunSection}
+use Rattle.run_laws.specs.Homes.{IsHomeBoard, RunSection, lost_at}
+use Rattle.run_laws.specs.Links.{pulses_in}
 use Rattle.run_laws.specs.Stops.{NeverStop}
 use Rattle.run_parts.proofs.Going.{own_on}
 use Rattle.run_boards.specs.Boards.{IsInWhole, behind}
 use Rattle.run_boards.specs.Turns.{came_before}
 use Rattle.run_plans.specs.Boards.{TookStates, as_told, lines_between, times_of}
-use Rattle.run_plans.specs.Homed.{is_home, runs_on, stops_of}
+use Rattle.run_plans.specs.Homed.{is_home, stops_of}
 use Rattle.run_plans.specs.Lines.{TellTurns, TookNotes, pulses_of}
 use Rattle.run_plans.specs.Planned.{Plans}
 use Rattle.run_plans.proofs.Fitting.{between, plan_is}
 use Rattle.run_plans.proofs.Running.{started_in}
 use Rattle.session_laws.specs.run_headline.Timely.{AreSound, link_of}
-use Rattle.session_laws.proofs.run_headline.Boarded.{Ready, came_cut, came_long, ready, sound_of, took, valid_at}
+use Rattle.session_laws.proofs.run_headline.Boarded.{Ready, came_cut, ready, sound_of, took, valid_at}
 use Rattle.session_laws.proofs.run_headline.Showing.{Facts, all_lines, few, long_or, notes_before}
-use Rattle.homing_laws.specs.home_runs.Settled.{AreHomed}
+use Rattle.homing_laws.specs.home_runs.Ended.{AreToldIn}
 use Rattle.homing_laws.specs.home_plans.Notes.{AreInARow}
 use Rattle.homing_laws.proofs.home_plans.Noting.{begun_row}
-use Rattle.homing_laws.specs.fired_runs.Since.{AllReadTrue, AreReadSo}
+use Rattle.homing_laws.specs.fired_runs.Since.{AreReadSo}
 use Rattle.homing_laws.specs.home_parts.Answers.{ArePastConnecting, IsPlannedBy, MayHome, TakeSetUps}
 use Rattle.homing_laws.specs.home_parts.Cuts.{AreOverBefore, cut_on, cuts_on, over_in}
 use Rattle.homing_laws.specs.home_parts.Known.{KnowsLately, StartInRange}
 use Rattle.homing_laws.proofs.home_parts.Told.{all_told, row_from}
-use Rattle.homing_laws.proofs.home_parts.Limits.{turns_fit}
-use Rattle.session_laws.proofs.run_headline.Fronts.{limited}
 use Rattle.cause_runs.specs.Short.{HaveShortDictionaries}
 use Rattle.session_laws.proofs.clock_ages.Own.{Own}
 use Rattle.session_laws.proofs.clock_ages.Renews.{renews}
 use Rattle.session_laws.specs.home_headline.Little.{HomesLittle}
-use Rattle.session_laws.proofs.home_headline.Board.{Followed, boarded_by, end_at, here_by, lines_of, may_by, told_by}
+use Rattle.session_laws.proofs.home_headline.Board.{Followed, Homing, boarded_until, end_at, here_by, homing_by, lines_of, may_by}
 use Rattle.session_laws.proofs.home_headline.Clocks.{run_knows}
 use Rattle.session_laws.proofs.home_headline.Planned.{planned_by}
 use Rattle.session_laws.proofs.home_headline.Ranges.{may_all, on_small, range_all, starts_soon}
 use Rattle.session_laws.specs.home_wholes.Still.{IsStillIn}
-use Rattle.session_laws.proofs.home_wholes.Between.{still_between}
-use Rattle.session_laws.proofs.home_wholes.Board.{whole_idle, whole_passed}
-use Rattle.session_laws.proofs.home_wholes.Told.{all_homed}
-use Rattle.session_laws.proofs.home_headline.Uncut.{cut_many, cut_released, out_at, planned_at, released_by}
+use Rattle.session_laws.proofs.home_wholes.Board.{idle_whole, passed_whole}
+use Rattle.session_laws.proofs.home_wholes.Lost.{still_at}
+use Rattle.session_laws.proofs.home_headline.Uncut.{cut_many, kept_before, kept_released, planned_at}
 use Rattle.homing_laws.proofs.home_parts.Ends.{Among, among_here, among_parts, row_past}
 use Rattle.homing_laws.proofs.home_parts.Lines.{next_behind}
 
@@ -138,8 +135,15 @@ module _ (m : Machine) (v : IsValidMachine m) (s : Scene) (ts : List MotionTurn)
   pub formed : MayHome m p.seen.begun
   formed = may_all m v ts p t told
 
+  pub homing_of : (b : ℕ) (h : b < length m.boards) → Homing m v s ts p t first rest end told Made b turn (Turns_of b h)
+  homing_of b h = homing_by m v s ts p t first rest end told Made f.ahead b f.words_left (whole b h) turn h f.turns f.words notes (omega arith) (inr (omega arith)) most (little b h (whole b h)) (lines b h) sound formed (range b h)
+
+  pub on_until : (b : ℕ) (h : b < length m.boards) → (k : IsHomeBoard b s.entries By N (cuts_on m t.clocks Made p.seen.begun b) (Here b h)) × (k.split.tail ≡ (homing_of b h).split.tail)
+  unfolding homing_of
+  on_until b h = boarded_until m v s ts p t first rest end told Made f.ahead b f.words_left (whole b h) turn h f.turns f.words notes (omega arith) (inr (omega arith)) most (little b h (whole b h)) (lines b h) sound formed (range b h)
+
   pub on : (b : ℕ) (h : b < length m.boards) → IsHomeBoard b s.entries By N (cuts_on m t.clocks Made p.seen.begun b) (Here b h)
-  on b h = boarded_by m v s ts p t first rest end told Made f.ahead b f.words_left (whole b h) turn h f.turns f.words notes (omega arith) (inr (omega arith)) most (little b h (whole b h)) (lines b h) sound formed (range b h)
+  on b h = (on_until b h).0
 
   -- and behind its last turn it runs, or shut down for one of the two reasons
   pub may_end : (b : ℕ) (h : b < length m.boards) → MayBe (stands_after (link_of m s b) (Turns_of b h)).core.board.controller.state
@@ -165,27 +169,12 @@ module _ (m : Machine) (v : IsValidMachine m) (s : Scene) (ts : List MotionTurn)
   pub count : (b : ℕ) (h : b < length m.boards) → length (Turns_of b h) ≡ length (rest ++ end ∷ [])
   count b h = let a = order_length (Turns_of b h) in let d = (on b h).count in omega (arith, a, d)
 
-  pub limits_of : (b : ℕ) (h : b < length m.boards) → (done : List Orders) (o : Orders) (more : List Orders) → orders_in (Turns_of b h) ≡ done ++ (o ∷ more) → AllKeepLimits done
-  limits_of b h =
-      let k = on b h in
-      let pins = pins_of (board_at m b) b s.switches in
-      let units = turns_fit k.own (clocks_at t.clocks b) (board_at m b).freq (board_at m b).slots By k.stops (cuts_on m t.clocks Made p.seen.begun b) (Turns_of b h) k.run_is k.released in
-      limited m v s.switches pins s.entries b Came_all (Turns_of b h) (run_of b h) units
-
   -- the sections that home are told of
   pub set_ups : (b : ℕ) (h : b < length m.boards) → TakeSetUps m (pins_of (board_at m b) b s.switches) s.entries b p.seen.begun (Turns_of b h) ⊎ AreReadSo m s.switches b Came_all (Turns_of b h)
-  set_ups b h =
-      let pins = pins_of (board_at m b) b s.switches in
-      let Reads : List Came → Type 0 = λ z. (s.entries ≡ []) ⊎ (TakeSetUps m pins s.entries b p.seen.begun (Turns_of b h) ⊎ AllReadTrue m s.switches b z (Turns_of b h)) in
-      told_by m v s ts p t b (length rest) By Came_all (Turns_of b h) h (lines b h) turn.early row by knows connected (let d = came_long [] (first ∷ rest) in omega (arith, d)) (whole b h).turns_are (limits_of b h)
-      (subst Reads (came_cut [] first rest end) (little b h (whole b h)).set_up)
+  set_ups b h = (homing_of b h).set_ups
 
-  homed : (b : ℕ) (h : b < length m.boards) → AreHomed m s.switches (pins_of (board_at m b) b s.switches) s.entries b (stops_of p.seen.begun) (Turns_of b h)
-  homed b h =
-      let k = on b h in
-      let pins = pins_of (board_at m b) b s.switches in
-      let told_all = all_told m s.switches pins s.entries b By Made ts p t Came_all (Turns_of b h) by told turn.early connected formed (run_of b h) (set_ups b h) in
-      all_homed m s.switches pins s.entries b (board_at m b).freq (board_at m b).slots By k.own (clocks_at t.clocks b) k.stops (stops_of p.seen.begun) (cuts_on m t.clocks Made p.seen.begun b) (Turns_of b h) k.run_is k.released told_all
+  sections_told : (b : ℕ) (h : b < length m.boards) → AreToldIn m s.switches (pins_of (board_at m b) b s.switches) s.entries b (stops_of p.seen.begun) (cuts_on m t.clocks Made p.seen.begun b) (Turns_of b h)
+  sections_told b h = all_told m s.switches (pins_of (board_at m b) b s.switches) s.entries b By Made ts p t Came_all (Turns_of b h) by told turn.early connected formed (run_of b h) (set_ups b h)
 
   pub took_states : (b : ℕ) (h : b < length m.boards) → TookStates b (rest ++ end ∷ []) (Here b h).states
   took_states b h = took b (rest ++ end ∷ []) (Here b h).states (whole b h).states
@@ -196,10 +185,13 @@ module _ (m : Machine) (v : IsValidMachine m) (s : Scene) (ts : List MotionTurn)
     abbrev Cut : RunSection
     Cut = cut_on m t.clocks Made b x
 
+    home_until : (k : IsHomeBoard b s.entries By N (cuts_on m t.clocks Made past b ++ Cut ∷ cuts_on m t.clocks Made later b) (Here b h)) × (k.split.tail ≡ (homing_of b h).split.tail)
+    home_until =
+        let Home : List RunSection → Type 0 = λ ss. (k : IsHomeBoard b s.entries By N ss (Here b h)) × (k.split.tail ≡ (homing_of b h).split.tail) in
+        subst Home (ap (map (cut_on m t.clocks Made b)) cut ∙ map-append (cut_on m t.clocks Made b) past (x ∷ later)) (on_until b h)
+
     home : IsHomeBoard b s.entries By N (cuts_on m t.clocks Made past b ++ Cut ∷ cuts_on m t.clocks Made later b) (Here b h)
-    home =
-        let Home : List RunSection → Type 0 = λ ss. IsHomeBoard b s.entries By N ss (Here b h) in
-        subst Home (ap (map (cut_on m t.clocks Made b)) cut ∙ map-append (cut_on m t.clocks Made b) past (x ∷ later)) (on b h)
+    home = home_until.0
 
     starts : (t.first ≤ x.start) × (x.start ≤ x.end)
     starts = let Row : List Started → Type 0 = λ ss. AreInARow t.first ss in row_from t.first past x later (subst Row cut row)
@@ -207,15 +199,19 @@ module _ (m : Machine) (v : IsValidMachine m) (s : Scene) (ts : List MotionTurn)
     far : 260 ≤ t.first
     far = let early = turn.early in omega (arith, early)
 
-    still : IsStillIn b s.entries Cut.section (Here b h)
-    still =
+    still : Cut.section.start ≤ lost_at N home.split.tail → IsStillIn b s.entries Cut.section (Here b h)
+    unfolding home
+    still soon =
         let size = count b h in
         let order = w.order in
         let within = w.within in
         let begins = w.begins in
+        let k = on b h in
+        let same : lost_at N home.split.tail ≡ lost_at (length (orders_in (Turns_of b h))) (homing_of b h).split.tail = ap (lost_at N) home_until.1 ∙ ap (λ (i : ℕ). lost_at i (homing_of b h).split.tail) (sym k.count) in
         let y = Here b h in
-        still_between m s.switches (pins_of (board_at m b) b s.switches) s.entries b t.first p.seen.begun past x later Came_all (Turns_of b h) v (run_of b h) by.notes far row (homed b h) cut moves (omega (arith, size, order, within, begins))
-        y.clocks y.sections Cut.section.plan Cut.section.releases y.states
+        let g = homing_of b h in
+        still_at m v s.switches (pins_of (board_at m b) b s.switches) s.entries b (board_at m b).freq (board_at m b).slots By t.first Made (Own m b (length rest)) y.clocks t.clocks p.seen.begun Came_all (Turns_of b h) g.home g.split (sections_told b h) (run_of b h) by.notes far row
+        past x later cut moves (omega (arith, size, order, within, begins)) (omega (arith, soon, same)) y.sections Cut.section.plan Cut.section.releases y.states
 
     moved : IsMoved m t.clocks x
     moved =
@@ -223,45 +219,65 @@ module _ (m : Machine) (v : IsValidMachine m) (s : Scene) (ts : List MotionTurn)
         let At : SectionKind → Type 0 = λ k. IsPlanned k m t.clocks x in
         subst At moves (planned_at m t.clocks t.first past x later (subst Begun cut (started_in m ts p t told)))
 
-    -- it was over in the turns that the planner made: where these are not all, the last section homes
-    made_over : x.end + 5 ≤ Made
+    -- it was over long before the planner's last turn, where the planner's turns are not all: then the last section homes
+    made_over : (x.end + 5 < Made) ⊎ (N ≤ Made)
     made_over =
-        let within = w.within in
         elim (long_or m v s ts p end c first rest f) [
-          | inl l ↦ omega (arith, over, within, l)
+          | inl l ↦ inr (omega (arith, l))
           | inr z ↦ elim z.0 [
             | inl none ↦ absurd (none_some (sym none ∙ told))
-            | inr last ↦ (let far = before_last t.first past x later last.past last.s last.axis (sym cut ∙ last.are) moves last.home (let Row : List Started → Type 0 = λ ss. AreInARow t.first ss in subst Row last.are row) in let late = last.by in omega (arith, far, late))
+            | inr last ↦ (let far = before_last t.first past x later last.past last.s last.axis (sym cut ∙ last.are) moves last.home (let Row : List Started → Type 0 = λ ss. AreInARow t.first ss in subst Row last.are row) in let late = last.by in inl (omega (arith, far, late)))
           ]
         ]
 
-    released : AreBefore (x.end + 5) (part_on m t.clocks x b).releases
-    released =
+    -- where all that is left of it is released soon, all of it is, and its plan is not cut
+    released_all : x.end + 5 < Made → AreBefore (x.end + 5) Cut.section.releases → AreBefore (x.end + 5) (part_on m t.clocks x b).releases
+    released_all far_made kept =
         let l = lines b h in
         let early = turn.early in
         let start = starts.0 in
-        let upto = made_over in
         let Ends : List Started → Type 0 = λ ss. AreOverBefore m t.clocks l.tracked.until ss in
-        let Out : List Started → Type 0 = λ ss. AreOut (length p.made) (runs_on m t.clocks ss b) in
-        released_by m (Own m b (length rest)) t.clocks b By (length p.made) x (own_on (board_at m b) 0 (length rest + 349) (valid_at m.boards b h v.boards) (omega arith)).ticks l.tracked moved h (omega (arith, early, start))
-        (subst (λ (k : SectionKind). over_in k m t.clocks x < l.tracked.until) moves (end_at m t.clocks l.tracked.until past x later (subst Ends cut l.over))) (out_at m t.clocks (length p.made) b past x later (subst Out cut (little b h (whole b h)).out) (ap is_home moves)) (omega (arith, upto))
+        kept_released m (Own m b (length rest)) t.clocks b By Made x (own_on (board_at m b) 0 (length rest + 349) (valid_at m.boards b h v.boards) (omega arith)).ticks l.tracked moved h (omega (arith, early, start))
+        (subst (λ (k : SectionKind). over_in k m t.clocks x < l.tracked.until) moves (end_at m t.clocks l.tracked.until past x later (subst Ends cut l.over))) far_made kept
 
-    as_planned : (oid : ℕ) → length (Cut.section.plan oid) ≡ length ((part_on m t.clocks x b).plan oid)
-    as_planned oid = cut_many m t.clocks b Made x moved h released made_over oid
+    as_planned : x.end + 5 ≤ Made → AreBefore (x.end + 5) (part_on m t.clocks x b).releases → (oid : ℕ) → length (Cut.section.plan oid) ≡ length ((part_on m t.clocks x b).plan oid)
+    as_planned upto released oid = cut_many m t.clocks b Made x moved h released upto oid
 
-    -- the link was idle in a turn, and the board wasn't stopped
-    pub idle_many : (n : ℕ) (states others : List State) (last : State) → to ≤ n → n ≤ length (rest ++ end ∷ []) → (Here b h).states ≡ (states ++ last ∷ []) ++ others → length (states ++ last ∷ []) ≡ n → NeverStop (take n (orders_in (Turns_of b h)))
+    whole_by : AreBefore (x.end + 5) Cut.section.releases → (x.end + 5 < Made) ⊎ ((x.end + 5 ≤ Made) × AreBefore (x.end + 5) (part_on m t.clocks x b).releases) → (oid : ℕ) → length (Cut.section.plan oid) ≡ length ((part_on m t.clocks x b).plan oid)
+    whole_by kept (inl far_made) oid = as_planned (omega (arith, far_made)) (released_all far_made kept) oid
+    whole_by kept (inr y) oid = as_planned y.0 y.1 oid
+
+    -- the link was idle in a turn, by which all units were put, and the board wasn't stopped
+    pub idle_many : (n : ℕ) (states others : List State) (last : State) → AreBefore n (part_on m t.clocks x b).releases → to ≤ n → n ≤ length (rest ++ end ∷ []) → (Here b h).states ≡ (states ++ last ∷ []) ++ others → length (states ++ last ∷ []) ≡ n
+        → NeverStop (take n (orders_in (Turns_of b h)))
         → ((z : ShutNews) → last.shut ≡ Some z → z.reason ≡ 1 → ⊥) → last.idle ≡ true → (oid : ℕ) → length (only oid (told_in from to (Here b h))) ≡ length ((part_on m t.clocks x b).plan oid)
-    idle_many n states others last reach upto are size never in_time idle oid =
-        whole_idle b s.entries By N from to (Here b h) (cuts_on m t.clocks Made past b) Cut (cuts_on m t.clocks Made later b) home (ap is_home moves) w.begins w.order (next_behind m t.clocks Made b to later w.next) over still
-        n states others last reach upto (cut_released m t.clocks b Made n x released made_over (omega (arith, over, reach))) are size never in_time idle oid
-        ∙ as_planned oid
+    idle_many n states others last put reach upto are size never in_time idle oid =
+        let part = (part_on m t.clocks x b).releases in
+        let soon : (x.end + 5 < n) ⊎ AreBefore (x.end + 5) part = elim (leb_tells (x.end + 5 + 1) n) [
+          | inl q ↦ (let late = q.1 in inl (omega (arith, late)))
+          | inr q ↦ (let low = q.1 in let same : n ≡ x.end + 5 = omega (arith, low, over, reach) in inr (subst (λ (k : ℕ). AreBefore k part) same put))
+        ] in
+        let known : (x.end + 5 < n) ⊎ AreBefore (x.end + 5) Cut.section.releases = elim soon [ inl late ↦ inl late | inr all ↦ inr (kept_before (x.end + 5) Made part all) ] in
+        let both = idle_whole b s.entries By N from to (Here b h) (cuts_on m t.clocks Made past b) Cut (cuts_on m t.clocks Made later b) home (ap is_home moves) w.begins w.order (next_behind m t.clocks Made b to later w.next) over still
+        n states others last reach upto known are size never in_time idle in
+        let made : (x.end + 5 < Made) ⊎ ((x.end + 5 ≤ Made) × AreBefore (x.end + 5) part) = elim made_over [
+          | inl far_made ↦ inl far_made
+          | inr l ↦ elim soon [ inl late ↦ inl (omega (arith, late, upto, l)) | inr all ↦ inr (omega (arith, over, reach, upto, l), all) ]
+        ] in
+        both.1 oid ∙ whole_by both.0 made oid
 
     -- or it told any pulse behind them
     pub passed_many : told_in to (length (rest ++ end ∷ [])) (Here b h) ≢ [] → (oid : ℕ) → length (only oid (told_in from to (Here b h))) ≡ length ((part_on m t.clocks x b).plan oid)
     passed_many some oid =
-        whole_passed b s.entries By N from to (Here b h) (cuts_on m t.clocks Made past b) Cut (cuts_on m t.clocks Made later b) home (ap is_home moves) w.begins w.order (next_behind m t.clocks Made b to later w.next) over still some oid
-        ∙ as_planned oid
+        let both = passed_whole b s.entries By N from to (Here b h) (cuts_on m t.clocks Made past b) Cut (cuts_on m t.clocks Made later b) home (ap is_home moves) w.begins w.order (next_behind m t.clocks Made b to later w.next) over still some in
+        let made : x.end + 5 < Made = elim made_over [
+          | inl far_made ↦ far_made
+          | inr l ↦ elim (leb_tells (to + 1) N) [
+            | inl q ↦ (let low = q.1 in omega (arith, over, low, l))
+            | inr q ↦ (let high = q.1 in let none : N - to ≡ 0 = omega (arith, high) in absurd (some (ap (λ (k : ℕ). pulses_in (take k (drop to (Here b h).states))) none)))
+          ]
+        ] in
+        both.1 oid ∙ whole_by both.0 (inl made) oid
 
   -- as many pulses in the report as planned steps
   pub as_told_by : (x : Started) (from to place : ℕ) (h : place < length m.steppers)

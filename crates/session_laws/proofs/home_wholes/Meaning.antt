@@ -15,7 +15,7 @@ use Rattle.step_feed.specs.Pacing.{Release, ArePaced, batch_at, units_of}
 use Rattle.section_units.specs.Sections.{AreBefore, AreBegun, AreChained, BoardSection, of_stepper, steps_said, ticks_meant}
 use Rattle.link_work.specs.Turn.{Orders}
 use Rattle.run_laws.specs.Known.{Known, Sent, known_from, knows_of, sent_at, sent_in}
-use Rattle.run_laws.specs.Courses.{Course, course_behind, course_from, course_of, next_part}
+use Rattle.run_laws.specs.Courses.{Course, IsSince, course_behind, course_from, course_of, next_part}
 use Rattle.run_laws.specs.Homes.{AreInTurn, AreOrdersIn, IsControlIn, IsSectionBy, RunSection, SetsClock, AreReleasedIn}
 use Rattle.run_laws.proofs.Entering.{dir_told}
 use Rattle.run_laws.proofs.HomeControls.{none_sets}
@@ -26,7 +26,6 @@ use Rattle.run_laws.proofs.Sectioning.{before_down, nothing_left}
 use Rattle.run_laws.proofs.Spreading.{parts_sent}
 use Rattle.run_laws.proofs.Stepping.{course_append}
 use Rattle.run_laws.proofs.Units.{at_own, behind_unit, own_known}
-use Rattle.session_laws.proofs.home_wholes.Phases.{IsSince}
 
 -- units that set no clock
 abbrev pub Unset : List StepUnit → Type 0
@@ -219,7 +218,7 @@ sets_over clocks s turn clock later moves row h (inl x) = let e : true ≡ false
 sets_over clocks s turn clock later moves row h (inr x) = none_sets clocks s.section.end turn clock later row h x
 
 one_window : (clocks : Clocks) (freq slots until turn e : ℕ) (stops : ℕ → Option ℕ) (past : List RunSection) (s : RunSection) (later : List RunSection) → All (λ (x : RunSection). IsSectionBy x.homes clocks freq slots until stops x.section) (past ++ s ∷ later)
-    → AreInTurn e (past ++ s ∷ later) → AreReleasedIn (past ++ s ∷ later) → s.homes ≡ false → s.section.start ≤ turn + 250 → turn ≤ s.section.end + 5
+    → AreInTurn e (past ++ s ∷ later) → AreReleasedIn past → s.homes ≡ false → s.section.start ≤ turn + 250 → turn ≤ s.section.end + 5
     → SetsNone clocks (past ++ s ∷ later) turn × (units_at turn (past ++ s ∷ later) ≡ batch_at turn s.section.releases) × (e + 260 ≤ s.section.start)
 one_window clocks freq slots until turn e stops [] s later i row out moves soon h =
     let P : RunSection → Type 0 = λ (x : RunSection). IsSectionBy x.homes clocks freq slots until stops x.section in (
@@ -237,7 +236,7 @@ one_window clocks freq slots until turn e stops (t ∷ past) s later i row out m
     )
 
 pub window_brings : (clocks : Clocks) (freq slots until e : ℕ) (stops : ℕ → Option ℕ) (past : List RunSection) (s : RunSection) (later : List RunSection) (os : List Orders) (turn : ℕ)
-    → All (λ (x : RunSection). IsSectionBy x.homes clocks freq slots until stops x.section) (past ++ s ∷ later) → AreInTurn e (past ++ s ∷ later) → AreReleasedIn (past ++ s ∷ later) → s.homes ≡ false → s.section.start ≤ turn + 250 → turn + length os ≤ s.section.end + 6
+    → All (λ (x : RunSection). IsSectionBy x.homes clocks freq slots until stops x.section) (past ++ s ∷ later) → AreInTurn e (past ++ s ∷ later) → AreReleasedIn past → s.homes ≡ false → s.section.start ≤ turn + 250 → turn + length os ≤ s.section.end + 6
     → AreOrdersIn clocks (past ++ s ∷ later) turn os → Brings clocks (past ++ s ∷ later) turn s.section.releases os
 window_brings clocks freq slots until e stops past s later [] turn i row out moves soon h os = tt
 window_brings clocks freq slots until e stops past s later (o ∷ rest) turn i row out moves soon h os =

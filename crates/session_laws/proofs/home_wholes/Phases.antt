@@ -1,7 +1,8 @@
 -- What a running board makes of some commands that halt no stepper: all their steps.
-use Rattle.std.proofs.Common.{◌≡◌, ℕ, ◌<◌, ◌≤◌, ◌⊎◌, List, [], ◌∷◌, ◌++◌, Option, Some, None, ap, sym, ◌∙◌, subst, arith, inl, inr, append_assoc, append-nil}
+use Rattle.std.proofs.Common.{◌≡◌, ℕ, ◌<◌, ◌≤◌, ◌⊎◌, List, [], ◌∷◌, ◌++◌, Option, Some, None, refl, ap, sym, ◌∙◌, subst, arith, inl, inr, append_assoc, append-nil}
 use Rattle.std.proofs.lemmas.Bool.Decides.{eqb_tells}
 use Rattle.std.proofs.lemmas.List.{append_cancel_left}
+use Rattle.plan_types.specs.declared.plan.BoardState.{BoardState}
 use Rattle.plan_types.specs.declared.plan.BoardState.TheVariants.{Running, Shut}
 use Rattle.plan_types.specs.declared.plan.Pulse.{Pulse}
 use Rattle.msg_code.specs.declared.cmd.Cmd.{Cmd}
@@ -11,10 +12,10 @@ use Rattle.board_sim.specs.Board.{Controller, is_shut, stepper_at}
 use Rattle.board_sim.specs.Fair.{Meant, commands_of, only, pending_at}
 use Rattle.board_sim.specs.Rig.{Rig, takes, takes_all}
 use Rattle.board_sim.proofs.RigShut.{all_left_by}
-use Rattle.run_laws.specs.Known.{Sent, orders_in}
+use Rattle.run_laws.specs.Known.{AreQueued, Sent, orders_in}
 use Rattle.run_laws.specs.Timely.{AreTimely}
-use Rattle.run_laws.specs.Courses.{Course, IsStopped, course_behind, course_from, course_of, courses, no_course, AreGoodOn, AreInTime, IsMadeBy}
-use Rattle.run_laws.proofs.Commanding.{AreQueued, all_stand, finds_on, stands_same}
+use Rattle.run_laws.specs.Courses.{Course, IsSince, IsStopped, course_behind, course_from, course_of, courses, no_course, AreGoodOn, AreInTime, IsMadeBy}
+use Rattle.run_laws.proofs.Commanding.{all_stand, finds_on, stands_same}
 use Rattle.run_laws.proofs.Entering.{AreEarly, early_behind}
 use Rattle.run_laws.proofs.Spans.{AreLate, early_up}
 use Rattle.run_laws.proofs.Standing.{BoardStands, SlotStands}
@@ -30,11 +31,6 @@ use Rattle.homing_laws.proofs.home_runs.Settled.{AllFrom}
 abbrev pub AllStill : List Sent → Type 0
 AllStill [] = Unit {0}
 AllStill (s ∷ ss) = IsStill s.order.command × AllStill ss
-
--- a part was begun in a turn or later
-abbrev pub IsSince : ℕ → Option ℕ → Type 0
-IsSince low None = ⊥
-IsSince low (Some turn) = low ≤ turn
 
 -- commands that were queued before a turn
 abbrev pub AllBefore : ℕ → List Sent → Type 0
@@ -69,7 +65,6 @@ Holds steps ps = (early : List Pulse) × (more : List Pulse) × (ps ≡ early ++
 -- Some commands that are queued before a turn, and what they mean for each stepper: these steps, all before the board's tick of another turn, of a part
 -- that was begun in a turn or later.
 pub record Aim (p : Script) : Type 0 where
-  pub none : p.tail ≡ []
   pub low : ℕ
   pub upto : List Sent
   pub rest : List Sent
@@ -88,9 +83,13 @@ abbrev pub MayCome : ℕ → List Sent → List Sent → Type 0
 MayCome low done to_come =
     AllStill to_come ⊎ ((old : List Sent) × (new : List Sent) × (to_come ≡ old ++ new) × EachTame (commands_of (orders_in old)) × AllBefore low (done ++ old) × AllStill new)
 
--- a board that took the first of these commands, of which the others are still to come, while no trigger of it can trigger; or it made all steps
+-- a board that took some commands, behind which others are still to come, while no trigger of it can trigger
+abbrev pub StandsFree : ℕ → List Sent → List Sent → Rig → Type 0
+StandsFree low done to_come r = MayCome low done to_come × IsOff r × AreFree low (courses done) r.controller
+
+-- or it made all steps
 abbrev pub Ahead : (p : Script) → Aim p → List Sent → Rig → Type 0
-Ahead p a done r = (to_come : List Sent) × (done ++ to_come ≡ a.upto) × MayCome a.low done to_come × IsOff r × AreFree a.low (courses done) r.controller
+Ahead p a done r = (to_come : List Sent) × (done ++ to_come ≡ a.upto) × StandsFree a.low done to_come r
 
 abbrev pub AllMade : (p : Script) → Aim p → List Pulse → Type 0
 AllMade p a made = (oid : ℕ) → Holds (a.steps oid) (only oid made)
@@ -141,34 +140,42 @@ cons_same s t ss ts e = cc
 one_course : (done : List Sent) (s : Sent) (oid : ℕ) → courses (done ++ s ∷ []) oid ≡ course_behind oid (courses done oid) s
 one_course done s oid = course_append oid no_course done (s ∷ [])
 
--- one of the old commands is taken, or all that are still to come bind no stepper
-old_ahead : (p : Script) (a : Aim p) (done to_come : List Sent) (s t : Sent) (r : Rig) (made : List Pulse) → s ≡ t → (done ++ s ∷ []) ++ to_come ≡ a.upto → IsOff r
-    → (AllStill (t ∷ to_come) → Phase p a (done ++ s ∷ []) (takes r s.order.command).rig made) → (old new : List Sent) → t ∷ to_come ≡ old ++ new → EachTame (commands_of (orders_in old)) → AllBefore a.low (done ++ old) → AllStill new
-    → Phase p a (done ++ s ∷ []) (takes r s.order.command).rig made
-old_ahead p a done to_come s t r made same split off still [] new e tame before fine = still (subst AllStill (sym e) fine)
-old_ahead p a done to_come s t r made same split off still (y ∷ old) new e tame before fine =
-    let c = s.order.command in
-    let first : t ≡ y = cons_same t y to_come (old ++ new) e in
-    let mine : IsTame c = subst (λ (x : Sent). IsTame x.order.command) (sym (same ∙ first)) tame.0 in
-    let moved : AllBefore a.low ((done ++ s ∷ []) ++ old) = subst (λ (x : List Sent). AllBefore a.low x) (ap (λ (x : Sent). done ++ x ∷ old) (sym (same ∙ first)) ∙ sym (append_assoc done (s ∷ []) old)) before in
-    let fresh = before_front a.low (done ++ s ∷ []) old moved in
-    inl (
-      to_come,
-      split,
-      inr (old, new, cons_rest t y to_come (old ++ new) e, tame.1, moved, fine),
-      running_off r.controller.state r c mine off,
-      λ oid since. absurd (none_since oid a.low no_course (done ++ s ∷ []) fresh (no_since a.low) since),
-    )
+-- the next command is taken
+pub one_still : (low : ℕ) (done to_come : List Sent) (s : Sent) (r : Rig) → r.controller.state ≡ Running → (takes r s.order.command).rig.controller.state ≡ Running → StandsFree low done (s ∷ to_come) r
+    → StandsFree low (done ++ s ∷ []) to_come (takes r s.order.command).rig
+one_still low done to_come s r runs on (may, off, free) = elim may [
+  | inl fine ↦ still fine
+  | inr x ↦ old x.0 x.1 x.2 x.3 x.4 x.5
+]
   where
-    cons_rest : (x y : Sent) (xs ys : List Sent) → x ∷ xs ≡ y ∷ ys → xs ≡ ys
-    cons_rest x y xs ys e = cc
+    after : Rig
+    after = (takes r s.order.command).rig
+
+    still : AllStill (s ∷ to_come) → StandsFree low (done ++ s ∷ []) to_come (takes r s.order.command).rig
+    still fine = (
+      inl fine.1,
+      takes_off r s.order.command fine.0 off,
+      λ oid since. next_free low oid s.turn (courses done oid) r s.order.command s.order.ticks runs fine.0 off on (free oid) (subst (λ (x : Course). IsSince low x.since) (one_course done s oid) since),
+    )
+
+    old : (old new : List Sent) → s ∷ to_come ≡ old ++ new → EachTame (commands_of (orders_in old)) → AllBefore low (done ++ old) → AllStill new → StandsFree low (done ++ s ∷ []) to_come (takes r s.order.command).rig
+    old [] new e tame before fine = still (subst AllStill (sym e) fine)
+    old (y ∷ ys) new e tame before fine =
+        let first : s ≡ y = cons_same s y to_come (ys ++ new) e in
+        let rest : to_come ≡ ys ++ new = cc in
+        let mine : IsTame s.order.command = subst (λ (x : Sent). IsTame x.order.command) (sym first) tame.0 in
+        let moved : AllBefore low ((done ++ s ∷ []) ++ ys) = subst (λ (x : List Sent). AllBefore low x) (ap (λ (x : Sent). done ++ x ∷ ys) (sym first) ∙ sym (append_assoc done (s ∷ []) ys)) before in (
+          inr (ys, new, rest, tame.1, moved, fine),
+          running_off r.controller.state r s.order.command mine off,
+          λ oid since. absurd (none_since oid low no_course (done ++ s ∷ []) (before_front low (done ++ s ∷ []) ys moved) (no_since low) since),
+        )
 
 -- a command that is taken
 one_ahead : (p : Script) (a : Aim p) (by turn : ℕ) (done others : List Sent) (s : Sent) (r : Rig) (made : List Pulse) → done ++ (s ∷ others) ≡ p.all → ((j k : ℕ) → j ≤ k → p.own j ≤ p.own k) → s.turn ≤ turn
     → BoardStands p.own p.stops p.slots by turn (courses done) r.controller → ((oid : ℕ) → IsMadeBy p.own p.stops oid (stepper_at r.controller oid) (courses done oid) (only oid made))
     → (takes r s.order.command).rig.controller.state ≡ Running → Phase p a done r made → Phase p a (done ++ s ∷ []) (takes r s.order.command).rig made
 one_ahead p a by turn done others s r made all up now stands is on (inr f) = inr f
-one_ahead p a by turn done others s r made all up now stands is on (inl ([], cut, still, off, free)) =
+one_ahead p a by turn done others s r made all up now stands is on (inl ([], cut, (still, off, free))) =
     let same : done ≡ a.upto = sym (append-nil done) ∙ cut in
     let rest : s ∷ others ≡ a.rest = append_cancel_left done (s ∷ others) a.rest (all ∙ sym a.all_is ∙ ap (λ x. x ++ a.rest) (sym same)) in
     let From : List Sent → Type 0 = λ x. AllFrom a.next x in
@@ -178,25 +185,12 @@ one_ahead p a by turn done others s r made all up now stands is on (inl ([], cut
     let Made : List Sent → Type 0 = λ x. (oid : ℕ) → IsMadeBy p.own p.stops oid (stepper_at r.controller oid) (courses x oid) (only oid made) in
     let Free : List Sent → Type 0 = λ x. AreFree a.low (courses x) r.controller in
     inr (finish p a by turn r.controller made (omega (arith, soon, from, now)) up (subst Stands same stands) (subst Made same is) (subst Free same free))
-one_ahead p a by turn done others s r made all up now stands is on (inl (t ∷ to_come, cut, may, off, free)) =
-    let c = s.order.command in
+one_ahead p a by turn done others s r made all up now stands is on (inl (t ∷ to_come, cut, free)) =
     let both : s ∷ others ≡ t ∷ (to_come ++ a.rest) =
     append_cancel_left done (s ∷ others) (t ∷ (to_come ++ a.rest)) (all ∙ sym a.all_is ∙ ap (λ x. x ++ a.rest) (sym cut) ∙ append_assoc done (t ∷ to_come) a.rest) in
     let same : s ≡ t = cons_same s t others (to_come ++ a.rest) both in
     let split : (done ++ s ∷ []) ++ to_come ≡ a.upto = append_assoc done (s ∷ []) to_come ∙ ap (λ (x : Sent). done ++ (x ∷ to_come)) same ∙ cut in
-    let still : AllStill (t ∷ to_come) → Phase p a (done ++ s ∷ []) (takes r c).rig made = λ fine.
-    (let mine : IsStill c = subst (λ (x : Sent). IsStill x.order.command) (sym same) fine.0 in
-    inl (
-      to_come,
-      split,
-      inl fine.1,
-      takes_off r c mine off,
-      λ oid since. next_free a.low oid s.turn (courses done oid) r c s.order.ticks stands.running mine off on (free oid) (subst (λ (x : Course). IsSince a.low x.since) (one_course done s oid) since),
-    )) in
-    elim may [
-      | inl fine ↦ still fine
-      | inr x ↦ old_ahead p a done to_come s t r made same split off still x.0 x.1 x.2 x.3 x.4 x.5
-    ]
+    inl (to_come, split, one_still a.low done to_come s r stands.running on (subst (λ (x : Sent). StandsFree a.low done (x ∷ to_come) r) (sym same) free))
 
 clash : (r t f : ℕ) → Running ≡ Shut r t f → ⊥
 clash r t f e = cc
@@ -204,6 +198,23 @@ clash r t f e = cc
 pub shut_on : (r : Rig) (ms : List Meant) (reason t first : ℕ) → r.controller.state ≡ Shut reason t first → (takes_all r (commands_of ms)).rig.controller.state ≡ Running → ⊥
 shut_on r ms reason t first is on =
     clash reason t first (sym on ∙ ap (λ (x : Controller). x.state) (all_left_by r (commands_of ms) (ap is_shut is)) ∙ is)
+
+-- a board that runs behind some commands ran before
+pub ran_before : (r : Rig) (ms : List Meant) → (takes_all r (commands_of ms)).rig.controller.state ≡ Running → r.controller.state ≡ Running
+ran_before r ms on = by r.controller.state refl
+  where
+    by : (o : BoardState) → r.controller.state ≡ o → r.controller.state ≡ Running
+    by Running e = e
+    by (Shut reason t first) e = absurd (shut_on r ms reason t first e on)
+
+-- the next commands are taken
+pub take_still : (low : ℕ) (ss done to_come : List Sent) (r : Rig) → StandsFree low done (ss ++ to_come) r → (takes_all r (commands_of (orders_in ss))).rig.controller.state ≡ Running
+    → StandsFree low (done ++ ss) to_come (takes_all r (commands_of (orders_in ss))).rig
+take_still low [] done to_come r free on = subst (λ (x : List Sent). StandsFree low x to_come r) (sym (append-nil done)) free
+take_still low (s ∷ ss) done to_come r free on =
+    let after = (takes r s.order.command).rig in
+    let one = one_still low done (ss ++ to_come) s r (ran_before r (orders_in (s ∷ ss)) on) (ran_before after (orders_in ss) on) free in
+    subst (λ (x : List Sent). StandsFree low x to_come (takes_all after (commands_of (orders_in ss))).rig) (append_assoc done (s ∷ []) ss) (take_still low ss (done ++ s ∷ []) to_come after one on)
 
 -- the first commands of those that are left are taken
 pub take_ahead : (p : Script) (a : Aim p) (by turn : ℕ) (first done others : List Sent) (r : Rig) (made : List Pulse) → done ++ (first ++ others) ≡ p.all → ((j k : ℕ) → j ≤ k → p.own j ≤ p.own k) → by ≤ turn

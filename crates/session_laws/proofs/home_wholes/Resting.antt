@@ -340,29 +340,30 @@ at_turn m switches pins entries b t turns from start ms (c ∷ before) r homes e
     ]
 
 -- as a turn begins by which all such sections have ended
-scan : (m : Machine) (switches : List Switch) (pins : List (List Level)) (entries : List Entry) (b : ℕ) (stops : ℕ → Option ℕ) (total : List BoardTurn) → IsValidMachine m
-    → AreBoardTurns (clock_of (board_at m b)) (first_state (board_at m b) pins b entries) total → AreHomed m switches pins entries b stops total
+scan : (m : Machine) (switches : List Switch) (pins : List (List Level)) (entries : List Entry) (b until : ℕ) (stops : ℕ → Option ℕ) (total : List BoardTurn) → length total ≤ until → IsValidMachine m
+    → AreBoardTurns (clock_of (board_at m b)) (first_state (board_at m b) pins b entries) total → AreHomed m switches pins entries b until stops total
     → (stands_after (first_state (board_at m b) pins b entries) total).core.board.controller.state ≡ Running
     → (came : List Came) (turns later : List BoardTurn) → IsInRun m switches pins entries b came turns → AllAnswered m switches b stops (length total) came → total ≡ later ++ turns → TurnsStill later
     → IsCalmQueue (stands_after (first_state (board_at m b) pins b entries) total).core × IsOff (stands_after (first_state (board_at m b) pins b entries) total).core.board
-scan m switches pins entries b stops total v are homed runs [] [] later r all cut still =
+scan m switches pins entries b until stops total upto v are homed runs [] [] later r all cut still =
     let d = board_at m b in
     let first = first_state d pins b entries in
     let begins = start_rests d pins in
     let last = turns_rest (clock_of d) first later [] (subst (λ (x : List BoardTurn). AreBoardTurns (clock_of d) first x) cut are) still begins.0 in
     subst (λ (x : List BoardTurn). IsCalmQueue (stands_after first x).core × IsOff (stands_after first x).core.board) (sym cut) (last.0, last.1 begins.1)
-scan m switches pins entries b stops total v are homed runs [] (t ∷ turns) later r all cut still = absurd r.both
-scan m switches pins entries b stops total v are homed runs (c ∷ before) [] later r all cut still = absurd r.both
-scan m switches pins entries b stops total v are homed runs (c ∷ before) (t ∷ turns) later r all cut still =
+scan m switches pins entries b until stops total upto v are homed runs [] (t ∷ turns) later r all cut still = absurd r.both
+scan m switches pins entries b until stops total upto v are homed runs (c ∷ before) [] later r all cut still = absurd r.both
+scan m switches pins entries b until stops total upto v are homed runs (c ∷ before) (t ∷ turns) later r all cut still =
     let go = λ (s : EachStill t.control.commands).
-    scan m switches pins entries b stops total v are homed runs before turns (later ++ t ∷ []) (run_before m switches pins entries b c before t turns r) all.1 (cut ∙ sym (append_assoc later (t ∷ []) turns)) (one_more later still s) in
+    scan m switches pins entries b until stops total upto v are homed runs before turns (later ++ t ∷ []) (run_before m switches pins entries b c before t turns r) all.1 (cut ∙ sym (append_assoc later (t ∷ []) turns)) (one_more later still s) in
     elim (control_either m switches pins entries b c before t turns r) [
       | inl s ↦ go s
       | inr u ↦
           let (q, end, is, set, within) = all.0 u in
-          let (start, soon, late, order, hm) = homed q end is within in
           let long = as_long m switches b before turns r.both.2 in
           let u_soon = u.soon in
+          let size = ap length cut ∙ length-append later (t ∷ turns) in
+          let (start, soon, late, order, hm) = homed q end (omega (arith, set, u_soon, long, size, upto)) is within in
           let u_late = u.late in
           let at_end = hm.long in
           let sub = later_past later (t ∷ turns) hm.later hm.past (sym cut ∙ hm.are) (omega (arith, at_end, order, late, set, u_late, long)) in
@@ -384,10 +385,10 @@ scan m switches pins entries b stops total v are homed runs (c ∷ before) (t �
     one_more (x ∷ xs) a s = (a.0, one_more xs a.1 s)
 
 -- so a board stands between homing sections
-pub rests_at : (m : Machine) (switches : List Switch) (pins : List (List Level)) (entries : List Entry) (b : ℕ) (stops : ℕ → Option ℕ) (came : List Came) (turns : List BoardTurn) → IsValidMachine m → IsInRun m switches pins entries b came turns
-    → AreHomed m switches pins entries b stops turns → AllAnswered m switches b stops (length turns) came → IsStillAt (stands_after (first_state (board_at m b) pins b entries) turns).core
-rests_at m switches pins entries b stops came turns v r homed all runs left cut =
-    let rest = scan m switches pins entries b stops turns v r.turns_are homed runs came turns [] r all refl tt in
+pub rests_at : (m : Machine) (switches : List Switch) (pins : List (List Level)) (entries : List Entry) (b until : ℕ) (stops : ℕ → Option ℕ) (came : List Came) (turns : List BoardTurn) → length turns ≤ until → IsValidMachine m → IsInRun m switches pins entries b came turns
+    → AreHomed m switches pins entries b until stops turns → AllAnswered m switches b stops (length turns) came → IsStillAt (stands_after (first_state (board_at m b) pins b entries) turns).core
+rests_at m switches pins entries b until stops came turns upto v r homed all runs left cut =
+    let rest = scan m switches pins entries b until stops turns upto v r.turns_are homed runs came turns [] r all refl tt in
     let q = rest.0 in
     let h = (stands_after (first_state (board_at m b) pins b entries) turns).core in
     let same : q.left ≡ left = append_cancel_left h.taken q.left left (q.rest ∙ sym cut) in

@@ -19,31 +19,32 @@ use Rattle.section_units.specs.Sections.{AreBefore, base_of, section_steps}
 use Rattle.link_work.specs.Runs.{queued_in}
 use Rattle.link_work.specs.Turn.{Orders}
 use Rattle.link_work.proofs.Sending.{run_append}
-use Rattle.run_laws.specs.Courses.{AreMadeFor, Course, IsMadeBy, courses, course_from, no_course, parts_of}
-use Rattle.run_laws.specs.Homes.{AreInTurn, AreOrdersIn, IsHomeRun, IsHomeSpan, IsMovesIn, IsSectionBy, RunSection}
+use Rattle.run_laws.specs.Courses.{AreMadeFor, Course, IsMadeBy, IsSince, courses, course_from, no_course, parts_of}
+use Rattle.run_laws.specs.Homes.{AreBeforeFirst, AreInTurn, AreOrdersIn, AreReleasedIn, IsHomeRun, IsHomeSpan, IsMovesIn, IsSectionBy, RunSection}
 use Rattle.run_laws.specs.Ends.{MayBe}
 use Rattle.run_laws.specs.Stops.{NeverStop}
 use Rattle.run_laws.specs.Known.{Sent, orders_in, sent_at, sent_in}
 use Rattle.run_laws.proofs.Coursed.{begins, turns_keep}
 use Rattle.run_laws.proofs.Entering.{AreEarly}
-use Rattle.run_laws.proofs.Halted.{made_of_all}
+use Rattle.run_laws.proofs.Clocks.{ticks_rise}
+use Rattle.run_laws.proofs.Halted.{keeps_fronts, made_of_all}
 use Rattle.run_laws.proofs.HomeAll.{run_fronts}
-use Rattle.run_laws.proofs.HomeSpans.{fronts_early, script_of}
-use Rattle.run_laws.proofs.Lists.{orders_append, orders_at, own_up}
-use Rattle.run_laws.proofs.Spans.{all_split, section_early, sent_in_append}
+use Rattle.run_laws.proofs.HomeSpans.{before_early, fronts_early, script_of}
+use Rattle.run_laws.proofs.Lists.{cuts, orders_append, own_up}
+use Rattle.run_laws.proofs.Spans.{all_split, early_up, section_early, sent_in_append}
 use Rattle.run_laws.proofs.Releasing.{AreFrom}
 use Rattle.run_laws.proofs.Standing.{BoardStands, made_for}
-use Rattle.run_laws.proofs.Stepping.{Going, Keeps, Script, course_append, none_heed}
+use Rattle.run_laws.proofs.Stepping.{Going, Keeps, Script, course_append, heed_behind, heed_front}
 use Rattle.run_laws.proofs.Turning.{timely_behind, timely_front}
-use Rattle.session_laws.proofs.home_wholes.Front.{over_front, row_later, run_front, released_front}
+use Rattle.session_laws.proofs.home_wholes.Front.{AreLostBy, over_front, released_with, row_later, run_front}
 use Rattle.session_laws.proofs.home_wholes.Meaning.{all_mean, orders_behind, section_from, turns_mean, window_brings}
-use Rattle.session_laws.proofs.home_wholes.Phases.{Aim, AllBefore, AllStill, AreFree, Holds, IsSince, before_front, finish, no_since, none_since}
+use Rattle.session_laws.proofs.home_wholes.Phases.{Aim, AllBefore, AllStill, AreFree, Holds, before_front, finish, no_since, none_since}
 use Rattle.session_laws.proofs.home_wholes.Stages.{Stage, done_same, turns_stage}
 use Rattle.session_laws.specs.home_wholes.Still.{BringStill, EachStill, IsStill, IsStillAt}
 use Rattle.session_laws.proofs.home_headline.Stop.{never_shut}
-use Rattle.run_laws.proofs.Wholes.{none_long}
+use Rattle.run_laws.proofs.Wholes.{none_long, sent_orders}
 use Rattle.homing_laws.specs.clear_groups.Resting.{EachTame, IsTame}
-use Rattle.homing_laws.proofs.home_runs.Settled.{from_in}
+use Rattle.homing_laws.proofs.home_runs.Settled.{AllFrom, from_in}
 
 -- the commands of some that are queued start no trigger and bind no stepper
 abbrev MeanStill : List Meant → Type 0
@@ -93,7 +94,7 @@ still_tame (m ∷ ms) a = (one m.command a.0, still_tame ms a.1)
 pub queued_tame : (o : Orders) → EachStill o.control.commands → EachTame (commands_of (queued_in o))
 queued_tame o a = still_tame (queued_in o) (queued_still o a)
 
-orders_still : (turn : ℕ) (os : List Orders) → BringStill os → AllStill (sent_in turn os)
+pub orders_still : (turn : ℕ) (os : List Orders) → BringStill os → AllStill (sent_in turn os)
 orders_still turn [] a = tt
 orders_still turn (o ∷ os) a = still_both (sent_at turn (queued_in o)) (sent_in (turn + 1) os) (still_at turn (queued_in o) (queued_still o a.0)) (orders_still (turn + 1) os a.1)
 
@@ -105,19 +106,129 @@ before_both : (turn : ℕ) (xs ys : List Sent) → AllBefore turn xs → AllBefo
 before_both turn [] ys a b = b
 before_both turn (x ∷ xs) ys a b = (a.0, before_both turn xs ys a.1 b)
 
-before_in : (turn to : ℕ) (os : List Orders) → turn + length os ≤ to → AllBefore to (sent_in turn os)
+pub before_in : (turn to : ℕ) (os : List Orders) → turn + length os ≤ to → AllBefore to (sent_in turn os)
 before_in turn to [] l = tt
 before_in turn to (o ∷ os) l = before_both to (sent_at turn (queued_in o)) (sent_in (turn + 1) os) (before_at turn to (queued_in o) (omega (arith, l))) (before_in (turn + 1) to os (omega (arith, l)))
 
 clash : (r t f : ℕ) → Running ≡ Shut r t f → ⊥
 clash r t f e = cc
 
+orders_long : (ss : List Sent) → length (orders_in ss) ≡ length ss
+orders_long [] = refl
+orders_long (x ∷ ss) = ap (λ n. suc n) (orders_long ss)
+
+-- a command among others
+pub among_before : (n : ℕ) (xs : List Sent) (x : Sent) (ys : List Sent) → AllBefore n (xs ++ x ∷ ys) → x.turn < n
+among_before n [] x ys a = a.0
+among_before n (y ∷ xs) x ys a = among_before n xs x ys a.1
+
+pub among_from : (n : ℕ) (xs : List Sent) (x : Sent) (ys : List Sent) → AllFrom n (xs ++ x ∷ ys) → n ≤ x.turn
+among_from n [] x ys a = a.0
+among_from n (y ∷ xs) x ys a = among_from n xs x ys a.1
+
+-- The turns of a run up to one, on to another, and those behind it.
+module _ (b : BoardDef) (pins : List (List Level)) (own : ℕ → ℕ) (clocks : Clocks) (ready : ℕ) (stops : ℕ → Option ℕ) (ss : List RunSection) (before during behind : List Orders) (first second : List Step)
+    (r : IsHomeSpan b pins own clocks ready stops ss before during behind first second) where
+  abbrev S : Script
+  S = script_of b pins own clocks ready stops ss before during behind first second r
+
+  abbrev Stop : ℕ
+  Stop = length before + length during
+
+  abbrev pub At_mid : Core
+  At_mid = run first (start b pins)
+
+  abbrev pub At_end : Core
+  At_end = run (first ++ second) (start b pins)
+
+  pub span_is : sent_in 0 before ++ (sent_in (length before) during ++ sent_in Stop behind) ≡ S.all
+  span_is =
+      let a = length before in
+      let zero_more : 0 + a ≡ a = omega arith in
+      ap (λ x. sent_in 0 before ++ x) (sym (sent_in_append a during behind)) ∙ ap (λ n. sent_in 0 before ++ sent_in n (during ++ behind)) (sym zero_more) ∙ sym (sent_in_append 0 before (during ++ behind))
+
+  pub mid_keeps : Keeps S (length before) (length before) (sent_in 0 before) At_mid
+  mid_keeps =
+      let zero_more : 0 + length before ≡ length before = omega arith in
+      let k = turns_keep S 0 [] (sent_in (length before) during ++ sent_in Stop behind) before first (start b pins) r.first_turns (begins S b pins r.begin refl) span_is (timely_front first second (start b pins) r.timely) r.first_settled
+      (heed_front S.front S.tail first second (start b pins) r.heed) in
+      subst (λ n. Keeps S n n (sent_in 0 before) At_mid) zero_more k.1
+
+  abbrev pub Sent_by : List Sent
+  Sent_by = sent_in 0 before ++ sent_in (length before) during
+
+  pub last_all : Sent_by ++ sent_in Stop behind ≡ S.all
+  last_all = append_assoc (sent_in 0 before) (sent_in (length before) during) (sent_in Stop behind) ∙ span_is
+
+  pub last_keeps : Keeps S Stop Stop Sent_by At_end
+  last_keeps =
+      let k = turns_keep S (length before) (sent_in 0 before) (sent_in Stop behind) during second At_mid r.second_turns mid_keeps last_all (timely_behind first second (start b pins) r.timely) r.second_settled
+      (heed_behind S.front S.tail first second (start b pins) r.heed) in
+      subst (λ (h : Core). Keeps S Stop Stop Sent_by h) (sym (run_append first second (start b pins))) k.1
+
+  -- why it may have shut down
+  pub reason_last : MayBe At_end.board.controller.state
+  reason_last =
+      let At : BoardState → Type 0 = λ o. MayBe o in
+      elim last_keeps.state [
+        | inl g ↦ subst At (sym g.stands.running) tt
+        | inr d ↦
+            let (reason, t, first_tick, state, may) = d.shut in
+            subst At (sym state) may
+      ]
+
+  pub never_last : (tick first_tick : ℕ) → NeverStop (before ++ during) → At_end.board.controller.state ≡ Shut 5 tick first_tick → ⊥
+  never_last tick first_tick never shut =
+      let zero_more : 0 + length before ≡ length before = omega arith in
+      let all : Sent_by ≡ sent_in 0 (before ++ during) = ap (λ n. sent_in 0 before ++ sent_in n during) (sym zero_more) ∙ sym (sent_in_append 0 before during) in
+      let queue : At_end.queued ≡ flat_map queued_in (before ++ during) = sym last_keeps.queued ∙ ap orders_in all ∙ sent_orders 0 (before ++ during) in
+      never_shut b pins (before ++ during) (first ++ second) tick first_tick last_keeps.ordered queue never shut
+
+  -- the first triple that comes too late, where it is queued before the last turn: a board that runs then has not taken all
+  not_all : (t : Sent) (tail : List Sent) → r.split.tail ≡ t ∷ tail → t.turn < Stop → At_end.board.controller.state ≡ Running → At_end.taken ≡ At_end.queued → ⊥
+  not_all t tail is soon running took =
+      elim last_keeps.state [
+        | inl g ↦
+            let same_long : length g.done ≡ length Sent_by = sym (orders_long g.done) ∙ ap length (g.taken ∙ took ∙ sym last_keeps.queued) ∙ orders_long Sent_by in
+            let more_long = ap length g.front_is in
+            let one = length-append g.done g.more in
+            let cut : r.split.front ++ t ∷ tail ≡ Sent_by ++ sent_in Stop behind = ap (λ y. r.split.front ++ y) (sym is) ∙ r.split.are ∙ sym last_all in
+            elim (cuts r.split.front (t ∷ tail) Sent_by (sent_in Stop behind) cut) [
+              | inl p ↦ behind_front p.0 p.1 p.2 (omega (arith, same_long, more_long, one))
+              | inr p ↦
+                  let late = among_from Stop (p.0 ∷ p.1) t tail (subst (λ (z : List Sent). AllFrom Stop z) p.3 (from_in Stop Stop behind (omega arith))) in
+                  omega (arith, late, soon)
+            ]
+        | inr d ↦
+            let (reason, tick, first_tick, state, may) = d.shut in
+            clash reason tick first_tick (sym running ∙ state)
+      ]
+    where
+      behind_front : (m : List Sent) → Sent_by ≡ r.split.front ++ m → t ∷ tail ≡ m ++ sent_in Stop behind → length Sent_by ≤ length r.split.front → ⊥
+      behind_front [] is_all rest long = (let late = (subst (λ (z : List Sent). AllFrom Stop z) (sym rest) (from_in Stop Stop behind (omega arith))).0 in omega (arith, late, soon))
+      behind_front (y ∷ m) is_all rest long = (let size = ap length is_all in let more = length-append r.split.front (y ∷ m) in omega (arith, size, more, long))
+
+  pub lost_taken : AreLostBy Stop r.split.tail → At_end.board.controller.state ≡ Running → At_end.taken ≡ At_end.queued → ⊥
+  lost_taken = by r.split.tail refl
+    where
+      by : (tail : List Sent) → r.split.tail ≡ tail → AreLostBy Stop tail → At_end.board.controller.state ≡ Running → At_end.taken ≡ At_end.queued → ⊥
+      by [] is lost running took = lost
+      by (t ∷ tail) is lost running took = not_all t tail is lost running took
+
+  -- and all pulses that are made are early
+  pub lost_early : (n : ℕ) → AreLostBy (n + 1) r.split.tail → (oid : ℕ) → AreEarly (own n) (only oid At_end.made)
+  lost_early n lost oid = by r.split.tail (r.split.early oid (only oid At_end.made) (keeps_fronts S Stop Sent_by At_end last_keeps oid)) lost
+    where
+      by : (tail : List Sent) → AreBeforeFirst own tail (only oid At_end.made) → AreLostBy (n + 1) tail → AreEarly (own n) (only oid At_end.made)
+      by [] before lost = absurd lost
+      by (t ∷ tail) before lost = early_up (own t.turn) (own n) (only oid At_end.made) (ticks_rise own r.ticks t.turn n (omega (arith, lost))) (before_early (own t.turn) (only oid At_end.made) before)
+
 -- The turns of a run: those before the units of a section may be released, those in which they are, others up to a turn, and those behind it.
 module _ (b : BoardDef) (pins : List (List Level)) (own : ℕ → ℕ) (clocks : Clocks) (ready : ℕ) (stops : ℕ → Option ℕ) (past : List RunSection) (s : RunSection) (later : List RunSection) (before mine others behind : List Orders) (first second : List Step)
-    (r : IsHomeSpan b pins own clocks ready stops (past ++ s ∷ later) before (mine ++ others) behind first second) (moves : s.homes ≡ false) (low : length before + 250 ≡ s.section.start) (over : s.section.end + 5 ≤ length before + length mine)
-    (limit : length before + length mine ≤ s.section.end + 6) (released : AreBefore (length before + length mine) s.section.releases) (still : IsStillAt (run first (start b pins))) (brings : BringStill mine) where
+    (r : IsHomeSpan b pins own clocks ready stops (past ++ s ∷ later) before (mine ++ others) behind first second) (moves : s.homes ≡ false) (low : length before + 250 ≡ s.section.start) (over : length before + length mine ≡ s.section.end + 5)
+    (out : AreReleasedIn past) (released : AreBefore (s.section.end + 5) s.section.releases) (still : IsStillAt (run first (start b pins))) (brings : BringStill mine) where
   abbrev P : Script
-  P = script_of b pins own clocks ready stops (past ++ s ∷ later) before (mine ++ others) behind first second r
+  P = S b pins own clocks ready stops (past ++ s ∷ later) before (mine ++ others) behind first second r
 
   abbrev N : ℕ
   N = length before + length mine
@@ -152,11 +263,11 @@ module _ (b : BoardDef) (pins : List (List Level)) (own : ℕ → ℕ) (clocks :
       let At : ℕ → Type 0 = λ n. AreOrdersIn clocks (past ++ s ∷ later) n (mine ++ (others ++ behind)) in
       let here = orders_first a mine (others ++ behind) (subst At zero_more all) in
       let b_first : s.section.start - 250 ≡ a = omega (arith, low) in
-      let window = window_brings clocks b.freq b.slots r.run_is.tracked.until ready stops past s later mine a r.run_is.sections r.run_is.row r.released moves (omega (arith, low)) (omega (arith, limit)) here in
+      let window = window_brings clocks b.freq b.slots r.run_is.tracked.until ready stops past s later mine a r.run_is.sections r.run_is.row out moves (omega (arith, low)) (omega (arith, over)) here in
       let c = courses (sent_in 0 before) oid in
       let left = turns_mean a clocks b.slots (base_of clocks s.section) oid total (past ++ s ∷ later) mine a is.from c [] s.section.releases (omega arith) (inl (is.begun oid, refl)) is.paced
       (subst (λ n. AreFrom n s.section.releases) b_first from_b) window in
-      let mean = all_mean a clocks (base_of clocks s.section) oid N total s.section.releases (course_from oid c (sent_in a mine)) released left in
+      let mean = all_mean a clocks (base_of clocks s.section) oid N total s.section.releases (course_from oid c (sent_in a mine)) (subst (λ (n : ℕ). AreBefore n s.section.releases) (sym over) released) left in
       let same : course_from oid c (sent_in a mine) ≡ courses Upto oid = sym (course_append oid no_course (sent_in 0 before) (sent_in a mine)) in
       subst (λ (x : Course). (total ≡ []) ⊎ (IsSince a x.since × (x.known.steps ≡ total))) same mean
     where
@@ -177,7 +288,6 @@ module _ (b : BoardDef) (pins : List (List Level)) (own : ℕ → ℕ) (clocks :
 
   aim : Aim P
   aim = record {
-    none = refl;
     low = length before;
     upto = Upto;
     rest = Rest;
@@ -186,7 +296,7 @@ module _ (b : BoardDef) (pins : List (List Level)) (own : ℕ → ℕ) (clocks :
     later = from_in N N (others ++ behind) (omega arith);
     steps = λ oid. section_steps oid s.section;
     over = s.section.end + 5;
-    soon = over;
+    soon = omega (arith, over);
     mean = meaning;
     early = λ oid.
         let i = the_section in
@@ -194,52 +304,44 @@ module _ (b : BoardDef) (pins : List (List Level)) (own : ℕ → ℕ) (clocks :
   }
 
   abbrev Mid : Core
-  Mid = run first (start b pins)
+  Mid = At_mid b pins own clocks ready stops (past ++ s ∷ later) before (mine ++ others) behind first second r
 
   abbrev Last : Core
-  Last = run (first ++ second) (start b pins)
+  Last = At_end b pins own clocks ready stops (past ++ s ∷ later) before (mine ++ others) behind first second r
+
+  abbrev Sent_then : List Sent
+  Sent_then = Sent_by b pins own clocks ready stops (past ++ s ∷ later) before (mine ++ others) behind first second r
+
+  mid_is : Keeps P (length before) (length before) (sent_in 0 before) Mid
+  mid_is = mid_keeps b pins own clocks ready stops (past ++ s ∷ later) before (mine ++ others) behind first second r
+
+  last_is : Keeps P End End Sent_then Last
+  last_is = last_keeps b pins own clocks ready stops (past ++ s ∷ later) before (mine ++ others) behind first second r
 
   whole_is : sent_in 0 before ++ (sent_in (length before) (mine ++ others) ++ sent_in End behind) ≡ P.all
-  whole_is =
-      let a = length before in
-      let zero_more : 0 + a ≡ a = omega arith in
-      ap (λ x. sent_in 0 before ++ x) (sym (sent_in_append a (mine ++ others) behind)) ∙ ap (λ n. sent_in 0 before ++ sent_in n ((mine ++ others) ++ behind)) (sym zero_more) ∙ sym (sent_in_append 0 before ((mine ++ others) ++ behind))
+  whole_is = span_is b pins own clocks ready stops (past ++ s ∷ later) before (mine ++ others) behind first second r
 
-  mid_keeps : Keeps P (length before) (length before) (sent_in 0 before) Mid
-  mid_keeps =
-      let zero_more : 0 + length before ≡ length before = omega arith in
-      let k = turns_keep P 0 [] (sent_in (length before) (mine ++ others) ++ sent_in End behind) before first (start b pins) r.first_turns (begins P b pins r.begin refl) whole_is (timely_front first second (start b pins) r.timely) r.first_settled (none_heed P.front [] first (start b pins) refl) in
-      subst (λ n. Keeps P n n (sent_in 0 before) Mid) zero_more k.1
-
-  abbrev Sent_by : List Sent
-  Sent_by = sent_in 0 before ++ sent_in (length before) (mine ++ others)
-
-  last_all : Sent_by ++ sent_in End behind ≡ P.all
-  last_all = append_assoc (sent_in 0 before) (sent_in (length before) (mine ++ others)) (sent_in End behind) ∙ whole_is
-
-  last_keeps : Keeps P End End Sent_by Last
-  last_keeps =
-      let k = turns_keep P (length before) (sent_in 0 before) (sent_in End behind) (mine ++ others) second Mid r.second_turns mid_keeps last_all (timely_behind first second (start b pins) r.timely) r.second_settled (none_heed P.front [] second Mid refl) in
-      subst (λ (h : Core). Keeps P End End Sent_by h) (sym (run_append first second (start b pins))) k.1
+  end_is : Sent_then ++ sent_in End behind ≡ P.all
+  end_is = last_all b pins own clocks ready stops (past ++ s ∷ later) before (mine ++ others) behind first second r
 
   -- as the section's units may be released
   mid_stage : Stage P aim Mid
   unfolding aim
   mid_stage running done left cut taken =
-      elim mid_keeps.state [
+      elim mid_is.state [
         | inl g ↦
             let a = length before in
             let rest = sent_in a (mine ++ others) ++ sent_in End behind in
             let before_all : g.done ++ (g.left ++ rest) ≡ P.all = sym (append_assoc g.done g.left rest) ∙ ap (λ x. x ++ rest) (sym g.sent_is) ∙ whole_is in
             let same : done ≡ g.done = done_same done left g.done (g.left ++ rest) P.all cut before_all (taken ∙ sym g.taken) in
-            let queue : Mid.taken ++ orders_in g.left ≡ Mid.queued = ap (λ x. x ++ orders_in g.left) (sym g.taken) ∙ sym (orders_append g.done g.left) ∙ ap orders_in (sym g.sent_is) ∙ mid_keeps.queued in
+            let queue : Mid.taken ++ orders_in g.left ≡ Mid.queued = ap (λ x. x ++ orders_in g.left) (sym g.taken) ∙ sym (orders_append g.done g.left) ∙ ap orders_in (sym g.sent_is) ∙ mid_is.queued in
             let off = still running (orders_in g.left) queue in
             let to_come = g.left ++ sent_in a mine in
             let upto : done ++ to_come ≡ Upto = ap (λ x. x ++ to_come) same ∙ sym (append_assoc g.done g.left (sent_in a mine)) ∙ ap (λ x. x ++ sent_in a mine) (sym g.sent_is) in
             let old : AllBefore a (g.done ++ g.left) = subst (λ (x : List Sent). AllBefore a x) g.sent_is (before_in 0 a before (omega arith)) in
             let fresh : AllBefore a done = subst (λ (x : List Sent). AllBefore a x) (sym same) (before_front a g.done g.left old) in
             let held : AllBefore a (done ++ g.left) = subst (λ (x : List Sent). AllBefore a (x ++ g.left)) (sym same) old in
-            inl (to_come, upto, inr (g.left, sent_in a mine, refl, off.1, held, orders_still a mine brings), off.0, λ oid since. absurd (none_since oid a no_course done fresh (no_since a) since))
+            inl (to_come, upto, (inr (g.left, sent_in a mine, refl, off.1, held, orders_still a mine brings), off.0, λ oid since. absurd (none_since oid a no_course done fresh (no_since a) since)))
         | inr d ↦
             let (reason, t, first_tick, state, may) = d.shut in
             absurd (clash reason t first_tick (sym running ∙ state))
@@ -247,7 +349,7 @@ module _ (b : BoardDef) (pins : List (List Level)) (own : ℕ → ℕ) (clocks :
 
   last_stage : Stage P aim Last
   last_stage =
-      let g = turns_stage P aim (length before) (sent_in 0 before) (sent_in End behind) (mine ++ others) second Mid r.second_turns mid_keeps last_all (timely_behind first second (start b pins) r.timely) r.second_settled mid_stage in
+      let g = turns_stage P aim (length before) (sent_in 0 before) (sent_in End behind) (mine ++ others) second Mid r.second_turns mid_is end_is (timely_behind first second (start b pins) r.timely) r.second_settled (heed_behind P.front P.tail first second (start b pins) r.heed) mid_stage in
       subst (λ (h : Core). Stage P aim h) (sym (run_append first second (start b pins))) g
 
   -- At the end the steps are all made, or some command of these turns was not taken; then all pulses are before the section's end.
@@ -260,7 +362,7 @@ module _ (b : BoardDef) (pins : List (List Level)) (own : ℕ → ℕ) (clocks :
   long_end : N ≤ End
   long_end = let e = length-append mine others in omega (arith, e)
 
-  early_by : (g : Going P End End Sent_by Last) (to_come : List Sent) → g.done ++ to_come ≡ Upto → AllEarly
+  early_by : (g : Going P End End Sent_then Last) (to_come : List Sent) → g.done ++ to_come ≡ Upto → AllEarly
   early_by g to_come cut oid =
       let made = made_of_all own stops oid g.done to_come Upto (only oid Last.made) cut (made_for own stops oid (stepper_at Last.board.controller oid) (courses g.done oid) (only oid Last.made) (g.made oid)) in
       let xs = before ++ mine in
@@ -269,13 +371,13 @@ module _ (b : BoardDef) (pins : List (List Level)) (own : ℕ → ℕ) (clocks :
       let cut_all : before ++ ((mine ++ others) ++ behind) ≡ xs ++ ys = ap (λ x. before ++ x) (append_assoc mine others behind) ∙ sym (append_assoc before mine ys) in
       let Run : List Orders → Type 0 = λ x. IsHomeRun own clocks b.freq b.slots ready stops (past ++ s ∷ later) x in
       let long = length-append before mine in
-      let front = run_front own clocks b.freq b.slots ready stops past s later xs ys (subst Run cut_all r.run_is) (omega (arith, long, limit)) in
+      let front = run_front own clocks b.freq b.slots ready stops past s later xs ys (subst Run cut_all r.run_is) (omega (arith, long, over)) in
       let sent : Upto ≡ sent_in 0 xs = ap (λ n. sent_in 0 before ++ sent_in n mine) (sym zero_more) ∙ sym (sent_in_append 0 before mine) in
       let Made : List Sent → Type 0 = λ x. AreMadeFor own stops (parts_of (courses x oid)) (only oid Last.made) in
-      let f = run_fronts own clocks b.freq b.slots ready stops (past ++ s ∷ []) xs r.ticks front (released_front past s later r.released) oid (only oid Last.made) (subst Made sent made) in
+      let f = run_fronts own clocks b.freq b.slots ready stops (past ++ s ∷ []) xs r.ticks front (released_with past s out (λ _. released)) oid (only oid Last.made) (subst Made sent made) in
       fronts_early own oid (s.section.end + 5) (past ++ s ∷ []) (only oid Last.made) r.ticks (over_front ready (s.section.end + 5) past s later r.run_is.row (omega arith)) f
 
-  finished : (g : Going P End End Sent_by Last) → g.done ≡ Upto → AreFree (length before) (courses g.done) Last.board.controller → AllSteps
+  finished : (g : Going P End End Sent_then Last) → g.done ≡ Upto → AreFree (length before) (courses g.done) Last.board.controller → AllSteps
   unfolding aim
   finished g same free =
       let Free : List Sent → Type 0 = λ x. AreFree (length before) (courses x) Last.board.controller in
@@ -287,9 +389,9 @@ module _ (b : BoardDef) (pins : List (List Level)) (own : ℕ → ℕ) (clocks :
   pub made_or_early : Last.board.controller.state ≡ Running → AllSteps ⊎ AllEarly
   unfolding aim
   made_or_early running =
-      elim last_keeps.state [
+      elim last_is.state [
         | inl g ↦
-            let all : g.done ++ (g.left ++ sent_in End behind) ≡ P.all = sym (append_assoc g.done g.left (sent_in End behind)) ∙ ap (λ x. x ++ sent_in End behind) (sym g.sent_is) ∙ last_all in
+            let all : g.done ++ (g.left ++ sent_in End behind) ≡ P.all = sym (append_assoc g.done g.left (sent_in End behind)) ∙ ap (λ x. x ++ sent_in End behind) (sym g.sent_is) ∙ end_is in
             elim (last_stage running g.done (g.left ++ sent_in End behind) all g.taken) [
               | inl x ↦ inr (early_by g x.0 x.1)
               | inr m ↦ inl m
@@ -299,22 +401,18 @@ module _ (b : BoardDef) (pins : List (List Level)) (own : ℕ → ℕ) (clocks :
             absurd (clash reason t first_tick (sym running ∙ state))
       ]
 
-  orders_long : (ss : List Sent) → length (orders_in ss) ≡ length ss
-  orders_long [] = refl
-  orders_long (x ∷ ss) = ap (λ n. suc n) (orders_long ss)
-
   pub made_where_taken : Last.board.controller.state ≡ Running → Last.taken ≡ Last.queued → AllSteps
   unfolding aim
   made_where_taken running took =
-      elim last_keeps.state [
+      elim last_is.state [
         | inl g ↦
-            let all : g.done ++ (g.left ++ sent_in End behind) ≡ P.all = sym (append_assoc g.done g.left (sent_in End behind)) ∙ ap (λ x. x ++ sent_in End behind) (sym g.sent_is) ∙ last_all in
+            let all : g.done ++ (g.left ++ sent_in End behind) ≡ P.all = sym (append_assoc g.done g.left (sent_in End behind)) ∙ ap (λ x. x ++ sent_in End behind) (sym g.sent_is) ∙ end_is in
             elim (last_stage running g.done (g.left ++ sent_in End behind) all g.taken) [
               | inl x ↦
-                  let (to_come, cut, calm, off, free) = x in
-                  let same_long : length g.done ≡ length Sent_by = sym (orders_long g.done) ∙ ap length (g.taken ∙ took ∙ sym last_keeps.queued) ∙ orders_long Sent_by in
+                  let (to_come, cut, (calm, off, free)) = x in
+                  let same_long : length g.done ≡ length Sent_then = sym (orders_long g.done) ∙ ap length (g.taken ∙ took ∙ sym last_is.queued) ∙ orders_long Sent_then in
                   let a = length before in
-                  let split : Sent_by ≡ Upto ++ sent_in N others = ap (λ x. sent_in 0 before ++ x) (sent_in_append a mine others) ∙ sym (append_assoc (sent_in 0 before) (sent_in a mine) (sent_in N others)) in
+                  let split : Sent_then ≡ Upto ++ sent_in N others = ap (λ x. sent_in 0 before ++ x) (sent_in_append a mine others) ∙ sym (append_assoc (sent_in 0 before) (sent_in a mine) (sent_in N others)) in
                   let one = ap length split ∙ length-append Upto (sent_in N others) in
                   let two = ap length cut in
                   let three = length-append g.done to_come in
@@ -326,27 +424,3 @@ module _ (b : BoardDef) (pins : List (List Level)) (own : ℕ → ℕ) (clocks :
             let (reason, t, first_tick, state, may) = d.shut in
             absurd (clash reason t first_tick (sym running ∙ state))
       ]
-
-  -- why it may have shut down
-  pub reason_last : MayBe Last.board.controller.state
-  reason_last =
-      let At : BoardState → Type 0 = λ o. MayBe o in
-      elim last_keeps.state [
-        | inl g ↦ subst At (sym g.stands.running) tt
-        | inr d ↦
-            let (reason, t, first_tick, state, may) = d.shut in
-            subst At (sym state) may
-      ]
-
-  sent_orders : (turn : ℕ) (os : List Orders) → orders_in (sent_in turn os) ≡ flat_map queued_in os
-  sent_orders turn [] = refl
-  sent_orders turn (o ∷ os) =
-      orders_append (sent_at turn (queued_in o)) (sent_in (turn + 1) os) ∙ ap (λ x. x ++ orders_in (sent_in (turn + 1) os)) (orders_at turn (queued_in o))
-      ∙ ap (λ x. queued_in o ++ x) (sent_orders (turn + 1) os)
-
-  pub never_last : (tick first_tick : ℕ) → NeverStop (before ++ (mine ++ others)) → Last.board.controller.state ≡ Shut 5 tick first_tick → ⊥
-  never_last tick first_tick never shut =
-      let zero_more : 0 + length before ≡ length before = omega arith in
-      let all : Sent_by ≡ sent_in 0 (before ++ (mine ++ others)) = ap (λ n. sent_in 0 before ++ sent_in n (mine ++ others)) (sym zero_more) ∙ sym (sent_in_append 0 before (mine ++ others)) in
-      let queue : Last.queued ≡ flat_map queued_in (before ++ (mine ++ others)) = sym last_keeps.queued ∙ ap orders_in all ∙ sent_orders 0 (before ++ (mine ++ others)) in
-      never_shut b pins (before ++ (mine ++ others)) (first ++ second) tick first_tick last_keeps.ordered queue never shut

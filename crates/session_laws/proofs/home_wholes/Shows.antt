@@ -43,6 +43,8 @@ use Rattle.session_desk.specs.declared.tell.Kept.{Kept}
 use Rattle.session_run.specs.Boards.{AreReactorTurns, came_from, came_in}
 use Rattle.session_run.specs.Runs.{RunsOver}
 use Rattle.run_boards.specs.Boards.{IsInWhole}
+use Rattle.section_units.specs.Sections.{AreReleased}
+use Rattle.motion_work.specs.Boards.{parts_on}
 use Rattle.run_laws.specs.Boards.{IsWindow}
 use Rattle.run_laws.specs.Stops.{NeverStop}
 use Rattle.run_plans.specs.Boards.{TookStates, lines_between, times_of}
@@ -58,11 +60,11 @@ use Rattle.session_laws.specs.run_headline.Made.{IsMade}
 use Rattle.session_laws.specs.run_headline.Timely.{clocks_heard, link_of, ready_heard}
 use Rattle.session_laws.proofs.run_headline.Boarded.{came_split}
 use Rattle.session_laws.proofs.run_headline.Earlier.{ended_all, ends_late, lines_before, lines_last, lines_up_to, next_sooner, over_at, states_long}
-use Rattle.session_laws.proofs.run_headline.Going.{Gone, gone, lasts, one_idle, one_in_time}
+use Rattle.session_laws.proofs.run_headline.Going.{Gone, gone, gone_released, lasts, one_idle, one_in_time, released_here}
 use Rattle.session_laws.proofs.run_headline.Joining.{of_sections}
 use Rattle.session_laws.proofs.run_headline.Making.{run_made}
 use Rattle.session_laws.proofs.run_headline.Runs.{facts, run_ended}
-use Rattle.session_laws.proofs.run_headline.Showing.{Facts, alone_ends, came_long, cut_last, ends_own, in_none, not_told, notes_before, starts_late, turns_cut}
+use Rattle.session_laws.proofs.run_headline.Showing.{Facts, alone_ends, came_long, cut_last, ends_own, in_none, long_or, not_told, notes_before, starts_late, took_notes, turns_cut}
 use Rattle.session_laws.specs.home_headline.Follow.{AllShowHomes, FollowHomes}
 use Rattle.session_laws.specs.home_headline.Cuts.{TellEnds}
 use Rattle.cause_runs.specs.Short.{HaveShortDictionaries}
@@ -150,8 +152,8 @@ module _ (m : Machine) (v : IsValidMachine m) (s : Scene) (ts : List MotionTurn)
               }
         ]
 
-    over_before : Stopped → All (λ y. y.end + 5 ≤ length rest) p.seen.begun
-    over_before x =
+    gone_before : (x : Stopped) → Gone m p.seen.text p.seen.begun (length rest) (noted m x.turn.note (known_by m s.switches (came_from [] (first ∷ x.front)))) (read.Stop x.line)
+    gone_before x =
         let before = came_from [] (first ∷ x.front) in
         let now = noted m x.turn.note (known_by m s.switches before) in
         let Took : List ReactorTurn → Type 0 = λ z. TookNotes (map (λ (y : MotionTurn). y.note) p.made) (first ∷ z) in
@@ -160,7 +162,16 @@ module _ (m : Machine) (v : IsValidMachine m) (s : Scene) (ts : List MotionTurn)
         let size = came_long [] (first ∷ x.front) in
         let place : length (first ∷ x.front) ≡ length rest = (let e = ap length x.are in omega (arith, e, length-append x.front (x.turn ∷ []))) in
         let By : ℕ → Type 0 = λ n. Gone m p.seen.text p.seen.begun n now (read.Stop x.line) in
-        (subst By place (gone m p.seen.text p.seen.begun (length (first ∷ x.front)) (length before) now x.turn.states (read.Stop x.line) counts (omega (arith, size)) (of_sections m ts p) x.went)).over
+        subst By place (gone m p.seen.text p.seen.begun (length (first ∷ x.front)) (length before) now x.turn.states (read.Stop x.line) counts (omega (arith, size)) (of_sections m ts p) x.went)
+
+    over_before : Stopped → All (λ y. y.end + 5 ≤ length rest) p.seen.begun
+    over_before x = (gone_before x).over
+
+    gone_last : (w : At_last) → length (rest ++ end ∷ []) ≤ length p.made → Gone m p.seen.text p.seen.begun (length (first ∷ rest)) Last_known w.0
+    gone_last w l =
+        let size = came_long [] (first ∷ rest) in
+        let counts = run_counts m p.seen.text s.switches p.seen.begun p.made first rest end p.put (took_notes m v s ts p end c first rest f l) in
+        gone m p.seen.text p.seen.begun (length (first ∷ rest)) (length Came_all) Last_known end.states w.0 counts (omega (arith, size)) (of_sections m ts p) w.2
 
     module _ (t : Told) (told : p.seen.told ≡ Some t) where
       small : (b : ℕ) → b < length m.boards → (w : IsInWhole m s.switches b (clock_of (board_at m b)) (link_of m s b) ts first (rest ++ end ∷ [])) → HomesLittle m s b ts first (rest ++ end ∷ []) (length p.made) t p.seen.begun w
@@ -170,10 +181,10 @@ module _ (m : Machine) (v : IsValidMachine m) (s : Scene) (ts : List MotionTurn)
       by_told = follows m v s ts p t first rest end c told f short small
 
       -- where the last turn is idle
-      counted : (w_all : At_last) (past : List Started) (x : Started) (later : List Started) (from to place : ℕ) → p.seen.begun ≡ past ++ x ∷ later → x.section.kind ≡ Moves → place < length m.steppers
+      counted : (w_all : At_last) → length (rest ++ end ∷ []) ≤ length p.made → (past : List Started) (x : Started) (later : List Started) (from to place : ℕ) → p.seen.begun ≡ past ++ x ∷ later → x.section.kind ≡ Moves → place < length m.steppers
           → IsWindow (length (rest ++ end ∷ [])) from to (record { start = x.start; end = x.end }) (times_of later) → x.end + 5 ≤ to
           → length (pulses_of place (lines_between from to (rest ++ end ∷ []))) ≡ length (stepper_plan m t.clocks x.section.moves x.start place)
-      counted w_all past x later from to place cut moves h w over =
+      counted w_all l past x later from to place cut moves h w over =
           let b = (stepper_at m place).board in
           let low : b < length m.boards = (v.steppers place h).board in
           let n = length (rest ++ end ∷ []) in
@@ -190,8 +201,12 @@ module _ (m : Machine) (v : IsValidMachine m) (s : Scene) (ts : List MotionTurn)
           let never = subst Never (sym (take_all n (orders_in all) (omega (arith, many, orders))))
           (never_stop m s.switches (pins_of (board_at m b) b s.switches) s.entries b Came_all all (run_of m v s ts p t first rest end c told f short small b low) (not_stopping w_all)) in
           let within = w.within in
+          let more = length-append rest (end ∷ []) in
+          let Released : List Started → Type 0 = λ z. AreReleased n (parts_on m t.clocks z b) in
+          let released = gone_released m p.seen.text p.seen.begun (length (first ∷ rest)) Last_known w_all.0 t.clocks b n (gone_last w_all l) (omega (arith, more)) low in
+          let put = released_here m t.clocks b n past x later (subst Released cut released) in
           as_told_by m v s ts p t first rest end c told f short small x from to place h
-          (idle_many m v s ts p t first rest end c told f short small past x later cut moves from to w over b low n last.front [] last.last within (omega arith) (last.are ∙ sym (append-nil (last.front ++ last.last ∷ []))) size never
+          (idle_many m v s ts p t first rest end c told f short small past x later cut moves from to w over b low n last.front [] last.last put within (omega arith) (last.are ∙ sym (append-nil (last.front ++ last.last ∷ []))) size never
           (not_late in_order.0 last.last.shut in_order.1) idle (stepper_at m place).oid)
 
       -- where it was asked to stop, by the turns before the last one
@@ -220,8 +235,11 @@ module _ (m : Machine) (v : IsValidMachine m) (s : Scene) (ts : List MotionTurn)
             let Run : List Came → Type 0 = λ z. IsInRun m s.switches (pins_of (board_at m b) b s.switches) s.entries b z all in
             let run = subst Run y.came (run_of m v s ts p t first rest end c told f short small b low) in
             let never = front_never m s.switches (pins_of (board_at m b) b s.switches) s.entries b (came_in y.turn) (came_from [] (first ∷ y.front)) all n run not_about (omega (arith, many, more)) in
+            let Released : List Started → Type 0 = λ z. AreReleased n (parts_on m t.clocks z b) in
+            let released = gone_released m p.seen.text p.seen.begun n (noted m y.turn.note (known_by m s.switches (came_from [] (first ∷ y.front)))) (read.Stop y.line) t.clocks b n (gone_before y) (omega arith) low in
+            let put = released_here m t.clocks b n past x later (subst Released cut released) in
             as_told_by m v s ts p t first rest end c told f short small x from to place h
-            (idle_many m v s ts p t first rest end c told f short small past x later cut moves from to w over b low n here.front (last.last ∷ []) here.last reach (omega (arith, more)) (last.are ∙ ap (λ (z : List State). z ++ last.last ∷ []) here.are) size never
+            (idle_many m v s ts p t first rest end c told f short small past x later cut moves from to w over b low n here.front (last.last ∷ []) here.last put reach (omega (arith, more)) (last.are ∙ ap (λ (z : List State). z ++ last.last ∷ []) here.are) size never
             (not_late in_order.0 here.last.shut in_order.1) idle (stepper_at m place).oid)
 
         -- the last turn has no pulses
@@ -256,11 +274,14 @@ module _ (m : Machine) (v : IsValidMachine m) (s : Scene) (ts : List MotionTurn)
               ∙ counted_before past x later from n place cut moves h (record { begins = begins; order = order; within = omega (arith, more); next = next_sooner n to (times_of later) (omega (arith, last)) w.next }) ended (omega arith)
         ]
 
+      made_all : GoesThrough c → length (rest ++ end ∷ []) ≤ length p.made
+      made_all g = elim (long_or m v s ts p end c first rest f) [ inl l ↦ l | inr z ↦ absurd (z.1 (own_cause c g)) ]
+
       whole_told : GoesThrough c → (past : List Started) (x : Started) (later : List Started) (from to place : ℕ) → p.seen.begun ≡ past ++ x ∷ later → x.section.kind ≡ Moves → place < length m.steppers
           → IsWindow (length (rest ++ end ∷ [])) from to (record { start = x.start; end = x.end }) (times_of later) → x.end + 5 ≤ to
           → length (pulses_of place (lines_between from to (rest ++ end ∷ []))) ≡ length (stepper_plan m t.clocks x.section.moves x.start place)
       whole_told g past x later from to place cut moves h w over = elim (went m Last_known (length Came_all) end.states c g (ends (first ∷ rest) f g)) [
-        | inl a ↦ counted a past x later from to place cut moves h w over
+        | inl a ↦ counted a (made_all g) past x later from to place cut moves h w over
         | inr a ↦ counted_stop (stopped a) past x later from to place cut moves h w over
       ]
 

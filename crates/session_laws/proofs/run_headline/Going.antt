@@ -21,7 +21,7 @@ use Rattle.section_units.specs.Sections.{AreBefore, AreReleased}
 use Rattle.host_reactor.specs.declared.ordered.Known.{Known}
 use Rattle.host_reactor.specs.Running.{all_ended, all_idle, late, late_of, or_cause, stop_of}
 use Rattle.motion_work.specs.Boards.{parts_on}
-use Rattle.motion_work.specs.Seen.{AreOut, Started}
+use Rattle.motion_work.specs.Seen.{AreOut, Started, part_on}
 use Rattle.session_work.specs.declared.table.MotionTurn.{MotionTurn}
 use Rattle.session_work.specs.declared.table.ReactorTurn.{ReactorTurn}
 use Rattle.session_work.specs.Rows.{gather, item, option_items}
@@ -203,6 +203,10 @@ shut_none j (Some n) e late =
 pub released_front : (m : Machine) (clocks : List Clocks) (b turn : ℕ) (past : List Started) (s : Started) (later : List Started) → AreReleased turn (parts_on m clocks (past ++ s ∷ later) b) → AreReleased turn (parts_on m clocks (past ++ s ∷ []) b)
 released_front m clocks b turn [] s later h = (h.0, tt)
 released_front m clocks b turn (x ∷ past) s later h = (h.0, released_front m clocks b turn past s later h.1)
+
+pub released_here : (m : Machine) (clocks : List Clocks) (b turn : ℕ) (past : List Started) (s : Started) (later : List Started) → AreReleased turn (parts_on m clocks (past ++ s ∷ later) b) → AreBefore turn (part_on m clocks s b).releases
+released_here m clocks b turn [] s later h = h.0
+released_here m clocks b turn (x ∷ past) s later h = released_here m clocks b turn past s later h.1
 
 pub soon_over : (k : ℕ) (ss : List Started) → All (λ s. s.end + 5 ≤ k) ss → All (λ s. s.end + 0 < k) ss
 soon_over k [] a = All-nil (λ (s : Started). s.end + 0 < k)

@@ -50,7 +50,7 @@ use Rattle.session_work.specs.declared.table.MotionTurn.{MotionTurn}
 use Rattle.session_work.specs.declared.table.ReactorTurn.{ReactorTurn}
 use Rattle.session_run.specs.Boards.{came_from}
 use Rattle.run_laws.specs.Boards.{OnBoard}
-use Rattle.run_laws.specs.Homes.{AreOrdersIn, IsHomeBoard, RunSection}
+use Rattle.run_laws.specs.Homes.{AreOut, AreOrdersIn, IsHomeBoard, RunSection}
 use Rattle.run_laws.specs.Links.{ends_of, steps_of, turns_told}
 use Rattle.run_laws.proofs.Halted.{all_fair}
 use Rattle.run_laws.specs.Late.{IsLateUnit}
@@ -59,9 +59,10 @@ use Rattle.run_parts.proofs.Going.{own_on}
 use Rattle.homing_laws.proofs.home_runs.Along.{one_end}
 use Rattle.homing_laws.specs.home_parts.Cuts.{cuts_on}
 use Rattle.run_boards.specs.Boards.{behind, orders_of}
+use Rattle.run_plans.specs.Homed.{runs_on}
 use Rattle.run_plans.specs.Planned.{Plans}
 use Rattle.cause_runs.specs.Short.{HaveShortDictionaries}
-use Rattle.session_laws.specs.home_headline.Little.{AllHomeLittle, HomesLittle}
+use Rattle.session_laws.specs.home_headline.Little.{AllHomeLittle, HomesLittle, SendsOut}
 use Rattle.session_laws.specs.run_headline.Made.{IsMade}
 use Rattle.session_laws.specs.run_headline.Timely.{AllTakeNear, AreOfMoves, link_of}
 use Rattle.session_laws.proofs.run_headline.Fronts.{limited}
@@ -223,7 +224,7 @@ lines_near m v b there lasts turns ready far clocks all tracked kept first held 
 
 -- in a run in which axes home
 module _ (m : Machine) (v : IsValidMachine m) (s : Scene) (ts : List MotionTurn) (p : Plans m (length m.boards) ts) (t : Told) (first : ReactorTurn) (rest : List ReactorTurn) (end : ReactorTurn) (c : Cause) (told : p.seen.told ≡ Some t) (f : Facts m s ts (first ∷ rest) end c)
-    (short : HaveShortDictionaries m) (b due arrival spoiled spill : ℕ) (x : ComesLate m s b due arrival spoiled spill ts first (rest ++ end ∷ [])) (little : HomesLittle m s b ts first (rest ++ end ∷ []) (length p.made) t p.seen.begun x.w) where
+    (short : HaveShortDictionaries m) (b due arrival spoiled spill : ℕ) (x : ComesLate m s b due arrival spoiled spill ts first (rest ++ end ∷ [])) (little : HomesLittle m s b ts first (rest ++ end ∷ []) (length p.made) t p.seen.begun x.w) (out : AreOut (length p.made) (runs_on m t.clocks p.seen.begun b)) where
   abbrev By : ℕ
   By = boards.By m v s ts p t first rest end c told f short
 
@@ -252,7 +253,7 @@ module _ (m : Machine) (v : IsValidMachine m) (s : Scene) (ts : List MotionTurn)
 
   pub home_unit : HasLateUnit m s b due arrival spoiled spill ts first (rest ++ end ∷ []) t.clocks p.seen.begun x
   home_unit = has_unit m s ts first rest end b due arrival spoiled spill x t.clocks p.seen.begun (record {
-    limits = sent.limits (orders_in x.past) (orders x.turn.control x.turn.batch) [] (ap orders_in x.are);
+    limits = sent.limits out (orders_in x.past) (orders x.turn.control x.turn.batch) [] (ap orders_in x.are);
     fair = board_fair b s.entries By (length (rest ++ end ∷ [])) Sections (here_by m v s ts p t first rest end told (length p.made) b x.w) (boards.on m v s ts p t first rest end c told f short b x.there x.w little);
     all_due = all_due;
     units = λ before o after u cut a.
@@ -324,12 +325,12 @@ late_none m v s ts p end c first rest f b due arrival spoiled spill x none =
 
 module _ {F S : Type 0} (f : Files F) (o : Sink S) (m : Machine) (s : Scene) (name : List ℕ) (files files' : F) (out out' : S) (kept kept' : Kept) (t : near.Told Run) (r : RunsOver f o m s name files out kept t files' out' kept') (v : IsValidMachine m) (short : HaveShortDictionaries m)
     (b due arrival spoiled spill : ℕ) where
-  home_units : (p : Plans m (length m.boards) r.runs.0) (told : Option Told) → p.seen.told ≡ told → (rs : List ReactorTurn) → Facts m s r.runs.0 rs r.runs.2 t.cause → AllHomeLittle m s p.seen.text r.runs.0 (rs ++ r.runs.2 ∷ []) → (c : ComesLateIn m s b due arrival spoiled spill r.runs.0 rs r.runs.2)
+  home_units : (p : Plans m (length m.boards) r.runs.0) (told : Option Told) → p.seen.told ≡ told → (rs : List ReactorTurn) → Facts m s r.runs.0 rs r.runs.2 t.cause → AllHomeLittle m s p.seen.text r.runs.0 (rs ++ r.runs.2 ∷ []) → SendsOut m p.seen.text r.runs.0 → (c : ComesLateIn m s b due arrival spoiled spill r.runs.0 rs r.runs.2)
       → (heard : Told) × (p.seen.told ≡ Some heard) × HasLateUnitIn m s b due arrival spoiled spill r.runs.0 rs r.runs.2 heard.clocks p.seen.begun c
-  home_units p told is [] g little c = absurd c
-  home_units p None is (first ∷ rest) g little c = absurd (late_none m v s r.runs.0 p r.runs.2 t.cause first rest g b due arrival spoiled spill c (not_told m v s r.runs.0 p r.runs.2 t.cause is))
-  home_units p (Some heard) is (first ∷ rest) g little c =
-      (heard, is, home_unit m v s r.runs.0 p heard first rest r.runs.2 t.cause is g short b due arrival spoiled spill c (little p heard b refl is c.there c.w))
+  home_units p told is [] g little sends c = absurd c
+  home_units p None is (first ∷ rest) g little sends c = absurd (late_none m v s r.runs.0 p r.runs.2 t.cause first rest g b due arrival spoiled spill c (not_told m v s r.runs.0 p r.runs.2 t.cause is))
+  home_units p (Some heard) is (first ∷ rest) g little sends c =
+      (heard, is, home_unit m v s r.runs.0 p heard first rest r.runs.2 t.cause is g short b due arrival spoiled spill c (little p heard b refl is c.there c.w) (sends p heard b refl is c.there))
 
   near_units : (p : Plans m (length m.boards) r.runs.0) (told : Option Told) → p.seen.told ≡ told → (rs : List ReactorTurn) → Facts m s r.runs.0 rs r.runs.2 t.cause → AreOfMoves (program_sections m p.seen.text) → AllTakeNear m s p.seen.text r.runs.0 (rs ++ r.runs.2 ∷ [])
       → (c : ComesLateIn m s b due arrival spoiled spill r.runs.0 rs r.runs.2)
@@ -353,12 +354,12 @@ module _ {F S : Type 0} (f : Files F) (o : Sink S) (m : Machine) (s : Scene) (na
     late : Late_in
     late = run_late f o m s name files files' out out' kept kept' t r v b due arrival spoiled spill e
 
-    pub run_home_units : AllHomeLittle m s text r.runs.0 (r.runs.1 ++ r.runs.2 ∷ []) → ∥ ((made : IsMade m s r.runs.0 r.runs.1) × (made.plans.seen.text ≡ text) × (c : Late_in)
+    pub run_home_units : AllHomeLittle m s text r.runs.0 (r.runs.1 ++ r.runs.2 ∷ []) → SendsOut m text r.runs.0 → ∥ ((made : IsMade m s r.runs.0 r.runs.1) × (made.plans.seen.text ≡ text) × (c : Late_in)
         × ((heard : Told) × (made.plans.seen.told ≡ Some heard) × HasLateUnitIn m s b due arrival spoiled spill r.runs.0 r.runs.1 r.runs.2 heard.clocks made.plans.seen.begun c)) ∥₁
-    run_home_units little =
+    run_home_units little sends =
         ∥∥₁_map (run_made f o m s name files files' out out' kept kept' t r text told at) (λ w.
         let Little : List ℕ → Type 0 = λ z. AllHomeLittle m s z r.runs.0 (r.runs.1 ++ r.runs.2 ∷ []) in
-        (w.0, w.1, late, home_units w.0.plans w.0.plans.seen.told refl r.runs.1 (facts f o m s name files files' out out' kept kept' t r other) (subst Little (sym w.1) little) late))
+        (w.0, w.1, late, home_units w.0.plans w.0.plans.seen.told refl r.runs.1 (facts f o m s name files files' out out' kept kept' t r other) (subst Little (sym w.1) little) (let Sends : List ℕ → Type 0 = λ z. SendsOut m z r.runs.0 in subst Sends (sym w.1) sends) late))
 
     pub run_near_units : AreOfMoves (program_sections m text) → AllTakeNear m s text r.runs.0 (r.runs.1 ++ r.runs.2 ∷ []) → ∥ ((made : IsMade m s r.runs.0 r.runs.1) × (made.plans.seen.text ≡ text) × (c : Late_in)
         × ((heard : Told) × (made.plans.seen.told ≡ Some heard) × IsLateUnit (parts_on m heard.clocks made.plans.seen.begun b) arrival due × (HasFewUnits m s b due arrival spoiled spill r.runs.0 r.runs.1 r.runs.2 c

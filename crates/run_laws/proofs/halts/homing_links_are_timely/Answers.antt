@@ -1,4 +1,4 @@
-use Rattle.run_laws.proofs.HomeTimes.{home_timely}
+use Rattle.run_laws.proofs.HomeHeeding.{home_timely}
 use Rattle.run_laws.proofs.Spoiled.{ten_seconds}
 use Rattle.run_laws.proofs.halts.homing_links_are_timely.Goals as goal
 

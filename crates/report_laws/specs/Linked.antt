@@ -32,7 +32,7 @@ use Rattle.session_laws.specs.run_lines.Due.{BoardsHave, StandApart}
 use Rattle.session_laws.specs.home_headline.Little.{AllHomeLittle, SendsOut, ShownHoldLittle}
 use Rattle.session_laws.specs.home_wholes.Own.{AllHearSoon, TellOwn}
 use Rattle.session_laws.specs.clear_homes.Closes.{AllClose, MissesSwitch, TellFirst}
-use Rattle.session_laws.specs.clear_homes.First.{IsFirstExpired}
+use Rattle.session_laws.specs.clear_homes.First.{IsFirstExpired, IsUnswitched}
 use Rattle.session_laws.specs.run_causes.Unanswered.{GaveNoAnswer, IsStaleSince}
 use Rattle.session_laws.specs.clear_runs.Clear.{SendsAllSoon}
 use Rattle.report_laws.specs.Body.{cause_of}
@@ -105,7 +105,8 @@ pub record ShowsText (m : Machine) (text : List ℕ) (c : Cause) (said : List Re
 -- none did in time (`MissesSwitch`). Causes: a run ends for a board that gives no answer, or whose clock line is too
 -- old, only where its askings in a row were hindered on its link (`GaveNoAnswer`, `IsStaleSince`), and for a board that
 -- expired only where, by what the members of the homing section's group told, it is the first of them
--- (`IsFirstExpired`). It ends for steps that came too late only where the board took them so in its link's last turn
+-- (`IsFirstExpired`); as no switch closed only where, by what these told, none expired in time and the endstop's board read
+-- no switch (`IsUnswitched`). It ends for steps that came too late only where the board took them so in its link's last turn
 -- (`ComesLateIn`), and they are a unit's of its plan, with its spoiled turns and its spill (`HasLateUnitIn`); no state
 -- tells of any other shutdown but the order to stop (`AllMayTell`). Sections start and end in their turns (`AreTimed`),
 -- and the `board` lines are of clock lines that follow the boards' clocks (`TellKnownLines`). The turn that ends a run
@@ -143,6 +144,8 @@ pub record IsLinkReport {F S : Type 0} (f : Files F) (o : Sink S) (m : Machine) 
   pub connect : (text : List ℕ) → f.told files gcode ≡ Some text → (board turn : ℕ) → c ≡ cause.Connect board turn → ∥ GaveNoAnswer m s board turn reported.runs.runs.0 reported.runs.runs.1 reported.runs.runs.2 ∥₁
   pub stale : (board turn : ℕ) → c ≡ cause.Stale board turn → IsStaleSince m s board turn reported.runs.runs.0 reported.runs.runs.1 reported.runs.runs.2
   pub expired : (board turn : ℕ) → c ≡ cause.Expired board turn → IsFirstExpired m s.switches board turn reported.runs.runs.1 reported.runs.runs.2
+  pub switch_told : (section : ℕ) → c ≡ cause.NoSwitch section →
+      IsUnswitched m s.switches section reported.runs.runs.1 reported.runs.runs.2
   pub late : (board first arrival spoiled spill : ℕ) → c ≡ cause.Late board first arrival spoiled spill →
       ComesLateIn m s board first arrival spoiled spill reported.runs.runs.0 reported.runs.runs.1 reported.runs.runs.2
   pub late_unit : (text : List ℕ) → f.told files gcode ≡ Some text → (board first arrival spoiled spill : ℕ) → c ≡ cause.Late board first arrival spoiled spill →

@@ -4,3 +4,8 @@ pub mod Tables
 pub mod Taken
 pub mod Cuts
 pub mod Lines
+pub mod Numbers
+pub mod BentLines
+pub mod Files
+pub mod Room
+pub mod Steps

@@ -4,7 +4,7 @@ use Rattle.std.specs.List.{list_all}
 use Rattle.std.specs.Str.{bytes_eq}
 use Rattle.text_core.specs.Lines.{lines_of}
 use Rattle.text_core.specs.Numbers.{number_at}
-use Rattle.text_words.specs.Words.{worded_lines}
+use Rattle.text_core.specs.Words.{worded_lines}
 use Rattle.plan_types.specs.declared.cause.MeshKind.{MeshKind}
 use Rattle.plan_types.specs.declared.cause.MeshKind.TheVariants.{BadLine, OutOfLimit, Missing, TooLarge}
 use Rattle.bed_mesh.specs.declared.fault.MeshFault.{MeshFault}

@@ -2,13 +2,18 @@
 //! follow the bed.
 #![tactic(auto)]
 
+mod back;
 mod cut;
 mod fault;
+mod file;
 mod height;
+mod line;
 mod mesh;
+mod number;
 mod table;
 
 pub use fault::MeshFault;
+pub use file::{MeshOut, mesh_file};
 pub use mesh::{Grid, Mesh};
 pub use std::alloc::AllocError as OutOfMemory;
 pub use table::read_mesh;

@@ -3,7 +3,7 @@
 ghost use Rattle.std.specs.Prelude.{◌≡◌, ◌&&◌, ◌+◌, ◌*◌, ◌<◌, ◌≤◌, ◌^◌, ◌++◌, List, ℤ, Ok, Some, None, Err, IfNone, IfSome, IfOk, IfErr, OnOk, All, length, slice_index_or, unsigned_abs, pos, true, false};
 ghost use Rattle.std.specs.List.{list_all};
 ghost use Rattle.text_core.specs.Lines.{lines_of};
-ghost use Rattle.text_words.specs.Words.{words_of, worded_lines};
+ghost use Rattle.text_core.specs.Words.{words_of, worded_lines};
 ghost use Rattle.bed_mesh.specs.Grids.{IsValidGrid, IsValidMesh};
 ghost use Rattle.bed_mesh.specs.Tables as specs;
 ghost use Rattle.bed_mesh.specs.Tables.{Answers, AnswersRows, IsFaultAt, chosen, grids_of, six_grids, head_of, numbers_of, reading, row_of, rows_of, word_number};
@@ -12,8 +12,7 @@ use crate::fault::MeshFault;
 use crate::mesh::{Grid, Mesh};
 use plan_types::{Listed, MeshKind};
 use std::alloc::{AllocError, Global};
-use text_core::short_number;
-use text_words::{WordedLine, next_line, next_word};
+use text_core::{WordedLine, next_line, next_word, short_number};
 
 /// The most bytes that a table has.
 const LIMIT: usize = 1_048_576;

@@ -4,7 +4,7 @@ use Rattle.std.specs.Str.{bytes_eq}
 use Rattle.text_core.specs.Bytes.{capital, is_digit}
 use Rattle.text_core.specs.Lines.{lines_of}
 use Rattle.text_core.specs.Numbers.{is_natural, value_of}
-use Rattle.text_words.specs.Words.{worded_lines}
+use Rattle.text_core.specs.Words.{worded_lines}
 use Rattle.plan_types.specs.declared.cause.TraceKind.{TraceKind}
 use Rattle.plan_types.specs.declared.cause.TraceKind.TheVariants.{BadLine, NotRising, TooLarge}
 use Rattle.frame_dump.specs.declared.fault.TraceFault.{TraceFault}

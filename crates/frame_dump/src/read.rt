@@ -2,7 +2,7 @@
 
 ghost use Rattle.std.specs.Prelude.{◌≡◌, ◌+◌, ◌<◌, ◌≤◌, ◌^◌, ◌++◌, ◌∷◌, [], List, ℕ, Ok, Some, None, codes, IfNone, IfSome, IfOk, IfErr, OnOk, length, true, false};
 ghost use Rattle.text_core.specs.Lines.{lines_of};
-ghost use Rattle.text_words.specs.Words.{words_of, worded_lines};
+ghost use Rattle.text_core.specs.Words.{words_of, worded_lines};
 ghost use Rattle.frame_dump.specs.Traces.{Answers, AnswersTurns, AreTurns, turns_from, IsFaultAt, byte_of, content_of, hex_bytes, hex_value, is_above, reading, rising, turn_number, turn_of};
 
 use crate::fault::TraceFault;
@@ -10,7 +10,7 @@ use crate::trace::{Trace, TraceTurn};
 use plan_types::{Listed, TraceKind};
 use std::alloc::{AllocError, Global};
 use text_core::{is_digit, natural, to_capital};
-use text_words::{WordedLine, next_line, next_word};
+use text_core::{WordedLine, next_line, next_word};
 
 /// The most bytes that a trace has.
 const LIMIT: usize = 16_777_216;

@@ -17,7 +17,7 @@ use Rattle.plan_types.specs.declared.machine.Machine.{Machine}
 use Rattle.session_run.specs.declared.ended.Report.{Report}
 use Rattle.session_run.specs.Ends.{IsBare}
 use Rattle.host_cli.specs.Meshes.{IsMeshIn, IsTableFault, ShowsMarked, WritesMarked, marked}
-use Rattle.mesh_text.specs.Files.{mesh_code, mesh_end}
+use Rattle.bed_mesh.specs.Files.{mesh_code, mesh_end}
 use Rattle.plan_types.specs.declared.plan.ReadEnd.{ReadEnd}
 use Rattle.report_laws.specs.Body.{cause_of}
 use Rattle.host_cli.proofs.Scened.{NoMachine}

@@ -20,7 +20,7 @@ use Rattle.plan_types.specs.declared.machine.Machine.{Machine}
 use Rattle.plan_types.specs.Machines.{IsValidBoard}
 use Rattle.session_run.specs.declared.ended.Report.{Report}
 use Rattle.session_run.specs.Ends.{status_of}
-use Rattle.report_write.specs.Written.{WritesAll, WritesFront}
+use Rattle.report_text.specs.Written.{WritesAll, WritesFront}
 use Rattle.host_cli.specs.Promises.{EndsFor, IsRefused}
 use Rattle.session_run.specs.Reported.{GivenFor}
 use Rattle.host_cli.specs.Traffic.{EndsCleanly, IsTraceFault, IsTraceIn, IsTrafficText, ShowsTraffic, board_named, with_end}

@@ -15,7 +15,7 @@ use Rattle.frame_dump.specs.Traces as traces
 use Rattle.io_core.specs.declared.traits.Files.{Ghosts as Files}
 use Rattle.io_core.specs.declared.traits.Sink.{Ghosts as Sink}
 use Rattle.io_core.specs.Faults.{Rose}
-use Rattle.mesh_text.specs.Files.{mesh_code, mesh_end}
+use Rattle.bed_mesh.specs.Files.{mesh_code, mesh_end}
 use Rattle.plan_types.specs.declared.cause.Cause.{Cause}
 use Rattle.plan_types.specs.declared.cause.Cause.TheVariants as cause
 use Rattle.plan_types.specs.declared.cause.CfgKind.{CfgKind}

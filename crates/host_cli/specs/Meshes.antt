@@ -8,7 +8,7 @@ use Rattle.plan_types.specs.declared.cause.Cause.TheVariants as cause
 use Rattle.plan_types.specs.declared.cause.MeshKind.{MeshKind}
 use Rattle.plan_types.specs.declared.machine.Machine.{Machine}
 use Rattle.report_text.specs.Text.{end_text}
-use Rattle.report_write.specs.Written.{WritesAll, WritesFront}
+use Rattle.report_text.specs.Written.{WritesAll, WritesFront}
 use Rattle.session_run.specs.declared.ended.Report.{Report}
 use Rattle.session_run.specs.Ends.{IsBare}
 use Rattle.session_run.specs.Reported.{GivenFor}

@@ -17,7 +17,7 @@ use Rattle.plan_types.specs.declared.machine.BoardDef.{BoardDef}
 use Rattle.plan_types.specs.declared.plan.BoardState.{BoardState}
 use Rattle.plan_types.specs.declared.plan.Pulse.{Pulse}
 use Rattle.report_text.specs.declared.line.ReportLine.TheVariants as report
-use Rattle.report_write.specs.Written.{WritesAll, WritesFront}
+use Rattle.report_text.specs.Written.{WritesAll, WritesFront}
 use Rattle.session_run.specs.declared.ended.Report.{Report}
 use Rattle.session_run.specs.Ends.{IsBare, status_of}
 use Rattle.session_run.specs.Reported.{GivenFor}

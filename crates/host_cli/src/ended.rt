@@ -3,14 +3,14 @@
 ghost use Rattle.std.specs.Prelude.{◌≡◌, ◌≢◌};
 ghost use Rattle.host_cli.specs.Promises.{EndsAs};
 ghost use Rattle.report_text.specs.Text.{report_text};
-ghost use Rattle.report_write.specs.Written.{WritesAll, WritesFront};
+ghost use Rattle.report_text.specs.Written.{WritesAll, WritesFront};
 ghost use Rattle.session_run.specs.Ends.{IsBare, status_of};
 
 use crate::answer::Answer;
 use io_core::Sink;
 use plan_types::{Cause, Listed};
 use report_text::ReportLine;
-use report_write::{WriteStop, write_lines};
+use report_text::{WriteStop, write_lines};
 use session_run::{Ended, Report, status_of, with_failure};
 use std::alloc::Global;
 

@@ -13,7 +13,7 @@ use crate::run::end_with;
 use crate::scene::refuse;
 use generated_load::load_machine;
 use io_core::{Files, Gate, Sink, SureSink};
-use load_file::LoadFiles;
+use generated_load::LoadFiles;
 use plan_types::{Cause, Listed};
 use report_text::{ReportLine, Show};
 use session_run::{Ended, Report, run};

@@ -13,7 +13,7 @@ use crate::scene::{refuse, run_plain, run_scene};
 use crate::traffic::{Task, TrafficWords, run_traffic};
 use command_words::{Words, WordsFault, read_words};
 use io_core::{Files, Gate, Sink, SureSink};
-use load_file::LoadFiles;
+use generated_load::LoadFiles;
 use plan_types::Cause;
 use session_run::Ended;
 use std::alloc::Global;

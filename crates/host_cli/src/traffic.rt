@@ -16,7 +16,7 @@ ghost use Rattle.plan_types.specs.declared.cause.TraceKind.{TraceKind};
 ghost use Rattle.plan_types.specs.declared.machine.BoardDef.{BoardDef};
 ghost use Rattle.plan_types.specs.declared.machine.Machine.{Machine};
 ghost use Rattle.plan_types.specs.Machines.{IsValidBoard, IsValidMachine};
-ghost use Rattle.report_write.specs.Written.{WritesAll, WritesFront};
+ghost use Rattle.report_text.specs.Written.{WritesAll, WritesFront};
 ghost use Rattle.session_run.specs.Ends.{IsBare, status_of};
 
 use crate::ended::end_showing;
@@ -28,7 +28,7 @@ use io_core::{Files, Sink};
 use msg_dict::own_formats;
 use plan_types::{BoardDef, Cause, Listed, Machine};
 use report_text::ReportLine;
-use report_write::{WriteStop, write_line, write_piece};
+use report_text::{WriteStop, write_line, write_piece};
 use session_run::Ended;
 use std::alloc::{AllocError, Global};
 

@@ -18,7 +18,7 @@ use Rattle.plan_types.specs.Machines.{board_at, stepper_at}
 use Rattle.text_core.specs.Bytes.{before, begins}
 use Rattle.text_core.specs.Lines.{lines_of, with_first}
 use Rattle.text_core.specs.Trims.{without_return}
-use Rattle.text_words.specs.Words.{is_inside, is_none_left, line_words, words_of, worded_lines}
+use Rattle.text_core.specs.Words.{is_inside, is_none_left, line_words, words_of, worded_lines}
 use Rattle.plan_types.specs.declared.machine.Machine.{Machine}
 use Rattle.plan_types.specs.declared.plan.Held.{Held}
 use Rattle.plan_types.specs.declared.plan.Line.{Line}

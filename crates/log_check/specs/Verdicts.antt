@@ -14,7 +14,7 @@ use Rattle.plan_types.specs.declared.plan.Section.{Section}
 use Rattle.report_text.specs.declared.line.ReportLine.{ReportLine}
 use Rattle.report_text.specs.declared.line.ReportLine.TheVariants as report
 use Rattle.text_core.specs.Lines.{lines_of}
-use Rattle.text_words.specs.Words.{worded_lines}
+use Rattle.text_core.specs.Words.{worded_lines}
 use Rattle.log_check.specs.declared.further.Further.{Further}
 use Rattle.log_check.specs.declared.tally.Tally.{Tally}
 use Rattle.log_check.specs.Behind.{further_said}

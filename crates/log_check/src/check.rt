@@ -7,7 +7,7 @@ ghost use Rattle.plan_types.specs.Lines.{one_line};
 ghost use Rattle.plan_types.specs.Machines.{IsValidMachine, stepper_at};
 ghost use Rattle.plan_types.specs.Sections.{base_tick, for_each_stepper};
 ghost use Rattle.section_plan.specs.Runs.{IsPlannable};
-ghost use Rattle.text_words.specs.Words.{words_of};
+ghost use Rattle.text_core.specs.Words.{words_of};
 ghost use Rattle.log_check.specs.Behind.{told_line, with_further};
 ghost use Rattle.log_check.specs.Faults as faults;
 ghost use Rattle.log_check.specs.Faults.{fault_at, no_tally};
@@ -28,7 +28,7 @@ use plan_types::{Cause, Listed, Machine, MisfitKind, Section};
 use report_text::ReportLine;
 use section_plan::plan_moves;
 use std::alloc::{AllocError, Global};
-use text_words::next_line;
+use text_core::next_line;
 
 /// What begins a comment.
 const COMMENT: u8 = b'#';

@@ -6,7 +6,7 @@ ghost use Rattle.plan_types.specs.Lines.{one_line};
 ghost use Rattle.plan_types.specs.Machines.{IsValidMachine};
 ghost use Rattle.plan_types.specs.Valid.{IsValidLine};
 ghost use Rattle.text_core.specs.Bytes.{begins};
-ghost use Rattle.text_words.specs.Words.{line_words, words_of};
+ghost use Rattle.text_core.specs.Words.{line_words, words_of};
 ghost use Rattle.log_check.specs.Behind as specs;
 ghost use Rattle.log_check.specs.Behind.{further_said, told_line, with_further, with_one};
 ghost use Rattle.log_check.specs.Verdicts.{worded};
@@ -16,7 +16,7 @@ use log_text::{LogLine, read_line};
 use plan_types::{Line, Machine};
 use std::alloc::{AllocError, Global};
 use text_core::{cut, first_line, without_return};
-use text_words::next_word;
+use text_core::next_word;
 
 /// What begins a comment.
 const COMMENT: u8 = b'#';

@@ -8,7 +8,7 @@ ghost use Rattle.plan_types.specs.declared.cause.Cause.TheVariants as cause;
 ghost use Rattle.plan_types.specs.declared.machine.Machine.{Machine};
 ghost use Rattle.plan_types.specs.declared.plan.Section.{Section};
 ghost use Rattle.text_core.specs.Lines.{lines_of};
-ghost use Rattle.text_words.specs.Words.{worded_lines};
+ghost use Rattle.text_core.specs.Words.{worded_lines};
 
 /// The law of logs: where the check of a log ends with all done, its lines are those that its text says, and they follow the
 /// plan.

@@ -7,7 +7,7 @@ use Rattle.plan_types.specs.declared.machine.Machine.{Machine}
 use Rattle.plan_types.specs.declared.plan.SectionKind.{SectionKind}
 use Rattle.plan_types.specs.declared.plan.SectionKind.TheVariants.{Moves, Home}
 use Rattle.plan_types.specs.Machines.{board_at, stepper_at}
-use Rattle.text_words.specs.Words.{is_none_left}
+use Rattle.text_core.specs.Words.{is_none_left}
 use Rattle.log_text.specs.declared.line.LogLine.{LogLine}
 use Rattle.log_text.specs.declared.line.LogLine.TheVariants as line
 use Rattle.log_text.specs.Names.{board_from, stepper_from}

@@ -2,7 +2,7 @@
 
 ghost use Rattle.std.specs.Prelude.{◌≡◌, ◌==◌, ◌&&◌, ◌<◌, length, IfOk};
 ghost use Rattle.plan_types.specs.Machines.{IsValidMachine};
-ghost use Rattle.text_words.specs.Words.{words_of};
+ghost use Rattle.text_core.specs.Words.{words_of};
 ghost use Rattle.log_text.specs.Names.{board_from};
 ghost use Rattle.log_text.specs.Said as specs;
 ghost use Rattle.log_text.specs.There.{IsThere};
@@ -12,7 +12,7 @@ use crate::line::LogLine;
 use crate::name::board_named;
 use crate::number::{is_turn, labelled, number};
 use plan_types::{Machine, MisfitKind};
-use text_words::{is_end, next_word};
+use text_core::{is_end, next_word};
 
 /// Whether the kinematics of this name are CoreXY.
 fn is_corexy(word: &[u8]) -> Option<bool>

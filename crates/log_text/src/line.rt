@@ -2,7 +2,7 @@
 
 ghost use Rattle.std.specs.Prelude.{◌≡◌, ◌<◌, length, IfOk};
 ghost use Rattle.plan_types.specs.Machines.{IsValidMachine};
-ghost use Rattle.text_words.specs.Words.{words_of};
+ghost use Rattle.text_core.specs.Words.{words_of};
 ghost use Rattle.log_text.specs.Names.{board_from, stepper_from};
 ghost use Rattle.log_text.specs.Said as specs;
 ghost use Rattle.log_text.specs.There.{IsThere};
@@ -12,7 +12,7 @@ use crate::name::{board_named, stepper_named};
 use crate::number::number;
 use crate::section::section_line;
 use plan_types::{Machine, MisfitKind, SectionKind};
-use text_words::{is_end, next_word};
+use text_core::{is_end, next_word};
 
 /// What a line of a log says. Boards and steppers are numbers of the machine's.
 #[derive(Debug, Clone, Copy, PartialEq, Eq)]

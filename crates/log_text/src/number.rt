@@ -1,12 +1,12 @@
 //! Numbers among the words of a line.
 
 ghost use Rattle.std.specs.Prelude.{◌≡◌, ◌<◌, ◌^◌, IfSome, IfNone, Some, None};
-ghost use Rattle.text_words.specs.Words.{words_of};
+ghost use Rattle.text_core.specs.Words.{words_of};
 ghost use Rattle.log_text.specs.Words as specs;
 ghost use Rattle.log_text.specs.Words.{turn_limit};
 
 use text_core::natural;
-use text_words::next_word;
+use text_core::next_word;
 
 /// Sections start before this turn.
 const TURN_LIMIT: u64 = 1 << 62;

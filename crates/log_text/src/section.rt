@@ -1,14 +1,14 @@
 //! The line of a section.
 
 ghost use Rattle.std.specs.Prelude.{◌≡◌, IfOk};
-ghost use Rattle.text_words.specs.Words.{words_of};
+ghost use Rattle.text_core.specs.Words.{words_of};
 ghost use Rattle.log_text.specs.Said as specs;
 ghost use Rattle.log_text.specs.There.{IsEarly};
 
 use crate::line::LogLine;
 use crate::number::{is_turn, labelled, number};
 use plan_types::{MisfitKind, SectionKind};
-use text_words::{is_end, next_word};
+use text_core::{is_end, next_word};
 
 /// The homing of the axis of a letter.
 fn axis_of(word: &[u8]) -> Option<SectionKind>

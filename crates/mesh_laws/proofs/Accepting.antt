@@ -17,10 +17,10 @@ use Rattle.gcode_program.specs.Programs.{outcome_of, program_end, program_sectio
 use Rattle.gcode_program.specs.Readings.{Deed, Outcome, applied_line, deed_of, is_passed, outcome, with_front}
 use Rattle.gcode_program.proofs.Lining.{whole_line}
 use Rattle.bed_mesh.specs.declared.mesh.Mesh.{Mesh}
-use Rattle.mesh_text.specs.Files.{accepted, begun, first_pen, head_text, mesh_code, mesh_end, mesh_sheet, with_absolute, with_relative_e}
-use Rattle.mesh_text.specs.Lines.{lines_by, text_of}
-use Rattle.mesh_text.proofs.Head.{absolute, after_absolute, after_relative, relative}
-use Rattle.mesh_text.proofs.Writing.{both_ok, texts_both}
+use Rattle.bed_mesh.specs.Files.{accepted, begun, first_pen, head_text, mesh_code, mesh_end, mesh_sheet, with_absolute, with_relative_e}
+use Rattle.bed_mesh.specs.BentLines.{lines_by, text_of}
+use Rattle.bed_mesh.proofs.Head.{absolute, after_absolute, after_relative, relative}
+use Rattle.bed_mesh.proofs.Writing.{both_ok, texts_both}
 use Rattle.mesh_laws.specs.Bent.{origin}
 use Rattle.mesh_laws.specs.Written.{IsComment, IsEnding, IsRefusedThere, IsSmallFile, accepted_end, bent_program}
 use Rattle.mesh_laws.proofs.Acting.{IsTied}

@@ -9,8 +9,8 @@ use Rattle.gcode_state.specs.declared.state.Action.TheVariants as actions
 use Rattle.gcode_state.specs.States.{axes_in, coordinates_of, homed_by}
 use Rattle.gcode_program.specs.Readings.{Deed, applied_line, deed_of, is_passed, is_stop}
 use Rattle.bed_mesh.specs.declared.mesh.Mesh.{Mesh}
-use Rattle.mesh_text.specs.Files.{accepted}
-use Rattle.mesh_text.specs.Lines.{at, last_by, lines_by}
+use Rattle.bed_mesh.specs.Files.{accepted}
+use Rattle.bed_mesh.specs.BentLines.{at, last_by, lines_by}
 use Rattle.mesh_laws.proofs.Deeds.{IsDeed}
 use Rattle.mesh_laws.proofs.Making.{AreBent, dwell_bent, home_bent, move_bent, wait_bent}
 use Rattle.mesh_laws.proofs.Moving.{move_place, move_read}

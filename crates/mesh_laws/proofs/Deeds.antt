@@ -18,7 +18,7 @@ use Rattle.gcode_state.specs.declared.state.StateFault.{StateFault}
 use Rattle.gcode_state.specs.declared.state.StateFault.TheVariants.{TooMany}
 use Rattle.gcode_state.specs.States.{given_number, aim_of, differs, moves, moved, move_fault, move_of, unless, unmeasured, linear, in_range, ◌>>=◌, dwell, axes_of, axes_in, home, is_named, speed_factor, e_factor, acceleration, readings_set, commanded, applied}
 use Rattle.gcode_program.specs.Readings.{applied_line, applied_reading, as_kind}
-use Rattle.mesh_text.specs.Lines.{at}
+use Rattle.bed_mesh.specs.BentLines.{at}
 
 -- a move goes on from where E stands, and is no faster than the machine
 pub record IsDrawn (s t : State) (m : Move) : Type 0 where

@@ -8,7 +8,7 @@ use Rattle.std.proofs.lemmas.Int.{ints}
 use Rattle.std.proofs.lemmas.Fmt.{decimal_by_steps_wide}
 use Rattle.text_core.specs.Bytes.{begins, front, behind, is_digit, is_point, is_sign, without}
 use Rattle.text_core.specs.Numbers.{amount, digits_behind, is_readable, number_at, parts_of, signed, value_of, worth}
-use Rattle.mesh_text.specs.Numbers.{millionths, six_digits, unsigned_text}
+use Rattle.bed_mesh.specs.Numbers.{millionths, six_digits, unsigned_text}
 
 -- all of these are digits
 abbrev pub AreDigits : List ℕ → Type 0

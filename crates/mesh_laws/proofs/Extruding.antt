@@ -15,7 +15,7 @@ use Rattle.gcode_program.specs.Cuts.{closed, home_of, homes, is_named, left, lef
 use Rattle.gcode_program.specs.Homes.{homing_move, stood}
 use Rattle.gcode_program.specs.Programs.{outcome_of}
 use Rattle.gcode_program.specs.Readings.{Deed, Outcome, behind_action, behind_line, deed_of, is_passed, line_result, outcome}
-use Rattle.mesh_text.specs.Lines.{at}
+use Rattle.bed_mesh.specs.BentLines.{at}
 use Rattle.mesh_laws.specs.Joined.{Extrude, ExtrudeThrough}
 use Rattle.mesh_laws.specs.Written.{first_sections}
 use Rattle.mesh_laws.proofs.Deeds.{IsDeed, line_does}

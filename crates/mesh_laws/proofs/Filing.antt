@@ -17,9 +17,9 @@ use Rattle.gcode_program.specs.Readings.{Deed, Outcome, applied_line, deed_of, i
 use Rattle.gcode_program.specs.Readings as readings
 use Rattle.bed_mesh.specs.declared.mesh.Mesh.{Mesh}
 use Rattle.bed_mesh.specs.Cuts.{ends}
-use Rattle.mesh_text.specs.Files.{Pen, Sheet, accepted, behind_action, behind_line, behind_lines, moved_pen, refused, sheet, with_front}
-use Rattle.mesh_text.proofs.Writing.{both_ok, texts_both}
-use Rattle.mesh_text.specs.Lines.{last_by, lines_by, text_of}
+use Rattle.bed_mesh.specs.Files.{Pen, Sheet, accepted, behind_action, behind_line, behind_lines, moved_pen, refused, sheet, with_front}
+use Rattle.bed_mesh.proofs.Writing.{both_ok, texts_both}
+use Rattle.bed_mesh.specs.BentLines.{last_by, lines_by, text_of}
 use Rattle.mesh_laws.specs.Bent.{bent_moves, bent_sections}
 use Rattle.mesh_laws.proofs.Bending.{closed_bent}
 use Rattle.mesh_laws.proofs.Deeds.{IsDeed, line_does}

@@ -8,7 +8,7 @@ use Rattle.plan_types.specs.Moves.{change}
 use Rattle.gcode_state.specs.States.{differs}
 use Rattle.bed_mesh.specs.declared.mesh.Mesh.{Mesh}
 use Rattle.bed_mesh.specs.Cuts.{ends}
-use Rattle.mesh_text.specs.Lines.{at, raised}
+use Rattle.bed_mesh.specs.BentLines.{at, raised}
 use Rattle.mesh_laws.specs.Bent.{differ, part_of, parts_to, raised_place}
 use Rattle.mesh_laws.specs.Joined.{IsAsFast, Join, change_by}
 use Rattle.mesh_laws.proofs.Moving.{led, move_place}

@@ -12,7 +12,7 @@ use Rattle.gcode_program.specs.Cuts.{closed, homes, left, left_by_homes, section
 use Rattle.gcode_program.specs.Readings.{Deed, deed_of}
 use Rattle.bed_mesh.specs.declared.mesh.Mesh.{Mesh}
 use Rattle.bed_mesh.specs.Cuts.{ends}
-use Rattle.mesh_text.specs.Lines.{at}
+use Rattle.bed_mesh.specs.BentLines.{at}
 use Rattle.mesh_laws.specs.Bent.{bent_moves, bent_sections, last_acceleration, parts_to, led_to}
 use Rattle.mesh_laws.proofs.Bending.{bent_more, carried, carried_left, closed_bent, homes_bent, last_more, left_homes, place_more, stood_all}
 use Rattle.mesh_laws.proofs.Moving.{AreMoved, move_place}

@@ -12,8 +12,8 @@ use Rattle.gcode_program.specs.Cuts.{sections_of}
 use Rattle.gcode_program.specs.Readings.{Deed, applied_line, deed_of, is_stop}
 use Rattle.bed_mesh.specs.declared.mesh.Mesh.{Mesh}
 use Rattle.bed_mesh.specs.Cuts.{cut_parts, ends, place_behind}
-use Rattle.mesh_text.specs.Files.{accepted}
-use Rattle.mesh_text.specs.Lines.{acceleration_line, all_lines, at, move_line, move_lines, raised}
+use Rattle.bed_mesh.specs.Files.{accepted}
+use Rattle.bed_mesh.specs.BentLines.{acceleration_line, all_lines, at, move_line, move_lines, raised}
 use Rattle.mesh_laws.specs.Bent.{differ, part_of, parts_to, raised_place}
 use Rattle.mesh_laws.proofs.Reading.{plain_acceleration, plain_move}
 use Rattle.mesh_laws.proofs.Spelling.{ArePlain}

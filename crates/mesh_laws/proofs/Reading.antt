@@ -14,8 +14,8 @@ use Rattle.gcode_text.specs.declared.word.Word.{Word}
 use Rattle.gcode_text.specs.declared.word.Word.TheVariants as words
 use Rattle.gcode_text.specs.declared.word.Command.{Command}
 use Rattle.gcode_text.specs.declared.word.Command.TheVariants as names
-use Rattle.mesh_text.specs.Lines.{home_line, letter_if}
-use Rattle.mesh_text.specs.Numbers.{millionths, word}
+use Rattle.bed_mesh.specs.BentLines.{home_line, letter_if}
+use Rattle.bed_mesh.specs.Numbers.{millionths, word}
 use Rattle.gcode_text.proofs.Rows.{row-number}
 use Rattle.mesh_laws.proofs.Digits.{decimal_digits, whole_back, whole_behind}
 use Rattle.mesh_laws.proofs.Spelling.{ArePlain, bound, is_plain, number_read, plain_both, plain_digits, plain_number, plain_reading}

@@ -11,7 +11,7 @@ use Rattle.gcode_text.specs.declared.word.Given.{Given}
 use Rattle.gcode_text.specs.declared.word.Given.TheVariants.{Number}
 use Rattle.gcode_text.specs.declared.word.Word.{Word}
 use Rattle.gcode_text.proofs.Rows.{row-number}
-use Rattle.mesh_text.specs.Numbers.{millionths, six_digits, unsigned_text}
+use Rattle.bed_mesh.specs.Numbers.{millionths, six_digits, unsigned_text}
 use Rattle.mesh_laws.proofs.Digits.{AreDigits, IsBehind, behind_number, decimal_digits, number_back, six_are_digits}
 
 -- a word begins behind a number and blanks, or nothing does

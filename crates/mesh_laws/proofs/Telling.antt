@@ -13,9 +13,9 @@ use Rattle.gcode_state.specs.declared.state.Action.TheVariants as actions
 use Rattle.gcode_program.specs.Readings.{Deed, Outcome, applied_line, deed_of, is_large, is_passed, is_stop, line_result, outcome, with_front}
 use Rattle.gcode_program.proofs.Behind.{goes_on}
 use Rattle.gcode_program.proofs.Lining.{whole_line}
-use Rattle.mesh_text.specs.Files.{accepted, on_accepted}
-use Rattle.mesh_text.specs.Lines.{text_of}
-use Rattle.mesh_text.proofs.Writing.{texts_both}
+use Rattle.bed_mesh.specs.Files.{accepted, on_accepted}
+use Rattle.bed_mesh.specs.BentLines.{text_of}
+use Rattle.bed_mesh.proofs.Writing.{texts_both}
 use Rattle.mesh_laws.proofs.Spelling.{ArePlain, is_plain}
 
 -- the greatest size of a file

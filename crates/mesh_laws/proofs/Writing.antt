@@ -22,7 +22,7 @@ use Rattle.gcode_state.specs.declared.state.StateFault.TheVariants.{OutOfRange, 
 use Rattle.gcode_state.specs.States.{aim_of, axes_in, axes_of, coordinates_of, has_relative_e, homed_by, homed_if, moves, moved, move_fault, move_of, reading_after, stretched, unless, unmeasured, linear, ◌>>=◌, dwell, home, acceleration, applied}
 use Rattle.gcode_program.specs.Readings.{applied_line, applied_reading, as_kind, is_passed}
 use Rattle.bed_mesh.specs.declared.mesh.Mesh.{Mesh}
-use Rattle.mesh_text.specs.Lines.{acceleration_line, at, move_line, raised}
+use Rattle.bed_mesh.specs.BentLines.{acceleration_line, at, move_line, raised}
 use Rattle.mesh_laws.specs.Bent.{differ, measured, part_of, raised_place}
 use Rattle.mesh_laws.proofs.Bending.{stood_all}
 use Rattle.mesh_laws.proofs.Reading.{acceleration_read, acceleration_text, dwell_read, dwell_text, home_read, home_text, home_words, move_read, move_text, move_words, one_word, stop_read, wait_read}

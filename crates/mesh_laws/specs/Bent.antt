@@ -12,7 +12,7 @@ use Rattle.gcode_program.specs.Cuts.{closed, left}
 use Rattle.gcode_program.specs.Homes.{homing_move, placed_on}
 use Rattle.bed_mesh.specs.declared.mesh.Mesh.{Mesh}
 use Rattle.bed_mesh.specs.Cuts.{ends}
-use Rattle.mesh_text.specs.Lines.{at, raised}
+use Rattle.bed_mesh.specs.BentLines.{at, raised}
 
 -- a place with the bed's height there added to its z
 abbrev pub raised_place : Mesh → List ℤ → List ℤ

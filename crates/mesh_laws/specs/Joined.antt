@@ -3,7 +3,7 @@ use Rattle.std.specs.Prelude.{◌≡◌, ℕ, ℤ, pos, ◌+ℤ◌, List, [], �
 use Rattle.plan_types.specs.declared.plan.Move.{Move}
 use Rattle.plan_types.specs.declared.plan.Section.{Section}
 use Rattle.plan_types.specs.Moves.{change}
-use Rattle.mesh_text.specs.Lines.{at}
+use Rattle.bed_mesh.specs.BentLines.{at}
 
 -- the moves join end to end, from one place to another
 abbrev pub Join : List ℤ → List Move → List ℤ → Type 0

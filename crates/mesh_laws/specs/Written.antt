@@ -14,8 +14,8 @@ use Rattle.gcode_program.specs.Programs.{outcome_of}
 use Rattle.gcode_program.specs.Reader.{HasNoEnd}
 use Rattle.gcode_program.specs.Readings.{Deed}
 use Rattle.bed_mesh.specs.declared.mesh.Mesh.{Mesh}
-use Rattle.mesh_text.specs.Files.{accepted, mesh_code, mesh_end}
-use Rattle.mesh_text.specs.Lines.{lines_by}
+use Rattle.bed_mesh.specs.Files.{accepted, mesh_code, mesh_end}
+use Rattle.bed_mesh.specs.BentLines.{lines_by}
 use Rattle.mesh_laws.specs.Bent.{bent_sections, origin}
 
 -- a line that is a comment: it begins with `;`, and has at most 1,024 bytes before its LF

@@ -6,6 +6,14 @@ mod helpers;
 #[cfg(test)]
 mod long;
 #[cfg(test)]
+mod machines;
+#[cfg(test)]
 mod pieces;
+#[cfg(test)]
+mod reactor;
+#[cfg(test)]
+mod said;
+#[cfg(test)]
+mod script;
 #[cfg(test)]
 mod uptake;

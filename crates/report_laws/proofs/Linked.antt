@@ -33,9 +33,9 @@ use Rattle.section_feed.specs.Fewer.{AreFirstLines}
 use Rattle.session_work.specs.declared.table.ReactorTurn.{ReactorTurn}
 use Rattle.session_work.specs.Rows.{gather}
 use Rattle.session_work.proofs.Goes.{gather_on}
-use Rattle.session_desk.specs.declared.read.ReadStop.{ReadStop as DeskStop}
-use Rattle.session_desk.specs.declared.read.ReadStop.TheVariants as stop
-use Rattle.session_desk.specs.Desks as desk
+use Rattle.session_run.specs.declared.read.ReadStop.{ReadStop as DeskStop}
+use Rattle.session_run.specs.declared.read.ReadStop.TheVariants as stop
+use Rattle.session_run.specs.Desks as desk
 use Rattle.session_run.specs.Reported.{IsReported}
 use Rattle.run_plans.specs.Boards.{lines_between, times_of}
 use Rattle.run_plans.specs.Lines.{TellTurns, pulse_in, pulses_of}

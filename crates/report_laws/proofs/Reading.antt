@@ -6,7 +6,7 @@ use Rattle.report_text.specs.declared.line.ReportLine.{ReportLine}
 use Rattle.report_text.specs.declared.line.ReportLine.TheVariants as report
 use Rattle.report_text.specs.Text.{report_text}
 use Rattle.text_core.specs.Lines.{lines_of}
-use Rattle.text_words.specs.Words.{is_none_left, line_words, worded_lines}
+use Rattle.text_core.specs.Words.{is_none_left, line_words, worded_lines}
 use Rattle.log_text.specs.Said.{Said}
 use Rattle.log_text.specs.Words.{Text}
 use Rattle.log_laws.specs.Follows.{all_said, ok_line}

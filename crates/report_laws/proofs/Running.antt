@@ -39,7 +39,7 @@ use Rattle.report_laws.specs.Within.{AreWithin, GoWithin, TellAllWithin, has_cut
 use Rattle.report_laws.proofs.Reading.{lines-read, words-said}
 use Rattle.report_text.specs.Text.{report_text}
 use Rattle.text_core.specs.Lines.{lines_of}
-use Rattle.text_words.specs.Words.{worded_lines}
+use Rattle.text_core.specs.Words.{worded_lines}
 
 -- lists of lines, and the pulses that they tell
 

@@ -6,7 +6,7 @@ use Rattle.std.proofs.lemmas.Bool.Decides.{nat_tests}
 use Rattle.text_core.specs.Bytes.{before, begins, is_blank}
 use Rattle.text_core.specs.Lines.{lines_of}
 use Rattle.text_core.specs.Trims.{without_return}
-use Rattle.text_words.specs.Words.{is_inside, line_words, words_of}
+use Rattle.text_core.specs.Words.{is_inside, line_words, words_of}
 use Rattle.log_text.specs.Words.{Text}
 use Rattle.report_laws.specs.Names.{is_plain, is_word}
 use Rattle.report_laws.specs.Spelled.{spaced}

@@ -24,7 +24,7 @@ use Rattle.session_laws.specs.run_links.Links.{AreLinksIn}
 use Rattle.session_laws.specs.run_lates.Late.{AllMayTell, ComesLateIn, HasLateUnitIn}
 use Rattle.session_laws.specs.run_clocks.Printed.{TellKnownLines}
 use Rattle.session_laws.specs.run_ends.Boards.{boards_of}
-use Rattle.session_desk.specs.Desks.{lines_of}
+use Rattle.session_run.specs.Desks.{lines_of}
 use Rattle.motion_work.specs.Told.{Told as Heard}
 use Rattle.session_laws.specs.run_headline.Further.{AreNamed, BoardsFirst, TellsFurther}
 use Rattle.session_laws.specs.run_headline.Timely.{AllTakeNear, AreOfMoves, AreSound, HoldsNothingLong}

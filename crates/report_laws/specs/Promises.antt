@@ -15,7 +15,7 @@ use Rattle.report_text.specs.Text.{report_text}
 use Rattle.gcode_program.specs.Programs.{program_sections}
 use Rattle.report_laws.specs.Body.{section_lines}
 use Rattle.report_laws.specs.Headline.{kind_of, plan_by}
-use Rattle.report_write.specs.Written.{WritesAll, WritesFront}
+use Rattle.report_text.specs.Written.{WritesAll, WritesFront}
 use Rattle.run_plans.specs.Lines.{pulses_of}
 use Rattle.report_laws.specs.Shown.{lines_behind, pulses_in, section_turn}
 

@@ -22,7 +22,7 @@ ghost use Rattle.report_text.specs.declared.line.ReportLine.{ReportLine};
 ghost use Rattle.report_text.specs.declared.line.ReportLine.TheVariants as report;
 ghost use Rattle.report_text.specs.Text.{report_text};
 ghost use Rattle.text_core.specs.Lines.{lines_of};
-ghost use Rattle.text_words.specs.Words.{worded_lines};
+ghost use Rattle.text_core.specs.Words.{worded_lines};
 
 use plan_types::Cause;
 

@@ -18,7 +18,7 @@ ghost use Rattle.session_lanes.specs.declared.near.Told.{Told};
 ghost use Rattle.session_work.specs.declared.table.MotionTurn.{MotionTurn};
 ghost use Rattle.session_work.specs.declared.table.ReactorTurn.{ReactorTurn};
 ghost use Rattle.session_work.specs.Rows.{gather};
-ghost use Rattle.session_desk.specs.declared.tell.Kept.{Kept};
+ghost use Rattle.session_run.specs.declared.tell.Kept.{Kept};
 ghost use Rattle.session_run.specs.Boards.{came_from};
 ghost use Rattle.session_run.specs.Runs.{RunsOver};
 ghost use Rattle.run_plans.specs.Lines.{heads_of};

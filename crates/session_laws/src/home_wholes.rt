@@ -30,7 +30,7 @@ ghost use Rattle.run_plans.specs.Homed.{stops_of};
 ghost use Rattle.homing_laws.specs.home_runs.Settled.{AreHomed};
 ghost use Rattle.homing_laws.specs.home_plans.Notes.{AreInARow, CameNotes};
 ghost use Rattle.session_lanes.specs.declared.near.Told.{Told};
-ghost use Rattle.session_desk.specs.declared.tell.Kept.{Kept};
+ghost use Rattle.session_run.specs.declared.tell.Kept.{Kept};
 ghost use Rattle.session_run.specs.Runs.{RunsOver};
 ghost use Rattle.session_laws.specs.run_headline.Made.{IsMade};
 ghost use Rattle.session_laws.specs.run_headline.Timely.{clocks_heard, ready_heard};

@@ -7,7 +7,7 @@ ghost use Rattle.plan_types.specs.Machines.{IsValidMachine, board_at};
 ghost use Rattle.wire_scene.specs.declared.scene.Scene.{Scene};
 ghost use Rattle.host_reactor.specs.Reactor.{Run};
 ghost use Rattle.session_lanes.specs.declared.near.Told.{Told};
-ghost use Rattle.session_desk.specs.declared.tell.Kept.{Kept};
+ghost use Rattle.session_run.specs.declared.tell.Kept.{Kept};
 ghost use Rattle.session_run.specs.Runs.{RunsOver};
 ghost use Rattle.session_laws.specs.run_causes.Unanswered.{GaveNoAnswer, IsStaleSince};
 

@@ -8,7 +8,7 @@ ghost use Rattle.host_reactor.specs.Reactor.{Run};
 ghost use Rattle.motion_work.specs.Told.{Told as Heard};
 ghost use Rattle.session_lanes.specs.declared.near.Told.{Told};
 ghost use Rattle.session_work.specs.Rows.{gather};
-ghost use Rattle.session_desk.specs.declared.tell.Kept.{Kept};
+ghost use Rattle.session_run.specs.declared.tell.Kept.{Kept};
 ghost use Rattle.session_run.specs.Runs.{RunsOver};
 ghost use Rattle.session_laws.specs.run_clocks.First.{AreFirstTaken};
 ghost use Rattle.session_laws.specs.run_clocks.Printed.{TellKnownLines};

@@ -15,7 +15,7 @@ ghost use Rattle.motion_work.specs.Seen.{AreMoves};
 ghost use Rattle.motion_work.specs.Told.{Told as Heard};
 ghost use Rattle.session_lanes.specs.declared.near.Told.{Told};
 ghost use Rattle.session_work.specs.declared.table.ReactorTurn.{ReactorTurn};
-ghost use Rattle.session_desk.specs.declared.tell.Kept.{Kept};
+ghost use Rattle.session_run.specs.declared.tell.Kept.{Kept};
 ghost use Rattle.session_run.specs.Runs.{RunsOver};
 ghost use Rattle.host_reactor.specs.Rows.{IsOwn};
 ghost use Rattle.cause_runs.specs.Short.{HaveShortDictionaries};

@@ -9,7 +9,7 @@ ghost use Rattle.host_reactor.specs.Reactor.{Run};
 ghost use Rattle.session_lanes.specs.declared.near.Told.{Told};
 ghost use Rattle.session_work.specs.declared.table.MotionTurn.{MotionTurn};
 ghost use Rattle.session_work.specs.declared.table.ReactorTurn.{ReactorTurn};
-ghost use Rattle.session_desk.specs.declared.tell.Kept.{Kept};
+ghost use Rattle.session_run.specs.declared.tell.Kept.{Kept};
 ghost use Rattle.session_run.specs.Runs.{RunsOver};
 ghost use Rattle.cause_runs.specs.Short.{HaveShortDictionaries};
 ghost use Rattle.motion_work.specs.Boards.{parts_on};

@@ -11,7 +11,7 @@ ghost use Rattle.motion_work.specs.Seen.{Started};
 ghost use Rattle.motion_work.specs.Told.{Told as Heard};
 ghost use Rattle.session_lanes.specs.declared.near.Told.{Told};
 ghost use Rattle.session_work.specs.declared.table.MotionTurn.{MotionTurn};
-ghost use Rattle.session_desk.specs.declared.tell.Kept.{Kept};
+ghost use Rattle.session_run.specs.declared.tell.Kept.{Kept};
 ghost use Rattle.session_run.specs.Runs.{RunsOver};
 ghost use Rattle.run_plans.specs.Planned.{Plans};
 ghost use Rattle.session_laws.specs.home_headline.Cuts.{TellEnds};

@@ -7,7 +7,7 @@ use Rattle.plan_types.specs.declared.cause.Cause.TheVariants as cause
 use Rattle.plan_types.specs.declared.machine.Machine.{Machine}
 use Rattle.msg_code.specs.declared.talk.Piece.{Piece}
 use Rattle.report_text.specs.declared.line.ReportLine.{ReportLine}
-use Rattle.report_write.specs.declared.write.WriteStop.{WriteStop}
+use Rattle.report_text.specs.declared.write.WriteStop.{WriteStop}
 use Rattle.host_reactor.specs.Reactor.{Run, first_told}
 use Rattle.host_reactor.specs.Rows.{EndsFor, IsOwn}
 use Rattle.host_reactor.proofs.Blames.{blames}
@@ -17,12 +17,12 @@ use Rattle.session_work.specs.Heads.{Ordering, Served, ServeStep, ReactorStep, W
 use Rattle.session_work.specs.Reactors.{ends}
 use Rattle.session_work.specs.Rows.{option_items}
 use Rattle.session_work.specs.Turns.{Goes}
-use Rattle.session_desk.specs.declared.desk.Desk.{Desk}
-use Rattle.session_desk.specs.declared.read.ReadStop.{ReadStop}
-use Rattle.session_desk.specs.declared.tell.Kept.{Kept}
-use Rattle.session_desk.specs.Desks.{Writes, cause_of, desk_out}
-use Rattle.session_desk.specs.Reads.{CountsReads}
-use Rattle.session_desk.specs.Tells.{Tells}
+use Rattle.session_run.specs.declared.desk.Desk.{Desk}
+use Rattle.session_run.specs.declared.read.ReadStop.{ReadStop}
+use Rattle.session_run.specs.declared.tell.Kept.{Kept}
+use Rattle.session_run.specs.Desks.{Writes, cause_of, desk_out}
+use Rattle.session_run.specs.Reads.{CountsReads}
+use Rattle.session_run.specs.Tells.{Tells}
 use Rattle.session_run.specs.Machines.{reactor}
 use Rattle.session_run.specs.Reactors.{Turns}
 

@@ -10,8 +10,8 @@ use Rattle.host_reactor.specs.Reactor.{Run, first_run}
 use Rattle.motion_stream.specs.Motions.{IsPlannerOf}
 use Rattle.motion_stream.specs.Seen.{nothing_seen}
 use Rattle.session_lanes.specs.declared.near.Told.{Told}
-use Rattle.session_desk.specs.declared.tell.Kept.{Kept}
-use Rattle.session_desk.specs.Desks.{IsToldRun}
+use Rattle.session_run.specs.declared.tell.Kept.{Kept}
+use Rattle.session_run.specs.Desks.{IsToldRun}
 use Rattle.session_run.specs.declared.motion.Planning.{Planning}
 use Rattle.session_run.specs.Machines.{link, planner, reactor}
 use Rattle.session_run.specs.Runs.{AreFirstLinks, IsFirstLink, RunsOver}

@@ -11,24 +11,24 @@ use Rattle.plan_types.specs.declared.machine.Machine.{Machine}
 use Rattle.report_text.specs.declared.line.ReportLine.{ReportLine}
 use Rattle.report_text.specs.declared.line.ReportLine.TheVariants as report
 use Rattle.report_text.specs.Text.{line_text, report_text}
-use Rattle.report_write.specs.declared.write.WriteStop.{WriteStop}
-use Rattle.report_write.specs.declared.write.WriteStop.TheVariants as stop
-use Rattle.report_write.specs.Written.{BeginsWith, WritesAll, WritesFront}
-use Rattle.report_write.proofs.Writing.{lines-front, lines-more, report_text-append}
+use Rattle.report_text.specs.declared.write.WriteStop.{WriteStop}
+use Rattle.report_text.specs.declared.write.WriteStop.TheVariants as stop
+use Rattle.report_text.specs.Written.{BeginsWith, WritesAll, WritesFront}
+use Rattle.report_text.proofs.Writing.{lines-front, lines-more, report_text-append}
 use Rattle.host_reactor.specs.Reactor.{Run, first_run}
 use Rattle.host_reactor.specs.Rows.{IsOwn}
 use Rattle.wire_scene.specs.declared.scene.Scene.{Scene}
 use Rattle.session_lanes.specs.declared.near.Told.{Told}
 use Rattle.session_lanes.specs.Runs.{head_at}
-use Rattle.session_desk.specs.declared.desk.Desk.{Desk}
-use Rattle.session_desk.specs.declared.read.ReadStop.{ReadStop}
-use Rattle.session_desk.specs.declared.read.ReadStop.TheVariants as read
-use Rattle.session_desk.specs.declared.tell.Kept.{Kept}
-use Rattle.session_desk.specs.Counts.{counted, pulse_counts, pulses_shown}
-use Rattle.session_desk.specs.Desks.{cause_of}
-use Rattle.session_desk.specs.Reads.{CountsReads, StopsReading}
-use Rattle.session_desk.specs.Tells.{Said, StopsWriting, Tells, without_pulses}
-use Rattle.session_desk.proofs.Counted.{all-counted}
+use Rattle.session_run.specs.declared.desk.Desk.{Desk}
+use Rattle.session_run.specs.declared.read.ReadStop.{ReadStop}
+use Rattle.session_run.specs.declared.read.ReadStop.TheVariants as read
+use Rattle.session_run.specs.declared.tell.Kept.{Kept}
+use Rattle.session_run.specs.Counts.{counted, pulse_counts, pulses_shown}
+use Rattle.session_run.specs.Desks.{cause_of}
+use Rattle.session_run.specs.Reads.{CountsReads, StopsReading}
+use Rattle.session_run.specs.Tells.{Said, StopsWriting, Tells, without_pulses}
+use Rattle.session_run.proofs.Counted.{all-counted}
 use Rattle.session_run.specs.Reported.{GivenFor, IsFresh, IsOfRun, IsWritten, own_of, run_lines, with_failure}
 use Rattle.session_run.specs.Runs.{RunsOver}
 use Rattle.session_run.proofs.Causes.{IsFor, ends-for}

@@ -5,3 +5,7 @@ pub mod Machines
 pub mod Runs
 pub mod Reported
 pub mod Boards
+pub mod Reads
+pub mod Counts
+pub mod Tells
+pub mod Desks

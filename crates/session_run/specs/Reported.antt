@@ -8,18 +8,18 @@ use Rattle.plan_types.specs.declared.machine.Machine.{Machine}
 use Rattle.report_text.specs.declared.line.ReportLine.{ReportLine}
 use Rattle.report_text.specs.declared.line.ReportLine.TheVariants as report
 use Rattle.report_text.specs.Text.{report_text}
-use Rattle.report_write.specs.declared.write.WriteStop.{WriteStop}
-use Rattle.report_write.specs.declared.write.WriteStop.TheVariants as stop
-use Rattle.report_write.specs.Written.{WritesAll, WritesFront}
+use Rattle.report_text.specs.declared.write.WriteStop.{WriteStop}
+use Rattle.report_text.specs.declared.write.WriteStop.TheVariants as stop
+use Rattle.report_text.specs.Written.{WritesAll, WritesFront}
 use Rattle.wire_scene.specs.declared.scene.Scene.{Scene}
 use Rattle.report_text.specs.declared.line.Show.{Show}
 use Rattle.report_text.specs.declared.line.Show.TheVariants as show
 use Rattle.session_lanes.specs.declared.near.LinkLog.{LinkLog}
 use Rattle.session_lanes.specs.declared.near.Told.{Told}
-use Rattle.session_desk.specs.declared.tell.Kept.{Kept}
-use Rattle.session_desk.specs.Counts.{pulse_counts}
-use Rattle.session_desk.specs.Desks.{lines_of}
-use Rattle.session_desk.specs.Tells.{without_pulses}
+use Rattle.session_run.specs.declared.tell.Kept.{Kept}
+use Rattle.session_run.specs.Counts.{pulse_counts}
+use Rattle.session_run.specs.Desks.{lines_of}
+use Rattle.session_run.specs.Tells.{without_pulses}
 use Rattle.host_reactor.specs.Reactor.{Run}
 use Rattle.session_run.specs.declared.ended.Ended.{Ended}
 use Rattle.session_run.specs.declared.ended.Report.{Report}

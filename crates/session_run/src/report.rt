@@ -3,18 +3,17 @@ ghost use Rattle.std.specs.Prelude.{◌≡◌, ◌≢◌, ◌⊎◌, ◌≤◌, 
 ghost use Rattle.io_core.specs.Faults.{Rose};
 ghost use Rattle.plan_types.specs.Machines.{IsValidMachine};
 ghost use Rattle.report_text.specs.Text.{line_text, report_text};
-ghost use Rattle.report_write.specs.Written.{WritesAll, WritesFront};
+ghost use Rattle.report_text.specs.Written.{WritesAll, WritesFront};
 ghost use Rattle.session_run.specs.Ends.{IsBare, status_of};
 ghost use Rattle.session_run.specs.Reported.{EndsOver, EndsShowing, GivenFor, IsOfRun, own_of, with_failure};
 ghost use Rattle.wire_scene.specs.Valid.{IsValidScene};
 
+use crate::Kept;
 use crate::ended::{Ended, Report, status_of};
 use crate::file::run_file;
 use io_core::{Files, Gate, Sink, SureSink};
 use plan_types::{Cause, Listed, Machine};
-use report_text::{ReportLine, Show};
-use report_write::{WriteStop, write_line};
-use session_desk::Kept;
+use report_text::{ReportLine, Show, WriteStop, write_line};
 use session_lanes::Told;
 use std::alloc::{AllocError, Global};
 use std::sync::Wait;

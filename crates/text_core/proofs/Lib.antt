@@ -3,3 +3,4 @@ pub mod Cuts
 pub mod Found
 pub mod Ends
 pub mod FirstLine
+pub mod FirstWord

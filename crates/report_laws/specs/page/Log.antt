@@ -12,7 +12,7 @@ use Rattle.plan_types.specs.declared.plan.Section.{Section}
 use Rattle.plan_types.specs.declared.plan.SectionKind.{SectionKind}
 use Rattle.plan_types.specs.Machines.{stepper_at}
 use Rattle.text_core.specs.Lines.{lines_of}
-use Rattle.text_words.specs.Words.{worded_lines}
+use Rattle.text_core.specs.Words.{worded_lines}
 
 -- a text's lines say a log, of which the last line stands first
 abbrev pub SaysLog : Machine → List ℕ → List LogLine → Type 0

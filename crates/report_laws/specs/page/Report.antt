@@ -23,8 +23,8 @@ use Rattle.report_laws.specs.Logged.{logged}
 use Rattle.report_text.specs.declared.line.ReportLine.{ReportLine}
 use Rattle.report_text.specs.declared.line.ReportLine.TheVariants as report
 use Rattle.report_text.specs.Text.{report_text}
-use Rattle.session_desk.specs.Counts.{pulse_counts}
-use Rattle.session_desk.specs.Tells.{without_pulses}
+use Rattle.session_run.specs.Counts.{pulse_counts}
+use Rattle.session_run.specs.Tells.{without_pulses}
 use Rattle.session_lanes.specs.declared.near.LinkLog.{LinkLog}
 use Rattle.session_laws.specs.run_ends.Ends.{GoesThrough}
 use Rattle.session_run.specs.Reported.{GivenFor}

@@ -14,7 +14,7 @@ use Rattle.host_reactor.specs.Reactor.{Run}
 use Rattle.host_reactor.specs.Rows.{IsOwn}
 use Rattle.session_lanes.specs.declared.near.Told.{Told}
 use Rattle.session_work.specs.declared.table.ReactorTurn.{ReactorTurn}
-use Rattle.session_desk.specs.declared.tell.Kept.{Kept}
+use Rattle.session_run.specs.declared.tell.Kept.{Kept}
 use Rattle.session_run.specs.Runs.{RunsOver}
 use Rattle.session_laws.specs.run_ends.Ends.{GoesThrough}
 use Rattle.session_laws.specs.run_headline.Made.{IsMade}

@@ -18,7 +18,7 @@ use Rattle.host_reactor.specs.Reactor.{Run}
 use Rattle.host_reactor.specs.Rows.{IsOwn}
 use Rattle.host_reactor.specs.Runs.{GoesOn, known_by}
 use Rattle.session_lanes.specs.declared.near.Told.{Told}
-use Rattle.session_desk.specs.declared.tell.Kept.{Kept}
+use Rattle.session_run.specs.declared.tell.Kept.{Kept}
 use Rattle.session_run.specs.Boards.{came_from, came_in}
 use Rattle.session_run.specs.Runs.{RunsOver}
 use Rattle.session_laws.specs.run_ends.Ends.{EndsSo}

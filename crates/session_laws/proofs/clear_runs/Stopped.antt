@@ -11,9 +11,9 @@ use Rattle.host_reactor.specs.Rows.{EndsFor, IsOwn}
 use Rattle.host_reactor.proofs.Blames.{blames}
 use Rattle.session_lanes.specs.declared.near.Told.{Told}
 use Rattle.session_lanes.specs.Runs.{head_at, ran_at}
-use Rattle.session_desk.specs.declared.read.ReadStop.{ReadStop}
-use Rattle.session_desk.specs.declared.tell.Kept.{Kept}
-use Rattle.session_desk.specs.Desks.{cause_of, desk_out}
+use Rattle.session_run.specs.declared.read.ReadStop.{ReadStop}
+use Rattle.session_run.specs.declared.tell.Kept.{Kept}
+use Rattle.session_run.specs.Desks.{cause_of, desk_out}
 use Rattle.session_run.specs.Runs.{RunsOver}
 use Rattle.session_run.proofs.First.{count}
 use Rattle.session_run.proofs.Reacting as reacting

@@ -11,7 +11,7 @@ use Rattle.host_reactor.specs.Reactor.{Run}
 use Rattle.session_lanes.specs.declared.near.Told.{Told}
 use Rattle.session_work.specs.declared.table.MotionTurn.{MotionTurn}
 use Rattle.session_work.specs.declared.table.ReactorTurn.{ReactorTurn}
-use Rattle.session_desk.specs.declared.tell.Kept.{Kept}
+use Rattle.session_run.specs.declared.tell.Kept.{Kept}
 use Rattle.session_run.specs.Runs.{RunsOver}
 use Rattle.run_plans.specs.Planned.{Plans}
 use Rattle.session_laws.specs.run_headline.Timely.{clocks_heard, ready_heard}

@@ -45,7 +45,7 @@ use Rattle.io_core.specs.declared.traits.Files.{Ghosts as Files}
 use Rattle.io_core.specs.declared.traits.Sink.{Ghosts as Sink}
 use Rattle.wire_scene.specs.declared.scene.Scene.{Scene}
 use Rattle.session_lanes.specs.declared.near.Told as near
-use Rattle.session_desk.specs.declared.tell.Kept.{Kept}
+use Rattle.session_run.specs.declared.tell.Kept.{Kept}
 use Rattle.session_run.specs.Boards.{AreReactorTurns, came_in}
 use Rattle.session_run.specs.Runs.{RunsOver}
 use Rattle.host_reactor.specs.Reactor.{Run}

@@ -19,10 +19,10 @@ use Rattle.session_work.specs.Heads.{IsRow, ReactorStep, ServeStep, Served, Wrot
 use Rattle.session_work.specs.Reactors.{ends}
 use Rattle.session_work.specs.Rows.{gather, option_items}
 use Rattle.session_work.specs.Turns.{Goes}
-use Rattle.session_desk.specs.declared.desk.Desk.{Desk}
-use Rattle.session_desk.specs.declared.read.ReadStop.{ReadStop}
-use Rattle.session_desk.specs.declared.read.ReadStop.TheVariants as stop
-use Rattle.session_desk.specs.Desks.{cause_of, desk_out}
+use Rattle.session_run.specs.declared.desk.Desk.{Desk}
+use Rattle.session_run.specs.declared.read.ReadStop.{ReadStop}
+use Rattle.session_run.specs.declared.read.ReadStop.TheVariants as stop
+use Rattle.session_run.specs.Desks.{cause_of, desk_out}
 use Rattle.session_run.specs.Machines.{reactor}
 use Rattle.session_run.specs.Boards.{came_from, came_in}
 use Rattle.session_run.proofs.Reacting as reacting

@@ -14,8 +14,8 @@ use Rattle.session_work.specs.Rows.{gather, option_items}
 use Rattle.session_work.specs.Turns.{Goes}
 use Rattle.session_lanes.specs.Runs.{Carried, head_at, ran_at}
 use Rattle.session_work.proofs.Goes.{gather_on}
-use Rattle.session_desk.specs.declared.tell.Kept.{Kept}
-use Rattle.session_desk.specs.Desks.{desk_out}
+use Rattle.session_run.specs.declared.tell.Kept.{Kept}
+use Rattle.session_run.specs.Desks.{desk_out}
 use Rattle.session_run.specs.declared.motion.Planning.{Planning}
 use Rattle.session_run.specs.Boards.{AreReactorTurns}
 use Rattle.session_run.specs.Machines.{planner}

@@ -16,9 +16,9 @@ use Rattle.session_work.specs.Bares.{stop_piece}
 use Rattle.session_work.specs.Heads.{Ordering, ReactorStep, ServeStep, Served, Wrote}
 use Rattle.session_work.specs.Rows.{gather}
 use Rattle.session_work.specs.Turns.{Goes}
-use Rattle.session_desk.specs.declared.desk.Desk.{Desk}
-use Rattle.session_desk.specs.Desks.{Desked, desk_out}
-use Rattle.session_desk.specs.Reads.{IsNext}
+use Rattle.session_run.specs.declared.desk.Desk.{Desk}
+use Rattle.session_run.specs.Desks.{Desked, desk_out}
+use Rattle.session_run.specs.Reads.{IsNext}
 use Rattle.session_run.specs.Machines.{reactor}
 use Rattle.motion_stream.specs.Texts.{MayBecome}
 use Rattle.run_plans.specs.Planned.{Text, nothing_read, read_all, read_by, read_on}

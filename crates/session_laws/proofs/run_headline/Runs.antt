@@ -20,8 +20,8 @@ use Rattle.session_work.specs.Motions.{MotionStep, seated}
 use Rattle.session_work.specs.Rows.{gather}
 use Rattle.session_lanes.specs.Runs.{AreLogs, head_at, ran_at}
 use Rattle.session_work.specs.Turns.{Goes}
-use Rattle.session_desk.specs.declared.tell.Kept.{Kept}
-use Rattle.session_desk.specs.Desks.{desk_out}
+use Rattle.session_run.specs.declared.tell.Kept.{Kept}
+use Rattle.session_run.specs.Desks.{desk_out}
 use Rattle.session_run.specs.Boards.{AreReactorTurns, came_from}
 use Rattle.session_run.specs.Machines.{link, planner, reactor}
 use Rattle.session_run.specs.Runs.{RunsOver}

@@ -54,8 +54,8 @@ use Rattle.session_work.specs.Leads.{last_controls}
 use Rattle.session_work.specs.Links.{LinkStep}
 use Rattle.session_work.specs.Rows.{gather, item}
 use Rattle.session_work.specs.Turns.{Goes}
-use Rattle.session_desk.specs.declared.tell.Kept.{Kept}
-use Rattle.session_desk.specs.Desks.{desk_out}
+use Rattle.session_run.specs.declared.tell.Kept.{Kept}
+use Rattle.session_run.specs.Desks.{desk_out}
 use Rattle.session_run.specs.Boards.{came_from}
 use Rattle.session_run.specs.Links as links
 use Rattle.session_run.specs.Machines.{link, planner, reactor}

@@ -44,7 +44,7 @@ use Rattle.run_laws.specs.Parts.{AreOrdersOf, AreTracked, IsRun}
 use Rattle.motion_work.specs.Told.{Told}
 use Rattle.host_reactor.specs.Reactor.{Run}
 use Rattle.session_lanes.specs.declared.near.Told as near
-use Rattle.session_desk.specs.declared.tell.Kept.{Kept}
+use Rattle.session_run.specs.declared.tell.Kept.{Kept}
 use Rattle.session_run.specs.Runs.{RunsOver}
 use Rattle.session_work.specs.declared.table.MotionTurn.{MotionTurn}
 use Rattle.session_work.specs.declared.table.ReactorTurn.{ReactorTurn}

@@ -20,8 +20,8 @@ use Rattle.session_work.specs.declared.table.ReactorTurn.{ReactorTurn}
 use Rattle.session_work.specs.Leads.{last_controls}
 use Rattle.session_work.specs.Rows.{gather, item}
 use Rattle.session_work.proofs.Goes.{gather_on}
-use Rattle.session_desk.specs.declared.tell.Kept.{Kept}
-use Rattle.session_desk.specs.Desks.{desk_out, lines_of}
+use Rattle.session_run.specs.declared.tell.Kept.{Kept}
+use Rattle.session_run.specs.Desks.{desk_out, lines_of}
 use Rattle.session_run.specs.Boards.{AreReactorTurns, came_from}
 use Rattle.session_run.specs.Machines.{link, planner, reactor}
 use Rattle.session_run.specs.Runs.{AreFirstLinks, IsFirstLink, RunsOver}

@@ -21,7 +21,7 @@ use Rattle.host_reactor.specs.Report.{drift_lines, first_lines, machine_line, pu
 use Rattle.host_reactor.specs.Runs.{Came, known_by, state_at}
 use Rattle.session_work.specs.declared.table.ReactorTurn.{ReactorTurn}
 use Rattle.session_work.specs.Rows.{gather, item}
-use Rattle.session_desk.specs.Desks.{lines_of}
+use Rattle.session_run.specs.Desks.{lines_of}
 use Rattle.session_run.specs.Boards.{AreReactorTurns, came_in}
 use Rattle.run_boards.proofs.Items.{item_state}
 use Rattle.run_plans.proofs.Shaping.{ArePlain, IsPlain, shaped}

@@ -12,7 +12,7 @@ use Rattle.session_work.specs.declared.table.MotionTurn.{MotionTurn}
 use Rattle.session_work.specs.declared.table.ReactorTurn.{ReactorTurn}
 use Rattle.session_work.specs.Leads.{last_words}
 use Rattle.session_work.specs.Rows.{gather, option_items}
-use Rattle.session_desk.specs.declared.tell.Kept.{Kept}
+use Rattle.session_run.specs.declared.tell.Kept.{Kept}
 use Rattle.session_run.specs.Boards.{AreReactorTurns}
 use Rattle.session_run.specs.Runs.{RunsOver}
 use Rattle.run_boards.proofs.Whole.{gather_both}

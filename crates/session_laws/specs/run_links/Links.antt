@@ -24,7 +24,7 @@ use Rattle.session_work.specs.Bares.{bare_state}
 use Rattle.session_work.specs.Leads.{each_turn, last_controls}
 use Rattle.session_work.specs.Rows.{item}
 use Rattle.session_lanes.specs.declared.near.LinkLog.{LinkLog}
-use Rattle.session_desk.specs.Desks.{lines_of}
+use Rattle.session_run.specs.Desks.{lines_of}
 use Rattle.session_run.specs.Boards.{came_from, came_in}
 use Rattle.run_boards.specs.Boards.{behind}
 use Rattle.run_plans.specs.Planned.{Seen}

@@ -1,5 +1,5 @@
 use Rattle.std.proofs.Common.{length}
-use Rattle.text_words.specs.Words.{words_of}
+use Rattle.text_core.specs.Words.{words_of}
 use Rattle.bed_mesh.specs.Taken.{IsSoFar}
 use Rattle.bed_mesh.proofs.table.push_numbers.Given as goal
 

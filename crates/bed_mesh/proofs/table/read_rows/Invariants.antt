@@ -2,7 +2,7 @@ use Rattle.std.proofs.Common.{◌≡◌, ◌+◌, ◌*◌, ◌<◌, ◌≤◌, �
 use Rattle.std.specs.Prelude.{unsigned_abs}
 use Rattle.std.specs.List.{All}
 use Rattle.text_core.specs.Lines.{lines_of}
-use Rattle.text_words.specs.Words.{worded_lines}
+use Rattle.text_core.specs.Words.{worded_lines}
 use Rattle.bed_mesh.specs.Tables.{rows_of, with_front}
 use Rattle.bed_mesh.proofs.table.read_rows.Given as goal
 

@@ -1,6 +1,6 @@
 use Rattle.std.proofs.Common.{◌≡◌, ◌+◌, ◌<◌, ◌^◌, length, None}
 use Rattle.text_core.specs.Lines.{lines_of}
-use Rattle.text_words.specs.Words.{worded_lines}
+use Rattle.text_core.specs.Words.{worded_lines}
 use Rattle.frame_dump.specs.Traces.{AreTurns, turns_from}
 use Rattle.frame_dump.specs.Sofar.{low_after, low_behind, with_turns}
 use Rattle.frame_dump.proofs.read.read_turns.Given as goal

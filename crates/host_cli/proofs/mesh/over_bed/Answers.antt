@@ -1,5 +1,5 @@
 use Rattle.std.proofs.Common.{◌∙◌, ℕ, List, inl, subst}
-use Rattle.mesh_text.specs.Files.{mesh_code, mesh_end}
+use Rattle.bed_mesh.specs.Files.{mesh_code, mesh_end}
 use Rattle.report_laws.specs.Body.{cause_of}
 use Rattle.host_cli.proofs.Bedded.{shown-file}
 use Rattle.host_cli.proofs.Cuts.{text-cut}

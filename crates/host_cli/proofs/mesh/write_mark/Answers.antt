@@ -1,6 +1,6 @@
 use Rattle.std.proofs.Common.{rules, codes}
 use Rattle.report_text.specs.Text.{end_text}
-use Rattle.report_write.specs.Written.{WritesAll}
+use Rattle.report_text.specs.Written.{WritesAll}
 use Rattle.host_cli.proofs.Captured.{front-both, front-first, writes-both}
 use Rattle.host_cli.proofs.mesh.write_mark.Goals as goal
 

@@ -1,6 +1,6 @@
 use Rattle.std.proofs.Common.{rules}
 use Rattle.std.proofs.lemmas.Result.{on_ok_weaker}
-use Rattle.report_write.specs.Written.{WritesAll}
+use Rattle.report_text.specs.Written.{WritesAll}
 use Rattle.host_cli.specs.Meshes.{mark}
 use Rattle.host_cli.proofs.Captured.{front-both, front-first, writes-both}
 use Rattle.host_cli.proofs.mesh.write_marked.Goals as goal

@@ -1,5 +1,5 @@
 use Rattle.std.proofs.Common.{rules, codes}
-use Rattle.report_write.specs.Written.{WritesAll}
+use Rattle.report_text.specs.Written.{WritesAll}
 use Rattle.host_cli.proofs.Captured.{front-both, front-first, writes-both}
 use Rattle.host_cli.proofs.traffic.write_text.Goals as goal
 

@@ -1,7 +1,7 @@
 use Rattle.std.proofs.Common.{◌≤◌, ◌+◌, ◌∙◌, [], ap, refl, sym, subst, arith, length}
 use Rattle.plan_types.specs.declared.cause.Cause.TheVariants as cause
 use Rattle.text_core.specs.Lines.{lines_of}
-use Rattle.text_words.specs.Words.{words_of, worded_lines}
+use Rattle.text_core.specs.Words.{words_of, worded_lines}
 use Rattle.log_check.specs.Points.{Point, point}
 use Rattle.log_check.specs.Steps.{IsSound, point_of}
 use Rattle.log_check.specs.Verdicts.{log_verdict, worded}

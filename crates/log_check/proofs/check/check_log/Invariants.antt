@@ -1,6 +1,6 @@
 use Rattle.std.proofs.Common.{◌+◌, ◌<◌, ◌≤◌, ◌^◌, length}
 use Rattle.text_core.specs.Lines.{lines_of}
-use Rattle.text_words.specs.Words.{worded_lines}
+use Rattle.text_core.specs.Words.{worded_lines}
 use Rattle.log_check.specs.Steps.{CheckSofar, IsSound, point_of}
 use Rattle.log_check.specs.Verdicts.{log_verdict, worded}
 use Rattle.log_check.specs.Behind.{further_said}

@@ -3,7 +3,7 @@ use Rattle.std.specs.Prelude.{not, codes}
 use Rattle.std.specs.Str.{bytes_eq}
 use Rattle.log_text.specs.Said.{line_said}
 use Rattle.log_text.specs.Words.{Text}
-use Rattle.text_words.specs.Words.{words_of}
+use Rattle.text_core.specs.Words.{words_of}
 use Rattle.log_check.specs.Behind.{further_of}
 use Rattle.log_check.proofs.Furthers.{other-words}
 use Rattle.log_check.proofs.further.further_of.Goals as goal

@@ -1,5 +1,0 @@
-use Rattle.mesh_text.proofs.Head.{after_relative, settled}
-use Rattle.mesh_text.proofs.file.read_relative.Goals as goal
-
-pub returns : goal.returns
-returns c = settled _ _ _ _ c.read_back-read.ensures.value (after_relative c.args.modes.now)

@@ -1,4 +1,0 @@
-pub mod Reads
-pub mod Counts
-pub mod Tells
-pub mod Desks

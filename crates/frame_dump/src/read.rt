@@ -9,8 +9,7 @@ use crate::fault::TraceFault;
 use crate::trace::{Trace, TraceTurn};
 use plan_types::{Listed, TraceKind};
 use std::alloc::{AllocError, Global};
-use text_core::{is_digit, natural, to_capital};
-use text_core::{WordedLine, next_line, next_word};
+use text_core::{WordedLine, is_digit, natural, next_line, next_word, to_capital};
 
 /// The most bytes that a trace has.
 const LIMIT: usize = 16_777_216;

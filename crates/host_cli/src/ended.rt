@@ -9,8 +9,7 @@ ghost use Rattle.session_run.specs.Ends.{IsBare, status_of};
 use crate::answer::Answer;
 use io_core::Sink;
 use plan_types::{Cause, Listed};
-use report_text::ReportLine;
-use report_text::{WriteStop, write_lines};
+use report_text::{ReportLine, WriteStop, write_lines};
 use session_run::{Ended, Report, status_of, with_failure};
 use std::alloc::Global;
 

@@ -23,12 +23,10 @@ use crate::ended::end_showing;
 use crate::report::cause_of;
 use crate::run::{GCODE_LIMIT, end_line, no_machine, read_machine};
 use crate::source::{ReadFault, read_text};
-use bed_mesh::{Mesh, MeshFault, read_mesh};
+use bed_mesh::{Mesh, MeshFault, mesh_file, read_mesh};
 use io_core::{Files, Sink};
-use bed_mesh::mesh_file;
 use plan_types::{Cause, Listed, Machine};
-use report_text::ReportLine;
-use report_text::{WriteStop, write_line, write_piece};
+use report_text::{ReportLine, WriteStop, write_line, write_piece};
 use session_run::{Ended, with_failure};
 use std::alloc::Global;
 

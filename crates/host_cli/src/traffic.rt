@@ -27,8 +27,7 @@ use frame_dump::{Trace, TraceFault, dump, dump_text, read_trace, replay, replay_
 use io_core::{Files, Sink};
 use msg_dict::own_formats;
 use plan_types::{BoardDef, Cause, Listed, Machine};
-use report_text::ReportLine;
-use report_text::{WriteStop, write_line, write_piece};
+use report_text::{ReportLine, WriteStop, write_line, write_piece};
 use session_run::Ended;
 use std::alloc::{AllocError, Global};
 

@@ -15,8 +15,7 @@ use clock_line::Lines;
 use log_text::{LogLine, read_line};
 use plan_types::{Line, Machine};
 use std::alloc::{AllocError, Global};
-use text_core::{cut, first_line, without_return};
-use text_core::next_word;
+use text_core::{cut, first_line, next_word, without_return};
 
 /// What begins a comment.
 const COMMENT: u8 = b'#';

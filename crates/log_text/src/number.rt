@@ -5,8 +5,7 @@ ghost use Rattle.text_core.specs.Words.{words_of};
 ghost use Rattle.log_text.specs.Words as specs;
 ghost use Rattle.log_text.specs.Words.{turn_limit};
 
-use text_core::natural;
-use text_core::next_word;
+use text_core::{natural, next_word};
 
 /// Sections start before this turn.
 const TURN_LIMIT: u64 = 1 << 62;

@@ -30,7 +30,7 @@ module _ (F : TimedPart → Segment) (m : Move) (before begin i : ℕ) (xs : Lis
       rw is (ap (λ ts. made ++ map F ts) (sym split) ∙ so_far)
 
   part-some : 0 < (get_or xs i no_part).d → new ≡ made ++ F (part_at m (get_or xs i no_part) before begin) ∷ []
-    → new ++ map F (timed m (before + (get_or xs i no_part).d) (begin + (get_or xs i no_part).ns) (drop (i + 1) xs)) ≡ whole
+      → new ++ map F (timed m (before + (get_or xs i no_part).d) (begin + (get_or xs i no_part).ns) (drop (i + 1) xs)) ≡ whole
   part-some some is =
       let split = ap (timed m before begin) (drop_more xs i no_part h) ∙ timed-some m before begin (get_or xs i no_part) (drop (i + 1) xs) some in
       made-more F made new (timed m before begin (drop i xs)) (part_at m (get_or xs i no_part) before begin ∷ []) _ whole so_far split is
@@ -45,7 +45,7 @@ loop-part-preserved c =
     let took = c.time_of-time.ensures.value in let way = before.before_is in let time = before.time_is in let begun = before.begun in
     record {
       whole = rw took (elim c.if-part-ne0.branch [
-        then-part-ne0+in_ok-push w ↦ part-some F c.args.one.now c.loop-part.before c.loop-part.time i xs c.loop-part.made.items c.if-part-ne0.made.items _ h before.whole (omega (arith, w.if-part-ne0.true))
+        | then-part-ne0+in_ok-push w ↦ part-some F c.args.one.now c.loop-part.before c.loop-part.time i xs c.loop-part.made.items c.if-part-ne0.made.items _ h before.whole (omega (arith, w.if-part-ne0.true))
             (ap (λ v. v.items) w.made-is ∙ (w.in_ok-push.ensures.items ∙ ap (λ s. c.loop-part.made.items ++ s ∷ []) w.segment.ensures))
         | else-part-ne0 w ↦ part-none F c.args.one.now c.loop-part.before c.loop-part.time i xs c.loop-part.made.items c.if-part-ne0.made.items _ h before.whole w.if-part-ne0.false (ap (λ v. v.items) w.made-is)
       ]);

@@ -201,7 +201,7 @@ pub fn moving_steppers_stop_with_their_trigger()
 
 /// The law of timeouts, of homing sections: from the turn on in which a board took the command that binds a stepper that moves in a homing
 /// section to the board's trigger, behind a timeout of the section, the stepper makes no pulse at or after a tick, where each timeout that
-/// the board takes is read as a tick that is at most this one, whatever happens on the lines.
+/// the board takes behind what was queued before the section is read as a tick that is at most this one, whatever happens on the lines.
 pub fn moving_steppers_stop_at_their_timeouts()
     ensures { (m : Machine) (switches : List Switch) (pins : List (List Level)) (entries : List Entry) (b stepper : ℕ) (came : List Came) (later : List BoardTurn) (t : BoardTurn) (between early : List BoardTurn) (from start : ℕ) (members : List Member)
         (front : List Meant) (set : Meant) (middle : List Meant) (bind : Meant) (behind : List Meant) (clock most : ℕ) →
@@ -211,7 +211,7 @@ pub fn moving_steppers_stop_at_their_timeouts()
         (stands_after (first_state (board_at m b) pins b entries) (later ++ t ∷ (between ++ early))).core.taken ≡ queued_by early ++ ((front ++ set ∷ middle) ++ bind ∷ behind) →
         set.command ≡ TrsyncSetTimeout (trigger_of m b) clock → bind.command ≡ StepperStopOnTrigger (machine.stepper_at m stepper).oid (trigger_of m b) →
         TookInTurn (first_state (board_at m b) pins b entries) (queued_by early ++ (front ++ set ∷ middle)) t (between ++ early) →
-        ReadsAtMost (board_tick (clock_of (board_at m b))) (trigger_of m b) most (first_state (board_at m b) pins b entries) (later ++ t ∷ (between ++ early)) →
+        ReadsAtMost (board_tick (clock_of (board_at m b))) (trigger_of m b) most (length (queued_by early)) (first_state (board_at m b) pins b entries) (later ++ t ∷ (between ++ early)) →
         (pulses : List Pulse) × ((stands_after (first_state (board_at m b) pins b entries) (between ++ early)).core.made ++ pulses ≡
         (stands_after (first_state (board_at m b) pins b entries) (later ++ t ∷ (between ++ early))).core.made) × AllBefore (machine.stepper_at m stepper).oid most pulses }
 {}

@@ -162,7 +162,7 @@ pub run_limits : (m : Machine) (switches : List Switch) (pins : List (List Level
     → (stands_after (first_state (board_at m b) pins b entries) (later ++ t ∷ (between ++ early))).core.taken ≡ queued_by early ++ ((front ++ set ∷ middle) ++ bind ∷ behind)
     → set.command ≡ cmd.TrsyncSetTimeout (trigger_of m b) c → bind.command ≡ cmd.StepperStopOnTrigger (stepper_at m s).oid (trigger_of m b)
     → TookInTurn (first_state (board_at m b) pins b entries) (queued_by early ++ (front ++ set ∷ middle)) t (between ++ early)
-    → ReadsAtMost (board_tick (clock_of (board_at m b))) (trigger_of m b) most (first_state (board_at m b) pins b entries) (later ++ t ∷ (between ++ early))
+    → ReadsAtMost (board_tick (clock_of (board_at m b))) (trigger_of m b) most (length (queued_by early)) (first_state (board_at m b) pins b entries) (later ++ t ∷ (between ++ early))
     → (pulses : List Pulse) × ((stands_after (first_state (board_at m b) pins b entries) (between ++ early)).core.made ++ pulses
     ≡ (stands_after (first_state (board_at m b) pins b entries) (later ++ t ∷ (between ++ early))).core.made) × AllBefore (stepper_at m s).oid most pulses
 run_limits m switches pins entries b s came later t between early from start ms front set middle bind behind c most v r homes at moves small on sets sends long took set_is is here reads =
@@ -200,5 +200,5 @@ run_limits m switches pins entries b s came later t between early from start ms 
     let slot_now = staged.there now.there in
     record { sound = sound_along ss first.core.board w (sound_at d pins b entries [] tt); there = staged.made now.made; slot = slot_now.slot; is = slot_now.is } in
     let to_set : queued_by early ++ up_to ≡ (queued_by early ++ front) ++ set ∷ middle = sym (append_assoc (queued_by early) front (set ∷ middle)) in
-    limits_in_turns d pins b entries later t past i j most c (queued_by early ++ front) set middle bind behind r.turns_are
-    (took ∙ sym (append_assoc (queued_by early) up_to (bind ∷ behind)) ∙ ap (λ (x : List Meant). x ++ bind ∷ behind) to_set) set_is is (subst (λ (x : List Meant). TookInTurn first x t past) to_set here) apart.0 apart.1.1 reads has
+    limits_in_turns d pins b entries later t past i j most (length (queued_by early)) c (queued_by early ++ front) set middle bind behind r.turns_are
+    (took ∙ sym (append_assoc (queued_by early) up_to (bind ∷ behind)) ∙ ap (λ (x : List Meant). x ++ bind ∷ behind) to_set) set_is is (subst (λ (x : List Meant). TookInTurn first x t past) to_set here) apart.0 apart.1.1 reads (let l = length-append (queued_by early) front in omega (arith, l)) has

@@ -38,16 +38,12 @@ abbrev pub TookInTurn : LinkState → List Meant → BoardTurn → List BoardTur
 TookInTurn first front t past =
     (length (stands_after first past).core.taken ≤ length front) × (length front < length t.after.core.taken)
 
--- a timeout that a board takes for a trigger, at a tick, it reads as one that is at most another: the nearest one with
--- its clock
-abbrev pub AreReadBy : ℕ → ℕ → ℕ → List Meant → Type 0
-AreReadBy now trigger most [] = Unit {0}
-AreReadBy now trigger most (m ∷ ms) = IsTimely now trigger most m.command × AreReadBy now trigger most ms
-
--- so each that it takes in some turns, as which begin it stands at its tick of each
-abbrev pub ReadsAtMost : (own : ℕ → ℕ) → ℕ → ℕ → LinkState → List BoardTurn → Type 0
-ReadsAtMost own trigger most first [] = Unit {0}
-ReadsAtMost own trigger most first (t ∷ before) =
-    ((new : List Meant) → t.after.core.taken ≡ (stands_after first before).core.taken ++ new
-    → AreReadBy (own (length before)) trigger most new)
-    × ReadsAtMost own trigger most first before
+-- each timeout that a board takes for a trigger in some turns, but for its first n commands, it reads as a tick that is
+-- at most another: the nearest one with its clock, as it stands at its own tick of the turn
+abbrev pub ReadsAtMost : (own : ℕ → ℕ) → ℕ → ℕ → ℕ → LinkState → List BoardTurn → Type 0
+ReadsAtMost own trigger most n first [] = Unit {0}
+ReadsAtMost own trigger most n first (t ∷ before) =
+    ((front : List Meant) (m : Meant) (behind : List Meant) → t.after.core.taken ≡ front ++ m ∷ behind
+    → length (stands_after first before).core.taken ≤ length front → n ≤ length front
+    → IsTimely (own (length before)) trigger most m.command)
+    × ReadsAtMost own trigger most n first before

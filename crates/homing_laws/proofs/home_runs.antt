@@ -28,3 +28,4 @@ pub mod Ordering
 pub mod Stopping
 pub mod Stopped
 pub mod Timing
+pub mod Timeouts

@@ -29,6 +29,7 @@ ghost use Rattle.plan_types.specs.Machines.{IsValidMachine, board_at};
 ghost use Rattle.plan_types.specs.Machines as machine;
 ghost use Rattle.homing_laws.specs.home_runs.Sections.{HomesFrom, IsAnswered, IsMoved, Moves, RestsInTime, SpoilsFew, TakesSetUp, queued_by};
 ghost use Rattle.homing_laws.specs.home_runs.SetUps.{AreInOrder, ReadsAtMost, TookInTurn};
+ghost use Rattle.homing_laws.specs.home_runs.Timeouts.{BeginsBy, EndsWith, SendsTimeout, TakesInTime};
 ghost use Rattle.section_units.specs.Sections.{BoardSection};
 ghost use Rattle.trigger_group.specs.declared.order.Member.{Member};
 ghost use Rattle.link_work.specs.Limits.{AllKeepLimits};
@@ -212,6 +213,24 @@ pub fn moving_steppers_stop_at_their_timeouts()
         set.command ≡ TrsyncSetTimeout (trigger_of m b) clock → bind.command ≡ StepperStopOnTrigger (machine.stepper_at m stepper).oid (trigger_of m b) →
         TookInTurn (first_state (board_at m b) pins b entries) (queued_by early ++ (front ++ set ∷ middle)) t (between ++ early) →
         ReadsAtMost (board_tick (clock_of (board_at m b))) (trigger_of m b) most (length (queued_by early)) (first_state (board_at m b) pins b entries) (later ++ t ∷ (between ++ early)) →
+        (pulses : List Pulse) × ((stands_after (first_state (board_at m b) pins b entries) (between ++ early)).core.made ++ pulses ≡
+        (stands_after (first_state (board_at m b) pins b entries) (later ++ t ∷ (between ++ early))).core.made) × AllBefore (machine.stepper_at m stepper).oid most pulses }
+{}
+
+/// The law of groups, of homing sections: from the turn on in which a board took the command that binds a stepper that moves in a homing
+/// section to the board's trigger, behind a timeout of the section, the stepper makes no pulse at or after the tick of the turn behind the
+/// section's last one, whatever happens on the lines, where no timeout is taken half a round of the clock after its tick.
+pub fn members_stop_in_time()
+    ensures end { (m : Machine) (switches : List Switch) (pins : List (List Level)) (entries : List Entry) (b stepper : ℕ) (came : List Came) (later : List BoardTurn) (t : BoardTurn) (between early : List BoardTurn) (from start : ℕ) (members : List Member)
+        (front : List Meant) (set : Meant) (middle : List Meant) (bind : Meant) (behind : List Meant) (clock last most : ℕ) →
+        IsValidMachine m → IsInRun m switches pins entries b came (later ++ t ∷ (between ++ early)) → HomesFrom m switches from start members came → from + 254 ≡ start → Moves b stepper members →
+        stepper < length m.steppers → (machine.stepper_at m stepper).board ≡ b →
+        SetNoClockFrom from (later ++ t ∷ (between ++ early)) → SendNoneIn from (from + 4) (later ++ t ∷ (between ++ early)) → length early ≡ from →
+        (stands_after (first_state (board_at m b) pins b entries) (later ++ t ∷ (between ++ early))).core.taken ≡ queued_by early ++ ((front ++ set ∷ middle) ++ bind ∷ behind) →
+        set.command ≡ TrsyncSetTimeout (trigger_of m b) clock → bind.command ≡ StepperStopOnTrigger (machine.stepper_at m stepper).oid (trigger_of m b) →
+        TookInTurn (first_state (board_at m b) pins b entries) (queued_by early ++ (front ++ set ∷ middle)) t (between ++ early) →
+        TakesInTime (board_tick (clock_of (board_at m b))) (trigger_of m b) (length (queued_by early)) (λ tick. SendsTimeout m switches b from tick came) (first_state (board_at m b) pins b entries) (later ++ t ∷ (between ++ early)) →
+        EndsWith m switches from last came → BeginsBy m switches b from (last + 1) most came →
         (pulses : List Pulse) × ((stands_after (first_state (board_at m b) pins b entries) (between ++ early)).core.made ++ pulses ≡
         (stands_after (first_state (board_at m b) pins b entries) (later ++ t ∷ (between ++ early))).core.made) × AllBefore (machine.stepper_at m stepper).oid most pulses }
 {}

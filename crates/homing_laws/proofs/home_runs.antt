@@ -29,3 +29,4 @@ pub mod Stopping
 pub mod Stopped
 pub mod Timing
 pub mod Timeouts
+pub mod Hearing

@@ -28,14 +28,14 @@ use Rattle.clock_runs.proofs.Lines.{as_long, run_before}
 use Rattle.run_parts.proofs.Controlled.{few_on}
 use Rattle.homing_laws.specs.home_runs.Sections.{HomesFrom, Moves, queued_by}
 use Rattle.homing_laws.specs.home_runs.Settled.{SendNoneIn, SetNoClockFrom}
-use Rattle.homing_laws.specs.home_runs.SetUps.{AreInOrder, IsInOrder, ReadsAtMost, TookInTurn, far_by}
+use Rattle.homing_laws.specs.home_runs.SetUps.{AreInOrder, IsInOrder, TookInTurn, far_by}
 use Rattle.homing_laws.specs.home_runs.Stages.{no_stage, stage_from}
 use Rattle.homing_laws.proofs.clear_boards.Standing.{sound_at}
 use Rattle.homing_laws.proofs.home_runs.Joining.{all_queued, small_by}
 use Rattle.homing_laws.proofs.home_runs.Ordering.{far_all, no_match, order_rest, taken_in_order}
 use Rattle.homing_laws.proofs.home_runs.Staging.{commands_both, stage_append, staged_after, took_in}
 use Rattle.homing_laws.proofs.home_runs.Stopping.{EachBehind, HasWhereRuns, behind_parts, stops_in_turns}
-use Rattle.homing_laws.proofs.home_runs.Timing.{HasThen, commands_in, limits_in_turns, sound_along, staged_along_rig}
+use Rattle.homing_laws.proofs.home_runs.Timing.{HasThen, ReadsAtMost, commands_in, limits_in_turns, sound_along, staged_along_rig}
 use Rattle.homing_laws.proofs.home_runs.Whole.{Only, Ready, only_parts, queue_only, ready_on, run_only, run_ready}
 use Rattle.homing_laws.proofs.home_runs.Windows.{ordered_after}
 

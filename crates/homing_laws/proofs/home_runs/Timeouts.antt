@@ -56,14 +56,15 @@ use Rattle.clock_runs.proofs.Turning.{Asks, BoardTurned, Ends, Runs}
 use Rattle.homing_laws.proofs.clear_boards.Clocking.{lines_up}
 use Rattle.homing_laws.specs.home_runs.Sections.{HomesFrom, Moves, queued_by}
 use Rattle.homing_laws.specs.home_runs.Settled.{SendNoneIn, SetNoClockFrom}
-use Rattle.homing_laws.specs.home_runs.SetUps.{ReadsAtMost, TookInTurn}
-use Rattle.homing_laws.specs.home_runs.Timeouts.{IsTimeout, SendsTimeout, TakesInTime, BeginsBy, EndsWith, known_in, tick_in}
+use Rattle.homing_laws.specs.home_runs.SetUps.{TookInTurn}
+use Rattle.homing_laws.specs.home_runs.Timeouts.{BeginsBy, EndsWith, IsBoundIn, IsTimeout, SendsTimeout, StopsAt, TakesInTime, TakesSent, known_in, tick_in}
 use Rattle.homing_laws.proofs.clear_boards.Keeping.{hears_keep}
 use Rattle.homing_laws.proofs.home_runs.Controlling.{connecting_not}
 use Rattle.homing_laws.proofs.home_runs.Joining.{all_queued}
 use Rattle.homing_laws.proofs.home_runs.Staging.{commands_both}
 use Rattle.homing_laws.proofs.home_runs.Stopped.{run_limits}
 use Rattle.homing_laws.proofs.home_runs.Stopping.{fits}
+use Rattle.homing_laws.proofs.home_runs.Timing.{ReadsAtMost}
 use Rattle.homing_laws.proofs.home_runs.Whole.{turn_commands}
 use Rattle.homing_laws.proofs.home_runs.Windows.{ordered_after}
 
@@ -183,6 +184,14 @@ units_sent j P [] = tt
 units_sent j P (u ∷ us) =
     subst (λ (l : List Cmd). AreSent j P l) (sym (commands_both (unit_orders u) (units_orders us)))
     (sent_both j P (commands_of (unit_orders u)) (commands_of (units_orders us)) (unit_sent j P u) (units_sent j P us))
+
+-- what a group sends in each turn from a number on is of a turn up to this one
+abbrev pub AllWithinFrom : Machine → List Switch → ℕ → ℕ → List Came → Type 0
+AllWithinFrom m switches from turn [] = Unit {0}
+AllWithinFrom m switches from turn (c ∷ before) =
+    (from ≤ length before → (h : Homing) → (known_in m switches c before).homing ≡ Some h
+    → AllWithin turn (all_sent (length before) ([] ∷ []) (hears_all (known_in m switches c before).clocks c.states h).group))
+    × AllWithinFrom m switches from turn before
 
 -- a number of turns from which a section is known
 module _ (m : Machine) (switches : List Switch) (pins : List (List Level)) (entries : List Entry) (b from : ℕ) where
@@ -351,95 +360,56 @@ module _ (m : Machine) (switches : List Switch) (pins : List (List Level)) (entr
   tick_up : (clocks : Clocks) (j k : ℕ) → j ≤ k → turn_tick clocks j ≤ turn_tick clocks k
   tick_up clocks j k l = let up = lines_up clocks j k l in omega (arith, up)
 
-  heard_last : (clocks : List Clocks) (states : List State) (h : Homing) → (hears_all clocks states h).group.last ≡ h.group.last
-  heard_last clocks states h = (hears_keep clocks states h).last
-
-  pub sent_by : (turn most : ℕ) (came : List Came)
-      → ((c : Came) (before later : List Came) → came ≡ later ++ c ∷ before → from ≤ length before → (h : Homing) → (known_in m switches c before).homing ≡ Some h
-      → AllWithin turn (all_sent (length before) ([] ∷ []) (hears_all (known_in m switches c before).clocks c.states h).group))
-      → BeginsBy m switches b from turn most came → (tick : ℕ) → Sent came tick → tick ≤ most
+  pub sent_by : (turn most : ℕ) (came : List Came) → AllWithinFrom m switches from turn came → BeginsBy m switches b from turn most came
+      → (tick : ℕ) → Sent came tick → tick ≤ most
   sent_by turn most [] within begins tick sent = absurd sent
   sent_by turn most (c ∷ before) within begins tick (inl x) =
       let r = known_in m switches c before in
-      let low = turn_within r.clocks (length before) turn x.1.turn c.states r.homing (within c before [] refl x.0) x.1.sent in
+      let low = turn_within r.clocks (length before) turn x.1.turn c.states r.homing (within.0 x.0) x.1.sent in
       let up = tick_up (clocks_at r.clocks b) x.1.turn turn low in
       let begin = begins.0 x.0 in
       let at = x.1.at in
       omega (arith, up, begin, at)
-  sent_by turn most (c ∷ before) within begins tick (inr sent) =
-      sent_by turn most before (λ d past later e. within d past (c ∷ later) (ap (λ (l : List Came). c ∷ l) e)) begins.1 tick sent
+  sent_by turn most (c ∷ before) within begins tick (inr sent) = sent_by turn most before within.1 begins.1 tick sent
 
-  last_at : (last : ℕ) (came : List Came) → EndsWith m switches from last came → (c : Came) (before later : List Came) → came ≡ later ++ c ∷ before
-      → from ≤ length before → (h : Homing) → (known_in m switches c before).homing ≡ Some h → h.group.last ≡ last
-  last_at last [] k c before [] e late h is = absurd (let l = ap length e in omega (arith, l))
-  last_at last [] k c before (d ∷ later) e late h is = absurd (let l = ap length e in omega (arith, l))
-  last_at last (x ∷ came) k c before [] e late h is =
-      let same : x ≡ c = cc in
-      let rest : came ≡ before = cc in
-      k.0 (omega (arith, late, ap length rest)) h (ap (λ (y : Came). (known_in m switches y came).homing) same ∙ ap (λ (l : List Came). (known_in m switches c l).homing) rest ∙ is)
-  last_at last (x ∷ came) k c before (d ∷ later) e late h is =
-      let rest : came ≡ later ++ c ∷ before = cc in
-      last_at last came k.1 c before later rest late h is
-
-  pub ends_by : (last most : ℕ) (came : List Came) → EndsWith m switches from last came → BeginsBy m switches b from (last + 1) most came
-      → (tick : ℕ) → Sent came tick → tick ≤ most
-  ends_by last most came ends begins =
-      sent_by (last + 1) most came
-      (λ c before later e late h is.
-      let g = (hears_all (known_in m switches c before).clocks c.states h).group in
-      let same : g.last ≡ last = heard_last (known_in m switches c before).clocks c.states h ∙ last_at last came ends c before later e late h is in
-      subst (λ (n : ℕ). AllWithin (n + 1) (all_sent (length before) ([] ∷ []) g)) same (by_end ([] ∷ []) (length before) g)) begins
+  pub ends_within : (last : ℕ) (came : List Came) → EndsWith m switches from last came → AllWithinFrom m switches from (last + 1) came
+  ends_within last [] ends = tt
+  ends_within last (c ∷ before) ends = (
+    λ late h is. (
+    let clocks = (known_in m switches c before).clocks in
+    let g = (hears_all clocks c.states h).group in
+    let same : g.last ≡ last = (hears_keep clocks c.states h).last ∙ ends.0 late h is in
+    subst (λ (n : ℕ). AllWithin (n + 1) (all_sent (length before) ([] ∷ []) g)) same (by_end ([] ∷ []) (length before) g)),
+    ends_within last before ends.1,
+  )
 
 -- a stepper that is bound behind a timeout of the section stops at the last one that is sent
-stops_under : (m : Machine) (switches : List Switch) (pins : List (List Level)) (entries : List Entry) (b s : ℕ) (came : List Came)
-    (later : List BoardTurn) (t : BoardTurn) (between early : List BoardTurn) (from start : ℕ) (ms : List Member)
-    (front : List Meant) (set : Meant) (middle : List Meant) (bind : Meant) (behind : List Meant) (c most : ℕ) → IsValidMachine m
-    → IsInRun m switches pins entries b came (later ++ t ∷ (between ++ early)) → HomesFrom m switches from start ms came
-    → from + 254 ≡ start → Moves b s ms → s < length m.steppers → (stepper_at m s).board ≡ b
-    → SetNoClockFrom from (later ++ t ∷ (between ++ early)) → SendNoneIn from (from + 4) (later ++ t ∷ (between ++ early))
-    → length early ≡ from
-    → (stands_after (first_state (board_at m b) pins b entries) (later ++ t ∷ (between ++ early))).core.taken
-    ≡ queued_by early ++ ((front ++ set ∷ middle) ++ bind ∷ behind)
-    → set.command ≡ cmd.TrsyncSetTimeout (trigger_of m b) c
-    → bind.command ≡ cmd.StepperStopOnTrigger (stepper_at m s).oid (trigger_of m b)
-    → TookInTurn (first_state (board_at m b) pins b entries) (queued_by early ++ (front ++ set ∷ middle)) t (between ++ early)
-    → TakesInTime (board_tick (clock_of (board_at m b))) (trigger_of m b) (length (queued_by early))
-    (λ tick. SendsTimeout m switches b from tick came) (first_state (board_at m b) pins b entries) (later ++ t ∷ (between ++ early))
-    → ((tick : ℕ) → SendsTimeout m switches b from tick came → tick ≤ most)
-    → (pulses : List Pulse) × ((stands_after (first_state (board_at m b) pins b entries) (between ++ early)).core.made ++ pulses
-    ≡ (stands_after (first_state (board_at m b) pins b entries) (later ++ t ∷ (between ++ early))).core.made)
-    × AllBefore (stepper_at m s).oid most pulses
-stops_under m switches pins entries b s came later t between early from start ms front set middle bind behind c most
-    v r homes at moves small on sets sends long took set_is is here soon low =
+pub stops_under : (m : Machine) (switches : List Switch) (pins : List (List Level)) (entries : List Entry) (b s : ℕ) (came : List Came)
+    (later : List BoardTurn) (t : BoardTurn) (between early : List BoardTurn) (from start turn most : ℕ) (ms : List Member) → IsValidMachine m
+    → IsBoundIn m switches pins entries b s came later t between early from start ms
+    → TakesSent m switches pins entries b came (later ++ t ∷ (between ++ early)) early
+    → AllWithinFrom m switches from turn came → BeginsBy m switches b from turn most came
+    → StopsAt m pins entries b s most (later ++ t ∷ (between ++ early)) (between ++ early)
+stops_under m switches pins entries b s came later t between early from start turn most ms v x soon within begins =
     let own = board_tick (clock_of (board_at m b)) in
     let n = length (queued_by early) in
     let first = first_state (board_at m b) pins b entries in
     let same : (later ++ t ∷ between) ++ early ≡ later ++ t ∷ (between ++ early) = append_assoc later (t ∷ between) early in
-    let In : List BoardTurn → Type 0 = λ l. TakesInTime own (trigger_of m b) n (λ tick. SendsTimeout m switches b from tick came) first l in
+    let In : List BoardTurn → Type 0 = λ l. TakesInTime own (trigger_of m b) n (λ tick. SendsTimeout m switches b (length early) tick came) first l in
+    let late : TakesInTime own (trigger_of m b) n (λ tick. SendsTimeout m switches b from tick came) first ((later ++ t ∷ between) ++ early) =
+        subst (λ (f : ℕ). TakesInTime own (trigger_of m b) n (λ tick. SendsTimeout m switches b f tick came) first ((later ++ t ∷ between) ++ early)) x.long
+        (subst In (sym same) soon) in
     let read = reads m switches pins entries b from own most start ms came (later ++ t ∷ between) early
-        (subst (IsInRun m switches pins entries b came) (sym same) r) homes long low (subst In (sym same) soon) in
-    run_limits m switches pins entries b s came later t between early from start ms front set middle bind behind c most v r homes at moves small on sets sends long took set_is is here
-    (subst (ReadsAtMost own (trigger_of m b) most n first) same read)
+        (subst (IsInRun m switches pins entries b came) (sym same) x.run_is) x.homes x.long (sent_by m switches pins entries b from turn most came within begins) late in
+    run_limits m switches pins entries b s came later t between early from start ms x.front x.set x.middle x.bind x.behind x.clock most v x.run_is x.homes
+    x.begun x.moves x.there x.on x.sets_none x.sends_none x.long x.took x.set_is x.bind_is x.in_turn (subst (ReadsAtMost own (trigger_of m b) most n first) same read)
 
 pub stops_by_end : (m : Machine) (switches : List Switch) (pins : List (List Level)) (entries : List Entry) (b s : ℕ) (came : List Came)
-    (later : List BoardTurn) (t : BoardTurn) (between early : List BoardTurn) (from start : ℕ) (ms : List Member)
-    (front : List Meant) (set : Meant) (middle : List Meant) (bind : Meant) (behind : List Meant) (c last most : ℕ) → IsValidMachine m
-    → IsInRun m switches pins entries b came (later ++ t ∷ (between ++ early)) → HomesFrom m switches from start ms came
-    → from + 254 ≡ start → Moves b s ms → s < length m.steppers → (stepper_at m s).board ≡ b
-    → SetNoClockFrom from (later ++ t ∷ (between ++ early)) → SendNoneIn from (from + 4) (later ++ t ∷ (between ++ early))
-    → length early ≡ from
-    → (stands_after (first_state (board_at m b) pins b entries) (later ++ t ∷ (between ++ early))).core.taken
-    ≡ queued_by early ++ ((front ++ set ∷ middle) ++ bind ∷ behind)
-    → set.command ≡ cmd.TrsyncSetTimeout (trigger_of m b) c
-    → bind.command ≡ cmd.StepperStopOnTrigger (stepper_at m s).oid (trigger_of m b)
-    → TookInTurn (first_state (board_at m b) pins b entries) (queued_by early ++ (front ++ set ∷ middle)) t (between ++ early)
-    → TakesInTime (board_tick (clock_of (board_at m b))) (trigger_of m b) (length (queued_by early))
-    (λ tick. SendsTimeout m switches b from tick came) (first_state (board_at m b) pins b entries) (later ++ t ∷ (between ++ early))
+    (later : List BoardTurn) (t : BoardTurn) (between early : List BoardTurn) (from start last most : ℕ) (ms : List Member) → IsValidMachine m
+    → IsBoundIn m switches pins entries b s came later t between early from start ms
+    → TakesSent m switches pins entries b came (later ++ t ∷ (between ++ early)) early
     → EndsWith m switches from last came → BeginsBy m switches b from (last + 1) most came
-    → (pulses : List Pulse) × ((stands_after (first_state (board_at m b) pins b entries) (between ++ early)).core.made ++ pulses
-    ≡ (stands_after (first_state (board_at m b) pins b entries) (later ++ t ∷ (between ++ early))).core.made)
-    × AllBefore (stepper_at m s).oid most pulses
-stops_by_end m switches pins entries b s came later t between early from start ms front set middle bind behind c last most
-    v r homes at moves small on sets sends long took set_is is here soon ends begins =
-    stops_under m switches pins entries b s came later t between early from start ms front set middle bind behind c most v r homes at moves small on sets sends long took set_is is here soon
-    (ends_by m switches pins entries b from last most came ends begins)
+    → StopsAt m pins entries b s most (later ++ t ∷ (between ++ early)) (between ++ early)
+stops_by_end m switches pins entries b s came later t between early from start last most ms v x soon ends begins =
+    stops_under m switches pins entries b s came later t between early from start (last + 1) most ms v x soon
+    (ends_within m switches pins entries b from last came ends) begins

@@ -26,7 +26,7 @@ use Rattle.board_runs.specs.Turns.{AreBoardTurns, BoardTurn, stands_after}
 use Rattle.homing_board.specs.Homing.{HasBoth, timed_and_bound}
 use Rattle.homing_board.proofs.Grouped.{after_both, bound_in_time}
 use Rattle.homing_board.proofs.Timed.{runs_or_shut, stays_shut}
-use Rattle.homing_laws.specs.home_runs.SetUps.{ReadsAtMost, TookInTurn}
+use Rattle.homing_laws.specs.home_runs.SetUps.{TookInTurn}
 use Rattle.homing_laws.proofs.clear_boards.Standing.{tick_is}
 use Rattle.homing_laws.proofs.home_runs.Staging.{StagedBy, commands_both, time_staged, took_staged}
 use Rattle.homing_laws.proofs.home_runs.Stopping.{EachBehind, TakesNone, TurnParts, event_board, fits, held_steps, made_both, rig_append, rig_in, rig_steps, steps_board, steps_made, takes_both, takes_none, took, took_is, took_none, turn_parts}
@@ -145,6 +145,16 @@ staged_along_rig i j (Takes c ∷ ss) r done li lj w k =
     (staged_along_rig i j ss (takes r c).rig (done ++ c ∷ []) li lj w (took_staged i j done r (c ∷ []) li lj k))
 staged_along_rig i j (Passes n t ∷ ss) r done li lj w k =
     staged_along_rig i j ss (pass n r t).rig done li lj w.2 (subst (StagedBy i j done) (whole_pass n t r w.0 w.1) (time_staged i j done r t k))
+
+-- each timeout that a board takes for a trigger in some turns, but for its first n commands, it reads as a tick that is
+-- at most another: the nearest one with its clock, as it stands at its own tick of the turn
+abbrev pub ReadsAtMost : (own : ℕ → ℕ) → ℕ → ℕ → ℕ → LinkState → List BoardTurn → Type 0
+ReadsAtMost own trigger most n first [] = Unit {0}
+ReadsAtMost own trigger most n first (t ∷ before) =
+    ((front : List Meant) (m : Meant) (behind : List Meant) → t.after.core.taken ≡ front ++ m ∷ behind
+    → length (stands_after first before).core.taken ≤ length front → n ≤ length front
+    → IsTimely (own (length before)) trigger most m.command)
+    × ReadsAtMost own trigger most n first before
 
 -- timeouts that are read in time, of commands of which so many were taken before, but for the first n of them
 abbrev AreLate : ℕ → ℕ → ℕ → ℕ → Rig → List RigStep → Type 0

@@ -1,9 +1,8 @@
 -- In what order a board takes the commands of a homing section.
-use Rattle.std.specs.Prelude.{◌<◌, ◌≡◌, ◌≤◌, ◌==◌, ◌&&◌, ◌++◌, ℕ, List, [], ◌∷◌, length, max, if◌then◌else◌}
+use Rattle.std.specs.Prelude.{◌<◌, ◌≡◌, ◌≤◌, ◌==◌, ◌&&◌, ℕ, List, [], ◌∷◌, length, max, if◌then◌else◌}
 use Rattle.msg_code.specs.declared.cmd.Cmd.{Cmd}
 use Rattle.msg_code.specs.declared.cmd.Cmd.TheVariants as cmd
 use Rattle.board_sim.specs.Fair.{Meant}
-use Rattle.board_sim.specs.RigRuns.{IsTimely}
 use Rattle.link_work.specs.Turn.{LinkState}
 use Rattle.board_runs.specs.Turns.{BoardTurn, stands_after}
 
@@ -37,13 +36,3 @@ AreInOrder stepper trigger far (c ∷ cs) =
 abbrev pub TookInTurn : LinkState → List Meant → BoardTurn → List BoardTurn → Type 0
 TookInTurn first front t past =
     (length (stands_after first past).core.taken ≤ length front) × (length front < length t.after.core.taken)
-
--- each timeout that a board takes for a trigger in some turns, but for its first n commands, it reads as a tick that is
--- at most another: the nearest one with its clock, as it stands at its own tick of the turn
-abbrev pub ReadsAtMost : (own : ℕ → ℕ) → ℕ → ℕ → ℕ → LinkState → List BoardTurn → Type 0
-ReadsAtMost own trigger most n first [] = Unit {0}
-ReadsAtMost own trigger most n first (t ∷ before) =
-    ((front : List Meant) (m : Meant) (behind : List Meant) → t.after.core.taken ≡ front ++ m ∷ behind
-    → length (stands_after first before).core.taken ≤ length front → n ≤ length front
-    → IsTimely (own (length before)) trigger most m.command)
-    × ReadsAtMost own trigger most n first before

@@ -28,3 +28,5 @@ pub mod Ordering
 pub mod Stopping
 pub mod Stopped
 pub mod Timing
+pub mod Timeouts
+pub mod Hearing

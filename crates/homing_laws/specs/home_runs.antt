@@ -7,3 +7,4 @@ pub mod Settled
 pub mod Words
 pub mod Ended
 pub mod SetUps
+pub mod Timeouts

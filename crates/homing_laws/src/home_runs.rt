@@ -28,7 +28,8 @@ ghost use Rattle.plan_types.specs.declared.plan.BoardState.TheVariants.{Running}
 ghost use Rattle.plan_types.specs.Machines.{IsValidMachine, board_at};
 ghost use Rattle.plan_types.specs.Machines as machine;
 ghost use Rattle.homing_laws.specs.home_runs.Sections.{HomesFrom, IsAnswered, IsMoved, Moves, RestsInTime, SpoilsFew, TakesSetUp, queued_by};
-ghost use Rattle.homing_laws.specs.home_runs.SetUps.{AreInOrder, ReadsAtMost, TookInTurn};
+ghost use Rattle.homing_laws.specs.home_runs.SetUps.{AreInOrder, TookInTurn};
+ghost use Rattle.homing_laws.specs.home_runs.Timeouts.{BeginsBy, CouldUpTo, EndsWith, IsBoundIn, StopsAt, TakesSent};
 ghost use Rattle.section_units.specs.Sections.{BoardSection};
 ghost use Rattle.trigger_group.specs.declared.order.Member.{Member};
 ghost use Rattle.link_work.specs.Limits.{AllKeepLimits};
@@ -205,19 +206,17 @@ pub fn moving_steppers_stop_with_their_trigger()
         (stands_after (first_state (board_at m b) pins b entries) (later ++ t ∷ (between ++ early))).core.made) × AllBefore (machine.stepper_at m stepper).oid slot.trigger.tick pulses }
 {}
 
-/// The law of timeouts, of homing sections: from the turn on in which a board took the command that binds a stepper that moves in a homing
-/// section to the board's trigger, behind a timeout of the section, the stepper makes no pulse at or after a tick, where each timeout that
-/// the board takes is read as a tick that is at most this one, whatever happens on the lines.
-pub fn moving_steppers_stop_at_their_timeouts()
-    ensures { (m : Machine) (switches : List Switch) (pins : List (List Level)) (entries : List Entry) (b stepper : ℕ) (came : List Came) (later : List BoardTurn) (t : BoardTurn) (between early : List BoardTurn) (from start : ℕ) (members : List Member)
-        (front : List Meant) (set : Meant) (middle : List Meant) (bind : Meant) (behind : List Meant) (clock most : ℕ) →
-        IsValidMachine m → IsInRun m switches pins entries b came (later ++ t ∷ (between ++ early)) → HomesFrom m switches from start members came → from + 254 ≡ start → Moves b stepper members →
-        stepper < length m.steppers → (machine.stepper_at m stepper).board ≡ b →
-        SetNoClockFrom from (later ++ t ∷ (between ++ early)) → SendNoneIn from (from + 4) (later ++ t ∷ (between ++ early)) → length early ≡ from →
-        (stands_after (first_state (board_at m b) pins b entries) (later ++ t ∷ (between ++ early))).core.taken ≡ queued_by early ++ ((front ++ set ∷ middle) ++ bind ∷ behind) →
-        set.command ≡ TrsyncSetTimeout (trigger_of m b) clock → bind.command ≡ StepperStopOnTrigger (machine.stepper_at m stepper).oid (trigger_of m b) →
-        TookInTurn (first_state (board_at m b) pins b entries) (queued_by early ++ (front ++ set ∷ middle)) t (between ++ early) →
-        ReadsAtMost (board_tick (clock_of (board_at m b))) (trigger_of m b) most (first_state (board_at m b) pins b entries) (later ++ t ∷ (between ++ early)) →
-        (pulses : List Pulse) × ((stands_after (first_state (board_at m b) pins b entries) (between ++ early)).core.made ++ pulses ≡
-        (stands_after (first_state (board_at m b) pins b entries) (later ++ t ∷ (between ++ early))).core.made) × AllBefore (machine.stepper_at m stepper).oid most pulses }
+/// The law of groups, of homing sections: from the turn on in which a board took the command that binds a stepper that moves in a homing
+/// section to the board's trigger, behind a timeout of the section, the stepper makes no pulse at or after the tick of the turn behind the
+/// section's last one; and where no report of some member that counts says that it could trigger in a turn behind `u`, none at or after the
+/// tick of the turn 25 behind `u`. So it is whatever happens on the lines, where no timeout is taken half a round of the clock after its tick.
+pub fn members_stop_in_time()
+    ensures end { (m : Machine) (switches : List Switch) (pins : List (List Level)) (entries : List Entry) (b stepper : ℕ) (came : List Came) (later : List BoardTurn) (t : BoardTurn) (between early : List BoardTurn)
+        (from start last most : ℕ) (members : List Member) → IsValidMachine m → IsBoundIn m switches pins entries b stepper came later t between early from start members →
+        TakesSent m switches pins entries b came (later ++ t ∷ (between ++ early)) early → EndsWith m switches from last came → BeginsBy m switches b from (last + 1) most came →
+        StopsAt m pins entries b stepper most (later ++ t ∷ (between ++ early)) (between ++ early) }
+    ensures heard { (m : Machine) (switches : List Switch) (pins : List (List Level)) (entries : List Entry) (b stepper other : ℕ) (came : List Came) (later : List BoardTurn) (t : BoardTurn) (between early : List BoardTurn)
+        (from start u most : ℕ) (members : List Member) → IsValidMachine m → IsBoundIn m switches pins entries b stepper came later t between early from start members →
+        TakesSent m switches pins entries b came (later ++ t ∷ (between ++ early)) early → IsMember other members → start ≤ u → CouldUpTo m switches other start u came → BeginsBy m switches b from (u + 25) most came →
+        StopsAt m pins entries b stepper most (later ++ t ∷ (between ++ early)) (between ++ early) }
 {}

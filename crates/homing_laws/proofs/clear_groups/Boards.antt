@@ -270,7 +270,7 @@ module _ (m : Machine) (b : ℕ) (pins : List (List Level)) (entries : List Entr
         let able = able_now known (low (turn_tick known next)) base every sent ready start upto till k low_so reach (omega (arith, far, next_low)) later behind relays small by_known alive.0 in
         let turn_so = turn_is (board_at m b) pins b entries t before none are limits in
         let until = hears_until start (length before + 1 + 249) b all states h
-        (λ s there. (
+        (λ s there late. (
         let At : ℕ → Type 0 = λ n. AllAbleBy known n (length before + 1 + 249) t.state.news in
         let now : AllAbleBy known t.state.turn (length before + 1 + 249) t.state.news = subst At (sym turn_so) able in
         subst (λ (x : State). AllAbleBy known x.turn (length before + 1 + 249) x.news) (one_state s t.state (sym is ∙ there)) now)) (until_more start b (length before + 249) (length before + 1 + 249) h.group.members (omega arith) w.1) in

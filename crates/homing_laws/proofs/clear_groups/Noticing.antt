@@ -1,7 +1,7 @@
 -- A homing group hears of no member in a turn far behind the one in which it hears.
 use Rattle.std.proofs.Common.{◌≡◌, ℕ, zero, suc, ◌+◌, ◌%◌, ◌^◌, ◌<◌, ◌≤◌, ◌==◌, Bool, true, false, not, cond, List, [], ◌∷◌, ◌++◌, length, map, Option, Some, None, refl, ap, sym, ◌∙◌, subst, arith, inl, inr}
 use Rattle.std.specs.Prelude.{nat_le, nat_lt}
-use Rattle.std.proofs.lemmas.Bool.Decides.{eqb_tells}
+use Rattle.std.proofs.lemmas.Bool.Decides.{eqb_tells, leb_tells}
 use Rattle.plan_types.specs.declared.levels.Level.{Level}
 use Rattle.plan_types.specs.declared.machine.BoardDef.{BoardDef}
 use Rattle.plan_types.specs.Board.{nearest}
@@ -131,14 +131,12 @@ news_heard start most b board turn clocks [] g low k = k
 news_heard start most b board turn clocks (n ∷ ns) g low k =
     news_heard start most b board turn clocks ns (hears_answer clocks board turn n.answer g) (λ here. (low here).1) (answer_heard start most b board turn clocks n.answer g (λ here when able. (low here).0 when able) k)
 
-state_heard : (start most b board from : ℕ) (clocks : Clocks) (s : State) (g : GroupState) → (board ≡ b → AllAbleBy clocks s.turn most s.news) → HeardUntil start b most g.members → HeardUntil start b most (hears_state clocks board from s g).members
-state_heard start most b board from clocks s g low k = by (nat_le from (s.turn + 1))
-  where
-    by : (c : Bool) → HeardUntil start b most (cond c (hears_news clocks board s.turn s.news g) g).members
-    by true = news_heard start most b board s.turn clocks s.news g low k
-    by false = k
+state_heard : (start most b board from : ℕ) (clocks : Clocks) (s : State) (g : GroupState) → (board ≡ b → from ≤ s.turn + 1 → AllAbleBy clocks s.turn most s.news) → HeardUntil start b most g.members → HeardUntil start b most (hears_state clocks board from s g).members
+state_heard start most b board from clocks s g low k =
+    let At : Bool → Type 0 = λ c. HeardUntil start b most (cond c (hears_news clocks board s.turn s.news g) g).members in
+    elim (leb_tells from (s.turn + 1)) [ inl p ↦ subst At (sym p.0) (news_heard start most b board s.turn clocks s.news g (λ here. low here p.1) k) | inr p ↦ subst At (sym p.0) k ]
 
-states_heard : (d start most b board from : ℕ) (clocks : List Clocks) (states : List State) (g : GroupState) → board + d ≡ b → ((s : State) → state_at d states ≡ s ∷ [] → AllAbleBy (clocks_at clocks d) s.turn most s.news)
+states_heard : (d start most b board from : ℕ) (clocks : List Clocks) (states : List State) (g : GroupState) → board + d ≡ b → ((s : State) → state_at d states ≡ s ∷ [] → from ≤ s.turn + 1 → AllAbleBy (clocks_at clocks d) s.turn most s.news)
     → HeardUntil start b most g.members → HeardUntil start b most (hears_states clocks board from states g).members
 states_heard d start most b board from [] states g e low k = k
 states_heard d start most b board from (c ∷ clocks) [] g e low k = k
@@ -151,7 +149,7 @@ states_heard zero start most b board from (c ∷ clocks) (s ∷ states) g e low 
 states_heard (suc d) start most b board from (c ∷ clocks) (s ∷ states) g e low k =
     states_heard d start most b (board + 1) from clocks states (hears_state c board from s g) (omega (arith, e)) (λ x is. low x is) (state_heard start most b board from c s g (λ here. absurd (omega (arith, here, e))) k)
 
-pub hears_until : (start most b : ℕ) (clocks : List Clocks) (states : List State) (h : Homing) → ((s : State) → state_at b states ≡ s ∷ [] → AllAbleBy (clocks_at clocks b) s.turn most s.news) → HeardUntil start b most h.group.members
+pub hears_until : (start most b : ℕ) (clocks : List Clocks) (states : List State) (h : Homing) → ((s : State) → state_at b states ≡ s ∷ [] → h.start ≤ s.turn + 1 → AllAbleBy (clocks_at clocks b) s.turn most s.news) → HeardUntil start b most h.group.members
     → HeardUntil start b most (hears_all clocks states h).group.members
 hears_until start most b clocks states h low k = states_heard b start most b 0 h.start clocks states h.group (omega arith) low k
 

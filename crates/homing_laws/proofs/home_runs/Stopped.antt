@@ -28,14 +28,14 @@ use Rattle.clock_runs.proofs.Lines.{as_long, run_before}
 use Rattle.run_parts.proofs.Controlled.{few_on}
 use Rattle.homing_laws.specs.home_runs.Sections.{HomesFrom, Moves, queued_by}
 use Rattle.homing_laws.specs.home_runs.Settled.{SendNoneIn, SetNoClockFrom}
-use Rattle.homing_laws.specs.home_runs.SetUps.{AreInOrder, IsInOrder, ReadsAtMost, TookInTurn, far_by}
+use Rattle.homing_laws.specs.home_runs.SetUps.{AreInOrder, IsInOrder, TookInTurn, far_by}
 use Rattle.homing_laws.specs.home_runs.Stages.{no_stage, stage_from}
 use Rattle.homing_laws.proofs.clear_boards.Standing.{sound_at}
 use Rattle.homing_laws.proofs.home_runs.Joining.{all_queued, small_by}
 use Rattle.homing_laws.proofs.home_runs.Ordering.{far_all, no_match, order_rest, taken_in_order}
 use Rattle.homing_laws.proofs.home_runs.Staging.{commands_both, stage_append, staged_after, took_in}
 use Rattle.homing_laws.proofs.home_runs.Stopping.{EachBehind, HasWhereRuns, behind_parts, stops_in_turns}
-use Rattle.homing_laws.proofs.home_runs.Timing.{HasThen, commands_in, limits_in_turns, sound_along, staged_along_rig}
+use Rattle.homing_laws.proofs.home_runs.Timing.{HasThen, ReadsAtMost, commands_in, limits_in_turns, sound_along, staged_along_rig}
 use Rattle.homing_laws.proofs.home_runs.Whole.{Only, Ready, only_parts, queue_only, ready_on, run_only, run_ready}
 use Rattle.homing_laws.proofs.home_runs.Windows.{ordered_after}
 
@@ -162,7 +162,7 @@ pub run_limits : (m : Machine) (switches : List Switch) (pins : List (List Level
     → (stands_after (first_state (board_at m b) pins b entries) (later ++ t ∷ (between ++ early))).core.taken ≡ queued_by early ++ ((front ++ set ∷ middle) ++ bind ∷ behind)
     → set.command ≡ cmd.TrsyncSetTimeout (trigger_of m b) c → bind.command ≡ cmd.StepperStopOnTrigger (stepper_at m s).oid (trigger_of m b)
     → TookInTurn (first_state (board_at m b) pins b entries) (queued_by early ++ (front ++ set ∷ middle)) t (between ++ early)
-    → ReadsAtMost (board_tick (clock_of (board_at m b))) (trigger_of m b) most (first_state (board_at m b) pins b entries) (later ++ t ∷ (between ++ early))
+    → ReadsAtMost (board_tick (clock_of (board_at m b))) (trigger_of m b) most (length (queued_by early)) (first_state (board_at m b) pins b entries) (later ++ t ∷ (between ++ early))
     → (pulses : List Pulse) × ((stands_after (first_state (board_at m b) pins b entries) (between ++ early)).core.made ++ pulses
     ≡ (stands_after (first_state (board_at m b) pins b entries) (later ++ t ∷ (between ++ early))).core.made) × AllBefore (stepper_at m s).oid most pulses
 run_limits m switches pins entries b s came later t between early from start ms front set middle bind behind c most v r homes at moves small on sets sends long took set_is is here reads =
@@ -200,5 +200,5 @@ run_limits m switches pins entries b s came later t between early from start ms 
     let slot_now = staged.there now.there in
     record { sound = sound_along ss first.core.board w (sound_at d pins b entries [] tt); there = staged.made now.made; slot = slot_now.slot; is = slot_now.is } in
     let to_set : queued_by early ++ up_to ≡ (queued_by early ++ front) ++ set ∷ middle = sym (append_assoc (queued_by early) front (set ∷ middle)) in
-    limits_in_turns d pins b entries later t past i j most c (queued_by early ++ front) set middle bind behind r.turns_are
-    (took ∙ sym (append_assoc (queued_by early) up_to (bind ∷ behind)) ∙ ap (λ (x : List Meant). x ++ bind ∷ behind) to_set) set_is is (subst (λ (x : List Meant). TookInTurn first x t past) to_set here) apart.0 apart.1.1 reads has
+    limits_in_turns d pins b entries later t past i j most (length (queued_by early)) c (queued_by early ++ front) set middle bind behind r.turns_are
+    (took ∙ sym (append_assoc (queued_by early) up_to (bind ∷ behind)) ∙ ap (λ (x : List Meant). x ++ bind ∷ behind) to_set) set_is is (subst (λ (x : List Meant). TookInTurn first x t past) to_set here) apart.0 apart.1.1 reads (let l = length-append (queued_by early) front in omega (arith, l)) has

@@ -1,5 +1,5 @@
 -- A stepper that is bound behind its trigger's first timeout makes no pulse at or behind the tick up to which the timeouts are read.
-use Rattle.std.proofs.Common.{◌≡◌, ℕ, ◌+◌, ◌<◌, ◌≤◌, Bool, true, false, cond, List, [], ◌∷◌, ◌++◌, length, map, refl, ap, sym, ◌∙◌, subst, arith, inl, inr, append_assoc, append-nil, length-append}
+use Rattle.std.proofs.Common.{◌≡◌, ℕ, suc, ◌+◌, ◌<◌, ◌≤◌, Bool, true, false, cond, List, [], ◌∷◌, ◌++◌, length, map, refl, ap, sym, ◌∙◌, subst, arith, inl, inr, append_assoc, append-nil, length-append}
 use Rattle.std.specs.Prelude.{nat_le}
 use Rattle.std.proofs.lemmas.Bool.Decides.{leb_tells}
 use Rattle.plan_types.specs.declared.levels.Level.{Level}
@@ -24,9 +24,9 @@ use Rattle.link_work.proofs.Sending.{run_append}
 use Rattle.link_work.proofs.Steps.{AllOf}
 use Rattle.board_runs.specs.Turns.{AreBoardTurns, BoardTurn, stands_after}
 use Rattle.homing_board.specs.Homing.{HasBoth, timed_and_bound}
-use Rattle.homing_board.proofs.Grouped.{after_both, bound_in_time, timely_parts}
+use Rattle.homing_board.proofs.Grouped.{after_both, bound_in_time}
 use Rattle.homing_board.proofs.Timed.{runs_or_shut, stays_shut}
-use Rattle.homing_laws.specs.home_runs.SetUps.{AreReadBy, ReadsAtMost, TookInTurn}
+use Rattle.homing_laws.specs.home_runs.SetUps.{TookInTurn}
 use Rattle.homing_laws.proofs.clear_boards.Standing.{tick_is}
 use Rattle.homing_laws.proofs.home_runs.Staging.{StagedBy, commands_both, time_staged, took_staged}
 use Rattle.homing_laws.proofs.home_runs.Stopping.{EachBehind, TakesNone, TurnParts, event_board, fits, held_steps, made_both, rig_append, rig_in, rig_steps, steps_board, steps_made, takes_both, takes_none, took, took_is, took_none, turn_parts}
@@ -146,37 +146,82 @@ staged_along_rig i j (Takes c ∷ ss) r done li lj w k =
 staged_along_rig i j (Passes n t ∷ ss) r done li lj w k =
     staged_along_rig i j ss (pass n r t).rig done li lj w.2 (subst (StagedBy i j done) (whole_pass n t r w.0 w.1) (time_staged i j done r t k))
 
--- timeouts that are read in time
-timely_both : (xs ys : List RigStep) (j most : ℕ) (r : Rig) → AreTimely j most r xs → AreTimely j most (rig_after_all xs r) ys → AreTimely j most r (xs ++ ys)
-timely_both [] ys j most r a b = b
-timely_both (Takes c ∷ xs) ys j most r a b = (a.0, timely_both xs ys j most (rig_after r (Takes c)) a.1 b)
-timely_both (Passes n t ∷ xs) ys j most r a b = timely_both xs ys j most (rig_after r (Passes n t)) a b
+-- each timeout that a board takes for a trigger in some turns, but for its first n commands, it reads as a tick that is
+-- at most another: the nearest one with its clock, as it stands at its own tick of the turn
+abbrev pub ReadsAtMost : (own : ℕ → ℕ) → ℕ → ℕ → ℕ → LinkState → List BoardTurn → Type 0
+ReadsAtMost own trigger most n first [] = Unit {0}
+ReadsAtMost own trigger most n first (t ∷ before) =
+    ((front : List Meant) (m : Meant) (behind : List Meant) → t.after.core.taken ≡ front ++ m ∷ behind
+    → length (stands_after first before).core.taken ≤ length front → n ≤ length front
+    → IsTimely (own (length before)) trigger most m.command)
+    × ReadsAtMost own trigger most n first before
 
-takes_timely : (ms : List Meant) (r : Rig) (now j most : ℕ) → r.controller.tick ≡ now → AreReadBy now j most ms → AreTimely j most r (map Takes (commands_of ms))
-takes_timely [] r now j most e b = tt
-takes_timely (m ∷ ms) r now j most e b =
-    (subst (λ (n : ℕ). IsTimely n j most m.command) (sym e) b.0, takes_timely ms (takes r m.command).rig now j most (all_tick r (m.command ∷ []) ∙ e) b.1)
+-- timeouts that are read in time, of commands of which so many were taken before, but for the first n of them
+abbrev AreLate : ℕ → ℕ → ℕ → ℕ → Rig → List RigStep → Type 0
+AreLate n place j most r [] = Unit {0}
+AreLate n place j most r (Takes c ∷ ss) = (n ≤ place → IsTimely r.controller.tick j most c) × AreLate n (place + 1) j most (rig_after r (Takes c)) ss
+AreLate n place j most r (Passes u t ∷ ss) = AreLate n place j most (rig_after r (Passes u t)) ss
 
-time_timely : (b : Bool) (n t j most : ℕ) (r : Rig) → AreTimely j most r (cond b (Passes n t ∷ []) [])
-time_timely true n t j most r = tt
-time_timely false n t j most r = tt
+late_both : (n place k : ℕ) (xs ys : List RigStep) (j most : ℕ) (r : Rig) → place + length (commands_in xs) ≡ k → AreLate n place j most r xs → AreLate n k j most (rig_after_all xs r) ys → AreLate n place j most r (xs ++ ys)
+late_both n place k [] ys j most r e a b = let same : k ≡ place = omega (arith, e) in subst (λ (p : ℕ). AreLate n p j most r ys) same b
+late_both n place k (Takes c ∷ xs) ys j most r e a b = (a.0, late_both n (place + 1) k xs ys j most (rig_after r (Takes c)) (omega (arith, e)) a.1 b)
+late_both n place k (Passes u t ∷ xs) ys j most r e a b = late_both n place k xs ys j most (rig_after r (Passes u t)) e a b
 
-event_timely : (h : Core) (e : Event) (j most : ℕ) (r : Rig) → takes_in h e ≡ [] → AreTimely j most r (rig_in h e)
-event_timely h (event.Pass t) j most r none = time_timely (nat_le h.board.controller.tick t) (all_left t h.board.triggers + 1) t j most r
-event_timely h e j most r none = subst (λ (ms : List Meant). AreTimely j most r (map Takes (commands_of ms))) (sym none) tt
+late_parts : (n place : ℕ) (xs ys : List RigStep) (j most : ℕ) (r : Rig) → n ≤ place + length (commands_in xs) → AreLate n place j most r (xs ++ ys) → AreTimely j most (rig_after_all xs r) ys
+late_parts n place [] [] j most r l t = tt
+late_parts n place [] (Takes c ∷ ys) j most r l t = (t.0 (omega (arith, l)), late_parts n (place + 1) [] ys j most (rig_after r (Takes c)) (omega (arith, l)) t.1)
+late_parts n place [] (Passes u v ∷ ys) j most r l t = late_parts n place [] ys j most (rig_after r (Passes u v)) l t
+late_parts n place (Takes c ∷ xs) ys j most r l t = late_parts n (place + 1) xs ys j most (rig_after r (Takes c)) (omega (arith, l)) t.1
+late_parts n place (Passes u v ∷ xs) ys j most r l t = late_parts n place xs ys j most (rig_after r (Passes u v)) l t
 
-none_timely : (steps : List Step) (h : Core) (j most : ℕ) (r : Rig) → AllOf TakesNone steps → AreTimely j most r (rig_steps steps h)
-none_timely [] h j most r k = tt
-none_timely (Do e ∷ steps) h j most r k =
-    timely_both (rig_in h e) (rig_steps steps (happens h e)) j most r (event_timely h e j most r (k.0 h)) (none_timely steps (happens h e) j most (rig_after_all (rig_in h e) r) k.1)
-none_timely (Turn turn ∷ steps) h j most r k = none_timely steps (in_turn h turn) j most r k.1
+takes_late : (all done ms : List Meant) (low n : ℕ) (r : Rig) (now j most : ℕ) → r.controller.tick ≡ now
+    → ((front : List Meant) (m : Meant) (behind : List Meant) → all ≡ front ++ m ∷ behind → low ≤ length front → n ≤ length front → IsTimely now j most m.command)
+    → all ≡ done ++ ms → low ≤ length done → AreLate n (length done) j most r (map Takes (commands_of ms))
+takes_late all done [] low n r now j most e reads is far = tt
+takes_late all done (m ∷ ms) low n r now j most e reads is far =
+    let long = length-append done (m ∷ []) in
+    let next : length (done ++ m ∷ []) ≡ length done + 1 = omega (arith, long) in (
+      λ l. subst (λ (k : ℕ). IsTimely k j most m.command) (sym e) (reads done m ms is far l),
+      subst (λ (k : ℕ). AreLate n k j most (takes r m.command).rig (map Takes (commands_of ms))) next
+      (takes_late all (done ++ m ∷ []) ms low n (takes r m.command).rig now j most (all_tick r (m.command ∷ []) ∙ e) reads (is ∙ sym (append_assoc done (m ∷ []) ms)) (omega (arith, next, far))),
+    )
+
+time_late : (b : Bool) (u t n place j most : ℕ) (r : Rig) → AreLate n place j most r (cond b (Passes u t ∷ []) [])
+time_late true u t n place j most r = tt
+time_late false u t n place j most r = tt
+
+event_late : (h : Core) (e : Event) (n place j most : ℕ) (r : Rig) → takes_in h e ≡ [] → AreLate n place j most r (rig_in h e)
+event_late h (event.Pass t) n place j most r none = time_late (nat_le h.board.controller.tick t) (all_left t h.board.triggers + 1) t n place j most r
+event_late h e n place j most r none = subst (λ (ms : List Meant). AreLate n place j most r (map Takes (commands_of ms))) (sym none) tt
+
+none_late : (steps : List Step) (h : Core) (n place j most : ℕ) (r : Rig) → AllOf TakesNone steps → AreLate n place j most r (rig_steps steps h)
+none_late [] h n place j most r k = tt
+none_late (Do e ∷ steps) h n place j most r k =
+    late_both n place (place + length (commands_in (rig_in h e))) (rig_in h e) (rig_steps steps (happens h e)) j most r refl (event_late h e n place j most r (k.0 h))
+    (none_late steps (happens h e) n (place + length (commands_in (rig_in h e))) j most (rig_after_all (rig_in h e) r) k.1)
+none_late (Turn turn ∷ steps) h n place j most r k = none_late steps (in_turn h turn) n place j most r k.1
+
+-- so many commands are taken in some steps
+commands_many : (ms : List Meant) → length (commands_of ms) ≡ length ms
+commands_many [] = refl
+commands_many (m ∷ ms) = ap suc (commands_many ms)
+
+places : (steps : List Step) (h : Core) → length h.taken + length (commands_in (rig_steps steps h)) ≡ length (run steps h).taken
+places steps h =
+    let a = ap length (took_is steps h) in
+    let b = length-append h.taken (took steps h) in
+    let c = ap length (in_steps steps h) in
+    let d = commands_many (took steps h) in
+    omega (arith, a, b, c, d)
 
 -- a turn, in which timeouts are read in time
-one_timely : (b : BoardDef) (pins : List (List Level)) (place : ℕ) (entries : List Entry) (j most : ℕ) (t : BoardTurn) (before : List BoardTurn) → AreBoardTurns (clock_of b) (first_state b pins place entries) (t ∷ before)
-    → ReadsAtMost (board_tick (clock_of b)) j most (first_state b pins place entries) (t ∷ before)
-    → (p : TurnParts (stands_after (first_state b pins place entries) before) t.after)
-    × AreTimely j most (stands_after (first_state b pins place entries) before).core.board (rig_steps (p.held ++ p.on) (stands_after (first_state b pins place entries) before).core)
-one_timely b pins place entries j most t before are reads =
+abbrev LateTurn : ℕ → ℕ → ℕ → Core → List Step → Type 0
+LateTurn n j most h steps = AreLate n (length h.taken) j most h.board (rig_steps steps h)
+
+one_timely : (b : BoardDef) (pins : List (List Level)) (place : ℕ) (entries : List Entry) (n j most : ℕ) (t : BoardTurn) (before : List BoardTurn) → AreBoardTurns (clock_of b) (first_state b pins place entries) (t ∷ before)
+    → ReadsAtMost (board_tick (clock_of b)) j most n (first_state b pins place entries) (t ∷ before)
+    → (p : TurnParts (stands_after (first_state b pins place entries) before) t.after) × LateTurn n j most (stands_after (first_state b pins place entries) before).core (p.held ++ p.on)
+one_timely b pins place entries n j most t before are reads =
     let first = first_state b pins place entries in
     let clock = clock_of b in
     let l = stands_after first before in
@@ -186,39 +231,45 @@ one_timely b pins place entries j most t before are reads =
     let new = took p.held h in
     let taken : t.after.core.taken ≡ h.taken ++ new =
     ap (λ (x : Core). x.taken) p.is ∙ took_is p.on g ∙ ap (λ (ms : List Meant). g.taken ++ ms) (took_none p.on g p.none) ∙ append-nil g.taken ∙ took_is p.held h in
-    let now = takes_timely new h.board (board_tick clock (length before)) j most (tick_is b pins place entries before are.1) (reads.0 new taken) in (
+    let now = takes_late t.after.core.taken h.taken new (length h.taken) n h.board (board_tick clock (length before)) j most (tick_is b pins place entries before are.1) reads.0 taken (omega arith) in (
       p,
-      subst (AreTimely j most h.board) (sym (rig_append p.held p.on h))
-          (timely_both (rig_steps p.held h) (rig_steps p.on g) j most h.board (subst (AreTimely j most h.board) (sym (held_steps p.held h p.holds)) now)
-          (none_timely p.on g j most (rig_after_all (rig_steps p.held h) h.board) p.none)),
+      subst (AreLate n (length h.taken) j most h.board) (sym (rig_append p.held p.on h))
+          (late_both n (length h.taken) (length g.taken) (rig_steps p.held h) (rig_steps p.on g) j most h.board (places p.held h)
+          (subst (AreLate n (length h.taken) j most h.board) (sym (held_steps p.held h p.holds)) now)
+          (none_late p.on g n (length g.taken) j most (rig_after_all (rig_steps p.held h) h.board) p.none)),
     )
 
+steps_late : (n j most : ℕ) (xs ys : List Step) (h : Core) → LateTurn n j most h xs → LateTurn n j most (run xs h) ys → LateTurn n j most h (xs ++ ys)
+steps_late n j most xs ys h a b =
+    let g = run xs h in
+    subst (AreLate n (length h.taken) j most h.board) (sym (rig_append xs ys h))
+    (late_both n (length h.taken) (length g.taken) (rig_steps xs h) (rig_steps ys g) j most h.board (places xs h) a
+    (subst (λ (r : Rig). AreLate n (length g.taken) j most r (rig_steps ys g)) (steps_board xs h) b))
+
 -- the steps of some turns behind others
-record LaterSteps (first : LinkState) (j most : ℕ) (later past : List BoardTurn) : Type 0 where
+record LaterSteps (first : LinkState) (n j most : ℕ) (later past : List BoardTurn) : Type 0 where
   steps : List Step
   is : (stands_after first (later ++ past)).core ≡ run steps (stands_after first past).core
-  timely : AreTimely j most (stands_after first past).core.board (rig_steps steps (stands_after first past).core)
+  timely : LateTurn n j most (stands_after first past).core steps
 
-later_timely : (b : BoardDef) (pins : List (List Level)) (place : ℕ) (entries : List Entry) (j most : ℕ) (later past : List BoardTurn) → AreBoardTurns (clock_of b) (first_state b pins place entries) (later ++ past)
-    → ReadsAtMost (board_tick (clock_of b)) j most (first_state b pins place entries) (later ++ past) → LaterSteps (first_state b pins place entries) j most later past
-later_timely b pins place entries j most [] past are reads = record { steps = []; is = refl; timely = tt }
-later_timely b pins place entries j most (t ∷ later) past are reads =
+later_timely : (b : BoardDef) (pins : List (List Level)) (place : ℕ) (entries : List Entry) (n j most : ℕ) (later past : List BoardTurn) → AreBoardTurns (clock_of b) (first_state b pins place entries) (later ++ past)
+    → ReadsAtMost (board_tick (clock_of b)) j most n (first_state b pins place entries) (later ++ past) → LaterSteps (first_state b pins place entries) n j most later past
+later_timely b pins place entries n j most [] past are reads = record { steps = []; is = refl; timely = tt }
+later_timely b pins place entries n j most (t ∷ later) past are reads =
     let first = first_state b pins place entries in
     let base = (stands_after first past).core in
-    let old = later_timely b pins place entries j most later past are.1 reads.1 in
+    let old = later_timely b pins place entries n j most later past are.1 reads.1 in
     let h = (stands_after first (later ++ past)).core in
-    let x = one_timely b pins place entries j most t (later ++ past) are reads in
+    let x = one_timely b pins place entries n j most t (later ++ past) are reads in
     let one = x.0.held ++ x.0.on in
-    let start = run old.steps base in
-    let At : Core → Type 0 = λ y. AreTimely j most y.board (rig_steps one y) in
-    let there : At start = subst At old.is x.1 in
     record {
       steps = old.steps ++ one;
       is = x.0.is ∙ sym (run_append x.0.held x.0.on h) ∙ ap (run one) old.is ∙ sym (run_append old.steps one base);
-      timely = subst (AreTimely j most base.board) (sym (rig_append old.steps one base))
-          (timely_both (rig_steps old.steps base) (rig_steps one start) j most base.board old.timely
-          (subst (λ (r : Rig). AreTimely j most r (rig_steps one start)) (steps_board old.steps base) there));
+      timely = steps_late n j most old.steps one base old.timely (subst (λ (y : Core). LateTurn n j most y one) old.is x.1);
     }
+
+far_enough : (n : ℕ) (ss : List RigStep) (front : List Meant) → n ≤ length front → commands_in ss ≡ commands_of front → n ≤ 0 + length (commands_in ss)
+far_enough n ss front far e = let l = ap length e in let k = commands_many front in omega (arith, far, l, k)
 
 -- what is asked of a board that took its first commands so
 abbrev pub HasThen : ℕ → ℕ → List Meant → LinkState → Type 0
@@ -235,13 +286,13 @@ so_parts : (i j : ℕ) (xs ys : List Cmd) → EachSo i j xs → EachSo i j ys �
 so_parts i j [] ys a b = b
 so_parts i j (x ∷ xs) ys a b = (a.0, so_parts i j xs ys a.1 b)
 
-pub limits_in_turns : (b : BoardDef) (pins : List (List Level)) (place : ℕ) (entries : List Entry) (later : List BoardTurn) (t : BoardTurn) (past : List BoardTurn) (i j most c : ℕ) (front : List Meant) (set : Meant) (between : List Meant) (bind : Meant) (behind : List Meant)
+pub limits_in_turns : (b : BoardDef) (pins : List (List Level)) (place : ℕ) (entries : List Entry) (later : List BoardTurn) (t : BoardTurn) (past : List BoardTurn) (i j most n c : ℕ) (front : List Meant) (set : Meant) (between : List Meant) (bind : Meant) (behind : List Meant)
     → AreBoardTurns (clock_of b) (first_state b pins place entries) (later ++ t ∷ past)
     → (stands_after (first_state b pins place entries) (later ++ t ∷ past)).core.taken ≡ (front ++ set ∷ between) ++ bind ∷ behind → set.command ≡ cmd.TrsyncSetTimeout j c → bind.command ≡ cmd.StepperStopOnTrigger i j
-    → TookInTurn (first_state b pins place entries) (front ++ set ∷ between) t past → EachBehind i j between → EachBehind i j behind → ReadsAtMost (board_tick (clock_of b)) j most (first_state b pins place entries) (later ++ t ∷ past)
-    → HasThen i j front (first_state b pins place entries)
+    → TookInTurn (first_state b pins place entries) (front ++ set ∷ between) t past → EachBehind i j between → EachBehind i j behind → ReadsAtMost (board_tick (clock_of b)) j most n (first_state b pins place entries) (later ++ t ∷ past)
+    → n ≤ length front → HasThen i j front (first_state b pins place entries)
     → (pulses : List Pulse) × ((stands_after (first_state b pins place entries) past).core.made ++ pulses ≡ (stands_after (first_state b pins place entries) (later ++ t ∷ past)).core.made) × AllBefore i most pulses
-limits_in_turns b pins place entries later t past i j most c front set between bind behind are taken set_is bind_is here apart_between apart_behind reads has =
+limits_in_turns b pins place entries later t past i j most n c front set between bind behind are taken set_is bind_is here apart_between apart_behind reads far has =
     let first = first_state b pins place entries in
     let clock = clock_of b in
     let c0 = first.core in
@@ -249,11 +300,11 @@ limits_in_turns b pins place entries later t past i j most c front set between b
     let my_reads = reads_from later reads in
     let old = whole_past past mine.1 my_reads.1 in
     let h = (stands_after first past).core in
-    let x = one_timely b pins place entries j most t past mine my_reads in
+    let x = one_timely b pins place entries n j most t past mine my_reads in
     let p = x.0 in
     let g = run p.held h in
     let m = t.after.core in
-    let rest = later_timely b pins place entries j most later (t ∷ past) are reads in
+    let rest = later_timely b pins place entries n j most later (t ∷ past) are reads in
     let tail = p.on ++ rest.steps in
     let all = p.held ++ tail in
     let whole_list = front ++ set ∷ between in
@@ -286,18 +337,17 @@ limits_in_turns b pins place entries later t past i j most c front set between b
     let whole_steps : AreWhole c0.board early =
     whole_both past_steps (map Takes (commands_of f)) c0.board (steps_whole old.0 c0) (takes_whole (commands_of f) (rig_after_all past_steps c0.board)) in
     let r1_has = has s.early (whole_front s.early (Takes set.command ∷ s.late) c0.board (subst (AreWhole c0.board) s.are whole_steps)) s.before in
-    let timely_all : AreTimely j most c0.board (early ++ Takes stop ∷ behind_steps) =
-    let rest_timely : AreTimely j most h.board (rig_steps all h) =
-    subst (AreTimely j most h.board) (sym (rig_append (p.held ++ p.on) rest.steps h) ∙ ap (λ (y : List Step). rig_steps y h) (append_assoc p.held p.on rest.steps))
-    (timely_both (rig_steps (p.held ++ p.on) h) (rig_steps rest.steps (run (p.held ++ p.on) h)) j most h.board x.1
-    (late_timely rest h p rest.timely)) in
-    let joined = timely_both past_steps (rig_steps all h) j most c0.board old.2 (subst (λ (r : Rig). AreTimely j most r (rig_steps all h)) board_is rest_timely) in
-    subst (AreTimely j most c0.board) (ap (λ (y : List RigStep). past_steps ++ y) rigs ∙ sym (append_assoc past_steps (map Takes (commands_of f)) (Takes stop ∷ behind_steps))) joined in
+    let timely_all : AreLate n 0 j most c0.board (early ++ Takes stop ∷ behind_steps) =
+    let now = steps_late n j most (p.held ++ p.on) rest.steps h x.1 (subst (λ (y : Core). LateTurn n j most y rest.steps) (p.is ∙ sym (run_append p.held p.on h)) rest.timely) in
+    let joined = steps_late n j most old.0 ((p.held ++ p.on) ++ rest.steps) c0 old.2 (subst (λ (y : Core). LateTurn n j most y ((p.held ++ p.on) ++ rest.steps)) old.1 now) in
+    subst (AreLate n 0 j most c0.board)
+    (rig_append old.0 ((p.held ++ p.on) ++ rest.steps) c0 ∙ ap (λ (y : Core). past_steps ++ rig_steps ((p.held ++ p.on) ++ rest.steps) y) (sym old.1) ∙ ap (λ (y : List Step). past_steps ++ rig_steps y h) (append_assoc p.held p.on rest.steps)
+    ∙ ap (λ (y : List RigStep). past_steps ++ y) rigs ∙ sym (append_assoc past_steps (map Takes (commands_of f)) (Takes stop ∷ behind_steps))) joined in
     let parted : early ++ Takes stop ∷ behind_steps ≡ s.early ++ (timed_and_bound i j c s.late ++ behind_steps) =
     ap (λ (y : List RigStep). y ++ Takes stop ∷ behind_steps) s.are ∙ append_assoc s.early (Takes set.command ∷ s.late) (Takes stop ∷ behind_steps)
     ∙ ap (λ (y : Cmd). s.early ++ (Takes y ∷ (s.late ++ Takes stop ∷ behind_steps))) set_is
     ∙ ap (λ (y : List RigStep). s.early ++ (Takes (cmd.TrsyncSetTimeout j c) ∷ y)) (sym (append_assoc s.late (Takes stop ∷ []) behind_steps)) in
-    let timely = (timely_parts s.early (timed_and_bound i j c s.late ++ behind_steps) j most c0.board (subst (AreTimely j most c0.board) parted timely_all)).1 in
+    let timely = late_parts n 0 s.early (timed_and_bound i j c s.late ++ behind_steps) j most c0.board ((far_enough n s.early front far s.before)) (subst (AreLate n 0 j most c0.board) parted timely_all) in
     let late_commands : commands_in (s.late ++ behind_steps) ≡ commands_of between ++ commands_of behind =
     in_both s.late behind_steps ∙ ap (λ (y : List Cmd). y ++ commands_in behind_steps) s.after
     ∙ ap (λ (y : List Cmd). commands_of between ++ y) (in_both (map Takes (commands_of more)) (rig_steps tail g) ∙ ap (λ (y : List Cmd). y ++ commands_in (rig_steps tail g)) (in_takes (commands_of more))
@@ -318,24 +368,15 @@ limits_in_turns b pins place entries later t past i j most c front set between b
     turns_from [] are = are
     turns_from (u ∷ later) are = turns_from later are.1
 
-    reads_from : (later : List BoardTurn) → ReadsAtMost (board_tick (clock_of b)) j most (first_state b pins place entries) (later ++ t ∷ past) → ReadsAtMost (board_tick (clock_of b)) j most (first_state b pins place entries) (t ∷ past)
+    reads_from : (later : List BoardTurn) → ReadsAtMost (board_tick (clock_of b)) j most n (first_state b pins place entries) (later ++ t ∷ past) → ReadsAtMost (board_tick (clock_of b)) j most n (first_state b pins place entries) (t ∷ past)
     reads_from [] reads = reads
     reads_from (u ∷ later) reads = reads_from later reads.1
 
-    whole_past : (past : List BoardTurn) → AreBoardTurns (clock_of b) (first_state b pins place entries) past → ReadsAtMost (board_tick (clock_of b)) j most (first_state b pins place entries) past
+    whole_past : (past : List BoardTurn) → AreBoardTurns (clock_of b) (first_state b pins place entries) past → ReadsAtMost (board_tick (clock_of b)) j most n (first_state b pins place entries) past
         → (steps : List Step) × ((stands_after (first_state b pins place entries) past).core ≡ run steps (first_state b pins place entries).core)
-        × AreTimely j most (first_state b pins place entries).core.board (rig_steps steps (first_state b pins place entries).core)
+        × LateTurn n j most (first_state b pins place entries).core steps
     whole_past past are reads =
         let first = first_state b pins place entries in
         let none : past ≡ past ++ [] = sym (append-nil past) in
-        let x = later_timely b pins place entries j most past [] (subst (AreBoardTurns (clock_of b) first) none are) (subst (ReadsAtMost (board_tick (clock_of b)) j most first) none reads) in
+        let x = later_timely b pins place entries n j most past [] (subst (AreBoardTurns (clock_of b) first) none are) (subst (ReadsAtMost (board_tick (clock_of b)) j most n first) none reads) in
         (x.steps, ap (λ (y : List BoardTurn). (stands_after first y).core) none ∙ x.is, x.timely)
-
-    late_timely : (rest : LaterSteps (first_state b pins place entries) j most later (t ∷ past)) (h : Core) (p : TurnParts (stands_after (first_state b pins place entries) past) t.after) → AreTimely j most t.after.core.board (rig_steps rest.steps t.after.core)
-        → AreTimely j most (rig_after_all (rig_steps (p.held ++ p.on) (stands_after (first_state b pins place entries) past).core) (stands_after (first_state b pins place entries) past).core.board)
-        (rig_steps rest.steps (run (p.held ++ p.on) (stands_after (first_state b pins place entries) past).core))
-    late_timely rest h p timely =
-        let core = (stands_after (first_state b pins place entries) past).core in
-        let is : t.after.core ≡ run (p.held ++ p.on) core = p.is ∙ sym (run_append p.held p.on core) in
-        let now : AreTimely j most (run (p.held ++ p.on) core).board (rig_steps rest.steps (run (p.held ++ p.on) core)) = subst (λ (y : Core). AreTimely j most y.board (rig_steps rest.steps y)) is timely in
-        subst (λ (r : Rig). AreTimely j most r (rig_steps rest.steps (run (p.held ++ p.on) core))) (steps_board (p.held ++ p.on) core) now

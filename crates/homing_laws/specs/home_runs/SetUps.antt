@@ -1,9 +1,8 @@
 -- In what order a board takes the commands of a homing section.
-use Rattle.std.specs.Prelude.{◌<◌, ◌≡◌, ◌≤◌, ◌==◌, ◌&&◌, ◌++◌, ℕ, List, [], ◌∷◌, length, max, if◌then◌else◌}
+use Rattle.std.specs.Prelude.{◌<◌, ◌≡◌, ◌≤◌, ◌==◌, ◌&&◌, ℕ, List, [], ◌∷◌, length, max, if◌then◌else◌}
 use Rattle.msg_code.specs.declared.cmd.Cmd.{Cmd}
 use Rattle.msg_code.specs.declared.cmd.Cmd.TheVariants as cmd
 use Rattle.board_sim.specs.Fair.{Meant}
-use Rattle.board_sim.specs.RigRuns.{IsTimely}
 use Rattle.link_work.specs.Turn.{LinkState}
 use Rattle.board_runs.specs.Turns.{BoardTurn, stands_after}
 
@@ -37,17 +36,3 @@ AreInOrder stepper trigger far (c ∷ cs) =
 abbrev pub TookInTurn : LinkState → List Meant → BoardTurn → List BoardTurn → Type 0
 TookInTurn first front t past =
     (length (stands_after first past).core.taken ≤ length front) × (length front < length t.after.core.taken)
-
--- a timeout that a board takes for a trigger, at a tick, it reads as one that is at most another: the nearest one with
--- its clock
-abbrev pub AreReadBy : ℕ → ℕ → ℕ → List Meant → Type 0
-AreReadBy now trigger most [] = Unit {0}
-AreReadBy now trigger most (m ∷ ms) = IsTimely now trigger most m.command × AreReadBy now trigger most ms
-
--- so each that it takes in some turns, as which begin it stands at its tick of each
-abbrev pub ReadsAtMost : (own : ℕ → ℕ) → ℕ → ℕ → LinkState → List BoardTurn → Type 0
-ReadsAtMost own trigger most first [] = Unit {0}
-ReadsAtMost own trigger most first (t ∷ before) =
-    ((new : List Meant) → t.after.core.taken ≡ (stands_after first before).core.taken ++ new
-    → AreReadBy (own (length before)) trigger most new)
-    × ReadsAtMost own trigger most first before

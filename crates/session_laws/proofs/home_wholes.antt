@@ -14,7 +14,6 @@ pub mod Going
 pub mod Places
 pub mod Between
 pub mod Axes
-pub mod Own
 pub mod Lines
 pub mod Shows
-pub mod Joined
+pub mod Own

@@ -35,7 +35,6 @@ use Rattle.homing_laws.specs.home_parts.Cuts.{cut_on, cuts_on}
 use Rattle.run_plans.proofs.Heard.{heard_few}
 use Rattle.homing_laws.proofs.home_parts.Ends.{ends_low, ends_made, ends_told, waits_silent}
 use Rattle.homing_laws.proofs.home_parts.Known.{tells_low}
-use Rattle.run_laws.proofs.Lists.{same_place}
 
 -- a turn that stops parts is one in which a homing section sets its clocks
 record Stops (begun : List Started) (turn end : ℕ) : Type 0 where
@@ -180,7 +179,7 @@ reads_tail m switches b (x ∷ []) c before (z ∷ []) t past e r = r.1
 reads_tail m switches b (x ∷ y ∷ xs) c before (z ∷ []) t past e r = absurd (omega (arith, e))
 reads_tail m switches b (x ∷ xs) c before (z ∷ w ∷ zs) t past e r = reads_tail m switches b xs c before (w ∷ zs) t past (omega (arith, e)) r.1
 
-read_at : (m : Machine) (switches : List Switch) (pins : List (List Level)) (entries : List Entry) (b : ℕ) (came : List Came) (turns : List BoardTurn) (xs : List Came) (c : Came) (before : List Came) (zs : List BoardTurn) (t : BoardTurn) (past : List BoardTurn)
+pub read_at : (m : Machine) (switches : List Switch) (pins : List (List Level)) (entries : List Entry) (b : ℕ) (came : List Came) (turns : List BoardTurn) (xs : List Came) (c : Came) (before : List Came) (zs : List BoardTurn) (t : BoardTurn) (past : List BoardTurn)
     → IsInRun m switches pins entries b came turns → IsInRun m switches pins entries b (c ∷ before) (t ∷ past) → came ≡ xs ++ c ∷ before → turns ≡ zs ++ t ∷ past → AreReadSo m switches b came turns → IsReadSo m switches b c before past
 read_at m switches pins entries b came turns xs c before zs t past run here are cut so =
     let all = as_long m switches b came turns run.both in
@@ -263,18 +262,6 @@ module _ (m : Machine) (switches : List Switch) (pins : List (List Level)) (entr
           | inr so ↦ inr (read_at m switches pins entries b came turns f.ahead f.c f.before f.later f.t f.past run f.run f.came_is f.turns_is so)
         ];
       }
-
-  -- and told of in that turn
-  pub section_told : (turns : List BoardTurn) → IsInRun m switches pins entries b came turns → TakeSetUps m pins entries b p.seen.begun turns ⊎ AreReadSo m switches b came turns → (xs : List Started) (s : Started) (later : List Started) (axis : ℕ) → p.seen.begun ≡ xs ++ s ∷ later
-      → s.section.kind ≡ Home axis → (ahead : List Came) (c : Came) (before : List Came) → came ≡ ahead ++ c ∷ before → length before ≡ s.end
-      → (x : IsToldIn m switches pins entries b s.start s.end turns) × (x.came ≡ c) × (x.before ≡ before) × (x.members ≡ members_from m (axis_at m axis) s.moving 0 m.boards)
-  unfolding told_one
-  section_told turns run takes xs s later axis cut home ahead c before are at =
-      let size : length came ≡ length ahead + length (c ∷ before) = ap length are ∙ length-append ahead (c ∷ before) in
-      let low : s.end < length came = omega (arith, size, at) in
-      let f = split_at m switches pins entries b s.end came turns run low in
-      let same = same_place f.ahead f.c f.before ahead c before (sym f.came_is ∙ are) (f.at ∙ sym at) in
-      (told_one turns run takes xs s later axis cut home low, same.0, same.1, refl)
 
   pub cut_split : (turn : ℕ) (xs : List Started) (s : Started) (later : List Started) (axis : ℕ) → p.seen.begun ≡ xs ++ s ∷ later → cuts_on m t.clocks turn p.seen.begun b ≡ cuts_on m t.clocks turn xs b ++ cut_on m t.clocks turn b s ∷ cuts_on m t.clocks turn later b
   cut_split turn xs s later axis cut = ap (map (cut_on m t.clocks turn b)) cut ∙ map-append (cut_on m t.clocks turn b) xs (s ∷ later)

@@ -25,23 +25,27 @@ use Rattle.homing_laws.specs.home_runs.Words.{BeginsNone}
 use Rattle.homing_laws.specs.switch_runs.Reports.{IsReport}
 use Rattle.homing_laws.specs.clear_groups.Resting.{EachTame}
 
--- a trigger stands here that can't trigger, since this tick
-pub record IsFiredAt (trigger tick : ℕ) (r : Rig) : Type 0 where
+-- a trigger stands here that can't trigger, for this reason since this tick
+pub record IsFiredAt (trigger reason tick : ℕ) (r : Rig) : Type 0 where
   pub slot : Slot
   pub is : slot_at r trigger ≡ Some slot
   pub fired : slot.trigger.can ≡ false
+  pub why : slot.trigger.reason ≡ reason
   pub at : slot.trigger.tick ≡ tick
 
 -- so as one of some turns of a board ended
-abbrev pub WasFiredAt : ℕ → ℕ → List BoardTurn → Type 0
-WasFiredAt trigger tick [] = ⊥
-WasFiredAt trigger tick (t ∷ before) = IsFiredAt trigger tick t.after.core.board ⊎ WasFiredAt trigger tick before
+abbrev pub WasFiredAt : ℕ → ℕ → ℕ → List BoardTurn → Type 0
+WasFiredAt trigger reason tick [] = ⊥
+WasFiredAt trigger reason tick (t ∷ before) =
+    IsFiredAt trigger reason tick t.after.core.board ⊎ WasFiredAt trigger reason tick before
 
--- Where the state of a board that comes in a turn of the reactor tells that its trigger has triggered, and that counts for the homing section that is
--- known, of which the board is a member, the tick as which it is read is one since which the board's trigger could not trigger, as one of these turns ended.
+-- Where the state of a board that comes in a turn of the reactor tells that its trigger has triggered, and that counts
+-- for the homing section that is known, of which the board is a member, the tick as which it is read is one since which
+-- the board's trigger could not trigger, for the told reason, as one of these turns ended.
 abbrev pub ReadsTrue : Machine → List Switch → ℕ → Came → List Came → List BoardTurn → Type 0
 ReadsTrue m switches b c before turns =
-    (h : Homing) (f : Fired) → (noted m c.note (known_by m switches before)).homing ≡ Some h → IsMember b (members_of h.group) → IsReport m switches b h.start f c before → WasFiredAt (trigger_of m b) f.tick turns
+    (h : Homing) (f : Fired) → (noted m c.note (known_by m switches before)).homing ≡ Some h →
+    IsMember b (members_of h.group) → IsReport m switches b h.start f c before → WasFiredAt (trigger_of m b) f.reason f.tick turns
 
 -- so in each of some turns; the first state that came is that of the latest of the board's turns
 abbrev pub AreReadTrue : Machine → List Switch → ℕ → List Came → List BoardTurn → Type 0

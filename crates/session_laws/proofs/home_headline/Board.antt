@@ -12,7 +12,6 @@ use Rattle.msg_code.specs.declared.talk.WordMsg.{WordMsg}
 use Rattle.wire_scene.specs.declared.scene.Scene.{Scene}
 use Rattle.link_work.specs.Ends.{spoiled}
 use Rattle.link_work.specs.Limits.{AllKeepLimits}
-use Rattle.link_work.specs.Runs.{AreTurns}
 use Rattle.link_work.specs.Switches.{pins_of}
 use Rattle.link_work.specs.Turn.{LinkState, Orders}
 use Rattle.host_reactor.specs.Runs.{Came}
@@ -29,7 +28,6 @@ use Rattle.session_work.specs.Leads.{last_words}
 use Rattle.session_work.specs.Rows.{gather}
 use Rattle.session_run.specs.Boards.{AreReactorTurns, came_from, came_in}
 use Rattle.run_laws.specs.Boards.{OnBoard}
-use Rattle.run_laws.specs.Ends.{MayBe}
 use Rattle.run_laws.specs.Homes.{HasUnits, IsHomeBoard, IsHomeRun, RunSection, SetsAny, AreReleasedIn}
 use Rattle.board_world.specs.World.{start}
 use Rattle.run_laws.specs.Links.{AreTold, ends_of, steps_of, turns_told}
@@ -71,7 +69,6 @@ use Rattle.session_laws.proofs.clock_ages.Own.{AreRenewed, Own, follow_on}
 use Rattle.session_laws.specs.home_headline.Little.{HomesLittle}
 use Rattle.session_laws.proofs.home_headline.Clear.{clear_set_ups}
 use Rattle.session_laws.proofs.home_headline.Clocks.{run_knows}
-use Rattle.session_laws.proofs.home_headline.Good.{may_at}
 use Rattle.session_laws.proofs.home_headline.Made.{IsOwn, set_own, units_own}
 use Rattle.session_laws.proofs.home_headline.Planned.{planned_by}
 
@@ -299,15 +296,6 @@ module _ (m : Machine) (v : IsValidMachine m) (s : Scene) (ts : List MotionTurn)
         ] in
         subst Long many (home_by m v s b (length before) until (length rest) ts p t turns (states_of w.made) (stands_after (link_of m s b) turns) h (cuts_on m t.clocks until p.seen.begun b) w.turns_are (let size = length-append rest (end ∷ []) in omega (arith, many, size)) x.home x.released x.controls
         sections (orders_of w.made) w.in_order w.told near)
-
-    -- behind its last turn it runs, or shut down for one of the two reasons
-    pub may_by : MayBe (stands_after (link_of m s b) (behind [] w.made)).core.board.controller.state
-    may_by =
-        let clock = clock_of (board_at m b) in
-        let end_is = stands_after (link_of m s b) (behind [] w.made) in
-        let Turns : List Orders → Type 0 = λ os. AreTurns clock 0 os (link_of m s b) end_is in
-        may_at b s.entries (length (came_from [] r.past)) (length (rest ++ end ∷ [])) (cuts_on m t.clocks until p.seen.begun b) (here_by until b w) end_is boarded_by
-        (subst Turns (sym w.in_order) (turns_told clock 0 (orders_of w.made) (states_of w.made) (link_of m s b) end_is w.told))
 
   -- where the planner made as many turns as the run has
   pub boarded : (n b : ℕ) (left : List WordMsg) (w : IsInWhole m s.switches b (clock_of (board_at m b)) (link_of m s b) ts first (rest ++ end ∷ [])) (r : Ready m v s ts p t first rest end told) → b < length m.boards → AreReactorTurns m s.switches [] (first ∷ rest)

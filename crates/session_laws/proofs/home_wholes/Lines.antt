@@ -19,7 +19,7 @@ use Rattle.section_units.specs.Units.{sent}
 use Rattle.link_work.specs.Switches.{pins_of}
 use Rattle.host_reactor.specs.Report.{turned}
 use Rattle.host_reactor.specs.Runs.{Came}
-use Rattle.board_runs.specs.Turns.{BoardTurn, stands_after}
+use Rattle.board_runs.specs.Turns.{BoardTurn}
 use Rattle.clock_runs.specs.Runs.{IsInRun, orders_in}
 use Rattle.clock_runs.proofs.Orders.{order_length}
 use Rattle.motion_work.specs.Seen.{AreStarted, IsMoved, IsPlanned, Started, part_on}
@@ -28,7 +28,6 @@ use Rattle.session_work.specs.declared.table.MotionTurn.{MotionTurn}
 use Rattle.session_work.specs.declared.table.ReactorTurn.{ReactorTurn}
 use Rattle.session_run.specs.Boards.{came_from}
 use Rattle.run_laws.specs.Boards.{IsWindow, OnBoard, told_in}
-use Rattle.run_laws.specs.Ends.{MayBe}
 use Rattle.link_work.specs.Limits.{AllKeepLimits}
 use Rattle.link_work.specs.Turn.{Orders}
 use Rattle.run_laws.specs.Homes.{AreOut, IsHomeBoard, RunSection}
@@ -59,7 +58,7 @@ use Rattle.cause_runs.specs.Short.{HaveShortDictionaries}
 use Rattle.session_laws.proofs.clock_ages.Own.{Own}
 use Rattle.session_laws.proofs.clock_ages.Renews.{renews}
 use Rattle.session_laws.specs.home_headline.Little.{HomesLittle}
-use Rattle.session_laws.proofs.home_headline.Board.{Followed, boarded_by, end_at, here_by, lines_of, may_by, told_by}
+use Rattle.session_laws.proofs.home_headline.Board.{Followed, boarded_by, end_at, here_by, lines_of, told_by}
 use Rattle.session_laws.proofs.home_headline.Clocks.{run_knows}
 use Rattle.session_laws.proofs.home_headline.Planned.{planned_by}
 use Rattle.session_laws.proofs.home_headline.Ranges.{may_all, on_small, range_all, starts_soon}
@@ -83,8 +82,7 @@ before_last ready past x later before y axis are moves home row =
     ]
 
 module _ (m : Machine) (v : IsValidMachine m) (s : Scene) (ts : List MotionTurn) (p : Plans m (length m.boards) ts) (t : Told) (first : ReactorTurn) (rest : List ReactorTurn) (end : ReactorTurn) (c : Cause) (told : p.seen.told ≡ Some t) (f : Facts m s ts (first ∷ rest) end c)
-    (short : HaveShortDictionaries m)
-    (little : (b : ℕ) → b < length m.boards → (w : IsInWhole m s.switches b (clock_of (board_at m b)) (link_of m s b) ts first (rest ++ end ∷ [])) → HomesLittle m s b ts first (rest ++ end ∷ []) (length p.made) t p.seen.begun w) where
+    (short : HaveShortDictionaries m) where
   notes : TookNotes (map (λ d. d.note) p.made) (first ∷ rest)
   notes = notes_before m v s ts p end c first rest f
 
@@ -98,7 +96,7 @@ module _ (m : Machine) (v : IsValidMachine m) (s : Scene) (ts : List MotionTurn)
   pub turn : Ready m v s ts p t first rest end told
   turn = ready m v s ts p t first rest end told f.ahead f.words_left f.turns f.words
 
-  pub whole : (b : ℕ) → b < length m.boards → IsInWhole m s.switches b (clock_of (board_at m b)) (link_of m s b) ts first (rest ++ end ∷ [])
+  abbrev pub whole : (b : ℕ) → b < length m.boards → IsInWhole m s.switches b (clock_of (board_at m b)) (link_of m s b) ts first (rest ++ end ∷ [])
   whole b h = f.boards b first rest h refl
 
   abbrev pub N : ℕ
@@ -138,13 +136,6 @@ module _ (m : Machine) (v : IsValidMachine m) (s : Scene) (ts : List MotionTurn)
   pub formed : MayHome m p.seen.begun
   formed = may_all m v ts p t told
 
-  pub on : (b : ℕ) (h : b < length m.boards) → IsHomeBoard b s.entries By N (cuts_on m t.clocks Made p.seen.begun b) (Here b h)
-  on b h = boarded_by m v s ts p t first rest end told Made f.ahead b f.words_left (whole b h) turn h f.turns f.words notes (omega arith) (inr (omega arith)) most (little b h (whole b h)) (lines b h) sound formed (range b h)
-
-  -- and behind its last turn it runs, or shut down for one of the two reasons
-  pub may_end : (b : ℕ) (h : b < length m.boards) → MayBe (stands_after (link_of m s b) (Turns_of b h)).core.board.controller.state
-  may_end b h = may_by m v s ts p t first rest end told Made f.ahead b f.words_left (whole b h) turn h f.turns f.words notes (omega arith) (inr (omega arith)) most (little b h (whole b h)) (lines b h) sound formed (range b h)
-
   pub run_of : (b : ℕ) (h : b < length m.boards) → IsInRun m s.switches (pins_of (board_at m b) b s.switches) s.entries b Came_all (Turns_of b h)
   run_of b h =
       let w = whole b h in
@@ -162,130 +153,135 @@ module _ (m : Machine) (v : IsValidMachine m) (s : Scene) (ts : List MotionTurn)
   pub connected : ArePastConnecting m s.switches By Came_all
   connected = (run_knows m v s ts p t first rest end told turn f.turns sound notes).1
 
-  pub count : (b : ℕ) (h : b < length m.boards) → length (Turns_of b h) ≡ length (rest ++ end ∷ [])
-  count b h = let a = order_length (Turns_of b h) in let d = (on b h).count in omega (arith, a, d)
-
-  pub limits_of : (b : ℕ) (h : b < length m.boards) → (done : List Orders) (o : Orders) (more : List Orders) → orders_in (Turns_of b h) ≡ done ++ (o ∷ more) → AllKeepLimits done
-  limits_of b h =
-      let k = on b h in
-      let pins = pins_of (board_at m b) b s.switches in
-      let units = turns_fit k.own (clocks_at t.clocks b) (board_at m b).freq (board_at m b).slots By k.stops (cuts_on m t.clocks Made p.seen.begun b) (Turns_of b h) k.run_is k.released in
-      limited m v s.switches pins s.entries b Came_all (Turns_of b h) (run_of b h) units
-
-  -- the sections that home are told of
-  pub set_ups : (b : ℕ) (h : b < length m.boards) → TakeSetUps m (pins_of (board_at m b) b s.switches) s.entries b p.seen.begun (Turns_of b h) ⊎ AreReadSo m s.switches b Came_all (Turns_of b h)
-  set_ups b h =
-      let pins = pins_of (board_at m b) b s.switches in
-      let Reads : List Came → Type 0 = λ z. (s.entries ≡ []) ⊎ (TakeSetUps m pins s.entries b p.seen.begun (Turns_of b h) ⊎ AllReadTrue m s.switches b z (Turns_of b h)) in
-      told_by m v s ts p t b (length rest) By Came_all (Turns_of b h) h (lines b h) turn.early row by knows connected (let d = came_long [] (first ∷ rest) in omega (arith, d)) (whole b h).turns_are (limits_of b h)
-      (subst Reads (came_cut [] first rest end) (little b h (whole b h)).set_up)
-
-  homed : (b : ℕ) (h : b < length m.boards) → AreHomed m s.switches (pins_of (board_at m b) b s.switches) s.entries b (stops_of p.seen.begun) (Turns_of b h)
-  homed b h =
-      let k = on b h in
-      let pins = pins_of (board_at m b) b s.switches in
-      let told_all = all_told m s.switches pins s.entries b By Made ts p t Came_all (Turns_of b h) by told turn.early connected formed (run_of b h) (set_ups b h) in
-      all_homed m s.switches pins s.entries b (board_at m b).freq (board_at m b).slots By k.own (clocks_at t.clocks b) k.stops (stops_of p.seen.begun) (cuts_on m t.clocks Made p.seen.begun b) (Turns_of b h) k.run_is k.released told_all
-
   pub took_states : (b : ℕ) (h : b < length m.boards) → TookStates b (rest ++ end ∷ []) (Here b h).states
   took_states b h = took b (rest ++ end ∷ []) (Here b h).states (whole b h).states
 
-  -- a section of moves on a board
-  module _ (past : List Started) (x : Started) (later : List Started) (cut : p.seen.begun ≡ past ++ x ∷ later) (moves : x.section.kind ≡ Moves) (from to : ℕ)
-      (w : IsWindow (length (rest ++ end ∷ [])) from to (record { start = x.start; end = x.end }) (times_of later)) (over : x.end + 5 ≤ to) (b : ℕ) (h : b < length m.boards) where
-    abbrev Cut : RunSection
-    Cut = cut_on m t.clocks Made b x
+  -- where each board holds nothing long
+  module _ (little : (b : ℕ) → b < length m.boards → (w : IsInWhole m s.switches b (clock_of (board_at m b)) (link_of m s b) ts first (rest ++ end ∷ [])) → HomesLittle m s b ts first (rest ++ end ∷ []) (length p.made) t p.seen.begun w) where
+    pub on : (b : ℕ) (h : b < length m.boards) → IsHomeBoard b s.entries By N (cuts_on m t.clocks Made p.seen.begun b) (Here b h)
+    on b h = boarded_by m v s ts p t first rest end told Made f.ahead b f.words_left (whole b h) turn h f.turns f.words notes (omega arith) (inr (omega arith)) most (little b h (whole b h)) (lines b h) sound formed (range b h)
 
-    home : IsHomeBoard b s.entries By N (cuts_on m t.clocks Made past b ++ Cut ∷ cuts_on m t.clocks Made later b) (Here b h)
-    home =
-        let Home : List RunSection → Type 0 = λ ss. IsHomeBoard b s.entries By N ss (Here b h) in
-        subst Home (ap (map (cut_on m t.clocks Made b)) cut ∙ map-append (cut_on m t.clocks Made b) past (x ∷ later)) (on b h)
+    pub count : (b : ℕ) (h : b < length m.boards) → length (Turns_of b h) ≡ length (rest ++ end ∷ [])
+    count b h = let a = order_length (Turns_of b h) in let d = (on b h).count in omega (arith, a, d)
 
-    starts : (t.first ≤ x.start) × (x.start ≤ x.end)
-    starts = let Row : List Started → Type 0 = λ ss. AreInARow t.first ss in row_from t.first past x later (subst Row cut row)
+    pub limits_of : (b : ℕ) (h : b < length m.boards) → (done : List Orders) (o : Orders) (more : List Orders) → orders_in (Turns_of b h) ≡ done ++ (o ∷ more) → AllKeepLimits done
+    limits_of b h =
+        let k = on b h in
+        let pins = pins_of (board_at m b) b s.switches in
+        let units = turns_fit k.own (clocks_at t.clocks b) (board_at m b).freq (board_at m b).slots By k.stops (cuts_on m t.clocks Made p.seen.begun b) (Turns_of b h) k.run_is k.released in
+        limited m v s.switches pins s.entries b Came_all (Turns_of b h) (run_of b h) units
 
-    far : 260 ≤ t.first
-    far = let early = turn.early in omega (arith, early)
+    -- the sections that home are told of
+    pub set_ups : (b : ℕ) (h : b < length m.boards) → TakeSetUps m (pins_of (board_at m b) b s.switches) s.entries b p.seen.begun (Turns_of b h) ⊎ AreReadSo m s.switches b Came_all (Turns_of b h)
+    set_ups b h =
+        let pins = pins_of (board_at m b) b s.switches in
+        let Reads : List Came → Type 0 = λ z. (s.entries ≡ []) ⊎ (TakeSetUps m pins s.entries b p.seen.begun (Turns_of b h) ⊎ AllReadTrue m s.switches b z (Turns_of b h)) in
+        told_by m v s ts p t b (length rest) By Came_all (Turns_of b h) h (lines b h) turn.early row by knows connected (let d = came_long [] (first ∷ rest) in omega (arith, d)) (whole b h).turns_are (limits_of b h)
+        (subst Reads (came_cut [] first rest end) (little b h (whole b h)).set_up)
 
-    still : IsStillIn b s.entries Cut.section (Here b h)
-    still =
-        let size = count b h in
-        let order = w.order in
-        let within = w.within in
-        let begins = w.begins in
-        let y = Here b h in
-        still_between m s.switches (pins_of (board_at m b) b s.switches) s.entries b t.first p.seen.begun past x later Came_all (Turns_of b h) v (run_of b h) by.notes far row (homed b h) cut moves (omega (arith, size, order, within, begins))
-        y.clocks y.sections Cut.section.plan Cut.section.releases y.states
+    homed : (b : ℕ) (h : b < length m.boards) → AreHomed m s.switches (pins_of (board_at m b) b s.switches) s.entries b (stops_of p.seen.begun) (Turns_of b h)
+    homed b h =
+        let k = on b h in
+        let pins = pins_of (board_at m b) b s.switches in
+        let told_all = all_told m s.switches pins s.entries b By Made ts p t Came_all (Turns_of b h) by told turn.early connected formed (run_of b h) (set_ups b h) in
+        all_homed m s.switches pins s.entries b (board_at m b).freq (board_at m b).slots By k.own (clocks_at t.clocks b) k.stops (stops_of p.seen.begun) (cuts_on m t.clocks Made p.seen.begun b) (Turns_of b h) k.run_is k.released told_all
 
-    moved : IsMoved m t.clocks x
-    moved =
-        let Begun : List Started → Type 0 = λ z. AreStarted m t.clocks t.first z in
-        let At : SectionKind → Type 0 = λ k. IsPlanned k m t.clocks x in
-        subst At moves (planned_at m t.clocks t.first past x later (subst Begun cut (started_in m ts p t told)))
+    -- a section of moves on a board
+    module _ (past : List Started) (x : Started) (later : List Started) (cut : p.seen.begun ≡ past ++ x ∷ later) (moves : x.section.kind ≡ Moves) (from to : ℕ)
+        (w : IsWindow (length (rest ++ end ∷ [])) from to (record { start = x.start; end = x.end }) (times_of later)) (over : x.end + 5 ≤ to) (b : ℕ) (h : b < length m.boards) where
+      abbrev Cut : RunSection
+      Cut = cut_on m t.clocks Made b x
 
-    -- it was over in the turns that the planner made: where these are not all, the last section homes
-    made_over : x.end + 5 ≤ Made
-    made_over =
-        let within = w.within in
-        elim (long_or m v s ts p end c first rest f) [
-          | inl l ↦ omega (arith, over, within, l)
-          | inr z ↦ elim z.0 [
-            | inl none ↦ absurd (none_some (sym none ∙ told))
-            | inr last ↦ (let far = before_last t.first past x later last.past last.s last.axis (sym cut ∙ last.are) moves last.home (let Row : List Started → Type 0 = λ ss. AreInARow t.first ss in subst Row last.are row) in let late = last.by in omega (arith, far, late))
+      home : IsHomeBoard b s.entries By N (cuts_on m t.clocks Made past b ++ Cut ∷ cuts_on m t.clocks Made later b) (Here b h)
+      home =
+          let Home : List RunSection → Type 0 = λ ss. IsHomeBoard b s.entries By N ss (Here b h) in
+          subst Home (ap (map (cut_on m t.clocks Made b)) cut ∙ map-append (cut_on m t.clocks Made b) past (x ∷ later)) (on b h)
+
+      starts : (t.first ≤ x.start) × (x.start ≤ x.end)
+      starts = let Row : List Started → Type 0 = λ ss. AreInARow t.first ss in row_from t.first past x later (subst Row cut row)
+
+      far : 260 ≤ t.first
+      far = let early = turn.early in omega (arith, early)
+
+      still : IsStillIn b s.entries Cut.section (Here b h)
+      still =
+          let size = count b h in
+          let order = w.order in
+          let within = w.within in
+          let begins = w.begins in
+          let y = Here b h in
+          still_between m s.switches (pins_of (board_at m b) b s.switches) s.entries b t.first p.seen.begun past x later Came_all (Turns_of b h) v (run_of b h) by.notes far row (homed b h) cut moves (omega (arith, size, order, within, begins))
+          y.clocks y.sections Cut.section.plan Cut.section.releases y.states
+
+      moved : IsMoved m t.clocks x
+      moved =
+          let Begun : List Started → Type 0 = λ z. AreStarted m t.clocks t.first z in
+          let At : SectionKind → Type 0 = λ k. IsPlanned k m t.clocks x in
+          subst At moves (planned_at m t.clocks t.first past x later (subst Begun cut (started_in m ts p t told)))
+
+      -- it was over in the turns that the planner made: where these are not all, the last section homes
+      made_over : x.end + 5 ≤ Made
+      made_over =
+          let within = w.within in
+          elim (long_or m v s ts p end c first rest f) [
+            | inl l ↦ omega (arith, over, within, l)
+            | inr z ↦ elim z.0 [
+              | inl none ↦ absurd (none_some (sym none ∙ told))
+              | inr last ↦ (let far = before_last t.first past x later last.past last.s last.axis (sym cut ∙ last.are) moves last.home (let Row : List Started → Type 0 = λ ss. AreInARow t.first ss in subst Row last.are row) in let late = last.by in omega (arith, far, late))
+            ]
           ]
-        ]
 
-    released : AreBefore (x.end + 5) (part_on m t.clocks x b).releases
-    released =
-        let l = lines b h in
-        let early = turn.early in
-        let start = starts.0 in
-        let upto = made_over in
-        let Ends : List Started → Type 0 = λ ss. AreOverBefore m t.clocks l.tracked.until ss in
-        let Out : List Started → Type 0 = λ ss. AreOut (length p.made) (runs_on m t.clocks ss b) in
-        released_by m (Own m b (length rest)) t.clocks b By (length p.made) x (own_on (board_at m b) 0 (length rest + 349) (valid_at m.boards b h v.boards) (omega arith)).ticks l.tracked moved h (omega (arith, early, start))
-        (subst (λ (k : SectionKind). over_in k m t.clocks x < l.tracked.until) moves (end_at m t.clocks l.tracked.until past x later (subst Ends cut l.over))) (out_at m t.clocks (length p.made) b past x later (subst Out cut (little b h (whole b h)).out) (ap is_home moves)) (omega (arith, upto))
+      released : AreBefore (x.end + 5) (part_on m t.clocks x b).releases
+      released =
+          let l = lines b h in
+          let early = turn.early in
+          let start = starts.0 in
+          let upto = made_over in
+          let Ends : List Started → Type 0 = λ ss. AreOverBefore m t.clocks l.tracked.until ss in
+          let Out : List Started → Type 0 = λ ss. AreOut (length p.made) (runs_on m t.clocks ss b) in
+          released_by m (Own m b (length rest)) t.clocks b By (length p.made) x (own_on (board_at m b) 0 (length rest + 349) (valid_at m.boards b h v.boards) (omega arith)).ticks l.tracked moved h (omega (arith, early, start))
+          (subst (λ (k : SectionKind). over_in k m t.clocks x < l.tracked.until) moves (end_at m t.clocks l.tracked.until past x later (subst Ends cut l.over))) (out_at m t.clocks (length p.made) b past x later (subst Out cut (little b h (whole b h)).out) (ap is_home moves)) (omega (arith, upto))
 
-    as_planned : (oid : ℕ) → length (Cut.section.plan oid) ≡ length ((part_on m t.clocks x b).plan oid)
-    as_planned oid = cut_many m t.clocks b Made x moved h released made_over oid
+      as_planned : (oid : ℕ) → length (Cut.section.plan oid) ≡ length ((part_on m t.clocks x b).plan oid)
+      as_planned oid = cut_many m t.clocks b Made x moved h released made_over oid
 
-    -- the link was idle in a turn, and the board wasn't stopped
-    pub idle_many : (n : ℕ) (states others : List State) (last : State) → to ≤ n → n ≤ length (rest ++ end ∷ []) → (Here b h).states ≡ (states ++ last ∷ []) ++ others → length (states ++ last ∷ []) ≡ n → NeverStop (take n (orders_in (Turns_of b h)))
-        → ((z : ShutNews) → last.shut ≡ Some z → z.reason ≡ 1 → ⊥) → last.idle ≡ true → (oid : ℕ) → length (only oid (told_in from to (Here b h))) ≡ length ((part_on m t.clocks x b).plan oid)
-    idle_many n states others last reach upto are size never in_time idle oid =
-        whole_idle b s.entries By N from to (Here b h) (cuts_on m t.clocks Made past b) Cut (cuts_on m t.clocks Made later b) home (ap is_home moves) w.begins w.order (next_behind m t.clocks Made b to later w.next) over still
-        n states others last reach upto (cut_released m t.clocks b Made n x released made_over (omega (arith, over, reach))) are size never in_time idle oid
-        ∙ as_planned oid
+      -- the link was idle in a turn, and the board wasn't stopped
+      pub idle_many : (n : ℕ) (states others : List State) (last : State) → to ≤ n → n ≤ length (rest ++ end ∷ []) → (Here b h).states ≡ (states ++ last ∷ []) ++ others → length (states ++ last ∷ []) ≡ n → NeverStop (take n (orders_in (Turns_of b h)))
+          → ((z : ShutNews) → last.shut ≡ Some z → z.reason ≡ 1 → ⊥) → last.idle ≡ true → (oid : ℕ) → length (only oid (told_in from to (Here b h))) ≡ length ((part_on m t.clocks x b).plan oid)
+      idle_many n states others last reach upto are size never in_time idle oid =
+          whole_idle b s.entries By N from to (Here b h) (cuts_on m t.clocks Made past b) Cut (cuts_on m t.clocks Made later b) home (ap is_home moves) w.begins w.order (next_behind m t.clocks Made b to later w.next) over still
+          n states others last reach upto (cut_released m t.clocks b Made n x released made_over (omega (arith, over, reach))) are size never in_time idle oid
+          ∙ as_planned oid
 
-    -- or it told any pulse behind them
-    pub passed_many : told_in to (length (rest ++ end ∷ [])) (Here b h) ≢ [] → (oid : ℕ) → length (only oid (told_in from to (Here b h))) ≡ length ((part_on m t.clocks x b).plan oid)
-    passed_many some oid =
-        whole_passed b s.entries By N from to (Here b h) (cuts_on m t.clocks Made past b) Cut (cuts_on m t.clocks Made later b) home (ap is_home moves) w.begins w.order (next_behind m t.clocks Made b to later w.next) over still some oid
-        ∙ as_planned oid
+      -- or it told any pulse behind them
+      pub passed_many : told_in to (length (rest ++ end ∷ [])) (Here b h) ≢ [] → (oid : ℕ) → length (only oid (told_in from to (Here b h))) ≡ length ((part_on m t.clocks x b).plan oid)
+      passed_many some oid =
+          whole_passed b s.entries By N from to (Here b h) (cuts_on m t.clocks Made past b) Cut (cuts_on m t.clocks Made later b) home (ap is_home moves) w.begins w.order (next_behind m t.clocks Made b to later w.next) over still some oid
+          ∙ as_planned oid
 
-  -- as many pulses in the report as planned steps
-  pub as_told_by : (x : Started) (from to place : ℕ) (h : place < length m.steppers)
-      → length (only (stepper_at m place).oid (told_in from to (Here (stepper_at m place).board (v.steppers place h).board))) ≡ length ((part_on m t.clocks x (stepper_at m place).board).plan (stepper_at m place).oid)
-      → length (pulses_of place (lines_between from to (rest ++ end ∷ []))) ≡ length (stepper_plan m t.clocks x.section.moves x.start place)
-  as_told_by x from to place h whole =
-      let b = (stepper_at m place).board in
-      let low = (v.steppers place h).board in
-      let o = (stepper_at m place).oid in
-      let plan = stepper_plan m t.clocks x.section.moves x.start place in
-      ap length (between m v place from to p.seen.begun (rest ++ end ∷ []) (Here b low) h tells.1 (took_states b low))
-      ∙ length-map (only o (told_in from to (Here b low))) (λ (q : Pulse). record { tick = q.tick; stepper = place; up = turned (stepper_at m place).inverted q.up }) ∙ whole
-      ∙ ap length (plan_is m v t.clocks x.section.moves x.start place h) ∙ length-map plan (λ (q : Planned). record { tick = q.tick; up = sent (stepper_at m place).inverted q.up })
+    -- as many pulses in the report as planned steps
+    pub as_told_by : (x : Started) (from to place : ℕ) (h : place < length m.steppers)
+        → length (only (stepper_at m place).oid (told_in from to (Here (stepper_at m place).board (v.steppers place h).board))) ≡ length ((part_on m t.clocks x (stepper_at m place).board).plan (stepper_at m place).oid)
+        → length (pulses_of place (lines_between from to (rest ++ end ∷ []))) ≡ length (stepper_plan m t.clocks x.section.moves x.start place)
+    as_told_by x from to place h whole =
+        let b = (stepper_at m place).board in
+        let low = (v.steppers place h).board in
+        let o = (stepper_at m place).oid in
+        let plan = stepper_plan m t.clocks x.section.moves x.start place in
+        ap length (between m v place from to p.seen.begun (rest ++ end ∷ []) (Here b low) h tells.1 (took_states b low))
+        ∙ length-map (only o (told_in from to (Here b low))) (λ (q : Pulse). record { tick = q.tick; stepper = place; up = turned (stepper_at m place).inverted q.up }) ∙ whole
+        ∙ ap length (plan_is m v t.clocks x.section.moves x.start place h) ∙ length-map plan (λ (q : Planned). record { tick = q.tick; up = sent (stepper_at m place).inverted q.up })
 
-  -- a pulse that is told of a stepper is its board's
-  pub passed_told : (past : List Started) (x : Started) (later : List Started) (from to place other : ℕ) → p.seen.begun ≡ past ++ x ∷ later → x.section.kind ≡ Moves → (h : place < length m.steppers) → other < length m.steppers
-      → (stepper_at m other).board ≡ (stepper_at m place).board → IsWindow (length (rest ++ end ∷ [])) from to (record { start = x.start; end = x.end }) (times_of later) → x.end + 5 ≤ to
-      → pulses_of other (lines_between to (length (rest ++ end ∷ [])) (rest ++ end ∷ [])) ≢ []
-      → length (pulses_of place (lines_between from to (rest ++ end ∷ []))) ≡ length (stepper_plan m t.clocks x.section.moves x.start place)
-  passed_told past x later from to place other cut moves h k same w over some =
-      let b = (stepper_at m place).board in
-      let low = (v.steppers place h).board in
-      let n = length (rest ++ end ∷ []) in
-      let Took : ℕ → Type 0 = λ i. TookStates i (rest ++ end ∷ []) (Here b low).states in
-      let states = subst Took (sym same) (took_states b low) in
-      as_told_by x from to place h (passed_many past x later cut moves from to w over b low
-      (λ none. some (between m v other to n p.seen.begun (rest ++ end ∷ []) (Here b low) k tells.1 states ∙ ap (λ y. as_told m other (only (stepper_at m other).oid y)) none)) (stepper_at m place).oid)
+    -- a pulse that is told of a stepper is its board's
+    pub passed_told : (past : List Started) (x : Started) (later : List Started) (from to place other : ℕ) → p.seen.begun ≡ past ++ x ∷ later → x.section.kind ≡ Moves → (h : place < length m.steppers) → other < length m.steppers
+        → (stepper_at m other).board ≡ (stepper_at m place).board → IsWindow (length (rest ++ end ∷ [])) from to (record { start = x.start; end = x.end }) (times_of later) → x.end + 5 ≤ to
+        → pulses_of other (lines_between to (length (rest ++ end ∷ [])) (rest ++ end ∷ [])) ≢ []
+        → length (pulses_of place (lines_between from to (rest ++ end ∷ []))) ≡ length (stepper_plan m t.clocks x.section.moves x.start place)
+    passed_told past x later from to place other cut moves h k same w over some =
+        let b = (stepper_at m place).board in
+        let low = (v.steppers place h).board in
+        let n = length (rest ++ end ∷ []) in
+        let Took : ℕ → Type 0 = λ i. TookStates i (rest ++ end ∷ []) (Here b low).states in
+        let states = subst Took (sym same) (took_states b low) in
+        as_told_by x from to place h (passed_many past x later cut moves from to w over b low
+        (λ none. some (between m v other to n p.seen.begun (rest ++ end ∷ []) (Here b low) k tells.1 states ∙ ap (λ y. as_told m other (only (stepper_at m other).oid y)) none)) (stepper_at m place).oid)

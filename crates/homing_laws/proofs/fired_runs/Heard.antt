@@ -21,6 +21,7 @@ use Rattle.link_work.specs.Stands.{first_state, orders}
 use Rattle.link_work.specs.Turn.{LinkState}
 use Rattle.board_asking.specs.Machine.{trigger_of}
 use Rattle.trigger_group.specs.declared.order.Member.{Member}
+use Rattle.trigger_group.specs.declared.seen.Fired.{Fired}
 use Rattle.axis_homing.specs.declared.homing.Homing.{Homing}
 use Rattle.axis_homing.specs.Rising.{members_of}
 use Rattle.host_reactor.specs.Notes.{noted}
@@ -40,9 +41,9 @@ use Rattle.homing_laws.proofs.home_runs.Sole.{sole_after}
 use Rattle.homing_laws.proofs.home_runs.Staging.{ran_turns}
 use Rattle.homing_laws.proofs.home_runs.Told.{told_stands}
 use Rattle.homing_laws.proofs.home_runs.Windows.{ordered_after}
-use Rattle.homing_laws.specs.fired_runs.Since.{ReadsTrue}
+use Rattle.homing_laws.specs.fired_runs.Since.{ReadsSwitchTrue, ReadsTrue, WasFiredAt}
 use Rattle.homing_laws.proofs.fired_runs.Reported.{sole_state}
-use Rattle.homing_laws.specs.switch_runs.Reports.{HearsSoon}
+use Rattle.homing_laws.specs.switch_runs.Reports.{HearsSoon, IsReport}
 use Rattle.homing_laws.specs.switch_runs.Runs.{IsEndstop}
 use Rattle.homing_laws.proofs.switch_runs.Ordering.{bring_fit}
 use Rattle.homing_laws.proofs.switch_runs.Made.{AnyTick, whole_after}
@@ -125,12 +126,13 @@ module _ (m : Machine) (v : IsValidMachine m) (switches : List Switch) (pins : L
 some_same : (x y : Homing) → Some x ≡ Some y → x ≡ y
 some_same x y e = cc
 
--- the theorem
-pub soon_true : (m : Machine) (switches : List Switch) (pins : List (List Level)) (entries : List Entry) (b : ℕ) (c : Came) (before : List Came) (h : Homing) (from : ℕ) (t : BoardTurn) (earlier : List BoardTurn) → IsValidMachine m
+-- what such a state tells is so
+report_true : (m : Machine) (switches : List Switch) (pins : List (List Level)) (entries : List Entry) (b : ℕ) (c : Came) (before : List Came) (h : Homing) (from : ℕ) (t : BoardTurn) (earlier : List BoardTurn) → IsValidMachine m
     → IsInRun m switches pins entries b before (t ∷ earlier) → state_at b c.states ≡ latest_state (t ∷ earlier) → (noted m c.note (known_by m switches before)).homing ≡ Some h → from + 254 ≡ h.start
     → HomesFrom m switches from h.start (members_of h.group) before → SetNoClockFrom from (t ∷ earlier) → TakesSetUp (first_state (board_at m b) pins b entries) h.start (t ∷ earlier)
-    → (stands_after (first_state (board_at m b) pins b entries) (t ∷ earlier)).core.board.controller.state ≡ Running → HearsSoon m switches b h.start c before t (length earlier) → ReadsTrue m switches b c before (t ∷ earlier)
-soon_true m switches pins entries b c before h from t earlier v r latest known begins since none took runs soon g f is member report =
+    → (stands_after (first_state (board_at m b) pins b entries) (t ∷ earlier)).core.board.controller.state ≡ Running → HearsSoon m switches b h.start c before t (length earlier) → (g : Homing) (f : Fired) → (noted m c.note (known_by m switches before)).homing ≡ Some g → IsReport m switches b g.start f c before
+    → WasFiredAt (trigger_of m b) f.reason f.tick (t ∷ earlier)
+report_true m switches pins entries b c before h from t earlier v r latest known begins since none took runs soon g f is report =
     let First = first_state (board_at m b) pins b entries in
     let own : g ≡ h = some_same g h (sym is ∙ known) in
     let lines = clocks_at (noted m c.note (known_by m switches before)).clocks b in
@@ -164,3 +166,15 @@ soon_true m switches pins entries b c before h from t earlier v r latest known b
         window_stands m v switches pins entries b before t w took.late took.past from h.start (members_of h.group) took.more (subst (λ (l : List BoardTurn). IsInRun m switches pins entries b before (Turns l)) both.1 r) since begins
         (clock_from 0 from (Turns (w ++ (took.late ++ took.past))) (subst (λ (l : List BoardTurn). SetNoClockFrom from (Turns l)) both.1 none)) took.queued took.took took.heard
         (subst (λ (l : List BoardTurn). (stands_after first (Turns l)).core.board.controller.state ≡ Running) both.1 runs) oid reason clock told
+
+-- the theorem
+pub soon_true : (m : Machine) (switches : List Switch) (pins : List (List Level)) (entries : List Entry) (b : ℕ) (c : Came) (before : List Came) (h : Homing) (from : ℕ) (t : BoardTurn) (earlier : List BoardTurn) → IsValidMachine m
+    → IsInRun m switches pins entries b before (t ∷ earlier) → state_at b c.states ≡ latest_state (t ∷ earlier) → (noted m c.note (known_by m switches before)).homing ≡ Some h → from + 254 ≡ h.start
+    → HomesFrom m switches from h.start (members_of h.group) before → SetNoClockFrom from (t ∷ earlier) → TakesSetUp (first_state (board_at m b) pins b entries) h.start (t ∷ earlier)
+    → (stands_after (first_state (board_at m b) pins b entries) (t ∷ earlier)).core.board.controller.state ≡ Running → HearsSoon m switches b h.start c before t (length earlier)
+    → ReadsTrue m switches b c before (t ∷ earlier) × ReadsSwitchTrue m switches b c before (t ∷ earlier)
+soon_true m switches pins entries b c before h from t earlier v r latest known begins since none took runs soon =
+    let told = report_true m switches pins entries b c before h from t earlier v r latest known begins since none took runs soon in (
+      λ g f is member report. (f.reason, told g f is report),
+      λ g f is reader one report. subst (λ (n : ℕ). WasFiredAt (trigger_of m b) n f.tick (t ∷ earlier)) one (told g f is report),
+    )

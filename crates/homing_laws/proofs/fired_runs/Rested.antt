@@ -55,7 +55,8 @@ use Rattle.homing_laws.proofs.clear_groups.Noted.{drift_small, noted_newly, some
 use Rattle.homing_laws.proofs.clear_groups.Plain.{none_at, none_some}
 use Rattle.homing_laws.proofs.clear_groups.Resting.{Together, clash, known_together, newly_together, next_of, some_same, taken_tame, heard_together}
 use Rattle.homing_laws.proofs.clear_groups.Starting.{member_or_not, starts_either}
-use Rattle.homing_laws.specs.fired_runs.Since.{AreBehind, AreReadTrue, BeginsApart, HasFiredSince, IsAtRest, IsFiredAt, IsOff, IsStart, WasFiredAt}
+use Rattle.homing_laws.specs.missed_groups.Ticks.{IsReader}
+use Rattle.homing_laws.specs.fired_runs.Since.{AreBehind, AreRead, AreReadTrue, BeginsApart, HasFiredSince, IsAtRest, IsFiredAt, IsOff, IsStart, ReadsSwitchTrue, ReadsTrue, WasFiredAt}
 use Rattle.homing_laws.proofs.fired_runs.Old.{OldAt, tame_both, tame_parts, turns_old}
 use Rattle.homing_laws.proofs.fired_runs.Once.{turn_split}
 use Rattle.homing_laws.proofs.fired_runs.Reported.{before_start, member_told, sole_state}
@@ -83,44 +84,62 @@ run_at m switches pins entries b [] (t ∷ later) past r = absurd r.both
 run_at m switches pins entries b (c ∷ before) (t ∷ later) past r = run_at m switches pins entries b before later past (run_before m switches pins entries b c before t (later ++ past) r)
 
 -- a report that counts for the section that was known since a turn before its start
-pub record Read (m : Machine) (b start : ℕ) (f : Fired) (turns : List BoardTurn) : Type 0 where
-  pub was : WasFiredAt (trigger_of m b) f.reason f.tick turns
+pub record Read (m : Machine) (b start : ℕ) (f : Fired) (W : List BoardTurn → Type 0) (turns : List BoardTurn) : Type 0 where
+  pub was : W turns
   pub late : board_tick (clock_of (board_at m b)) (start - 1) ≤ f.tick
 
-of_some : (start : ℕ) (ms : List Member) (o : Option Homing) → IsOf start ms o → (h : Homing) × (o ≡ Some h) × (h.start ≡ start) × (members_of h.group ≡ ms)
-of_some start ms None of = absurd of
-of_some start ms (Some h) of = (h, refl, of.0, of.2)
+module _ (m : Machine) (switches : List Switch) (pins : List (List Level)) (entries : List Entry) (b from start : ℕ) (ms : List Member) (low : from < start) (f : Fired) (R : Came → List Came → List BoardTurn → Type 0) (W : List BoardTurn → Type 0)
+    (more : (t : BoardTurn) (turns : List BoardTurn) → W turns → W (t ∷ turns))
+    (use_read : (c : Came) (before : List Came) (turns : List BoardTurn) (h : Homing) → (noted m c.note (known_by m switches before)).homing ≡ Some h → members_of h.group ≡ ms → R c before turns → IsReport m switches b h.start f c before → W turns) where
+  of_some : (o : Option Homing) → IsOf start ms o → (h : Homing) × (o ≡ Some h) × (h.start ≡ start) × (members_of h.group ≡ ms)
+  of_some None of = absurd of
+  of_some (Some h) of = (h, refl, of.0, of.2)
 
-read_now : (m : Machine) (switches : List Switch) (pins : List (List Level)) (entries : List Entry) (b from start : ℕ) (ms : List Member) (f : Fired) (c : Came) (before : List Came) (turns : List BoardTurn) → IsInRun m switches pins entries b before turns
-    → state_at b c.states ≡ latest_state turns → HomesFrom m switches from start ms (c ∷ before) → from < start → IsMember b ms → AreReadTrue m switches b (c ∷ before) turns → AreBehind m switches b (c ∷ before) → IsReport m switches b start f c before → Read m b start f turns
-read_now m switches pins entries b from start ms f c before [] r latest homes low member reads behind x = absurd (let came = x.came in cc)
-read_now m switches pins entries b from start ms f c before (t ∷ earlier) r latest homes low member reads behind x =
-    let lines = clocks_at (noted m c.note (known_by m switches before)).clocks b in
-    let same : t.state ≡ x.state = sole_state t.state x.state (sym latest ∙ x.came) in
-    let turn : x.state.turn ≡ length earlier = ap (λ (s : State). s.turn) (sym same) ∙ r.turns_are.0.1.turn in
-    let counts = x.counts in
-    let long = as_long m switches b before (t ∷ earlier) r.both in
-    let known = of_some start ms (noted m c.note (known_by m switches before)).homing (homes.0 (omega (arith, counts, turn, long, low))).1 in
-    let own = known.2 in
-    let begin = behind.0 known.0 known.1 (omega (arith, own, counts, turn, long)) in
-    let At : ℕ → Type 0 = λ n. board_tick (clock_of (board_at m b)) (n - 1) ≤ lines_tick lines (n * turn_ns) in
-    let ordered = subst At own begin in
-    record {
-      was = reads.0 known.0 f known.1 (subst (IsMember b) (sym known.3) member) (subst (λ (n : ℕ). IsReport m switches b n f c before) (sym own) x);
-      late = elim (leb_tells (lines_tick lines (start * turn_ns)) f.tick) [
-        | inl p ↦ let far = p.1 in omega (arith, ordered, far)
-        | inr p ↦ let low_tick = p.1 in let early = before_start lines start f.tick f.turn (omega (arith, low)) (omega (arith, low_tick)) x.turn_is in let late = x.late in absurd (omega (arith, early, late))
-      ];
-    }
+  read_now : (c : Came) (before : List Came) (turns : List BoardTurn) → IsInRun m switches pins entries b before turns → state_at b c.states ≡ latest_state turns → HomesFrom m switches from start ms (c ∷ before) → AreRead R (c ∷ before) turns
+      → AreBehind m switches b (c ∷ before) → IsReport m switches b start f c before → Read m b start f W turns
+  read_now c before [] r latest homes reads behind x = absurd (let came = x.came in cc)
+  read_now c before (t ∷ earlier) r latest homes reads behind x =
+      let lines = clocks_at (noted m c.note (known_by m switches before)).clocks b in
+      let same : t.state ≡ x.state = sole_state t.state x.state (sym latest ∙ x.came) in
+      let turn : x.state.turn ≡ length earlier = ap (λ (s : State). s.turn) (sym same) ∙ r.turns_are.0.1.turn in
+      let counts = x.counts in
+      let long = as_long m switches b before (t ∷ earlier) r.both in
+      let known = of_some (noted m c.note (known_by m switches before)).homing (homes.0 (omega (arith, counts, turn, long, low))).1 in
+      let own = known.2 in
+      let begin = behind.0 known.0 known.1 (omega (arith, own, counts, turn, long)) in
+      let At : ℕ → Type 0 = λ n. board_tick (clock_of (board_at m b)) (n - 1) ≤ lines_tick lines (n * turn_ns) in
+      let ordered = subst At own begin in
+      record {
+        was = use_read c before (t ∷ earlier) known.0 known.1 known.3 reads.0 (subst (λ (n : ℕ). IsReport m switches b n f c before) (sym own) x);
+        late = elim (leb_tells (lines_tick lines (start * turn_ns)) f.tick) [
+          | inl p ↦ let far = p.1 in omega (arith, ordered, far)
+          | inr p ↦ let low_tick = p.1 in let early = before_start lines start f.tick f.turn (omega (arith, low)) (omega (arith, low_tick)) x.turn_is in let late = x.late in absurd (omega (arith, early, late))
+        ];
+      }
 
-pub was_read : (m : Machine) (switches : List Switch) (pins : List (List Level)) (entries : List Entry) (b from start : ℕ) (ms : List Member) (f : Fired) (c : Came) (before : List Came) (turns : List BoardTurn) → IsInRun m switches pins entries b before turns
-    → state_at b c.states ≡ latest_state turns → HomesFrom m switches from start ms (c ∷ before) → from < start → IsMember b ms → AreReadTrue m switches b (c ∷ before) turns → AreBehind m switches b (c ∷ before) → WasReported m switches b start f (c ∷ before) → Read m b start f turns
-was_read m switches pins entries b from start ms f c before turns r latest homes low member reads behind (inl now) = read_now m switches pins entries b from start ms f c before turns r latest homes low member reads behind now
-was_read m switches pins entries b from start ms f c [] turns r latest homes low member reads behind (inr old) = absurd old
-was_read m switches pins entries b from start ms f c (d ∷ before) [] r latest homes low member reads behind (inr old) = absurd r.both
-was_read m switches pins entries b from start ms f c (d ∷ before) (t ∷ earlier) r latest homes low member reads behind (inr old) =
-    let rest = was_read m switches pins entries b from start ms f d before earlier (run_before m switches pins entries b d before t earlier r) r.both.0 homes.1 low member reads.1 behind.1 old in
-    record { was = inr rest.was; late = rest.late }
+  was_read : (c : Came) (before : List Came) (turns : List BoardTurn) → IsInRun m switches pins entries b before turns → state_at b c.states ≡ latest_state turns → HomesFrom m switches from start ms (c ∷ before) → AreRead R (c ∷ before) turns
+      → AreBehind m switches b (c ∷ before) → WasReported m switches b start f (c ∷ before) → Read m b start f W turns
+  was_read c before turns r latest homes reads behind (inl now) = read_now c before turns r latest homes reads behind now
+  was_read c [] turns r latest homes reads behind (inr old) = absurd old
+  was_read c (d ∷ before) [] r latest homes reads behind (inr old) = absurd r.both
+  was_read c (d ∷ before) (t ∷ earlier) r latest homes reads behind (inr old) =
+      let rest = was_read d before earlier (run_before m switches pins entries b d before t earlier r) r.both.0 homes.1 reads.1 behind.1 old in
+      record { was = more t earlier rest.was; late = rest.late }
+
+-- of a member; and of the board with the endstop, that readings triggered its trigger
+fired_read : (m : Machine) (switches : List Switch) (pins : List (List Level)) (entries : List Entry) (b from start : ℕ) (ms : List Member) (f : Fired) (c : Came) (before : List Came) (turns : List BoardTurn) → IsInRun m switches pins entries b before turns
+    → state_at b c.states ≡ latest_state turns → HomesFrom m switches from start ms (c ∷ before) → from < start → IsMember b ms → AreReadTrue m switches b (c ∷ before) turns → AreBehind m switches b (c ∷ before) → WasReported m switches b start f (c ∷ before)
+    → Read m b start f (λ (z : List BoardTurn). (reason : ℕ) × WasFiredAt (trigger_of m b) reason f.tick z) turns
+fired_read m switches pins entries b from start ms f c before turns r latest homes low member reads behind told =
+    was_read m switches pins entries b from start ms low f (ReadsTrue m switches b) (λ (z : List BoardTurn). (reason : ℕ) × WasFiredAt (trigger_of m b) reason f.tick z) (λ t ts w. (w.0, inr w.1))
+    (λ d past ts h is members read x. read h f is (subst (IsMember b) (sym members) member) x) c before turns r latest homes reads behind told
+
+pub switch_read : (m : Machine) (switches : List Switch) (pins : List (List Level)) (entries : List Entry) (b from start : ℕ) (ms : List Member) (f : Fired) (c : Came) (before : List Came) (turns : List BoardTurn) → IsInRun m switches pins entries b before turns
+    → state_at b c.states ≡ latest_state turns → HomesFrom m switches from start ms (c ∷ before) → from < start → IsReader b ms → f.reason ≡ 1 → AreRead (ReadsSwitchTrue m switches b) (c ∷ before) turns → AreBehind m switches b (c ∷ before)
+    → WasReported m switches b start f (c ∷ before) → Read m b start f (WasFiredAt (trigger_of m b) 1 f.tick) turns
+switch_read m switches pins entries b from start ms f c before turns r latest homes low reader one reads behind told =
+    was_read m switches pins entries b from start ms low f (ReadsSwitchTrue m switches b) (WasFiredAt (trigger_of m b) 1 f.tick) (λ t ts w. inr w)
+    (λ d past ts h is members read x. read h f is (subst (IsReader b) (sym members) reader) one x) c before turns r latest homes reads behind told
 
 connecting_or : (p : Phase) → (p ≡ Connecting) ⊎ (p ≡ Connecting → ⊥)
 connecting_or Connecting = inl refl
@@ -377,9 +396,9 @@ module _ (m : Machine) (v : IsValidMachine m) (switches : List Switch) (pins : L
       let now : IsOf h.start ms (noted m c.note (known_by m switches before)).homing = subst (λ (o : Option Homing). IsOf h.start ms o) (sym still) (refl, u.together, refl) in
       let homes : HomesFrom m switches (length u.early) h.start ms (c ∷ before) = (λ l. (open_past, now), u.since) in
       let at = u.begun_is.at in
-      let read = was_read m switches pins entries b (length u.early) h.start ms told.0 c before turns r latest homes (omega (arith, at)) u.member reads behind told.1 in
+      let read = fired_read m switches pins entries b (length u.early) h.start ms told.0 c before turns r latest homes (omega (arith, at)) u.member reads behind told.1 in
       subst (λ (z : List BoardTurn). HasFiredSince Oid h.start First z) (sym u.are)
-      (fired_since h.start before u.later u.early u.begun_is (subst (λ (z : List BoardTurn). Run before z) u.are r) told.0.reason told.0.tick read.late (subst (λ (z : List BoardTurn). WasFiredAt Oid told.0.reason told.0.tick z) u.are read.was))
+      (fired_since h.start before u.later u.early u.begun_is (subst (λ (z : List BoardTurn). Run before z) u.are r) read.was.0 told.0.tick read.late (subst (λ (z : List BoardTurn). WasFiredAt Oid read.was.0 told.0.tick z) u.are read.was.1))
 
   module _ (d : Came) (past : List Came) (t : BoardTurn) (turns : List BoardTurn) (now : Run (d ∷ past) (t ∷ turns)) (apart : BeginsApart m switches (d ∷ past)) where
     abbrev K : ℕ
@@ -592,10 +611,10 @@ module _ (m : Machine) (v : IsValidMachine m) (switches : List Switch) (pins : L
   rest_of [] = []
   rest_of (t ∷ turns) = turns
 
-  pub earlier_reads : (c : Came) (before : List Came) (turns : List BoardTurn) → Run before turns → AreReadTrue m switches b (c ∷ before) turns → AreReadTrue m switches b before (rest_of turns)
-  earlier_reads c [] turns r k = tt
-  earlier_reads c (d ∷ past) [] r k = absurd r.both
-  earlier_reads c (d ∷ past) (t ∷ turns) r k = k.1
+  pub earlier_reads : (R : Came → List Came → List BoardTurn → Type 0) (c : Came) (before : List Came) (turns : List BoardTurn) → Run before turns → AreRead R (c ∷ before) turns → AreRead R before (rest_of turns)
+  earlier_reads R c [] turns r k = tt
+  earlier_reads R c (d ∷ past) [] r k = absurd r.both
+  earlier_reads R c (d ∷ past) (t ∷ turns) r k = k.1
 
   all_way : (before : List Came) (turns : List BoardTurn) → Run before turns → BeginsApart m switches before → AreReadTrue m switches b before (rest_of turns) → AreBehind m switches b before → Way before turns
   all_way [] [] r apart reads behind = inl (first_rest, first_ahead)
@@ -603,7 +622,7 @@ module _ (m : Machine) (v : IsValidMachine m) (switches : List Switch) (pins : L
   all_way (d ∷ past) [] r apart reads behind = absurd r.both
   all_way (d ∷ past) (t ∷ turns) r apart reads behind =
       let was_so = run_before m switches pins entries b d past t turns r in
-      step d past t turns r apart reads behind (all_way past turns was_so apart.1 (earlier_reads d past turns was_so reads) behind.1)
+      step d past t turns r apart reads behind (all_way past turns was_so apart.1 (earlier_reads (ReadsTrue m switches b) d past turns was_so reads) behind.1)
 
   pub answered_fired : (c : Came) (before : List Came) (turns : List BoardTurn) (h : Homing) (e : End) → Run before turns → state_at b c.states ≡ latest_state turns → BeginsApart m switches (c ∷ before) → AreReadTrue m switches b (c ∷ before) turns
       → AreBehind m switches b (c ∷ before) → (noted m c.note (known_by m switches before)).homing ≡ Some h
@@ -612,7 +631,7 @@ module _ (m : Machine) (v : IsValidMachine m) (switches : List Switch) (pins : L
       let known = known_by m switches before in
       let n = noted m c.note known in
       let late = answered_late (length before) h.start (hears_all n.clocks c.states h).group e ends in
-      elim (all_way before turns r apart.1 (earlier_reads c before turns r reads) behind.1) [
+      elim (all_way before turns r apart.1 (earlier_reads (ReadsTrue m switches b) c before turns r reads) behind.1) [
         | inl x ↦ elim apart.0 [
           | inl none ↦ (let far = (x.1 h (sym (noted_none m c.note known none) ∙ is)).1 member in absurd (omega (arith, far, late)))
           | inr begun_now ↦ (let far = (begun_now.1 h is).1 in absurd (omega (arith, far, late)))

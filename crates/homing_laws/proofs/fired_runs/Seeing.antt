@@ -51,11 +51,11 @@ use Rattle.homing_laws.proofs.clear_groups.Plain.{none_at, none_some}
 use Rattle.homing_laws.proofs.clear_groups.Resting.{clash, next_of, some_same}
 use Rattle.homing_laws.specs.missed_groups.Ticks.{IsReader}
 use Rattle.homing_laws.proofs.missed_groups.Axes.{of_axis}
-use Rattle.homing_laws.specs.fired_runs.Since.{AreBehind, AreReadTrue, BeginsApart, IsFiredAt}
+use Rattle.homing_laws.specs.fired_runs.Since.{AreBehind, AreRead, BeginsApart, IsFiredAt, ReadsSwitchTrue}
 use Rattle.homing_laws.proofs.fired_runs.Blind.{AreBlind, NoTick, OwnAt, ReadOnce, Stands, blind_fits, fits_more, turns_stage}
 use Rattle.homing_laws.proofs.fired_runs.Reported.{answer_told}
-use Rattle.homing_laws.proofs.fired_runs.Rested.{Heard, answered_over, earlier_reads, goes_to, group_start, grows, left_of, none_stays, queue_later, rest_of, rises, run_at, same_members, same_start, was_at, was_read}
-use Rattle.homing_laws.proofs.fired_runs.Sight.{blind_both, blind_once, blind_parts, is_member, read_behind, read_front, reader_or_not, reads_either}
+use Rattle.homing_laws.proofs.fired_runs.Rested.{Heard, answered_over, earlier_reads, goes_to, group_start, grows, left_of, none_stays, queue_later, rest_of, rises, run_at, same_members, same_start, switch_read, was_at}
+use Rattle.homing_laws.proofs.fired_runs.Sight.{blind_both, blind_once, blind_parts, read_behind, read_front, reader_or_not, reads_either}
 use Rattle.homing_laws.proofs.fired_runs.Under.{under_after}
 
 -- a turn that goes on answers that a switch closed, if at all
@@ -307,7 +307,7 @@ module _ (m : Machine) (v : IsValidMachine m) (switches : List Switch) (pins : L
       ⊎ (((known_by m switches before).phase ≡ Connecting → ⊥) × Window before (known_by m switches before).homing turns)
 
   -- a section that is known answers that its switch closed
-  answers_read : (c : Came) (before : List Came) (turns : List BoardTurn) → Run before turns → state_at b c.states ≡ latest_state turns → AreReadTrue m switches b (c ∷ before) turns → AreBehind m switches b (c ∷ before)
+  answers_read : (c : Came) (before : List Came) (turns : List BoardTurn) → Run before turns → state_at b c.states ≡ latest_state turns → AreRead (ReadsSwitchTrue m switches b) (c ∷ before) turns → AreBehind m switches b (c ∷ before)
       → ((noted m c.note (known_by m switches before)).phase ≡ Connecting → ⊥) → (u : Window before (known_by m switches before).homing turns) → (noted m c.note (known_by m switches before)).homing ≡ Some u.homing → (tick : ℕ)
       → answer_in (length before) u.homing.start (hears_all (noted m c.note (known_by m switches before)).clocks c.states u.homing).group ≡ Some (end.Endstop tick) → Unread turns × IsReadIn m switches pins b u.homing.start u.homing.axis before tick
   answers_read c before turns r latest reads behind open_it u still tick ends =
@@ -320,7 +320,7 @@ module _ (m : Machine) (v : IsValidMachine m) (switches : List Switch) (pins : L
       let now : IsOf h.start ms (noted m c.note (known_by m switches before)).homing = subst (λ (o : Option Homing). IsOf h.start ms o) (sym still) (refl, u.together, refl) in
       let homes : HomesFrom m switches (length u.early) h.start ms (c ∷ before) = (λ l. (open_past, now), u.since) in
       let at = u.at in
-      let read = was_read m switches pins entries b (length u.early) h.start ms f c before turns r latest homes (omega (arith, at)) (is_member b ms u.reads) reads behind (subst (λ (k : ℕ). WasReported m switches k h.start f (c ∷ before)) board told.1) in
+      let read = switch_read m switches pins entries b (length u.early) h.start ms f c before turns r latest homes (omega (arith, at)) u.reads refl reads behind (subst (λ (k : ℕ). WasReported m switches k h.start f (c ∷ before)) board told.1) in
       let x = was_at First Oid 1 tick turns read.was in
       own_reading before (known_by m switches before).homing turns r u tick read.late x.0 x.1 x.2 x.3
 
@@ -428,7 +428,7 @@ module _ (m : Machine) (v : IsValidMachine m) (switches : List Switch) (pins : L
         homes_none [] l = tt
         homes_none (c ∷ before) l = (λ late. absurd (omega (arith, l, late)), homes_none before (omega (arith, l)))
 
-    step : AreReadTrue m switches b (d ∷ past) turns → AreBehind m switches b (d ∷ past) → Way past turns → Way (d ∷ past) (t ∷ turns)
+    step : AreRead (ReadsSwitchTrue m switches b) (d ∷ past) turns → AreBehind m switches b (d ∷ past) → Way past turns → Way (d ∷ past) (t ∷ turns)
     step reads behind (inl (rest, ahead)) =
         let known = known_by m switches past in
         let n = noted m d.note known in
@@ -485,15 +485,15 @@ module _ (m : Machine) (v : IsValidMachine m) (switches : List Switch) (pins : L
   first_ahead : Ahead 0 (known_by m switches []).phase (known_by m switches []).homing
   first_ahead h is = absurd (clash (known_by m switches []).homing h refl is)
 
-  all_way : (before : List Came) (turns : List BoardTurn) → Run before turns → BeginsApart m switches before → AreReadTrue m switches b before (rest_of m v switches pins entries b turns) → AreBehind m switches b before → Way before turns
+  all_way : (before : List Came) (turns : List BoardTurn) → Run before turns → BeginsApart m switches before → AreRead (ReadsSwitchTrue m switches b) before (rest_of m v switches pins entries b turns) → AreBehind m switches b before → Way before turns
   all_way [] [] r apart reads behind = inl (first_unread, first_ahead)
   all_way [] (t ∷ turns) r apart reads behind = absurd r.both
   all_way (d ∷ past) [] r apart reads behind = absurd r.both
   all_way (d ∷ past) (t ∷ turns) r apart reads behind =
       let was_so = run_before m switches pins entries b d past t turns r in
-      step d past t turns r apart reads behind (all_way past turns was_so apart.1 (earlier_reads m v switches pins entries b d past turns was_so reads) behind.1)
+      step d past t turns r apart reads behind (all_way past turns was_so apart.1 (earlier_reads m v switches pins entries b (ReadsSwitchTrue m switches b) d past turns was_so reads) behind.1)
 
-  pub answered_read : (c : Came) (before : List Came) (turns : List BoardTurn) (h : Homing) (tick : ℕ) → Run before turns → state_at b c.states ≡ latest_state turns → BeginsApart m switches (c ∷ before) → AreReadTrue m switches b (c ∷ before) turns
+  pub answered_read : (c : Came) (before : List Came) (turns : List BoardTurn) (h : Homing) (tick : ℕ) → Run before turns → state_at b c.states ≡ latest_state turns → BeginsApart m switches (c ∷ before) → AreRead (ReadsSwitchTrue m switches b) (c ∷ before) turns
       → AreBehind m switches b (c ∷ before) → (noted m c.note (known_by m switches before)).homing ≡ Some h → (axis_at m h.axis).board ≡ b
       → answer_in (length before) h.start (hears_all (noted m c.note (known_by m switches before)).clocks c.states h).group ≡ Some (end.Endstop tick) → IsReadIn m switches pins b h.start h.axis before tick
   answered_read c before turns h tick r latest apart reads behind is on ends =
@@ -501,7 +501,7 @@ module _ (m : Machine) (v : IsValidMachine m) (switches : List Switch) (pins : L
       let n = noted m c.note known in
       let late = answered_late (length before) h.start (hears_all n.clocks c.states h).group (end.Endstop tick) ends in
       let own : IsReader b (members_of h.group) = subst (λ (k : ℕ). IsReader k (members_of h.group)) on ((of_axis m switches c before r.goes_on h is).1 (subst (λ (k : ℕ). k < length m.boards) (sym on) r.board)) in
-      elim (all_way before turns r apart.1 (earlier_reads m v switches pins entries b c before turns r reads) behind.1) [
+      elim (all_way before turns r apart.1 (earlier_reads m v switches pins entries b (ReadsSwitchTrue m switches b) c before turns r reads) behind.1) [
         | inl x ↦ elim apart.0 [
           | inl none ↦ (let far = (x.1 h (sym (noted_none m c.note known none) ∙ is)).1 own in absurd (omega (arith, far, late)))
           | inr begun_now ↦ (let far = (begun_now.1 h is).1 in absurd (omega (arith, far, late)))

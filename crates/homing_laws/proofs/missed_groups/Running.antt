@@ -43,9 +43,9 @@ use Rattle.homing_laws.proofs.clear_groups.Resting.{board_runs, off_at}
 use Rattle.homing_laws.proofs.clear_groups.Runs.{earlier, prepared_all, quiet_all, rises}
 use Rattle.homing_laws.proofs.clear_groups.Sections.{cut, stays_safe}
 use Rattle.homing_laws.specs.switch_runs.Reports.{WasReported}
-use Rattle.homing_laws.specs.fired_runs.Since.{AreBehind, AreReadTrue, WasFiredAt}
+use Rattle.homing_laws.specs.fired_runs.Since.{AreBehind, AreRead, ReadsSwitchTrue, WasFiredAt}
 use Rattle.homing_laws.proofs.fired_runs.Reported.{answer_told}
-use Rattle.homing_laws.proofs.fired_runs.Rested.{grows, rises as own_rises, was_read, was_under}
+use Rattle.homing_laws.proofs.fired_runs.Rested.{grows, rises as own_rises, switch_read, was_under}
 use Rattle.homing_laws.specs.missed_groups.Known.{AxesLow}
 use Rattle.homing_laws.specs.missed_groups.Ticks.{IsReader, IsSwitchTick}
 use Rattle.homing_laws.proofs.missed_groups.Answering.{Missed, known_read, missed, reader_fired}
@@ -242,15 +242,16 @@ module _ (m : Machine) (v : IsValidMachine m) (switches : List Switch) (pins : �
   -- and where it answers that the switch closed, that is the tick
   pub answers_first : at + 1 ≤ start → from < start → (c : Came) (before : List Came) (all : List (ℕ → BoardTurn)) → IsClearSection m switches pins entries lines from start members c before all → length before + 276 ≤ till
       → IsSafeAt m switches pins entries lines start last members at (c ∷ before) all → MindsAt m switches pins entries lines start last members at (c ∷ before) all → (h : Homing) → (noted m c.note (known_by m switches before)).homing ≡ Some h → h.start ≡ start
-      → IsMember (axis_at m h.axis).board members → AreReadTrue m switches (axis_at m h.axis).board (c ∷ before) (turns_of (axis_at m h.axis).board all) → AreBehind m switches (axis_at m h.axis).board (c ∷ before)
+      → IsReader (axis_at m h.axis).board members → AreRead (ReadsSwitchTrue m switches (axis_at m h.axis).board) (c ∷ before) (turns_of (axis_at m h.axis).board all) → AreBehind m switches (axis_at m h.axis).board (c ∷ before)
       → (tick : ℕ) → answer_in (length before) h.start (hears_all (noted m c.note (known_by m switches before)).clocks c.states h).group ≡ Some (end.Endstop tick)
       → IsSwitchTick m (pins (axis_at m h.axis).board) (axis_at m h.axis).board (axis_at m h.axis) (lines_tick (lines (axis_at m h.axis).board) (start * turn_ns)) tick
-  answers_first ahead some c before all s r safe_at mind_at h is begins on reads behind tick answers =
+  answers_first ahead some c before all s r safe_at mind_at h is begins reader reads behind tick answers =
       let b = (axis_at m h.axis).board in
+      let on : IsMember b members = reader_member b members reader in
       let run = (s.plain b on).run in
       let told = answer_told m switches c before h tick run.goes_on is answers in
       let f : Fired = record { reason = 1; tick = tick; turn = told.0 } in
-      let read = was_read m switches (pins b) entries b from start members f c before (turns_of b all) run (s.states b on) s.homes some on reads behind (subst (λ (n : ℕ). WasReported m switches b n f (c ∷ before)) begins told.1) in
+      let read = switch_read m switches (pins b) entries b from start members f c before (turns_of b all) run (s.states b on) s.homes some reader refl reads behind (subst (λ (n : ℕ). WasReported m switches b n f (c ∷ before)) begins told.1) in
       fired_reads ahead c before all s r safe_at mind_at h is b on tick read.late read.was
 
 -- over the turns of a run
@@ -380,7 +381,7 @@ module _ (m : Machine) (v : IsValidMachine m) (switches : List Switch) (pins : �
 
   -- and that is at the tick at which its switch closes, where what its board tells is read true
   pub run_switches : (c : Came) (before : List Came) (all : List (ℕ → BoardTurn)) → IsClearRun m switches pins entries lines ready till c before all → length before + 276 ≤ till → AxesLow m switches (c ∷ before) → (h : Homing) → (noted m c.note (known_by m switches before)).homing ≡ Some h
-      → AreReadTrue m switches (axis_at m h.axis).board (c ∷ before) (turns_of (axis_at m h.axis).board all) → AreBehind m switches (axis_at m h.axis).board (c ∷ before)
+      → AreRead (ReadsSwitchTrue m switches (axis_at m h.axis).board) (c ∷ before) (turns_of (axis_at m h.axis).board all) → AreBehind m switches (axis_at m h.axis).board (c ∷ before)
       → (tick : ℕ) → answer_in (length before) h.start (hears_all (noted m c.note (known_by m switches before)).clocks c.states h).group ≡ Some (end.Endstop tick)
       → IsSwitchTick m (pins (axis_at m h.axis).board) (axis_at m h.axis).board (axis_at m h.axis) (lines_tick (lines h.start (axis_at m h.axis).board) (h.start * turn_ns)) tick
   run_switches c before all r reach low h is read behind tick answers =
@@ -396,6 +397,5 @@ module _ (m : Machine) (v : IsValidMachine m) (switches : List Switch) (pins : �
       let low_so = x.low_so in
       let of = of_axis m switches c before r.goes_on h is in
       let valid : IsValidAxis m (axis_at m h.axis) = v.axes h.axis _ (low.0 h is) in
-      let on : IsMember own members = reader_member own members (of.1 valid.board) in
       answers_first m v switches pins entries none (lines start) ready from start x.last till (start - 249) members x.followed (omega (arith, soon)) (omega (arith, low_so)) (omega arith) (omega (arith, soon)) (omega (arith, soon))
-      c before all s reach x.safe x.minds h is refl on read behind tick answers
+      c before all s reach x.safe x.minds h is refl (of.1 valid.board) read behind tick answers

@@ -23,7 +23,7 @@ use Rattle.session_laws.proofs.run_headline.Runs.{facts}
 use Rattle.session_laws.proofs.run_headline.Showing.{Facts}
 use Rattle.cause_runs.specs.Short.{HaveShortDictionaries}
 use Rattle.session_laws.specs.clear_runs.Clear.{SendsAllSoon}
-use Rattle.session_laws.specs.home_wholes.Own.{AllBoardsReadTrue}
+use Rattle.session_laws.specs.home_wholes.Own.{AllSwitchesReadTrue}
 use Rattle.session_laws.specs.clear_homes.Closes.{AllClose, MissesSwitch, TellFirst}
 use Rattle.session_laws.specs.home_headline.Cuts.{TellEnds}
 use Rattle.session_laws.proofs.home_headline.Switches.{all_ends}
@@ -111,7 +111,7 @@ module _ {F S : Type 0} (f : Files F) (o : Sink S) (m : Machine) (s : Scene) (na
       bottom x y = absurd x
 
   firsts : (made : IsMade m s r.runs.0 r.runs.1) → s.entries ≡ [] → IsOwn t.cause → ((line : ℕ) → (program_end m made.plans.seen.text).stop ≡ read.Stop line → ⊥) → SendsAllSoon m made.plans.seen.text r.runs.0 → (rs : List ReactorTurn)
-      → Ended m s r.runs.0 rs r.runs.2 t.cause → AllBoardsReadTrue m s r.runs.0 (rs ++ r.runs.2 ∷ []) → TellFirst m s made.plans.seen [] rs
+      → Ended m s r.runs.0 rs r.runs.2 t.cause → AllSwitchesReadTrue m s r.runs.0 (rs ++ r.runs.2 ∷ []) → TellFirst m s made.plans.seen [] rs
   firsts made clear own on sends [] x reads = tt
   firsts made clear own on sends (first ∷ rest) x reads =
       first_all m v short s r.runs.0 made.plans r.runs.2 t.cause clear on sends first rest x.facts own reads
@@ -119,7 +119,7 @@ module _ {F S : Type 0} (f : Files F) (o : Sink S) (m : Machine) (s : Scene) (na
 
   -- each tick that it tells of is the first one
   pub run_firsts : (text : List ℕ) → f.told files name ≡ Some text → kept.at ≡ 0 → s.entries ≡ [] → IsOwn t.cause → (t.cause ≡ cause.Memory → ⊥) → ((line : ℕ) → (program_end m text).stop ≡ read.Stop line → ⊥) → SendsAllSoon m text r.runs.0
-      → AllBoardsReadTrue m s r.runs.0 (r.runs.1 ++ r.runs.2 ∷ []) → ∥ ((made : IsMade m s r.runs.0 r.runs.1) × (made.plans.seen.text ≡ text) × TellFirst m s made.plans.seen [] r.runs.1) ∥₁
+      → AllSwitchesReadTrue m s r.runs.0 (r.runs.1 ++ r.runs.2 ∷ []) → ∥ ((made : IsMade m s r.runs.0 r.runs.1) × (made.plans.seen.text ≡ text) × TellFirst m s made.plans.seen [] r.runs.1) ∥₁
   run_firsts text told at clear own other goes sends reads =
       ∥∥₁_map (run_made f o m s name files files' out out' kept kept' t r text told at) (λ w.
       let Goes : List ℕ → Type 0 = λ z. (line : ℕ) → (program_end m z).stop ≡ read.Stop line → ⊥ in

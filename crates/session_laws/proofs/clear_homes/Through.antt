@@ -102,8 +102,8 @@ use Rattle.session_laws.specs.clear_homes.Closes.{ClosesFirst, MissesSwitch, Tel
 use Rattle.session_laws.specs.home_headline.Cuts.{EndsIn, TellEnds, TellsAnswer}
 use Rattle.session_laws.proofs.home_headline.Ended.{goes_behind, notes_behind}
 use Rattle.session_laws.proofs.home_headline.Switches.{came_ahead}
-use Rattle.homing_laws.specs.fired_runs.Since.{IsReadSo}
-use Rattle.session_laws.specs.home_wholes.Own.{AllBoardsReadTrue}
+use Rattle.homing_laws.specs.fired_runs.Since.{AreBehind, AreRead, ReadsSwitchTrue}
+use Rattle.session_laws.specs.home_wholes.Own.{AllSwitchesReadTrue}
 use Rattle.session_laws.proofs.home_wholes.Own.{all_so, read_to}
 use Rattle.host_reactor.specs.Reactor.{cut_line}
 use Rattle.host_reactor.specs.Runs.{GoesOn}
@@ -489,7 +489,7 @@ module _ (m : Machine) (v : IsValidMachine m) (short : HaveShortDictionaries m) 
         missed_so section (subst By e so).1
 
     -- each turn that tells that a switch closed tells of the first tick at which it did
-    module _ (t : Told) (told : p.seen.told ≡ Some t) (reads : AllBoardsReadTrue m s ts (first ∷ (rest ++ end ∷ []))) where
+    module _ (t : Told) (told : p.seen.told ≡ Some t) (reads : AllSwitchesReadTrue m s ts (first ∷ (rest ++ end ∷ []))) where
       first_at : (ahead : List Came) (y : Came) (before : List Came) (lines : List ReportLine) (x : TellsAnswer m s.switches y before lines) → All_came ≡ ahead ++ y ∷ before → (number axis : ℕ) → EndsIn p.seen.begun (length before) number axis → number ≡ x.homing.section
           → ClosesFirst m s p.seen x.homing.section x.tick
       unfolding w
@@ -504,7 +504,8 @@ module _ (m : Machine) (v : IsValidMachine m) (short : HaveShortDictionaries m) 
           let ends : was.1.end ≡ length before = ap (λ (z : Started). z.end) same ∙ e.end in
           let at_end : came_in end ∷ All_came ≡ (came_in end ∷ ahead) ++ y ∷ before = ap (λ (z : List Came). came_in end ∷ z) are in
           let b = (axis_at m h.axis).board in
-          let reads_so : (low : b < length m.boards) (later turns : List BoardTurn) → behind [] (f.boards b first rest low refl).made ≡ later ++ turns → length turns ≡ length before → IsReadSo m s.switches b y before turns = λ low later turns made long_so.
+          let reads_so : (low : b < length m.boards) (later turns : List BoardTurn) → behind [] (f.boards b first rest low refl).made ≡ later ++ turns → length turns ≡ length before
+          → AreRead (ReadsSwitchTrue m s.switches b) (y ∷ before) turns × AreBehind m s.switches b (y ∷ before) = λ low later turns made long_so.
           read_to m s.switches (pins_of (board_at m b) b s.switches) s.entries b All_came (behind [] (f.boards b first rest low refl).made) (run b low) (all_so m v s ts p t first rest end c told f short reads b low) ahead y before are later turns made long_so in
           let closes = closes_first m v s ts p t first rest end c told f long short (little t told) clear not_stopping (have 0 v.boards_some) (λ b low. in_time b low) notes (came_in end ∷ ahead) y before at_end h x.known reads_so x.tick x.answer in
           let At : ℕ → ℕ → Type 0 = λ axis start. IsSwitchTick m (pins_of (board_at m (axis_at m axis).board) (axis_at m axis).board s.switches) (axis_at m axis).board (axis_at m axis)
@@ -536,7 +537,7 @@ module _ (m : Machine) (v : IsValidMachine m) (short : HaveShortDictionaries m) 
       none_first none (k + 1) (came_in r ∷ before) rs ends.1,
     )
 
-    pub first_all : AllBoardsReadTrue m s ts (first ∷ (rest ++ end ∷ [])) → TellEnds m s.switches p.seen.begun 0 (first ∷ rest) → TellFirst m s p.seen [] (first ∷ rest)
+    pub first_all : AllSwitchesReadTrue m s ts (first ∷ (rest ++ end ∷ [])) → TellEnds m s.switches p.seen.begun 0 (first ∷ rest) → TellFirst m s p.seen [] (first ∷ rest)
     first_all reads ends = by p.seen.told refl
       where
         by : (o : Option Told) → p.seen.told ≡ o → TellFirst m s p.seen [] (first ∷ rest)

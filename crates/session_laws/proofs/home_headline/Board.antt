@@ -62,7 +62,7 @@ use Rattle.homing_laws.proofs.home_parts.Limits.{turns_fit}
 use Rattle.homing_laws.proofs.home_parts.Movers.{all_movers}
 use Rattle.homing_laws.proofs.home_parts.Set.{all_set}
 use Rattle.homing_laws.specs.fired_runs.Since.{AllReadTrue, AreReadSo}
-use Rattle.homing_laws.proofs.home_parts.Apart.{read_so}
+use Rattle.homing_laws.proofs.home_parts.Apart.{so_begun}
 use Rattle.homing_laws.proofs.home_parts.Told.{all_told, row_from}
 use Rattle.session_laws.specs.clock_ages.Renewed.{StayYoung}
 use Rattle.session_laws.proofs.clock_ages.Own.{AreRenewed, Own, follow_on}
@@ -178,8 +178,9 @@ pub told_by : (m : Machine) (v : IsValidMachine m) (s : Scene) (ts : List Motion
 told_by m v s ts p t b turns ready whole made there l early row by knows connected long are limits (inl none) = inl (clear_set_ups m (pins_of (board_at m b) b s.switches) s.entries b made none are limits t.first p.seen.begun (omega (arith, early)) row)
 told_by m v s ts p t b turns ready whole made there l early row by knows connected long are limits (inr (inl takes)) = inl takes
 told_by m v s ts p t b turns ready whole made there l early row by knows connected long are limits (inr (inr reads)) =
-    inr (read_so m s.switches b ts p ready t.first t.clocks whole made early row by connected l.tracked.kept knows
-    (λ past x later axis cut home low. starts_behind m v b turns ready t.first t.clocks p.seen.begun there l row early past x later cut (omega (arith, low, long))) reads)
+    let so = so_begun m s.switches b ts p ready t.first t.clocks whole early row by connected l.tracked.kept knows
+    (λ past x later axis cut home low. starts_behind m v b turns ready t.first t.clocks p.seen.begun there l row early past x later cut (omega (arith, low, long))) in
+    inr (record { apart = so.0; reads = reads; behind = so.1 })
 
 module _ (m : Machine) (v : IsValidMachine m) (s : Scene) (ts : List MotionTurn) (p : Plans m (length m.boards) ts) (t : Told) (first : ReactorTurn) (rest : List ReactorTurn) (end : ReactorTurn) (told : p.seen.told ≡ Some t) where
   -- what came to a board, and what it told, with its sections as far as their units are released before a turn

@@ -36,15 +36,15 @@ use Rattle.session_run.specs.Runs.{RunsOver}
 use Rattle.run_laws.proofs.Lists.{cons_same, same_place}
 use Rattle.run_plans.specs.Planned.{Plans}
 use Rattle.cause_runs.specs.Short.{HaveShortDictionaries}
-use Rattle.homing_laws.specs.fired_runs.Since.{AllReadTrue, AreReadSo, IsReadSo}
+use Rattle.homing_laws.specs.fired_runs.Since.{AllRead, AreBehind, AreRead, BeginsApart, ReadsSwitchTrue}
 use Rattle.homing_laws.proofs.fired_runs.Seeing.{answered_read}
 use Rattle.homing_laws.specs.home_plans.Notes.{CameNotes, WasBegun}
 use Rattle.homing_laws.proofs.home_plans.Knowing.{now_was}
-use Rattle.homing_laws.proofs.home_parts.Apart.{read_so}
-use Rattle.homing_laws.proofs.home_parts.Told.{read_at, split_at}
+use Rattle.homing_laws.proofs.home_parts.Apart.{so_begun}
+use Rattle.homing_laws.proofs.home_parts.Told.{so_at, split_at}
 use Rattle.homing_laws.specs.switch_runs.Runs.{IsReadIn}
 use Rattle.session_laws.specs.home_headline.Cuts.{TellEnds, TellsAnswer}
-use Rattle.session_laws.specs.home_wholes.Own.{AllBoardsReadTrue, IsOwnReading, TellOwn}
+use Rattle.session_laws.specs.home_wholes.Own.{AllSwitchesReadTrue, IsOwnReading, TellOwn}
 use Rattle.session_laws.proofs.home_headline.Board.{starts_behind}
 use Rattle.session_laws.proofs.home_headline.Ended.{goes_behind, notes_behind}
 use Rattle.session_laws.proofs.home_headline.Switches.{all_ends, came_ahead}
@@ -61,6 +61,10 @@ axis_board m [] i low all = absurd (omega (arith, low))
 axis_board m (a ∷ axes) zero low all = (All-head (IsValidAxis m) a axes all).board
 axis_board m (a ∷ axes) (suc i) low all = axis_board m axes i (omega (arith, low)) (All-tail (IsValidAxis m) a axes all)
 
+-- what a board tells of its switch in a run is read so
+abbrev pub SoRead : Machine → List Switch → ℕ → List Came → List BoardTurn → Type 0
+SoRead m switches b came turns = BeginsApart m switches came × AllRead (ReadsSwitchTrue m switches b) came turns × AreBehind m switches b came
+
 back_same : {X : Type 0} (xs ys us vs : List X) → xs ++ ys ≡ us ++ vs → length ys ≡ length vs → ys ≡ vs
 back_same [] ys [] vs e same = e
 back_same [] ys (u ∷ us) vs e same = absurd (let size = ap length e in let long = length-append us vs in omega (arith, size, long, same))
@@ -68,52 +72,53 @@ back_same (x ∷ xs) ys [] vs e same = absurd (let size = ap length e in let lon
 back_same (x ∷ xs) ys (u ∷ us) vs e same = back_same xs ys us vs (cons_same x u (xs ++ ys) (us ++ vs) e).1 same
 
 -- what is read so in a run is so up to a turn
-pub read_to : (m : Machine) (switches : List Switch) (pins : List (List Level)) (entries : List Entry) (b : ℕ) (came : List Came) (turns : List BoardTurn) → IsInRun m switches pins entries b came turns → AreReadSo m switches b came turns
-    → (ahead : List Came) (c : Came) (before : List Came) → came ≡ ahead ++ c ∷ before → (later past : List BoardTurn) → turns ≡ later ++ past → length past ≡ length before → IsReadSo m switches b c before past
+pub read_to : (m : Machine) (switches : List Switch) (pins : List (List Level)) (entries : List Entry) (b : ℕ) (came : List Came) (turns : List BoardTurn) → IsInRun m switches pins entries b came turns → SoRead m switches b came turns
+    → (ahead : List Came) (c : Came) (before : List Came) → came ≡ ahead ++ c ∷ before → (later past : List BoardTurn) → turns ≡ later ++ past → length past ≡ length before
+    → AreRead (ReadsSwitchTrue m switches b) (c ∷ before) past × AreBehind m switches b (c ∷ before)
 read_to m switches pins entries b came turns run so ahead c before are later past made long =
     let size : length came ≡ length ahead + length (c ∷ before) = ap length are ∙ length-append ahead (c ∷ before) in
     let f = split_at m switches pins entries b (length before) came turns run (omega (arith, size)) in
     let same = same_place f.ahead f.c f.before ahead c before (sym f.came_is ∙ are) f.at in
-    let here = read_at m switches pins entries b came turns f.ahead f.c f.before f.later f.t f.past run f.run f.came_is f.turns_is so in
+    let here = so_at m switches pins entries b (ReadsSwitchTrue m switches b) came turns f.ahead f.c f.before f.later f.t f.past run f.run f.came_is f.turns_is so in
     let count = as_long m switches b f.before f.past (run_before m switches pins entries b f.c f.before f.t f.past f.run).both in
     let at = f.at in
     let turns_same = back_same (f.later ++ f.t ∷ []) f.past later past (append_assoc f.later (f.t ∷ []) f.past ∙ sym f.turns_is ∙ made) (omega (arith, count, at, long)) in
-    let By : Came → List Came → Type 0 = λ d past_came. IsReadSo m switches b d past_came f.past in
-    subst (λ (z : List BoardTurn). IsReadSo m switches b c before z) turns_same (subst (λ (z : Came). By z before) same.0 (subst (λ (z : List Came). By f.c z) same.1 here))
+    let Is : Came → List Came → List BoardTurn → Type 0 = λ d came_by z. AreRead (ReadsSwitchTrue m switches b) (d ∷ came_by) z × AreBehind m switches b (d ∷ came_by) in
+    subst (λ (z : List BoardTurn). Is c before z) turns_same (subst (λ (z : Came). Is z before f.past) same.0 (subst (λ (z : List Came). Is f.c z f.past) same.1 (here.1, here.2)))
 
 -- the answer in a turn of a run
-answer_own : (m : Machine) (v : IsValidMachine m) (switches : List Switch) (pins : List (List Level)) (entries : List Entry) (b : ℕ) (came : List Came) (turns : List BoardTurn) → IsInRun m switches pins entries b came turns → AreReadSo m switches b came turns
+answer_own : (m : Machine) (v : IsValidMachine m) (switches : List Switch) (pins : List (List Level)) (entries : List Entry) (b : ℕ) (came : List Came) (turns : List BoardTurn) → IsInRun m switches pins entries b came turns → SoRead m switches b came turns
     → (ahead : List Came) (c : Came) (before : List Came) → came ≡ ahead ++ c ∷ before → (h : Homing) (tick : ℕ) → (noted m c.note (known_by m switches before)).homing ≡ Some h → (axis_at m h.axis).board ≡ b
     → answer_in (length before) h.start (hears_all (noted m c.note (known_by m switches before)).clocks c.states h).group ≡ Some (Endstop tick) → IsReadIn m switches pins b h.start h.axis before tick
 answer_own m v switches pins entries b came turns run so ahead c before are h tick known on answer =
     let size : length came ≡ length ahead + length (c ∷ before) = ap length are ∙ length-append ahead (c ∷ before) in
     let f = split_at m switches pins entries b (length before) came turns run (omega (arith, size)) in
     let same = same_place f.ahead f.c f.before ahead c before (sym f.came_is ∙ are) f.at in
-    let here = read_at m switches pins entries b came turns f.ahead f.c f.before f.later f.t f.past run f.run f.came_is f.turns_is so in
+    let here = so_at m switches pins entries b (ReadsSwitchTrue m switches b) came turns f.ahead f.c f.before f.later f.t f.past run f.run f.came_is f.turns_is so in
     let Says : Came → List Came → Type 0 = λ d. λ past. (noted m d.note (known_by m switches past)).homing ≡ Some h
     → answer_in (length past) h.start (hears_all (noted m d.note (known_by m switches past)).clocks d.states h).group ≡ Some (Endstop tick) → IsReadIn m switches pins b h.start h.axis past tick in
     let was : Says f.c f.before = λ is ends.
-    answered_read m v switches pins entries b f.c f.before f.past h tick (run_before m switches pins entries b f.c f.before f.t f.past f.run) f.run.both.0 here.apart here.reads here.behind is on ends in
+    answered_read m v switches pins entries b f.c f.before f.past h tick (run_before m switches pins entries b f.c f.before f.t f.past f.run) f.run.both.0 here.0 here.1 here.2 is on ends in
     subst (λ (z : Came). Says z before) same.0 (subst (λ (z : List Came). Says f.c z) same.1 was) known answer
 
 module _ (m : Machine) (v : IsValidMachine m) (s : Scene) (ts : List MotionTurn) (p : Plans m (length m.boards) ts) (t : Told) (first : ReactorTurn) (rest : List ReactorTurn) (end : ReactorTurn) (c : Cause) (told : p.seen.told ≡ Some t) (f : Facts m s ts (first ∷ rest) end c)
-    (short : HaveShortDictionaries m) (reads : AllBoardsReadTrue m s ts (first ∷ (rest ++ end ∷ []))) where
+    (short : HaveShortDictionaries m) (reads : AllSwitchesReadTrue m s ts (first ∷ (rest ++ end ∷ []))) where
   abbrev Heard : List Came
   Heard = Came_all m v s ts p t first rest end c told f short
 
   -- what each board tells is read so
-  pub all_so : (b : ℕ) (low : b < length m.boards) → AreReadSo m s.switches b Heard (Turns_of m v s ts p t first rest end c told f short b low)
+  pub all_so : (b : ℕ) (low : b < length m.boards) → SoRead m s.switches b Heard (Turns_of m v s ts p t first rest end c told f short b low)
   all_so b low =
       let r = turn m v s ts p t first rest end c told f short in
       let l = lines m v s ts p t first rest end c told f short b low in
       let turns = Turns_of m v s ts p t first rest end c told f short b low in
       let ready = By m v s ts p t first rest end c told f short in
       let long = came_long [] (first ∷ rest) in
-      let Reads : List Came → Type 0 = λ z. AllReadTrue m s.switches b z turns in
-      read_so m s.switches b ts p ready t.first t.clocks Heard turns r.early (row m v s ts p t first rest end c told f short) (by m v s ts p t first rest end c told f short) (connected m v s ts p t first rest end c told f short)
+      let Reads : List Came → Type 0 = λ z. AllRead (ReadsSwitchTrue m s.switches b) z turns in
+      let so = so_begun m s.switches b ts p ready t.first t.clocks Heard r.early (row m v s ts p t first rest end c told f short) (by m v s ts p t first rest end c told f short) (connected m v s ts p t first rest end c told f short)
       l.tracked.kept (knows m v s ts p t first rest end c told f short)
-      (λ past x later axis cut home near. starts_behind m v b (length rest) ready t.first t.clocks p.seen.begun low l (row m v s ts p t first rest end c told f short) r.early past x later cut (omega (arith, near, long)))
-      (subst Reads (came_cut [] first rest end) (reads b low (whole m v s ts p t first rest end c told f short b low)))
+      (λ past x later axis cut home near. starts_behind m v b (length rest) ready t.first t.clocks p.seen.begun low l (row m v s ts p t first rest end c told f short) r.early past x later cut (omega (arith, near, long))) in
+      (so.0, subst Reads (came_cut [] first rest end) (reads b low (whole m v s ts p t first rest end c told f short b low)), so.1)
 
   cut_own : (ahead : List Came) (y : Came) (before : List Came) (lines_of : List ReportLine) (x : TellsAnswer m s.switches y before lines_of) → Heard ≡ ahead ++ y ∷ before → IsOwnReading m s.switches x.homing.start x.homing.axis before x.tick
   cut_own ahead y before lines_of x are =
@@ -150,16 +155,16 @@ none_own m switches begun k before (r ∷ rs) last none ends = (
 )
 
 module _ (m : Machine) (v : IsValidMachine m) (s : Scene) (ts : List MotionTurn) (p : Plans m (length m.boards) ts) (end : ReactorTurn) (c : Cause) (short : HaveShortDictionaries m) where
-  own_by : (o : Option Told) (first : ReactorTurn) (rest : List ReactorTurn) → Ended m s ts (first ∷ rest) end c → p.seen.told ≡ o → AllBoardsReadTrue m s ts (first ∷ (rest ++ end ∷ [])) → TellOwn m s.switches [] (first ∷ rest)
+  own_by : (o : Option Told) (first : ReactorTurn) (rest : List ReactorTurn) → Ended m s ts (first ∷ rest) end c → p.seen.told ≡ o → AllSwitchesReadTrue m s ts (first ∷ (rest ++ end ∷ [])) → TellOwn m s.switches [] (first ∷ rest)
   own_by None first rest e told reads = none_own m s.switches p.seen.begun 0 [] (first ∷ rest) (end ∷ []) (not_told m v s ts p end c told) (all_ends m v s ts p end c (first ∷ rest) e)
   own_by (Some t) first rest e told reads = own_turns m v s ts p t first rest end c told e.facts short reads [] (first ∷ rest) refl
 
-  all_own : (rs : List ReactorTurn) → Ended m s ts rs end c → AllBoardsReadTrue m s ts (rs ++ end ∷ []) → TellOwn m s.switches [] rs
+  all_own : (rs : List ReactorTurn) → Ended m s ts rs end c → AllSwitchesReadTrue m s ts (rs ++ end ∷ []) → TellOwn m s.switches [] rs
   all_own [] e reads = tt
   all_own (first ∷ rest) e reads = own_by p.seen.told first rest e refl reads
 
 pub run_own : {F S : Type 0} (f : Files F) (o : Sink S) (m : Machine) (s : Scene) (name : List ℕ) (files files' : F) (out out' : S) (kept kept' : Kept) (t : near.Told Run) (r : RunsOver f o m s name files out kept t files' out' kept') → IsValidMachine m → HaveShortDictionaries m → (text : List ℕ)
-    → f.told files name ≡ Some text → kept.at ≡ 0 → (t.cause ≡ cause.Memory → ⊥) → AllBoardsReadTrue m s r.runs.0 (r.runs.1 ++ r.runs.2 ∷ []) → ∥ TellOwn m s.switches [] r.runs.1 ∥₁
+    → f.told files name ≡ Some text → kept.at ≡ 0 → (t.cause ≡ cause.Memory → ⊥) → AllSwitchesReadTrue m s r.runs.0 (r.runs.1 ++ r.runs.2 ∷ []) → ∥ TellOwn m s.switches [] r.runs.1 ∥₁
 run_own f o m s name files files' out out' kept kept' t r v short text told at other reads =
     ∥∥₁_map (run_made f o m s name files files' out out' kept kept' t r text told at)
     (λ w. all_own m v s r.runs.0 w.0.plans r.runs.2 t.cause short r.runs.1 (run_ended f o m s name files files' out out' kept kept' t r other) reads)

@@ -31,8 +31,8 @@ use Rattle.homing_laws.specs.home_parts.Answers.{TakeSetUps}
 -- that are sent behind the turn in which they are due are sent by four turns behind the section's end. The board takes no unit half a round of
 -- the 32-bit clock after its first tick, which is so where none is sent more than so many turns behind the turn in which it is due, 10,700 at
 -- most, and the scene has no entries, or no busy stretch of its link has more spoiled turns than are left of 10,700. And in a scene with entries
--- each report that counts for a homing section is read true, as a tick since which the board's trigger can't trigger, for
--- the told reason, or the board takes the set-up of each homing section in time.
+-- each report that counts for a homing section is read as a tick since which the board's trigger can't trigger, or the board takes the set-up of each
+-- homing section in time.
 pub record HomesLittle (m : Machine) (s : Scene) (b : ℕ) (planned : List MotionTurn) (first : ReactorTurn) (rest : List ReactorTurn) (turns : ℕ) (t : Told) (begun : List Started)
     (w : IsInWhole m s.switches b (clock_of (board_at m b)) (link_of m s b) planned first rest) : Type 0 where
   pub out : AreOut turns (runs_on m t.clocks begun b)

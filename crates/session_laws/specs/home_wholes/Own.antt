@@ -13,18 +13,19 @@ use Rattle.session_run.specs.Boards.{came_in}
 use Rattle.run_boards.specs.Boards.{IsInWhole, behind}
 use Rattle.run_boards.specs.Turns.{came_before}
 use Rattle.session_laws.specs.run_headline.Timely.{link_of}
-use Rattle.homing_laws.specs.fired_runs.Since.{AllReadTrue}
+use Rattle.homing_laws.specs.fired_runs.Since.{AllRead, ReadsSwitchTrue}
 use Rattle.homing_laws.specs.switch_runs.Runs.{IsReadIn}
 use Rattle.session_laws.specs.home_headline.Cuts.{TellsAnswer}
 
--- Of each board of a whole run, of which the planner made some turns and the reactor these, each report that counts for
--- a homing section is read true: as a tick since which the board's trigger can't trigger, for the told reason.
-abbrev pub AllBoardsReadTrue : Machine → Scene → List MotionTurn → List ReactorTurn → Type 0
-AllBoardsReadTrue m s planned [] = Unit {0}
-AllBoardsReadTrue m s planned (first ∷ rest) =
+-- Of each board of a whole run, of which the planner made some turns and the reactor these, each report that readings
+-- triggered its trigger, which counts for a homing section with its endstop, is read true: as a tick since which the
+-- trigger can't trigger, for that reason.
+abbrev pub AllSwitchesReadTrue : Machine → Scene → List MotionTurn → List ReactorTurn → Type 0
+AllSwitchesReadTrue m s planned [] = Unit {0}
+AllSwitchesReadTrue m s planned (first ∷ rest) =
     (b : ℕ) → b < length m.boards →
     (w : IsInWhole m s.switches b (clock_of (board_at m b)) (link_of m s b) planned first rest) →
-    AllReadTrue m s.switches b (came_before [] (first ∷ rest)) (behind [] w.made)
+    AllRead (ReadsSwitchTrue m s.switches b) (came_before [] (first ∷ rest)) (behind [] w.made)
 
 -- a tick at which a homing section's own readings of its axis's endstop are complete
 abbrev pub IsOwnReading : Machine → List Switch → ℕ → ℕ → List Came → ℕ → Type 0

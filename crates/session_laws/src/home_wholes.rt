@@ -36,8 +36,8 @@ ghost use Rattle.session_laws.specs.run_headline.Made.{IsMade};
 ghost use Rattle.session_laws.specs.run_headline.Timely.{clocks_heard, ready_heard};
 ghost use Rattle.session_laws.specs.home_headline.Cuts.{TellEnds};
 ghost use Rattle.session_laws.specs.home_headline.Follow.{AllShowHomes};
-ghost use Rattle.session_laws.specs.home_headline.Little.{AllHomeLittle, SendsOut};
-ghost use Rattle.session_laws.specs.home_wholes.Own.{AllHearSoon, TellOwn};
+ghost use Rattle.session_laws.specs.home_headline.Little.{AllHomeLittle};
+ghost use Rattle.session_laws.specs.home_wholes.Own.{AllSwitchesReadTrue, TellOwn};
 ghost use Rattle.session_laws.specs.home_wholes.Still.{IsStillIn};
 ghost use Rattle.session_laws.specs.home_wholes.Whole.{AllWholeHomes};
 
@@ -93,13 +93,9 @@ pub fn homing_runs_are_whole<F: Files, S: Sink>()
 /// one that tells that the switch of a homing section closed tells of a tick at which this very section's readings of its axis's endstop are
 /// complete (`TellOwn`), whatever happens on the lines.
 ///
-/// It is asked of each board that it holds nothing long (`AllHomeLittle`), that units of moves are sent by four turns
-/// behind their section's end (`SendsOut`), and of the endstop's that in a scene with entries it takes the set-up in
-/// time, and that what its trigger does in the section is heard of within half a round of its 32-bit clock
-/// (`AllHearSoon`).
+/// It is asked that each board's reports that readings triggered its trigger are read true (`AllSwitchesReadTrue`).
 pub fn homing_runs_are_cut_by_their_own_readings<F: Files, S: Sink>()
     ensures { (m : Machine) (s : Scene) (name : List ℕ) (files files' : F) (out out' : S) (kept kept' : Kept) (t : Told Run) →
         (r : RunsOver F.Files S.Sink m s name files out kept t files' out' kept') → IsValidMachine m → HaveShortDictionaries m → (text : List ℕ) → F.told files name ≡ Some text → kept.at ≡ 0 →
-        (t.cause ≡ Cause.Memory → ⊥) → AllHomeLittle m s text r.runs.0 (r.runs.1 ++ r.runs.2 ∷ []) → AllHearSoon m s text r.runs.0 (r.runs.1 ++ r.runs.2 ∷ []) →
-        SendsOut m text r.runs.0 → ∥ TellOwn m s.switches [] r.runs.1 ∥₁ }
+        (t.cause ≡ Cause.Memory → ⊥) → AllSwitchesReadTrue m s r.runs.0 (r.runs.1 ++ r.runs.2 ∷ []) → ∥ TellOwn m s.switches [] r.runs.1 ∥₁ }
 {}

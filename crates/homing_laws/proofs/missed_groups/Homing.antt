@@ -38,7 +38,7 @@ use Rattle.homing_laws.specs.missed_groups.Minds.{Hits, Minds}
 use Rattle.homing_laws.specs.missed_groups.Ticks.{IsReader, IsSwitchTick, readings_from}
 use Rattle.homing_laws.proofs.clear_groups.SetUp.{AllSetting, IsSetting, first_at, homes_setting, running}
 use Rattle.homing_laws.proofs.clear_boards.Turned.{ran}
-use Rattle.homing_laws.proofs.switch_runs.Renewing.{acts_ends}
+use Rattle.homing_laws.proofs.switch_runs.Made.{acts_ends}
 use Rattle.homing_laws.proofs.switch_runs.Homes.{endstop_of}
 use Rattle.homing_laws.proofs.missed_groups.Beginning.{Never}
 

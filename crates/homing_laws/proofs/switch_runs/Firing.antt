@@ -84,7 +84,7 @@ ended_true None levels until s y x e at =
     read_on until levels until s x (subst (λ (z : Sampling). IsTriggerTick levels z x) same at)
 ended_true (Some tick) levels until s y x e at = absurd (cc)
 
-read_true : (o : Option Sampling) (levels : List Level) (until : ℕ) (y : Sampling) → trig.read_to levels until o ≡ Some y
+pub read_true : (o : Option Sampling) (levels : List Level) (until : ℕ) (y : Sampling) → trig.read_to levels until o ≡ Some y
     → (s : Sampling) × (o ≡ Some s) × (y.reason ≡ s.reason) × ((x : ℕ) → IsTriggerTick levels y x → IsTriggerTick levels s x)
 read_true None levels until y e = absurd (cc)
 read_true (Some s) levels until y e =
@@ -101,7 +101,7 @@ early_so : (until : ℕ) (o : Option ℕ) (x : ℕ) → ((n : ℕ) → o ≡ Som
 early_so until None x early l = l
 early_so until (Some n) x early l = let m = early n refl in omega (arith, l, m)
 
-next_switch : (levels : List Level) (until : ℕ) (t : Trigger) (x : ℕ) → trig.next levels until t ≡ Switches x → SwitchesAt levels t x × (x < until)
+pub next_switch : (levels : List Level) (until : ℕ) (t : Trigger) (x : ℕ) → trig.next levels until t ≡ Switches x → SwitchesAt levels t x × (x < until)
 next_switch levels until t x is =
     let expiry = trig.expiry_of until t in
     let at = was_switch levels (trig.or_until until expiry) t.can t.sampling x (earliest_switch expiry (trig.switch_of levels until t) (trig.report_of levels until t) x is) in

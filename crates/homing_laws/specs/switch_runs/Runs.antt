@@ -1,5 +1,5 @@
 -- What the endstops of a board read in a run.
-use Rattle.std.specs.Prelude.{◌≡◌, ◌⊎◌, ◌<◌, ◌≤◌, ◌+◌, ◌*◌, ◌/◌, ◌%◌, ◌^◌, ℕ, false, List, [], ◌∷◌, Option, None, Some, length, slice_index_or}
+use Rattle.std.specs.Prelude.{◌≡◌, ◌⊎◌, ◌+◌, ◌*◌, ◌/◌, ℕ, List, [], ◌∷◌, Some, slice_index_or}
 use Rattle.plan_types.specs.declared.levels.Level.{Level}
 use Rattle.plan_types.specs.declared.machine.AxisDef.{AxisDef}
 use Rattle.plan_types.specs.declared.machine.Machine.{Machine}
@@ -9,7 +9,6 @@ use Rattle.plan_types.specs.Sections.{clocks_at}
 use Rattle.clock_line.specs.Early.{turn_tick}
 use Rattle.board_trig.specs.declared.sampling.Homing.{Homing as Readings}
 use Rattle.wire_scene.specs.declared.scene.Switch.{Switch}
-use Rattle.board_sim.specs.Rig.{Rig, Slot, slot_at}
 use Rattle.board_asking.specs.Machine.{endstop_pins, trigger_of}
 use Rattle.axis_homing.specs.declared.homing.Homing.{Homing}
 use Rattle.axis_homing.specs.Homing.{flag, low}
@@ -62,23 +61,3 @@ pub record IsRead (m : Machine) (switches : List Switch) (pins : List (List Leve
   pub start : ℕ
   pub axis : ℕ
   pub read : IsReadIn m switches pins b start axis came tick
-
--- a homing section that is known has this start and this axis
-abbrev pub IsFor : ℕ → ℕ → Option Homing → Type 0
-IsFor start axis None = ⊥
-IsFor start axis (Some h) = (h.start ≡ start) × (h.axis ≡ axis)
-
--- from a turn on the homing section that is known has this start and this axis
-abbrev pub ReadsFrom : Machine → List Switch → ℕ → ℕ → ℕ → List Came → Type 0
-ReadsFrom m switches from start axis [] = Unit {0}
-ReadsFrom m switches from start axis (c ∷ before) =
-    (from ≤ length before → IsFor start axis (noted m c.note (known_by m switches before)).homing) × ReadsFrom m switches from start axis before
-
--- A board's trigger can't trigger any more, since a tick with these lower 32 bits: a tick before another one, or one at which the readings of a
--- homing section are complete.
-pub record HasTriggered (m : Machine) (switches : List Switch) (pins : List (List Level)) (b start axis : ℕ) (came : List Came) (begin clock : ℕ) (r : Rig) : Type 0 where
-  pub slot : Slot
-  pub is : slot_at r (trigger_of m b) ≡ Some slot
-  pub fired : slot.trigger.can ≡ false
-  pub clock_is : slot.trigger.tick % 2 ^ 32 ≡ clock
-  pub read : (slot.trigger.tick < begin) ⊎ IsReadIn m switches pins b start axis came slot.trigger.tick

@@ -1,6 +1,5 @@
 -- Each board of a whole run in which axes home, whatever ended it, as the laws of boards ask for it.
-use Rattle.std.proofs.Common.{◌≡◌, inr, ℕ, ◌<◌, List, [], ◌∷◌, ◌++◌, length, map, Some, append_assoc, length-append, refl, ap, sym, ◌∙◌, arith}
-use Rattle.std.proofs.lemmas.List.{length-map}
+use Rattle.std.proofs.Common.{◌≡◌, inr, ℕ, ◌<◌, List, [], ◌∷◌, ◌++◌, length, map, Some, length-append, refl, arith}
 use Rattle.plan_types.specs.declared.cause.Cause.{Cause}
 use Rattle.plan_types.specs.declared.machine.Machine.{Machine}
 use Rattle.plan_types.specs.Clock.{clock_of}
@@ -10,7 +9,6 @@ use Rattle.wire_scene.specs.declared.scene.Scene.{Scene}
 use Rattle.motion_work.specs.Told.{Told}
 use Rattle.session_work.specs.declared.table.MotionTurn.{MotionTurn}
 use Rattle.session_work.specs.declared.table.ReactorTurn.{ReactorTurn}
-use Rattle.session_work.specs.Rows.{gather, option_items}
 use Rattle.session_run.specs.Boards.{came_from}
 use Rattle.run_laws.specs.Homes.{IsHomeBoard}
 use Rattle.run_boards.specs.Boards.{IsInWhole, behind}
@@ -19,7 +17,6 @@ use Rattle.run_plans.specs.Planned.{Plans}
 use Rattle.run_plans.proofs.Running.{started_in}
 use Rattle.session_laws.specs.run_headline.Timely.{AreSound, link_of}
 use Rattle.session_laws.proofs.run_headline.Boarded.{Lined, Ready, lined, ready, sound_of, valid_at}
-use Rattle.session_laws.proofs.run_headline.Heard.{notes_cut}
 use Rattle.session_laws.proofs.run_headline.Showing.{Facts, few, notes_before}
 use Rattle.homing_laws.specs.home_plans.Notes.{AreInARow}
 use Rattle.homing_laws.proofs.home_plans.Noting.{begun_row}

@@ -90,7 +90,7 @@ use Rattle.session_laws.proofs.home_wholes.Own.{run_own}
 use Rattle.session_laws.proofs.home_wholes.Shows.{all_wholes}
 use Rattle.session_laws.specs.clear_homes.Closes.{AllClose}
 use Rattle.session_laws.proofs.clear_homes.Clear as homed
-use Rattle.session_laws.proofs.clear_homes.First.{run_first}
+use Rattle.session_laws.proofs.clear_homes.First.{run_first, run_unswitched}
 use Rattle.session_laws.proofs.run_causes.Answering as answering
 use Rattle.session_laws.proofs.clear_homes.Through.{soon_all}
 use Rattle.cause_runs.specs.Short.{HaveShortDictionaries}
@@ -1013,6 +1013,7 @@ module _ {F S : Type 0} (f : Files F) (o : Sink S) (m : Machine) (s : Scene) (gc
         (of_run r (cause.Stale board turn) (λ g. let h : cause.Stale board turn ≡ cause.Memory = g in cc) (λ g. let h : cause.Stale board turn ≡ cause.WriteFault = g in cc) e);
     expired = λ board turn e. run_first f o m s gcode files files' out r.behind r.kept r.kept' r.told r.runs board turn
         (of_run r (cause.Expired board turn) (λ g. let h : cause.Expired board turn ≡ cause.Memory = g in cc) (λ g. let h : cause.Expired board turn ≡ cause.WriteFault = g in cc) e);
+    switch_told = λ section e. run_unswitched f o m s gcode files files' out r.behind r.kept r.kept' r.told r.runs section (of_no_switch r section e);
     late = λ board first arrival spoiled spill e. run_late f o m s gcode files files' out r.behind r.kept r.kept' r.told r.runs v board first arrival spoiled spill (of_late r board first arrival spoiled spill e);
     late_unit = λ text told board first arrival spoiled spill e little sends.
         run_home_units f o m s gcode files files' out r.behind r.kept r.kept' r.told r.runs v short board first arrival spoiled spill text told r.fresh.at (of_late r board first arrival spoiled spill e) little sends;

@@ -35,7 +35,7 @@ use Rattle.session_laws.specs.run_lines.Due.{BoardsHave, StandApart}
 use Rattle.session_laws.specs.home_headline.Little.{AllHomeLittle, ShownHoldLittle, SendsOut}
 use Rattle.session_laws.specs.home_wholes.Own.{AllSwitchesReadTrue, TellOwn}
 use Rattle.session_laws.specs.clear_homes.Closes.{AllClose, MissesSwitch, TellFirst}
-use Rattle.session_laws.specs.clear_homes.First.{IsFirstExpired}
+use Rattle.session_laws.specs.clear_homes.First.{IsFirstExpired, IsUnswitched}
 use Rattle.session_laws.specs.run_causes.Unanswered.{GaveNoAnswer, IsStaleSince}
 use Rattle.session_laws.specs.clear_runs.Clear.{SendsAllSoon}
 use Rattle.host_cli.specs.Body.{cause_of}
@@ -99,9 +99,12 @@ pub record ShowsText (m : Machine) (text : List ℕ) (c : Cause) (said : List Re
 -- never closed; where each section's switch closes in time (`AllClose`) there is no such exception, each line of a switch is of the first tick at which
 -- it closes (`TellFirst`), and where a run ends since no switch closed, none did in time (`MissesSwitch`). Causes: a run ends for a board that gives no
 -- answer, or whose clock line is too old, only where its askings in a row were hindered on its link (`GaveNoAnswer`, `IsStaleSince`), and for a board
--- that expired only where, by what the members of the homing section's group told, it is the first of them (`IsFirstExpired`). It ends for steps that came too late only
--- where the board took them so in its link's last turn (`ComesLateIn`), and they are a unit's of its plan, with its spoiled turns and its spill,
--- where units of moves are sent so (`HasLateUnitIn`); no state tells of any other shutdown but the order to stop (`AllMayTell`). Sections start and end in their turns (`AreTimed`), and the
+-- that expired only where, by what the members of the homing section's group told, it is the first of them (`IsFirstExpired`); as
+-- no switch closed only where, by what these told, none expired in time and the endstop's board read no switch
+-- (`IsUnswitched`). It ends for steps that came too late only
+-- where the board took them so in its link's last turn (`ComesLateIn`), and they are a unit's of its plan, with its spoiled
+-- turns and its spill, where units of moves are sent by four turns behind their section's end (`SendsOut`,
+-- `HasLateUnitIn`); no state tells of any other shutdown but the order to stop (`AllMayTell`). Sections start and end in their turns (`AreTimed`), and the
 -- `board` lines are of clock lines that follow the boards' clocks (`TellKnownLines`). The turn that ends a run
 -- tells of no switch.
 pub record IsLinkReport {F S : Type 0} (f : Files F) (o : Sink S) (m : Machine) (s : Scene) (gcode : List ℕ) (files files' : F) (out out' : S) (c : Cause) (lines : List ReportLine) (counts : List ℕ) (links : List LinkLog) : Type 0 where
@@ -135,6 +138,8 @@ pub record IsLinkReport {F S : Type 0} (f : Files F) (o : Sink S) (m : Machine) 
   pub connect : (text : List ℕ) → f.told files gcode ≡ Some text → (board turn : ℕ) → c ≡ cause.Connect board turn → ∥ GaveNoAnswer m s board turn reported.runs.runs.0 reported.runs.runs.1 reported.runs.runs.2 ∥₁
   pub stale : (board turn : ℕ) → c ≡ cause.Stale board turn → IsStaleSince m s board turn reported.runs.runs.0 reported.runs.runs.1 reported.runs.runs.2
   pub expired : (board turn : ℕ) → c ≡ cause.Expired board turn → IsFirstExpired m s.switches board turn reported.runs.runs.1 reported.runs.runs.2
+  pub switch_told : (section : ℕ) → c ≡ cause.NoSwitch section →
+      IsUnswitched m s.switches section reported.runs.runs.1 reported.runs.runs.2
   pub late : (board first arrival spoiled spill : ℕ) → c ≡ cause.Late board first arrival spoiled spill →
       ComesLateIn m s board first arrival spoiled spill reported.runs.runs.0 reported.runs.runs.1 reported.runs.runs.2
   pub late_unit : (text : List ℕ) → f.told files gcode ≡ Some text → (board first arrival spoiled spill : ℕ) → c ≡ cause.Late board first arrival spoiled spill →

@@ -19,7 +19,7 @@ ghost use Rattle.session_laws.specs.run_headline.Made.{IsMade};
 ghost use Rattle.session_laws.specs.home_wholes.Own.{AllSwitchesReadTrue};
 ghost use Rattle.session_laws.specs.clear_homes.Closes.{AllClose, MissesSwitch, TellFirst};
 ghost use Rattle.session_laws.specs.clear_homes.Expiry.{IsExpired};
-ghost use Rattle.session_laws.specs.clear_homes.First.{IsFirstExpired};
+ghost use Rattle.session_laws.specs.clear_homes.First.{IsFirstExpired, IsUnswitched};
 ghost use Rattle.session_laws.specs.clear_runs.Clear.{SendsAllSoon};
 
 use io_core::{Files, Sink};
@@ -87,4 +87,12 @@ pub fn expired_boards_told_so<F: Files, S: Sink>()
 pub fn runs_end_for_first_boards_that_expired<F: Files, S: Sink>()
     ensures { (m : Machine) (s : Scene) (name : List ℕ) (files files' : F) (out out' : S) (kept kept' : Kept) (t : Told Run) →
         (r : RunsOver F.Files S.Sink m s name files out kept t files' out' kept') → (board turn : ℕ) → t.cause ≡ Cause.Expired board turn → IsFirstExpired m s.switches board turn r.runs.1 r.runs.2 }
+{}
+
+/// The law of sections whose switch was not told: in whatever threads a run went that ends since no switch closed in a section, by what the boards told
+/// in this homing section, which was under way, its members all triggered, none since its timeout passed in a turn up to the section's last one, and
+/// the endstop's board not by its readings.
+pub fn runs_end_where_no_switch_was_told<F: Files, S: Sink>()
+    ensures { (m : Machine) (s : Scene) (name : List ℕ) (files files' : F) (out out' : S) (kept kept' : Kept) (t : Told Run) →
+        (r : RunsOver F.Files S.Sink m s name files out kept t files' out' kept') → (section : ℕ) → t.cause ≡ Cause.NoSwitch section → IsUnswitched m s.switches section r.runs.1 r.runs.2 }
 {}

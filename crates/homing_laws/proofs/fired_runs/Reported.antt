@@ -414,3 +414,14 @@ member_told m switches b c before h e g known ends among =
     let group = (hears_all n.clocks c.states h).group in
     among_each (λ a f. WasReported m switches a h.start f (c ∷ before)) (axis_at m h.axis).board b group.members (answered (nat_le h.start (length before)) group e ends)
     (subst (λ (l : List Member). IsMember b l) (sym (members_states n.clocks 0 h.start c.states h.group)) among) (all_told m switches c before h g known)
+
+-- where it answers that the switch closed no member expired in time
+none_ahead : (x y : Option End) (tick : ℕ) → IsExpiry x → or_none (or_else x y) ≡ Endstop tick → x ≡ None
+none_ahead None y tick a e = refl
+none_ahead (Some (Expired board turn)) y tick a e = absurd (let f : Expired board turn ≡ Endstop tick = e in cc)
+none_ahead (Some end) y tick a e = absurd a
+
+pub closed_unexpired : (k start : ℕ) (g : GroupState) (tick : ℕ) → answer_in k start g ≡ Some (Endstop tick) → first_expired g.last g.members ≡ None
+closed_unexpired k start g tick e =
+    let is = ended_if (all_fired g.members) (answer g) tick (answer_if (nat_le start k) (ended g) tick e) in
+    none_ahead (first_expired g.last g.members) (first_switched g.members) tick (all_expiries g.last g.members) is

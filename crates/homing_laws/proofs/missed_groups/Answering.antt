@@ -51,7 +51,7 @@ none_of None None a b e = (refl, refl)
 none_of None (Some z) a b e = absurd (let f : z ≡ NoSwitch = e in subst (λ (w : End). IsOther (Some w)) f b)
 none_of (Some z) y a b e = absurd (let f : z ≡ NoSwitch = e in subst (λ (w : End). IsOther (Some w)) f a)
 
-else_none : (x y : Option End) → or_else x y ≡ None → (x ≡ None) × (y ≡ None)
+pub else_none : (x y : Option End) → or_else x y ≡ None → (x ≡ None) × (y ≡ None)
 else_none None y e = (refl, e)
 else_none (Some z) y e = absurd (cc)
 
@@ -75,7 +75,7 @@ missed k start g e =
     let y = none_of (first_expired g.last g.members) (first_switched g.members) (all_expired_other g.last g.members) (all_switched_other g.members) x.1 in
     record { all = x.0; unexpired = y.0; unswitched = y.1 }
 
-both_parts : (a b : Bool) → (a && b) ≡ true → (a ≡ true) × (b ≡ true)
+pub both_parts : (a b : Bool) → (a && b) ≡ true → (a ≡ true) × (b ≡ true)
 both_parts true b e = (refl, e)
 both_parts false b e = cc
 
@@ -83,19 +83,19 @@ both_true : (a b : Bool) → a ≡ true → b ≡ true → (a && b) ≡ true
 both_true true b e f = f
 both_true false b e f = cc
 
-rest_missed : (last : ℕ) (x : Seen) (xs : List Seen) → Missed last (x ∷ xs) → Missed last xs
+pub rest_missed : (last : ℕ) (x : Seen) (xs : List Seen) → Missed last (x ∷ xs) → Missed last xs
 rest_missed last x xs k = record {
   all = (both_parts (has_fired x.fired) (all_fired xs) k.all).1;
   unexpired = (else_none (expired last x.member.board x.fired) (first_expired last xs) k.unexpired).1;
   unswitched = (else_none (switched x.member.endstop x.fired) (first_switched xs) k.unswitched).1;
 }
 
-fired_some : (o : Option Fired) → has_fired o ≡ true → (f : Fired) × (o ≡ Some f)
+pub fired_some : (o : Option Fired) → has_fired o ≡ true → (f : Fired) × (o ≡ Some f)
 fired_some None e = absurd (cc)
 fired_some (Some f) e = (f, refl)
 
 -- no member expired in time
-none_expired : (last board : ℕ) (o : Option Fired) (f : Fired) → o ≡ Some f → expired last board o ≡ None → f.reason ≡ 2 → f.turn ≤ last → ⊥
+pub none_expired : (last board : ℕ) (o : Option Fired) (f : Fired) → o ≡ Some f → expired last board o ≡ None → f.reason ≡ 2 → f.turn ≤ last → ⊥
 none_expired last board None f e none two early = cc
 none_expired last board (Some g) f e none two early =
     let same : g ≡ f = cc in
@@ -115,7 +115,7 @@ known_read last (x ∷ xs) k (inl now) W own each = elim now.3 [
 known_read last (x ∷ xs) k (inr more) W own each = let y = known_read last xs (rest_missed last x xs k) more W own each.1 in (y.0, y.1, inr y.2, y.3, y.4)
 
 -- and the endstop's board not
-none_switched : (e : Bool) (o : Option Fired) (f : Fired) → e ≡ true → o ≡ Some f → switched e o ≡ None → f.reason ≡ 1 → ⊥
+pub none_switched : (e : Bool) (o : Option Fired) (f : Fired) → e ≡ true → o ≡ Some f → switched e o ≡ None → f.reason ≡ 1 → ⊥
 none_switched e None f is_end is none one = cc
 none_switched e (Some g) f is_end is none one =
     let same : g ≡ f = cc in

@@ -16,13 +16,14 @@ use Rattle.host_reactor.specs.declared.ordered.Known.{Known}
 use Rattle.host_reactor.specs.Notes.{noted}
 use Rattle.host_reactor.specs.Reactor.{Run}
 use Rattle.host_reactor.specs.Rows.{IsOwn}
-use Rattle.host_reactor.specs.Runs.{known_by}
+use Rattle.host_reactor.specs.Runs.{GoesOn, known_by}
 use Rattle.session_lanes.specs.declared.near.Told.{Told}
 use Rattle.session_desk.specs.declared.tell.Kept.{Kept}
 use Rattle.session_run.specs.Boards.{came_from, came_in}
 use Rattle.session_run.specs.Runs.{RunsOver}
 use Rattle.session_laws.specs.run_ends.Ends.{EndsSo}
 use Rattle.session_laws.proofs.run_ends.Ending.{ends_so}
+use Rattle.session_laws.proofs.run_headline.Making.{run_turns}
 use Rattle.session_laws.proofs.run_headline.Runs.{facts}
 use Rattle.session_laws.proofs.run_headline.Showing.{ends_own}
 use Rattle.session_laws.proofs.clear_runs.Bare.{goes_of}
@@ -65,17 +66,27 @@ missed_of clocks k section states None e = absurd (let f : None ≡ Some (cause.
 missed_of clocks k section states (Some h) e = let g = hears_all clocks states h in let x = missed_answer k section g (answer_in k g.start g.group) e in (h, refl, x.0, x.1)
 
 module _ {F S : Type 0} (f : Files F) (o : Sink S) (m : Machine) (s : Scene) (name : List ℕ) (files files' : F) (out out' : S) (kept kept' : Kept) (t : Told Run) (r : RunsOver f o m s name files out kept t files' out' kept') where
-  pub run_expired : (board turn : ℕ) → t.cause ≡ cause.Expired board turn → IsExpired m s.switches board turn r.runs.1 r.runs.2
-  run_expired board turn e =
-      let x = facts f o m s name files files' out out' kept kept' t r (λ g. let h : cause.Expired board turn ≡ cause.Memory = sym e ∙ g in cc) in
-      let own : IsOwn t.cause = subst IsOwn (sym e) tt in
+  -- the cause is so in the last turn
+  pub ended_so : (c : Cause) → t.cause ≡ c → (c ≡ cause.Memory → ⊥) → IsOwn c
+      → EndsSo m (noted m r.runs.2.note (known_by m s.switches (came_from [] r.runs.1))) (length (came_from [] r.runs.1)) r.runs.2.states c
+  ended_so c e other own_c =
+      let x = facts f o m s name files files' out out' kept kept' t r (λ g. other (sym e ∙ g)) in
+      let own : IsOwn t.cause = subst IsOwn (sym e) own_c in
       let came = came_from [] r.runs.1 in
       let last = r.runs.2 in
       let Ends : Known → Type 0 = λ q. EndsSo m (noted m last.note q) (length came) last.states t.cause in
-      let ended : EndsSo m (noted m last.note (known_by m s.switches came)) (length came) last.states t.cause =
-      subst Ends (x.own own).0 (ends_so m s.switches x.known (length came) last.states last.note t.cause (x.own own).1 x.other (sym (ends_own m s r.runs.0 r.runs.1 r.runs.2 t.cause x own))) in
-      let By : Cause → Type 0 = λ c. EndsSo m (noted m last.note (known_by m s.switches came)) (length came) last.states c in
+      let By : Cause → Type 0 = λ d. EndsSo m (noted m last.note (known_by m s.switches came)) (length came) last.states d in
+      subst By e (subst Ends (x.own own).0 (ends_so m s.switches x.known (length came) last.states last.note t.cause (x.own own).1 x.other (sym (ends_own m s r.runs.0 r.runs.1 r.runs.2 t.cause x own))))
+
+  -- and the turns before it go on
+  pub goes_so : GoesOn m s.switches (came_from [] r.runs.1)
+  goes_so = goes_of m s.switches [] r.runs.1 (run_turns f o m s name files files' out out' kept kept' t r) tt
+
+  pub run_expired : (board turn : ℕ) → t.cause ≡ cause.Expired board turn → IsExpired m s.switches board turn r.runs.1 r.runs.2
+  run_expired board turn e =
+      let came = came_from [] r.runs.1 in
+      let last = r.runs.2 in
       let n = noted m last.note (known_by m s.switches came) in
-      let is = expired_of n.clocks (length came) board turn last.states n.homing (subst By e ended).1 in
-      let both = expiry_told m s.switches (came_in last) came is.0 board turn (goes_of m s.switches [] r.runs.1 x.turns tt) is.1 is.2 in
+      let is = expired_of n.clocks (length came) board turn last.states n.homing (ended_so (cause.Expired board turn) e (λ g. cc) tt).1 in
+      let both = expiry_told m s.switches (came_in last) came is.0 board turn goes_so is.1 is.2 in
       (is.0, is.1, both.0, both.1)

@@ -2,7 +2,6 @@
 use Rattle.std.proofs.Common.{◌≡◌, ◌⊎◌, ℕ, ◌≤◌, ◌==◌, Bool, true, false, cond, List, [], ◌∷◌, length, map, Option, Some, None, refl, ap, sym, ◌∙◌, subst, arith, inl, inr}
 use Rattle.std.specs.Prelude.{◌&&◌, nat_le}
 use Rattle.std.proofs.lemmas.Bool.Decides.{eqb_tells, leb_tells}
-use Rattle.plan_types.specs.declared.cause.Cause.{Cause}
 use Rattle.plan_types.specs.declared.cause.Cause.TheVariants as cause
 use Rattle.plan_types.specs.declared.machine.Machine.{Machine}
 use Rattle.plan_types.specs.Machines.{axis_at}
@@ -14,41 +13,27 @@ use Rattle.trigger_group.specs.declared.order.End.TheVariants.{Endstop, Expired,
 use Rattle.trigger_group.specs.declared.order.Member.{Member}
 use Rattle.trigger_group.specs.declared.seen.Fired.{Fired}
 use Rattle.trigger_group.specs.declared.seen.Seen.{Seen}
+use Rattle.trigger_group.specs.Kept.{BoardsRise}
 use Rattle.trigger_group.specs.Group.{all_fired, answer, ended, expired, first_expired, first_switched, has_fired, or_else, or_none, switched}
+use Rattle.axis_homing.specs.declared.homing.Homing.{Homing}
 use Rattle.axis_homing.specs.Homing.{hears_all}
-use Rattle.axis_homing.specs.Rising.{members_of}
-use Rattle.host_reactor.specs.declared.ordered.Known.{Known}
+use Rattle.axis_homing.specs.Rising.{HomingRises, members_of}
 use Rattle.host_reactor.specs.Notes.{noted}
 use Rattle.host_reactor.specs.Reactor.{Run}
-use Rattle.host_reactor.specs.Rows.{IsOwn}
-use Rattle.host_reactor.specs.Runs.{known_by}
+use Rattle.host_reactor.specs.Runs.{GoesOn, known_by}
 use Rattle.session_lanes.specs.declared.near.Told.{Told}
 use Rattle.session_desk.specs.declared.tell.Kept.{Kept}
 use Rattle.session_run.specs.Boards.{came_from, came_in}
 use Rattle.session_run.specs.Runs.{RunsOver}
 use Rattle.homing_laws.proofs.clear_boards.Keeping.{hears_keep}
 use Rattle.homing_laws.proofs.home_runs.Grouped.{members_states}
+use Rattle.homing_laws.proofs.home_runs.Joining.{known_rises, noted_rises}
 use Rattle.homing_laws.specs.switch_runs.Reports.{WasReported}
-use Rattle.session_laws.specs.run_ends.Ends.{EndsSo}
-use Rattle.session_laws.proofs.run_ends.Ending.{ends_so}
-use Rattle.session_laws.proofs.run_headline.Runs.{facts}
-use Rattle.session_laws.proofs.run_headline.Showing.{ends_own}
-use Rattle.session_laws.proofs.clear_runs.Bare.{goes_of}
 use Rattle.homing_laws.proofs.fired_runs.Reported.{Each, all_told}
-use Rattle.session_laws.specs.clear_homes.First.{HaveTold, IsFirstExpired, IsFirstOf}
-use Rattle.session_laws.proofs.clear_homes.Expired.{expired_of}
-
-both_parts : (a b : Bool) → (a && b) ≡ true → (a ≡ true) × (b ≡ true)
-both_parts true b e = (refl, e)
-both_parts false b e = absurd (let f : false ≡ true = e in cc)
-
-both_true : (a b : Bool) → a ≡ true → b ≡ true → (a && b) ≡ true
-both_true true b e f = f
-both_true false b e f = absurd (cc)
-
-fired_some : (o : Option Fired) → has_fired o ≡ true → (f : Fired) × (o ≡ Some f)
-fired_some None e = absurd (cc)
-fired_some (Some f) e = (f, refl)
+use Rattle.homing_laws.proofs.missed_groups.Answering.{Missed, both_parts, else_none, fired_some, missed, none_expired, none_switched, rest_missed}
+use Rattle.homing_laws.proofs.missed_groups.Axes.{of_axis}
+use Rattle.session_laws.specs.clear_homes.First.{HaveTold, IsFirstExpired, IsFirstOf, IsUnswitched, NoneSwitched}
+use Rattle.session_laws.proofs.clear_homes.Expired.{ended_so, expired_of, goes_so, missed_of}
 
 or_cases : (x y : Option End) (z : End) → or_else x y ≡ Some z → (x ≡ Some z) ⊎ ((x ≡ None) × (y ≡ Some z))
 or_cases None y z e = inr (refl, e)
@@ -71,17 +56,6 @@ here_expired last board b turn (Some f) e =
       x.2,
       elim (leb_tells f.turn last) [ inl p ↦ p.1 | inr p ↦ absurd (let bad : false ≡ true = sym p.0 ∙ y.1 in cc) ],
     )
-
--- and one that did not
-none_expired : (last board : ℕ) (o : Option Fired) (f : Fired) → o ≡ Some f → expired last board o ≡ None → f.reason ≡ 2 → f.turn ≤ last → ⊥
-none_expired last board None f e none two early = cc
-none_expired last board (Some g) f e none two early =
-    let same : g ≡ f = cc in
-    let reason : (g.reason == 2) ≡ true = (elim (eqb_tells g.reason 2) [ inl p ↦ p.0 | inr p ↦ absurd (p.1 (ap (λ (z : Fired). z.reason) same ∙ two)) ]) in
-    let turn : nat_le g.turn last ≡ true = (elim (leb_tells g.turn last) [ inl p ↦ p.0 | inr p ↦ absurd (let l = p.1 in let s = ap (λ (z : Fired). z.turn) same in omega (arith, l, s, early)) ]) in
-    let If : Bool → Type 0 = λ c. cond c (Some (Expired board g.turn)) None ≡ None in
-    let bad : Some (Expired board g.turn) ≡ None = subst If (both_true (g.reason == 2) (nat_le g.turn last) reason turn) none in
-    cc
 
 -- of all members
 all_have : (W : ℕ → Fired → Type 0) (own : ℕ) (xs : List Seen) → Each W own xs → all_fired xs ≡ true → HaveTold W (map (λ (x : Seen). x.member) xs)
@@ -167,28 +141,82 @@ in_if : (c : Bool) (o : Option End) (y : End) → cond c o None ≡ Some y → o
 in_if true o y e = e
 in_if false o y e = absurd (let f : None ≡ Some y = e in cc)
 
+-- none of the members of a group that answers that no switch closed expired in time, nor read one
+all_unswitched : (W : ℕ → Fired → Type 0) (own last : ℕ) (xs : List Seen) → Missed last xs → Each W own xs → NoneSwitched W last (map (λ (x : Seen). x.member) xs)
+all_unswitched W own last [] k each = tt
+all_unswitched W own last (x ∷ xs) k each =
+    let some = fired_some x.fired (both_parts (has_fired x.fired) (all_fired xs) k.all).0 in
+    let unexpired = (else_none (expired last x.member.board x.fired) (first_expired last xs) k.unexpired).0 in
+    let unswitched = (else_none (switched x.member.endstop x.fired) (first_switched xs) k.unswitched).0 in (
+      (
+        some.0,
+        each.0.0 some.0 some.1,
+        λ two early. none_expired last x.member.board x.fired some.0 some.1 unexpired two early,
+        λ is_end one. none_switched x.member.endstop x.fired some.0 is_end some.1 unswitched one,
+      ),
+      all_unswitched W own last xs (rest_missed last x xs k) each.1,
+    )
+
 module _ {F S : Type 0} (f : Files F) (o : Sink S) (m : Machine) (s : Scene) (name : List ℕ) (files files' : F) (out out' : S) (kept kept' : Kept) (t : Told Run) (r : RunsOver f o m s name files out kept t files' out' kept') where
-  pub run_first : (board turn : ℕ) → t.cause ≡ cause.Expired board turn → IsFirstExpired m s.switches board turn r.runs.1 r.runs.2
-  run_first board turn e =
-      let x = facts f o m s name files files' out out' kept kept' t r (λ g. let h : cause.Expired board turn ≡ cause.Memory = sym e ∙ g in cc) in
-      let own : IsOwn t.cause = subst IsOwn (sym e) tt in
+  -- what is known of the homing section that is under way
+  record Under (h : Homing) : Type 0 where
+    rise : BoardsRise (members_of h.group)
+    each : Each (λ b fired. WasReported m s.switches b h.start fired (came_in r.runs.2 ∷ came_from [] r.runs.1)) (axis_at m h.axis).board
+        (hears_all (noted m r.runs.2.note (known_by m s.switches (came_from [] r.runs.1))).clocks r.runs.2.states h).group.members
+    members : members_of (hears_all (noted m r.runs.2.note (known_by m s.switches (came_from [] r.runs.1))).clocks r.runs.2.states h).group ≡ members_of h.group
+    last : (hears_all (noted m r.runs.2.note (known_by m s.switches (came_from [] r.runs.1))).clocks r.runs.2.states h).group.last ≡ h.group.last
+    goes : GoesOn m s.switches (came_from [] r.runs.1)
+
+  under : (h : Homing) → (noted m r.runs.2.note (known_by m s.switches (came_from [] r.runs.1))).homing ≡ Some h → Under h
+  under h is =
       let came = came_from [] r.runs.1 in
       let last = r.runs.2 in
-      let Ends : Known → Type 0 = λ q. EndsSo m (noted m last.note q) (length came) last.states t.cause in
-      let ended_so : EndsSo m (noted m last.note (known_by m s.switches came)) (length came) last.states t.cause =
-      subst Ends (x.own own).0 (ends_so m s.switches x.known (length came) last.states last.note t.cause (x.own own).1 x.other (sym (ends_own m s r.runs.0 r.runs.1 r.runs.2 t.cause x own))) in
-      let By : Cause → Type 0 = λ c. EndsSo m (noted m last.note (known_by m s.switches came)) (length came) last.states c in
       let n = noted m last.note (known_by m s.switches came) in
-      let is = expired_of n.clocks (length came) board turn last.states n.homing (subst By e ended_so).1 in
+      let goes = goes_so f o m s name files files' out out' kept kept' t r in
+      let rises : HomingRises (Some h) = subst HomingRises is (noted_rises m last.note (known_by m s.switches came) (known_rises m s.switches came goes)) in
+      record {
+        rise = rises;
+        each = all_told m s.switches (came_in last) came h goes is;
+        members = members_states n.clocks 0 h.start last.states h.group;
+        last = (hears_keep n.clocks last.states h).last;
+        goes = goes;
+      }
+
+  pub run_first : (board turn : ℕ) → t.cause ≡ cause.Expired board turn → IsFirstExpired m s.switches board turn r.runs.1 r.runs.2
+  run_first board turn e =
+      let came = came_from [] r.runs.1 in
+      let last = r.runs.2 in
+      let n = noted m last.note (known_by m s.switches came) in
+      let is = expired_of n.clocks (length came) board turn last.states n.homing (ended_so f o m s name files files' out out' kept kept' t r (cause.Expired board turn) e (λ g. cc) tt).1 in
       let h = is.0 in
+      let u = under h is.1 in
       let g = (hears_all n.clocks last.states h).group in
       let W : ℕ → Fired → Type 0 = λ b fired. WasReported m s.switches b h.start fired (came_in last ∷ came) in
       let y = ended_if (all_fired g.members) (answer g) (Expired board turn) (in_if (nat_le h.start (length came)) (ended g) (Expired board turn) is.2) in
       let z = expiry_of (first_expired g.last g.members) (first_switched g.members) board turn (all_not g.members) y.1 in
-      let each = all_told m s.switches (came_in last) came h (goes_of m s.switches [] r.runs.1 x.turns tt) is.1 in
-      let first = first_of W (axis_at m h.axis).board g.last board turn g.members each y.0 z in
-      let same : members_of g ≡ members_of h.group = members_states n.clocks 0 h.start last.states h.group in
+      let first = first_of W (axis_at m h.axis).board g.last board turn g.members u.each y.0 z in
       let Out : List Member → Type 0 = λ ms. IsFirstOf W g.last board turn ms in
       let At : ℕ → Type 0 = λ k. IsFirstOf W k board turn (members_of h.group) in
-      let at_members : Out (members_of h.group) = subst Out same first in
-      record { homing = h; known = is.1; first = subst At (hears_keep n.clocks last.states h).last at_members }
+      record { homing = h; known = is.1; rise = u.rise; first = subst At u.last (subst Out u.members first) }
+
+  pub run_unswitched : (section : ℕ) → t.cause ≡ cause.NoSwitch section → IsUnswitched m s.switches section r.runs.1 r.runs.2
+  run_unswitched section e =
+      let came = came_from [] r.runs.1 in
+      let last = r.runs.2 in
+      let n = noted m last.note (known_by m s.switches came) in
+      let is = missed_of n.clocks (length came) section last.states n.homing (ended_so f o m s name files files' out out' kept kept' t r (cause.NoSwitch section) e (λ g. cc) tt).1 in
+      let h = is.0 in
+      let u = under h is.1 in
+      let g = (hears_all n.clocks last.states h).group in
+      let W : ℕ → Fired → Type 0 = λ b fired. WasReported m s.switches b h.start fired (came_in last ∷ came) in
+      let none = all_unswitched W (axis_at m h.axis).board g.last g.members (missed (length came) h.start g is.2) u.each in
+      let Out : List Member → Type 0 = λ ms. NoneSwitched W g.last ms in
+      let At : ℕ → Type 0 = λ k. NoneSwitched W k (members_of h.group) in
+      record {
+        homing = h;
+        known = is.1;
+        number = sym is.3;
+        rise = u.rise;
+        reader = (of_axis m s.switches (came_in last) came u.goes h is.1).1;
+        none = subst At u.last (subst Out u.members none);
+      }

@@ -1,5 +1,6 @@
 -- A line that tells of a switch stands in the turn whose word tells of the answer.
-use Rattle.std.proofs.Common.{◌≡◌, ℕ, ◌⊎◌, Bool, true, false, cond, List, [], ◌∷◌, ◌++◌, length, Option, Some, None, refl, ap, sym, ◌∙◌, subst, inl, inr, append-nil}
+use Rattle.std.proofs.Common.{◌≡◌, ℕ, ◌⊎◌, Bool, true, false, cond, List, [], ◌∷◌, ◌++◌, length, map, Option, Some, None, refl, ap, sym, ◌∙◌, subst, inl, inr, append-nil}
+use Rattle.std.specs.Prelude.{nat_le}
 use Rattle.std.proofs.lemmas.Grind.{flat_map-append}
 use Rattle.plan_types.specs.declared.cause.Cause.{Cause}
 use Rattle.plan_types.specs.declared.machine.Machine.{Machine}
@@ -13,9 +14,14 @@ use Rattle.report_text.specs.declared.line.ReportLine.{ReportLine}
 use Rattle.report_text.specs.declared.line.ReportLine.TheVariants as report
 use Rattle.wire_scene.specs.declared.scene.Switch.{Switch}
 use Rattle.trigger_group.specs.declared.order.End.TheVariants.{Endstop}
+use Rattle.trigger_group.specs.declared.order.Member.{Member}
+use Rattle.trigger_group.specs.declared.seen.Fired.{Fired}
+use Rattle.trigger_group.specs.declared.seen.Seen.{Seen}
+use Rattle.trigger_group.specs.Group.{all_fired, expired, first_expired, has_fired}
 use Rattle.axis_homing.specs.declared.homing.Homing.{Homing}
 use Rattle.axis_homing.specs.declared.homing.HomingTurn.{HomingTurn}
 use Rattle.axis_homing.specs.Homing.{answer_in, by_answer, hears_all, homing_turn}
+use Rattle.axis_homing.specs.Rising.{members_of}
 use Rattle.board_asking.specs.declared.asking.Asking.{Asking}
 use Rattle.board_asking.specs.Connecting.{all_connected, board_lines, connected_lines, giving_up, listen_all, ready_all}
 use Rattle.board_asking.specs.Drift.{new_lines, stale}
@@ -44,7 +50,12 @@ use Rattle.session_run.specs.Boards.{AreReactorTurns, came_in}
 use Rattle.session_run.specs.Runs.{RunsOver}
 use Rattle.host_reactor.specs.Reactor.{Run}
 use Rattle.session_laws.proofs.run_headline.Making.{run_turns}
-use Rattle.homing_laws.proofs.fired_runs.Reported.{answer_told}
+use Rattle.homing_laws.specs.switch_runs.Reports.{WasReported}
+use Rattle.homing_laws.proofs.clear_boards.Keeping.{hears_keep}
+use Rattle.homing_laws.proofs.home_runs.Grouped.{answered, members_states}
+use Rattle.homing_laws.proofs.fired_runs.Reported.{Each, all_told, answer_told, closed_unexpired}
+use Rattle.homing_laws.proofs.missed_groups.Answering.{both_parts, else_none, fired_some, none_expired}
+use Rattle.session_laws.specs.clear_homes.First.{NoneExpired}
 use Rattle.session_laws.specs.home_headline.Cuts.{TellAnswers, TellsAnswer, TellsCut, TellsNoAnswer, cut_in, cuts_of}
 
 abbrev pub end_of : Reacted → Option Cause
@@ -228,6 +239,43 @@ told_none m switches c before e none = elim (turn_cuts m switches (known_by m sw
 pub told_section : (m : Machine) (switches : List Switch) (begun : List Started) (c : Came) (before : List Came) → GoesOn m switches before → CameNotes begun (c ∷ before) → (x : TellsCut m switches c before) → WasBegun begun (Some x.homing)
 told_section m switches begun c before g notes x = subst (λ (o : Option Homing). WasBegun begun o) x.known (now_was m switches begun c before g notes)
 
+-- none of the members of a group that answers so told that it expired in time
+all_unexpired : (W : ℕ → Fired → Type 0) (own last : ℕ) (xs : List Seen) → Each W own xs → all_fired xs ≡ true → first_expired last xs ≡ None → NoneExpired W last (map (λ (x : Seen). x.member) xs)
+all_unexpired W own last [] each all none = tt
+all_unexpired W own last (x ∷ xs) each all none =
+    let parts = both_parts (has_fired x.fired) (all_fired xs) all in
+    let some = fired_some x.fired parts.0 in
+    let none_both = else_none (expired last x.member.board x.fired) (first_expired last xs) none in
+    ((some.0, each.0.0 some.0 some.1, λ two early. none_expired last x.member.board x.fired some.0 some.1 none_both.0 two early), all_unexpired W own last xs each.1 parts.1 none_both.1)
+
+pub closed_told : (m : Machine) (switches : List Switch) (c : Came) (before : List Came) (h : Homing) (tick : ℕ) → GoesOn m switches before → (noted m c.note (known_by m switches before)).homing ≡ Some h
+    → answer_in (length before) h.start (hears_all (noted m c.note (known_by m switches before)).clocks c.states h).group ≡ Some (Endstop tick)
+    → NoneExpired (λ b f. WasReported m switches b h.start f (c ∷ before)) h.group.last (members_of h.group)
+closed_told m switches c before h tick goes known answers =
+    let n = noted m c.note (known_by m switches before) in
+    let g = (hears_all n.clocks c.states h).group in
+    let W : ℕ → Fired → Type 0 = λ b f. WasReported m switches b h.start f (c ∷ before) in
+    let none = all_unexpired W (axis_at m h.axis).board g.last g.members (all_told m switches c before h goes known) (answered (nat_le h.start (length before)) g (Endstop tick) answers) (closed_unexpired (length before) h.start g tick answers) in
+    let Out : List Member → Type 0 = λ ms. NoneExpired W g.last ms in
+    let At : ℕ → Type 0 = λ k. NoneExpired W k (members_of h.group) in
+    subst At (hears_keep n.clocks c.states h).last (subst Out (members_states n.clocks 0 h.start c.states h.group) none)
+
+-- a turn whose word tells of an answer
+abbrev pub tells_answer : (m : Machine) (switches : List Switch) (c : Came) (before : List Came) (lines : List ReportLine) → GoesOn m switches before → TellsCut m switches c before → lines ≡ (last_turn m switches c before).ordered.lines
+    → TellsAnswer m switches c before lines
+tells_answer m switches c before lines goes told are =
+    let fired = answer_told m switches c before told.homing told.tick goes told.known told.answer in
+    record {
+      homing = told.homing;
+      known = told.known;
+      tick = told.tick;
+      answer = told.answer;
+      turn = fired.0;
+      told = fired.1;
+      unexpired = closed_told m switches c before told.homing told.tick goes told.known told.answer;
+      lines_are = ap cuts_of are ∙ told.lines;
+    }
+
 -- a turn that goes on tells of a switch exactly where a group answers that it closed
 turn_answers : (m : Machine) (switches : List Switch) (c : Came) (before : List Came) (lines : List ReportLine) → GoesOn m switches before → (last_turn m switches c before).ordered.end ≡ None → lines ≡ (last_turn m switches c before).ordered.lines
     → TellsAnswer m switches c before lines ⊎ TellsNoAnswer m switches c before lines
@@ -237,8 +285,7 @@ turn_answers m switches c before lines goes e are =
     elim (turn_cuts m switches r (length before) c.states c.note e) [
       | inl x ↦
           let told = told_cut m switches c before e x.tells in
-          let fired = answer_told m switches c before told.homing told.tick goes told.known told.answer in
-          inl (record { homing = told.homing; known = told.known; tick = told.tick; answer = told.answer; turn = fired.0; told = fired.1; lines_are = ap cuts_of are ∙ told.lines })
+          inl (tells_answer m switches c before lines goes told are)
       | inr u ↦
           inr (record {
             none = λ h tick runs known answer. u.none (turn_tells m switches r (length before) c.states c.note tick runs e (cut_of n.clocks (length before) c.states n.homing h tick known answer));

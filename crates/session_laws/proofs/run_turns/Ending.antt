@@ -31,9 +31,9 @@ use Rattle.session_laws.proofs.run_headline.Heard.{notes_cut}
 use Rattle.session_laws.proofs.run_headline.Joining.{row_none}
 use Rattle.session_laws.proofs.home_headline.Ended.{goes_behind, tells_end}
 use Rattle.session_laws.proofs.home_headline.Planned.{all_notes, others_silent, planned_on}
-use Rattle.homing_laws.proofs.fired_runs.Reported.{answer_told}
+use Rattle.session_laws.proofs.home_headline.Cuts.{tells_answer}
 use Rattle.session_laws.proofs.home_headline.Switches.{came_ahead, turns_tell}
-use Rattle.session_laws.specs.home_headline.Cuts.{TellEnds, cuts_of}
+use Rattle.session_laws.specs.home_headline.Cuts.{TellEnds}
 use Rattle.session_laws.specs.run_turns.Ends.{EndsWithAnswer}
 use Rattle.session_laws.proofs.run_turns.Words.{Taken}
 
@@ -153,7 +153,6 @@ module _ (m : Machine) (s : Scene) (ts : List MotionTurn) (p : Plans m (length m
           let told = e.tells in
           let Goes : List Came → Type 0 = λ z. GoesOn m s.switches z in
           let goes = goes_behind m s.switches a.0 (came_in turn ∷ b) (subst Goes came_is by.goes_on) in
-          let fired = answer_told m s.switches (came_in turn) b told.homing told.tick goes.1 told.known told.answer in
           let whole : rs ≡ before ++ turn ∷ (rest ++ w.behind) = w.are ∙ ap (λ z. z ++ w.behind) are ∙ append_assoc before (turn ∷ rest) w.behind in
           let Turns : List ReactorTurn → Type 0 = λ z. AreReactorTurns m s.switches [] z in
           let own = (turns_cut m s.switches [] before (turn ∷ (rest ++ w.behind)) (subst Turns whole x.turns)).1.0 in
@@ -163,7 +162,7 @@ module _ (m : Machine) (s : Scene) (ts : List MotionTurn) (p : Plans m (length m
             later = rest ++ w.behind;
             are = whole;
             end = long;
-            tells = record { homing = told.homing; known = told.known; tick = told.tick; answer = told.answer; turn = fired.0; told = fired.1; lines_are = ap cuts_of own.lines_are ∙ told.lines };
+            tells = tells_answer m s.switches (came_in turn) b turn.lines goes.1 told own.lines_are;
             number_is = e.number_is;
             axis_is = e.axis_is;
             start_is = e.start_is;

@@ -8,6 +8,7 @@ use Rattle.wire_scene.specs.declared.scene.Switch.{Switch}
 use Rattle.trigger_group.specs.declared.order.End.TheVariants.{Endstop}
 use Rattle.axis_homing.specs.declared.homing.Homing.{Homing}
 use Rattle.axis_homing.specs.Homing.{answer_in, hears_all}
+use Rattle.axis_homing.specs.Rising.{members_of}
 use Rattle.host_reactor.specs.declared.ordered.Phase.TheVariants.{Running}
 use Rattle.host_reactor.specs.Notes.{noted}
 use Rattle.host_reactor.specs.Reactor.{cut_line}
@@ -18,6 +19,7 @@ use Rattle.motion_work.specs.Seen.{Started}
 use Rattle.session_run.specs.Boards.{came_in}
 use Rattle.homing_laws.specs.switch_runs.Reports.{WasReported}
 use Rattle.session_work.specs.declared.table.ReactorTurn.{ReactorTurn}
+use Rattle.session_laws.specs.clear_homes.First.{NoneExpired}
 
 -- a line, where it tells that the switch of a homing section closed
 abbrev pub cut_in : ReportLine → List ReportLine
@@ -39,7 +41,8 @@ pub record TellsCut (m : Machine) (switches : List Switch) (c : Came) (before : 
 
 -- Lines of a turn of the reactor tell that a switch closed: the group of the homing section that is known answers so, at a tick, and the one
 -- such line is that of the section, of its axis's endstop, at this tick. The endstop's board told so, by its switch, in a state that came in this
--- turn or one before it, at this tick, which is in a turn from the section's start on.
+-- turn or one before it, at this tick, which is in a turn from the section's start on. All members told that they triggered, none
+-- since its timeout passed in a turn up to the section's last one.
 pub record TellsAnswer (m : Machine) (switches : List Switch) (c : Came) (before : List Came) (lines : List ReportLine) : Type 0 where
   pub homing : Homing
   pub known : (noted m c.note (known_by m switches before)).homing ≡ Some homing
@@ -47,6 +50,8 @@ pub record TellsAnswer (m : Machine) (switches : List Switch) (c : Came) (before
   pub answer : answer_in (length before) homing.start (hears_all (noted m c.note (known_by m switches before)).clocks c.states homing).group ≡ Some (Endstop tick)
   pub turn : ℕ
   pub told : WasReported m switches (axis_at m homing.axis).board homing.start (record { reason = 1; tick = tick; turn = turn }) (c ∷ before)
+  pub unexpired : NoneExpired (λ b f. WasReported m switches b homing.start f (c ∷ before)) homing.group.last
+      (members_of homing.group)
   pub lines_are : cuts_of lines ≡ cut_line m switches homing.section (axis_at m homing.axis) (Some tick)
 
 -- They tell of none: the run is connecting or stopping, or no group answers so.

@@ -3,3 +3,4 @@ pub mod Telling
 pub mod Ordering
 pub mod Made
 pub mod Homes
+pub mod Exact

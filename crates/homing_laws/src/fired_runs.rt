@@ -26,7 +26,7 @@ ghost use Rattle.homing_laws.specs.home_runs.Sections.{HomesFrom, IsAnswered, Is
 ghost use Rattle.homing_laws.specs.home_runs.Told.{IsMember};
 ghost use Rattle.homing_laws.specs.home_runs.Settled.{SetNoClockFrom};
 ghost use Rattle.homing_laws.specs.switch_runs.Reports.{HearsSoon};
-ghost use Rattle.homing_laws.specs.switch_runs.Runs.{IsReadIn};
+ghost use Rattle.homing_laws.specs.switch_runs.Taken.{IsTriggerOf};
 ghost use Rattle.homing_laws.specs.fired_runs.Since.{AreBehind, AreRead, AreReadTrue, BeginsApart, HasFiredSince, ReadsSwitchTrue, ReadsTrue};
 ghost use Rattle.run_laws.specs.Finds.{StepsFindHalted};
 ghost use Rattle.homing_laws.specs.fired_runs.Waiting.{MoveNoneIn, TookNone};
@@ -42,15 +42,16 @@ pub fn answered_triggers_have_fired()
         HasFiredSince (trigger_of m b) h.start (first_state (board_at m b) pins b entries) turns }
 {}
 
-/// The law of a section's own readings, whatever comes late: where the group of a homing section answers that its switch
-/// closed, at the answer's tick the section's own readings are complete, which the board of its axis's endstop makes from
-/// the section's start on. What it takes is that the board's reports that readings triggered its trigger are read as ticks
+/// The law of trigger ticks, whatever comes late: where the group of a homing section answers that its switch closed, it does
+/// so with the section's trigger tick (`IsTriggerOf`): the last reading of the first group of readings that show the switch
+/// pressed throughout, of those that begin with the section's command as the board of its axis's endstop took it, from the
+/// section's start on. What it takes is that the board's reports that readings triggered its trigger are read as ticks
 /// since which it could not trigger for that reason (`ReadsSwitchTrue`), and else what the law of firings takes.
-pub fn answers_are_of_their_own_readings()
+pub fn answers_are_of_trigger_ticks()
     ensures { (m : Machine) (switches : List Switch) (pins : List (List Level)) (entries : List Entry) (b : ℕ) (c : Came) (before : List Came) (turns : List BoardTurn) (h : Homing) (tick : ℕ) → IsValidMachine m →
         IsInRun m switches pins entries b before turns → state_at b c.states ≡ latest_state turns → BeginsApart m switches (c ∷ before) → AreRead (ReadsSwitchTrue m switches b) (c ∷ before) turns → AreBehind m switches b (c ∷ before) →
         (noted m c.note (known_by m switches before)).homing ≡ Some h → (axis_at m h.axis).board ≡ b → answer_in (length before) h.start (hears_all (noted m c.note (known_by m switches before)).clocks c.states h).group ≡ Some (Endstop tick) →
-        IsReadIn m switches pins b h.start h.axis before tick }
+        IsTriggerOf m switches pins entries b h.start h.axis before turns tick }
 {}
 
 /// The law of half a round: what the state of a board's turn tells of its trigger is read true (`ReadsTrue`,

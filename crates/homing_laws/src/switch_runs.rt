@@ -15,7 +15,7 @@ ghost use Rattle.homing_laws.specs.switch_runs.Runs.{IsEndstop, IsRead};
 /// begin readings begin them of the endstop of the axis of a homing section that is known, from its start on.
 pub fn runs_read_the_endstops_that_home()
     ensures { (m : Machine) (switches : List Switch) (pins : List (List Level)) (entries : List Entry) (b : ℕ) (came : List Came) (turns : List BoardTurn) →
-        IsInRun m switches pins entries b came turns → BringFit (IsEndstop m b) (IsRead m switches pins b came) pins turns }
+        IsInRun m switches pins entries b came turns → BringFit (IsEndstop m b) (λ now. IsRead m switches pins b came) pins turns }
 {}
 
 /// The law of readings: whatever answer of a board comes to the host that tells that readings triggered its trigger, it tells of a tick at

@@ -33,7 +33,7 @@ use Rattle.session_laws.specs.run_headline.Further.{AreNamed, BoardsFirst, Tells
 use Rattle.session_laws.specs.run_headline.Timely.{AllTakeNear, AreOfMoves, AreSound, HoldsNothingLong}
 use Rattle.session_laws.specs.run_lines.Due.{BoardsHave, StandApart}
 use Rattle.session_laws.specs.home_headline.Little.{AllHomeLittle, ShownHoldLittle, SendsOut}
-use Rattle.session_laws.specs.home_wholes.Own.{AllSwitchesReadTrue, TellOwn}
+use Rattle.session_laws.specs.home_wholes.Own.{AllSwitchesReadTrue, TellTriggers}
 use Rattle.session_laws.specs.clear_homes.Closes.{AllClose, MissesSwitch, TellFirst}
 use Rattle.session_laws.specs.clear_homes.First.{IsFirstExpired, IsUnswitched}
 use Rattle.session_laws.specs.run_causes.Unanswered.{GaveNoAnswer, IsStaleSince}
@@ -93,7 +93,8 @@ pub record ShowsText (m : Machine) (text : List ℕ) (c : Cause) (said : List Re
 -- section in time or its reports are read true (`ShowsFront`). And they show the file's text; of a run of moves that does not end for want of memory, where no line holds a
 -- command for half a round of the 32-bit clock; and of one of any text, where besides each board takes the set-up of a homing section in time or its
 -- reports are read true. Where the reports that readings triggered a board's trigger are read true (`AllSwitchesReadTrue`),
--- whatever else happens on the links, the tick that a turn tells of a switch is one at which this very section's readings are complete (`TellOwn`). What suffices for these
+-- whatever else happens on the links, the tick that a turn tells of a switch is the section's trigger tick (`TellTriggers`).
+-- What suffices for these
 -- premises in a scene without entries is said by laws (`clear_links_hold_nothing_long`, `clear_scenes_hold_little`). Completeness: in a scene without entries, and where no line asks for a stop, a run of moves whose units are all sent soon (`SendsAllSoon`) ends as the reading
 -- of its text does, but for want of memory and for faults of files and output; and so does one of any text whose units are sent so, or a switch
 -- never closed; where each section's switch closes in time (`AllClose`) there is no such exception, each line of a switch is of the first tick at which
@@ -122,7 +123,8 @@ pub record IsLinkReport {F S : Type 0} (f : Files F) (o : Sink S) (m : Machine) 
   pub homes : (text : List ℕ) → f.told files gcode ≡ Some text → (reported.told.cause ≡ cause.Memory → ⊥) →
       AllHomeLittle m s text reported.runs.runs.0 (reported.runs.runs.1 ++ reported.runs.runs.2 ∷ []) → ∥ ShowsHomes m s.switches text c reported.said ∥₁
   pub own : (text : List ℕ) → f.told files gcode ≡ Some text → (reported.told.cause ≡ cause.Memory → ⊥) →
-      AllSwitchesReadTrue m s reported.runs.runs.0 (reported.runs.runs.1 ++ reported.runs.runs.2 ∷ []) → ∥ TellOwn m s.switches [] reported.runs.runs.1 ∥₁
+      AllSwitchesReadTrue m s reported.runs.runs.0 (reported.runs.runs.1 ++ reported.runs.runs.2 ∷ []) →
+      ∥ TellTriggers m s reported.runs.runs.0 reported.runs.runs.1 reported.runs.runs.2 ∥₁
   pub complete : (text : List ℕ) → f.told files gcode ≡ Some text → AreOfMoves (sections_over m text) → ((line : ℕ) → (program_end m text).stop ≡ read.Stop line → ⊥) → s.entries ≡ [] →
       SendsAllSoon m text reported.runs.runs.0 → IsCauseOf (cause_of (program_end m text).stop) c
   pub complete_homes : (text : List ℕ) → f.told files gcode ≡ Some text → ((line : ℕ) → (program_end m text).stop ≡ read.Stop line → ⊥) → s.entries ≡ [] → SendsAllSoon m text reported.runs.runs.0 →

@@ -120,7 +120,7 @@ module _ (m : Machine) (v : IsValidMachine m) (switches : List Switch) (pins : L
       let runs_mid = ran_turns (clock_of (board_at m b)) First (t ∷ w) Mid r.turns_are runs in
       let watch : IsWatched 0 j (stands_after First Mid).core = record { sole = (sole_after m switches pins entries b x.came Mid v x.run runs_mid).0; left = left_mid; rest = rest_mid; calm = calm_mid; heard = quiet } in
       let calm = run_calm m switches pins entries b before (t ∷ w) Mid 0 j from start ms r since none (omega (arith, begins, soon, long)) (omega (arith, soon, long)) in
-      let fits = (whole_after (IsEndstop m b) (board_at m b) pins b entries turns 0 j r.turns_are (omega arith) (bring_fit m switches pins entries b AnyTick before turns r (λ tick k. tt))).0.board in
+      let fits = (whole_after (IsEndstop m b) (board_at m b) pins b entries turns 0 j r.turns_are (omega arith) (bring_fit m switches pins entries b (λ now. AnyTick) before turns r (λ tick k. tt))).0.board in
       told_stands (board_at m b) pins b entries t w Mid 0 j oid reason clock r.turns_are watch calm (λ s is. (fits.slots j s is).reason) told
 
 some_same : (x y : Homing) → Some x ≡ Some y → x ≡ y

@@ -1,5 +1,5 @@
 -- Between a board's homing sections its trigger reads nothing; and where a group answers that the switch of its section closed, the section's own readings triggered it.
-use Rattle.std.proofs.Common.{◌≡◌, ℕ, ◌+◌, ◌-◌, ◌<◌, ◌≤◌, ◌⊎◌, inl, inr, List, [], ◌∷◌, ◌++◌, length, map, Option, Some, None, refl, ap, sym, ◌∙◌, subst, arith, append_assoc}
+use Rattle.std.proofs.Common.{◌≡◌, ℕ, ◌+◌, ◌-◌, ◌<◌, ◌≤◌, ◌⊎◌, inl, inr, List, [], ◌∷◌, ◌++◌, length, map, Option, Some, None, refl, ap, sym, ◌∙◌, subst, arith, append_assoc, length-append}
 use Rattle.std.proofs.lemmas.Bool.Decides.{eqb_tells}
 use Rattle.std.proofs.lemmas.List.{append_cancel_left}
 use Rattle.plan_types.specs.declared.levels.Level.{Level}
@@ -9,6 +9,8 @@ use Rattle.plan_types.specs.Lines.{Clocks}
 use Rattle.plan_types.specs.Machines.{IsValidMachine, axis_at, board_at}
 use Rattle.plan_types.specs.Sections.{clocks_at}
 use Rattle.board_trig.specs.declared.sampling.Sampling.{Sampling}
+use Rattle.msg_code.specs.declared.cmd.Cmd.{Cmd}
+use Rattle.msg_code.specs.declared.cmd.Cmd.TheVariants as cmd
 use Rattle.wire_scene.specs.declared.scene.Entry.{Entry}
 use Rattle.wire_scene.specs.declared.scene.Switch.{Switch}
 use Rattle.board_sim.specs.Fair.{Meant}
@@ -34,14 +36,16 @@ use Rattle.board_runs.specs.Turns.{AreBoardTurns, BoardTurn, latest_state, stand
 use Rattle.clock_runs.specs.Runs.{IsInRun}
 use Rattle.clock_runs.proofs.Lines.{as_long, noted_phase, run_before, turn_of}
 use Rattle.clock_runs.proofs.Turning.{goes}
-use Rattle.run_laws.proofs.Lists.{cuts}
+use Rattle.run_laws.proofs.Lists.{cons_same, cuts}
 use Rattle.homing_laws.specs.home_runs.Sections.{HomesFrom, IsOf, queued_by}
 use Rattle.homing_laws.proofs.home_runs.Controlling.{not_yet}
 use Rattle.homing_laws.proofs.home_runs.Knowing.{noted_none, running_now, turn_end}
 use Rattle.homing_laws.proofs.home_runs.Staying.{taken_later}
 use Rattle.homing_laws.specs.switch_runs.Reading.{AreFit, BringFit}
 use Rattle.homing_laws.specs.switch_runs.Reports.{WasReported}
-use Rattle.homing_laws.specs.switch_runs.Runs.{IsEndstop, IsReadIn}
+use Rattle.homing_laws.specs.switch_runs.Runs.{IsEndstop, IsReadAt}
+use Rattle.homing_laws.specs.switch_runs.Taken.{AreBlind, IsBlind, IsTriggerOf, TookHome}
+use Rattle.homing_laws.proofs.clear_boards.Standing.{tick_is}
 use Rattle.homing_laws.proofs.switch_runs.Firing.{AllTrue}
 use Rattle.homing_laws.proofs.switch_runs.Ordering.{Reads, bring_fit, control_fit, fit_both, plain_fit, units_fit}
 use Rattle.homing_laws.proofs.switch_runs.Made.{AnyTick, whole_after}
@@ -52,10 +56,10 @@ use Rattle.homing_laws.proofs.clear_groups.Resting.{clash, next_of, some_same}
 use Rattle.homing_laws.specs.missed_groups.Ticks.{IsReader}
 use Rattle.homing_laws.proofs.missed_groups.Axes.{of_axis}
 use Rattle.homing_laws.specs.fired_runs.Since.{AreBehind, AreRead, BeginsApart, IsFiredAt, ReadsSwitchTrue}
-use Rattle.homing_laws.proofs.fired_runs.Blind.{AreBlind, NoTick, OwnAt, ReadOnce, Stands, blind_fits, fits_more, turns_stage}
+use Rattle.homing_laws.proofs.fired_runs.Blind.{NoTick, OwnAt, ReadOnce, Stands, Upon, blind_fits, blind_parts, fits_more, turns_stage}
 use Rattle.homing_laws.proofs.fired_runs.Reported.{answer_told}
 use Rattle.homing_laws.proofs.fired_runs.Rested.{Heard, answered_over, earlier_reads, goes_to, group_start, grows, left_of, none_stays, queue_later, rest_of, rises, run_at, same_members, same_start, switch_read, was_at}
-use Rattle.homing_laws.proofs.fired_runs.Sight.{blind_both, blind_once, blind_parts, read_behind, read_front, reader_or_not, reads_either}
+use Rattle.homing_laws.proofs.fired_runs.Sight.{blind_both, blind_once, read_behind, read_front, reader_or_not, reads_either}
 use Rattle.homing_laws.proofs.fired_runs.Under.{under_after}
 
 -- a turn that goes on answers that a switch closed, if at all
@@ -75,21 +79,57 @@ no_reading None y e f = cc
 no_reading (Some z) y e f = cc
 
 -- all that is queued is fit
-queued_fit : (E : ℕ → (ℕ → Type 0)) (F : ℕ → Type 0) (pins : List (List Level)) (turns : List BoardTurn) → BringFit E F pins turns → AreFit E F pins (queued_by turns)
+queued_fit : (E F : ℕ → (ℕ → Type 0)) (pins : List (List Level)) (turns : List BoardTurn) → BringFit E F pins turns → AreFit E F pins (queued_by turns)
 queued_fit E F pins [] fit = tt
 queued_fit E F pins (t ∷ turns) fit = fit_both E F pins (queued_by turns) (queued_in (orders t.control t.batch)) (queued_fit E F pins turns fit.1) fit.0
 
+-- a command of some that begins readings stands behind what begins none, and where one at most does, between such
+blind_or : (c : Cmd) → IsBlind c ⊎ (IsBlind c → ⊥)
+blind_or (cmd.EndstopHome oid clock sample count rest value other reason) = inr (λ x. x)
+blind_or c = inl tt
+
+record Reads_in (ms : List Meant) : Type 0 where
+  front : List Meant
+  home : Meant
+  rest : List Meant
+  are : ms ≡ front ++ home ∷ rest
+  reads : IsBlind home.command → ⊥
+
+reads_in : (ms : List Meant) → AreBlind ms ⊎ Reads_in ms
+reads_in [] = inl tt
+reads_in (m ∷ ms) = elim (blind_or m.command) [
+  | inr reads ↦ inr (record { front = []; home = m; rest = ms; are = refl; reads = reads })
+  | inl blind ↦ elim (reads_in ms) [
+    | inl all ↦ inl (blind, all)
+    | inr x ↦ inr (record { front = m ∷ x.front; home = x.home; rest = x.rest; are = ap (λ (z : List Meant). m ∷ z) x.are; reads = x.reads })
+  ]
+]
+
+behind_blind : (left queue xs : List Meant) (h : Meant) (ys : List Meant) → AreBlind left → (IsBlind h.command → ⊥) → left ++ queue ≡ xs ++ h ∷ ys → (q : List Meant) × (xs ≡ left ++ q) × (queue ≡ q ++ h ∷ ys)
+behind_blind [] queue xs h ys blind reads e = (xs, refl, e)
+behind_blind (l ∷ left) queue [] h ys blind reads e = absurd (reads (subst (λ (z : Meant). IsBlind z.command) (cons_same l h (left ++ queue) ys e).0 blind.0))
+behind_blind (l ∷ left) queue (x ∷ xs) h ys blind reads e =
+    let same = cons_same l x (left ++ queue) (xs ++ h ∷ ys) e in
+    let more = behind_blind left queue xs h ys blind.1 reads same.1 in
+    (more.0, ap (λ (z : Meant). z ∷ xs) (sym same.0) ∙ ap (λ (z : List Meant). l ∷ z) more.1, more.2)
+
+sole_once : (xs : List Meant) (h : Meant) (ys : List Meant) → (IsBlind h.command → ⊥) → ReadOnce (xs ++ h ∷ ys) → AreBlind xs × AreBlind ys
+sole_once [] h ys reads (inl blind) = (tt, blind)
+sole_once [] h ys reads (inr k) = absurd (reads k.0)
+sole_once (x ∷ xs) h ys reads (inl blind) = absurd (reads (blind_parts xs (h ∷ ys) blind).1.0)
+sole_once (x ∷ xs) h ys reads (inr k) = let more = sole_once xs h ys reads k.1 in ((k.0, more.0), more.1)
+
 -- what comes to a board in a turn in which a section is known is fit for the section's readings
 turn_fit : (m : Machine) (switches : List Switch) (pins : List (List Level)) (entries : List Entry) (b : ℕ) (c : Came) (before : List Came) (t : BoardTurn) (turns : List BoardTurn) (h : Homing) → IsInRun m switches pins entries b (c ∷ before) (t ∷ turns)
-    → (noted m c.note (known_by m switches before)).homing ≡ Some h → AreFit (IsEndstop m b) (IsReadIn m switches pins b h.start h.axis (c ∷ before)) pins (queued_in (orders t.control t.batch))
-turn_fit m switches pins entries b c before t turns h r is =
+    → (noted m c.note (known_by m switches before)).homing ≡ Some h → h.start ≡ length before + 250 → AreFit (IsEndstop m b) (IsReadAt m switches pins b (h.start - 250) h.start h.axis (c ∷ before)) pins (queued_in (orders t.control t.batch))
+turn_fit m switches pins entries b c before t turns h r is at =
     let x = turn_of m switches pins entries b c before t turns r in
     let known = noted m c.note (known_by m switches before) in
     let E = IsEndstop m b in
-    let G : ℕ → Type 0 = IsReadIn m switches pins b h.start h.axis (c ∷ before) in
+    let G : ℕ → (ℕ → Type 0) = IsReadAt m switches pins b (h.start - 250) h.start h.axis (c ∷ before) in
     let own : Clocks → Homing → Type 0 = λ lines g. Reads m pins b G lines g.start (axis_at m g.axis) in
-    let reads : (g : Homing) (lines : Clocks) → known.homing ≡ Some g → lines ≡ clocks_at known.clocks b → own lines g = λ g lines at is_lines.
-    subst (own lines) (some_same h g (sym is ∙ at)) (λ tick complete. record { lines = lines; knew = inl (record { homing = h; known = is; start_is = refl; axis_is = refl; lines_are = is_lines }); complete = complete }) in
+    let reads : (g : Homing) (lines : Clocks) → known.homing ≡ Some g → lines ≡ clocks_at known.clocks b → own lines g = λ g lines is_so is_lines.
+    subst (own lines) (some_same h g (sym is ∙ is_so)) (λ now tick complete. record { lines = lines; knew = inl (omega (arith, at), record { homing = h; known = is; start_is = refl; axis_is = refl; lines_are = is_lines }); complete = complete }) in
     fit_both E G pins (map plain t.control.commands) (units_orders t.batch.units)
     (plain_fit E G pins t.control.commands (control_fit m pins b (length before) G known c.states x.a (last_turn m switches c before) t.control x.turned reads)) (units_fit E G pins t.batch.units)
 
@@ -118,8 +158,21 @@ module _ (m : Machine) (v : IsValidMachine m) (switches : List Switch) (pins : L
   abbrev E : ℕ → (ℕ → Type 0)
   E = IsEndstop m b
 
-  abbrev G : ℕ → ℕ → List Came → (ℕ → Type 0)
-  G start axis came tick = IsReadIn m switches pins b start axis came tick
+  -- what the commands of a section have the board read, by the tick at which it takes them; and the section's trigger tick
+  abbrev G : ℕ → ℕ → List Came → (ℕ → (ℕ → Type 0))
+  G start axis came now tick = IsReadAt m switches pins b (start - 250) start axis came now tick
+
+  abbrev Triggers : ℕ → ℕ → List Came → List BoardTurn → (ℕ → Type 0)
+  Triggers start axis came turns tick = IsTriggerOf m switches pins entries b start axis came turns tick
+
+  abbrev Any : ℕ → (ℕ → Type 0)
+  Any now tick = Unit {0}
+
+  abbrev None_at : ℕ → (ℕ → Type 0)
+  None_at now tick = ⊥
+
+  ticks : (turns : List BoardTurn) → Turns turns → (Board turns).controller.tick ≡ Own (length turns)
+  ticks turns are = tick_is (board_at m b) pins b entries turns are
 
   abbrev Dark : ℕ → List BoardTurn → Type 0
   Dark n turns = OwnAt ⊥ NoTick n pins Oid (Board turns)
@@ -131,8 +184,8 @@ module _ (m : Machine) (v : IsValidMachine m) (switches : List Switch) (pins : L
     rest : Taken turns ++ left ≡ queued_by turns
     blind : AreBlind left
 
-  bring : (before : List Came) (turns : List BoardTurn) → Run before turns → BringFit E AnyTick pins turns
-  bring before turns r = bring_fit m switches pins entries b AnyTick before turns r (λ tick k. tt)
+  bring : (before : List Came) (turns : List BoardTurn) → Run before turns → BringFit E Any pins turns
+  bring before turns r = bring_fit m switches pins entries b Any before turns r (λ tick k. tt)
 
   true_at : (before : List Came) (turns : List BoardTurn) → Run before turns → AllTrue E AnyTick AnyTick pins (Board turns)
   true_at before turns r = (whole_after E (board_at m b) pins b entries turns 0 Oid r.turns_are (omega arith) (bring before turns r)).0.board
@@ -164,10 +217,12 @@ module _ (m : Machine) (v : IsValidMachine m) (switches : List Switch) (pins : L
       let all = subst AreBlind (sym both) (blind_both k.left q k.blind blind) in
       let parts = blind_parts took.0 now.0 all in
       let whole : queued_by (later ++ past) ≡ Taken past ++ (took.0 ++ now.0) = sym now.1 ∙ ap (λ (x : List Meant). x ++ now.0) took.1 ∙ append_assoc (Taken past) took.0 now.0 in
-      let Fits : List Meant → Type 0 = AreFit E AnyTick pins in
-      let fit = (fit_parts E AnyTick pins took.0 now.0 (fit_parts E AnyTick pins (Taken past) (took.0 ++ now.0) (subst Fits whole (queued_fit E AnyTick pins (later ++ past) (bring came (later ++ past) r)))).1).0 in
+      let Fits : List Meant → Type 0 = AreFit E Any pins in
+      let fit = (fit_parts E Any pins took.0 now.0 (fit_parts E Any pins (Taken past) (took.0 ++ now.0) (subst Fits whole (queued_fit E Any pins (later ++ past) (bring came (later ++ past) r)))).1).0 in
       let most = Own (length past) + 1 in
-      let stands = turns_stage ⊥ E NoTick most pins Oid clock First later past took.0 now.0 are took.1 (blind_fits E AnyTick NoTick pins took.0 parts.0 fit)
+      let none_reads : Upon ⊥ E None_at NoTick most pins Oid clock First later past took.0 = λ l u e front taken back cut is a c.
+      inl (blind_parts taken back (blind_parts front (taken ++ back) (subst AreBlind is parts.0)).1).0 in
+      let stands = turns_stage ⊥ E None_at NoTick most pins Oid clock First later past took.0 now.0 ticks are took.1 none_reads (blind_fits E Any None_at pins took.0 parts.0 fit)
       (true_at old.0 past old.1, inl (all, dark_at old.0 past most old.1 (omega arith) k.none)) in
       record {
         none = λ s at. elim stands.1 [ inl x ↦ none_read s.trigger.sampling (λ y is. ((x.1.1 Oid s refl at).sampled y is).0) | inr x ↦ absurd x.0 ];
@@ -200,8 +255,11 @@ module _ (m : Machine) (v : IsValidMachine m) (switches : List Switch) (pins : L
     abbrev N : ℕ
     N = Own (u.homing.start - 1)
 
-    abbrev F : ℕ → Type 0
+    abbrev F : ℕ → (ℕ → Type 0)
     F = G u.homing.start u.homing.axis before
+
+    abbrev Here : ℕ → Type 0
+    Here = Triggers u.homing.start u.homing.axis before turns
 
     first_early : Own (length u.early) < N
     first_early =
@@ -257,24 +315,66 @@ module _ (m : Machine) (v : IsValidMachine m) (switches : List Switch) (pins : L
 
       fit_left : AreFit E F pins u.unread.left
       fit_left =
-          let Fits : List Meant → Type 0 = AreFit E AnyTick pins in
-          blind_fits E AnyTick F pins u.unread.left u.unread.blind
-          (fit_parts E AnyTick pins (Taken u.early) u.unread.left (subst Fits (sym u.unread.rest) (queued_fit E AnyTick pins u.early (bring run_early.0 u.early run_early.1)))).1
+          let Fits : List Meant → Type 0 = AreFit E Any pins in
+          blind_fits E Any F pins u.unread.left u.unread.blind
+          (fit_parts E Any pins (Taken u.early) u.unread.left (subst Fits (sym u.unread.rest) (queued_fit E Any pins u.early (bring run_early.0 u.early run_early.1)))).1
 
       fit_all : AreFit E F pins (ms.0 ++ Behind)
       fit_all = subst (λ (z : List Meant). AreFit E F pins z) (sym both) (fit_both E F pins u.unread.left u.queue fit_left u.fit)
 
-      stands : Stands (Unit {0}) E F N pins Oid Behind (Board x)
+      -- where the board takes the command in a turn it does so as that begins
+      upon : Upon (Unit {0}) E F Here N pins Oid (clock_of (board_at m b)) First w u.early ms.0
+      upon l2 t e front took back cut is was_taken now_taken = elim (reads_in took) [
+        | inl blind ↦ inl blind
+        | inr k ↦
+            let rest = k.rest ++ (back ++ Behind) in
+            let past = e ++ u.early in
+            let whole : u.unread.left ++ u.queue ≡ (front ++ k.front) ++ k.home ∷ rest =
+            sym both ∙ ap (λ (z : List Meant). z ++ Behind) is ∙ append_assoc front (took ++ back) Behind
+            ∙ ap (λ (z : List Meant). front ++ z) (append_assoc took back Behind ∙ ap (λ (z : List Meant). z ++ (back ++ Behind)) k.are ∙ append_assoc k.front (k.home ∷ k.rest) (back ++ Behind))
+            ∙ sym (append_assoc front k.front (k.home ∷ rest)) in
+            let q = behind_blind u.unread.left u.queue (front ++ k.front) k.home rest u.unread.blind k.reads whole in
+            let sole = sole_once q.0 k.home rest k.reads (subst ReadOnce q.2 u.once) in
+            let n_old = ap length was_taken ∙ length-append (Taken u.early) front in
+            let n_new = ap length now_taken ∙ length-append (Taken past) took in
+            let n_took = ap length k.are ∙ length-append k.front (k.home ∷ k.rest) in
+            let n_front = sym (length-append front k.front) ∙ ap length q.1 ∙ length-append u.unread.left q.0 in
+            let n_queue = length-append (queued_by u.early) q.0 in
+            let n_early = ap length (sym u.unread.rest) ∙ length-append (Taken u.early) u.unread.left in
+            inr (λ y read. record {
+              turn = length past;
+              took = record {
+                later = l ++ l2;
+                took = t;
+                since = e;
+                early = u.early;
+                are = same ∙ ap (λ (z : List BoardTurn). l ++ z) (x_is ∙ ap (λ (z : List BoardTurn). z ++ u.early) cut ∙ append_assoc l2 (t ∷ e) u.early) ∙ sym (append_assoc l l2 (t ∷ past));
+                at = refl;
+                set_up = u.at;
+                front = q.0;
+                home = k.home;
+                rest = rest;
+                queue = u.queue_is ∙ ap (λ (z : List Meant). queued_by u.early ++ z) q.2;
+                reads = k.reads;
+                sole = sole;
+                not_yet = omega (arith, n_old, n_front, n_queue, n_early);
+                taken = omega (arith, n_old, n_new, n_took, n_front, n_queue, n_early);
+              };
+              read = read;
+            })
+      ]
+
+      stands : Stands (Unit {0}) E F Here N pins Oid Behind (Board x)
       stands =
-          subst (λ (z : List BoardTurn). Stands (Unit {0}) E F N pins Oid Behind (Board z)) (sym x_is)
-          (turns_stage (Unit {0}) E F N pins Oid (clock_of (board_at m b)) First w u.early ms.0 Behind are_x ms.1 (fit_parts E F pins ms.0 Behind fit_all).0
+          subst (λ (z : List BoardTurn). Stands (Unit {0}) E F Here N pins Oid Behind (Board z)) (sym x_is)
+          (turns_stage (Unit {0}) E F Here N pins Oid (clock_of (board_at m b)) First w u.early ms.0 Behind ticks are_x ms.1 upon (fit_parts E F pins ms.0 Behind fit_all).0
           (true_at run_early.0 u.early run_early.1, inr (tt, (subst ReadOnce (sym both) (read_behind u.unread.left u.queue u.unread.blind u.once), dark_at run_early.0 u.early N run_early.1 first_early u.unread.none))))
 
-      own_here : (AreBlind Behind × (f.slot.trigger.sampling ≡ None)) × F tick
+      own_here : (AreBlind Behind × (f.slot.trigger.sampling ≡ None)) × Here tick
       own_here = elim stands.1 [
         | inl k ↦
             let at = f.at in
-            elim ((k.1.1 Oid f.slot refl f.is).fired f.fired f.why) [ inl early ↦ absurd (omega (arith, early, at, late)) | inr own ↦ ((k.0, own.0), subst F f.at own.1) ]
+            elim ((k.1.1 Oid f.slot refl f.is).fired f.fired f.why) [ inl early ↦ absurd (omega (arith, early, at, late)) | inr own ↦ ((k.0, own.0), subst Here f.at own.1) ]
         | inr k ↦
             let at = f.at in
             elim ((k.1.1.1 Oid f.slot refl f.is).fired f.fired f.why) [ inl early ↦ absurd (omega (arith, early, at, late)) | inr none ↦ absurd none.1 ]
@@ -291,7 +391,7 @@ module _ (m : Machine) (v : IsValidMachine m) (switches : List Switch) (pins : L
           } in
           subst Unread (sym same) (unread_on before l x q1.0 run_x q1.1 parts.1 here)
 
-    own_reading : Unread turns × F tick
+    own_reading : Unread turns × Here tick
     own_reading = elim (cuts u.later u.early l x (sym u.are ∙ same)) [
       | inl p ↦ absurd (not_early p.0 p.2)
       | inr p ↦ (unread_here (p.0 ∷ p.1) p.3, (own_here (p.0 ∷ p.1) p.3).1)
@@ -309,7 +409,7 @@ module _ (m : Machine) (v : IsValidMachine m) (switches : List Switch) (pins : L
   -- a section that is known answers that its switch closed
   answers_read : (c : Came) (before : List Came) (turns : List BoardTurn) → Run before turns → state_at b c.states ≡ latest_state turns → AreRead (ReadsSwitchTrue m switches b) (c ∷ before) turns → AreBehind m switches b (c ∷ before)
       → ((noted m c.note (known_by m switches before)).phase ≡ Connecting → ⊥) → (u : Window before (known_by m switches before).homing turns) → (noted m c.note (known_by m switches before)).homing ≡ Some u.homing → (tick : ℕ)
-      → answer_in (length before) u.homing.start (hears_all (noted m c.note (known_by m switches before)).clocks c.states u.homing).group ≡ Some (end.Endstop tick) → Unread turns × IsReadIn m switches pins b u.homing.start u.homing.axis before tick
+      → answer_in (length before) u.homing.start (hears_all (noted m c.note (known_by m switches before)).clocks c.states u.homing).group ≡ Some (end.Endstop tick) → Unread turns × Triggers u.homing.start u.homing.axis before turns tick
   answers_read c before turns r latest reads behind open_it u still tick ends =
       let h = u.homing in
       let ms = members_of h.group in
@@ -343,8 +443,8 @@ module _ (m : Machine) (v : IsValidMachine m) (switches : List Switch) (pins : L
     rest_unread : AreBlind New → Unread turns → Unread (t ∷ turns)
     rest_unread blind k = unread_on (d ∷ past) (t ∷ []) turns New now refl blind k
 
-    grown : (start axis tick : ℕ) → G start axis past tick → G start axis (d ∷ past) tick
-    grown start axis tick k = record { lines = k.lines; knew = inr k.knew; complete = k.complete }
+    grown : (start axis now tick : ℕ) → G start axis past now tick → G start axis (d ∷ past) now tick
+    grown start axis now tick k = record { lines = k.lines; knew = inr k.knew; complete = k.complete }
 
     -- under way, where it is known and doesn't answer
     goes_way : (h : Homing) → (noted m d.note (known_by m switches past)).homing ≡ Some h → ((noted m d.note (known_by m switches past)).phase ≡ Connecting → ⊥) → h.group.start ≡ h.start → h.start ≤ K + 250 → IsReader b (members_of h.group)
@@ -421,7 +521,7 @@ module _ (m : Machine) (v : IsValidMachine m) (switches : List Switch) (pins : L
         let together = group_start m v switches pins entries b d past t turns now apart h is in
         let size = long in
         let once : ReadOnce New = elim (reads_either m switches pins entries b d past t turns now) [ inl blind ↦ blind_once New blind | inr x ↦ x.0 ] in
-        let fit = turn_fit m switches pins entries b d past t turns h now is in
+        let fit = turn_fit m switches pins entries b d past t turns h now is at in
         goes_way h is open_it together (omega (arith, at)) reads (t ∷ []) turns refl (omega (arith, at, size)) rest New refl once fit (homes_none past (omega (arith, size))) (not_yet K h.start (Hears h).group (omega (arith, at)))
       where
         homes_none : (came : List Came) → length came ≤ length turns → HomesFrom m switches (length turns) h.start (members_of h.group) came
@@ -464,7 +564,7 @@ module _ (m : Machine) (v : IsValidMachine m) (switches : List Switch) (pins : L
         by blind still open_it None e =
             let soon = u.soon in
             let h = u.homing in
-            let fresh = blind_fits E AnyTick (G h.start h.axis (d ∷ past)) pins New blind (bring (d ∷ past) (t ∷ turns) now).0 in
+            let fresh = blind_fits E Any (G h.start h.axis (d ∷ past)) pins New blind (bring (d ∷ past) (t ∷ turns) now).0 in
             goes_way h still open_it u.together (omega (arith, soon)) u.reads (t ∷ u.later) u.early (ap (λ (z : List BoardTurn). t ∷ z) u.are) u.at u.unread (u.queue ++ New)
             (ap (λ (z : List Meant). z ++ New) u.queue_is ∙ append_assoc (queued_by u.early) u.queue New) (read_front u.queue New u.once blind)
             (fit_both E (G h.start h.axis (d ∷ past)) pins u.queue New (fits_more E (G h.start h.axis past) (G h.start h.axis (d ∷ past)) pins (grown h.start h.axis) u.queue u.fit) fresh) u.since e
@@ -495,7 +595,7 @@ module _ (m : Machine) (v : IsValidMachine m) (switches : List Switch) (pins : L
 
   pub answered_read : (c : Came) (before : List Came) (turns : List BoardTurn) (h : Homing) (tick : ℕ) → Run before turns → state_at b c.states ≡ latest_state turns → BeginsApart m switches (c ∷ before) → AreRead (ReadsSwitchTrue m switches b) (c ∷ before) turns
       → AreBehind m switches b (c ∷ before) → (noted m c.note (known_by m switches before)).homing ≡ Some h → (axis_at m h.axis).board ≡ b
-      → answer_in (length before) h.start (hears_all (noted m c.note (known_by m switches before)).clocks c.states h).group ≡ Some (end.Endstop tick) → IsReadIn m switches pins b h.start h.axis before tick
+      → answer_in (length before) h.start (hears_all (noted m c.note (known_by m switches before)).clocks c.states h).group ≡ Some (end.Endstop tick) → IsTriggerOf m switches pins entries b h.start h.axis before turns tick
   answered_read c before turns h tick r latest apart reads behind is on ends =
       let known = known_by m switches before in
       let n = noted m c.note known in
@@ -512,6 +612,6 @@ module _ (m : Machine) (v : IsValidMachine m) (switches : List Switch) (pins : L
             let same : u.homing ≡ h = some_same u.homing h (sym still ∙ is) in
             let own_ends : answer_in (length before) u.homing.start (hears_all n.clocks c.states u.homing).group ≡ Some (end.Endstop tick) =
             subst (λ (g : Homing). answer_in (length before) g.start (hears_all n.clocks c.states g).group ≡ Some (end.Endstop tick)) (sym same) ends in
-            subst (λ (g : Homing). IsReadIn m switches pins b g.start g.axis before tick) same
+            subst (λ (g : Homing). IsTriggerOf m switches pins entries b g.start g.axis before turns tick) same
             (answers_read c before turns r latest reads behind (λ p. x.0 (sym (noted_phase m c.note known) ∙ p)) u still tick own_ends).1
       ]

@@ -63,7 +63,8 @@ use Rattle.homing_laws.proofs.home_runs.Joining.{known_rises, noted_rises}
 use Rattle.homing_laws.proofs.home_runs.Setting.{commands_both, rise_behind}
 use Rattle.homing_laws.proofs.clear_groups.Starting.{MembersOf}
 use Rattle.homing_laws.specs.missed_groups.Ticks.{IsReader}
-use Rattle.homing_laws.proofs.fired_runs.Blind.{AreBlind, IsBlind, ReadOnce}
+use Rattle.homing_laws.specs.switch_runs.Taken.{AreBlind, IsBlind}
+use Rattle.homing_laws.proofs.fired_runs.Blind.{ReadOnce}
 use Rattle.homing_laws.proofs.fired_runs.Once.{rise_first}
 
 -- the homing section that is known in a turn starts 250 turns behind it, and a board is its member with the endstop
@@ -324,10 +325,6 @@ turn_either m b c r k a x t rises (Runs p g) =
 pub blind_both : (xs ys : List Meant) → AreBlind xs → AreBlind ys → AreBlind (xs ++ ys)
 blind_both [] ys a k = k
 blind_both (x ∷ xs) ys a k = (a.0, blind_both xs ys a.1 k)
-
-pub blind_parts : (xs ys : List Meant) → AreBlind (xs ++ ys) → AreBlind xs × AreBlind ys
-blind_parts [] ys k = (tt, k)
-blind_parts (x ∷ xs) ys k = let p = blind_parts xs ys k.1 in ((k.0, p.0), p.1)
 
 pub blind_once : (ms : List Meant) → AreBlind ms → ReadOnce ms
 blind_once [] k = tt

@@ -33,7 +33,7 @@ endstop_stands m switches pins entries b axis came turns v none r limits open_it
     let d = board_at m b in
     let core = (stands_after (first_state d pins b entries) turns).core in
     let E = IsEndstop m b in
-    let fit = bring_fit m switches pins entries b AnyTick came turns r (λ tick k. tt) in
+    let fit = bring_fit m switches pins entries b (λ now. AnyTick) came turns r (λ tick k. tt) in
     let whole = whole_after E d pins b entries turns e j r.turns_are (endstop_small m b (axis_at m axis) v) fit in
     let taken = taken_all d pins b entries turns none r.turns_are limits in
     let only : Only j (commands_of core.taken) = subst (λ (ms : List Meant). Only j (commands_of ms)) (sym taken) (queue_only j turns (run_only m switches pins entries b came turns v r)) in

@@ -227,7 +227,7 @@ start_standing e j b pins few runs only = record { sole = λ oid s is. (let none
 
 -- behind all turns of a board that bring fit commands
 pub whole_after : (E : ℕ → (ℕ → Type 0)) (b : BoardDef) (pins : List (List Level)) (board : ℕ) (entries : List Entry) (turns : List BoardTurn) (e j : ℕ) → AreBoardTurns (clock_of b) (first_state b pins board entries) turns → e < 256
-    → BringFit E AnyTick pins turns → Whole E pins e j (stands_after (first_state b pins board entries) turns).core
+    → BringFit E (λ now. AnyTick) pins turns → Whole E pins e j (stands_after (first_state b pins board entries) turns).core
 whole_after E b pins board entries [] e j are few fit = (start_keeps E AnyTick AnyTick b pins, start_standing e j b pins few)
 whole_after E b pins board entries (t ∷ before) e j are few fit =
     let old = whole_after E b pins board entries before e j are.1 few fit.1 in

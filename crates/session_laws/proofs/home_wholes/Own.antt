@@ -42,9 +42,9 @@ use Rattle.homing_laws.specs.home_plans.Notes.{CameNotes, WasBegun}
 use Rattle.homing_laws.proofs.home_plans.Knowing.{now_was}
 use Rattle.homing_laws.proofs.home_parts.Apart.{so_begun}
 use Rattle.homing_laws.proofs.home_parts.Told.{so_at, split_at}
-use Rattle.homing_laws.specs.switch_runs.Runs.{IsReadIn}
+use Rattle.homing_laws.specs.switch_runs.Taken.{IsTriggerOf}
 use Rattle.session_laws.specs.home_headline.Cuts.{TellEnds, TellsAnswer}
-use Rattle.session_laws.specs.home_wholes.Own.{AllSwitchesReadTrue, IsOwnReading, TellOwn}
+use Rattle.session_laws.specs.home_wholes.Own.{AllSwitchesReadTrue, IsTriggerIn, TellTriggers, TellTriggersBehind}
 use Rattle.session_laws.proofs.home_headline.Board.{starts_behind}
 use Rattle.session_laws.proofs.home_headline.Ended.{goes_behind, notes_behind}
 use Rattle.session_laws.proofs.home_headline.Switches.{all_ends, came_ahead}
@@ -86,20 +86,34 @@ read_to m switches pins entries b came turns run so ahead c before are later pas
     let Is : Came → List Came → List BoardTurn → Type 0 = λ d came_by z. AreRead (ReadsSwitchTrue m switches b) (d ∷ came_by) z × AreBehind m switches b (d ∷ came_by) in
     subst (λ (z : List BoardTurn). Is c before z) turns_same (subst (λ (z : Came). Is z before f.past) same.0 (subst (λ (z : List Came). Is f.c z f.past) same.1 (here.1, here.2)))
 
--- the answer in a turn of a run
+-- the answer in a turn of a run, by the turns of the board before it
+record Answered (m : Machine) (switches : List Switch) (pins : List (List Level)) (entries : List Entry) (b start axis : ℕ) (before : List Came) (turns : List BoardTurn) (tick : ℕ) : Type 0 where
+  later : List BoardTurn
+  past : List BoardTurn
+  are : turns ≡ later ++ past
+  long : length past ≡ length before
+  is : IsTriggerOf m switches pins entries b start axis before past tick
+
 answer_own : (m : Machine) (v : IsValidMachine m) (switches : List Switch) (pins : List (List Level)) (entries : List Entry) (b : ℕ) (came : List Came) (turns : List BoardTurn) → IsInRun m switches pins entries b came turns → SoRead m switches b came turns
     → (ahead : List Came) (c : Came) (before : List Came) → came ≡ ahead ++ c ∷ before → (h : Homing) (tick : ℕ) → (noted m c.note (known_by m switches before)).homing ≡ Some h → (axis_at m h.axis).board ≡ b
-    → answer_in (length before) h.start (hears_all (noted m c.note (known_by m switches before)).clocks c.states h).group ≡ Some (Endstop tick) → IsReadIn m switches pins b h.start h.axis before tick
+    → answer_in (length before) h.start (hears_all (noted m c.note (known_by m switches before)).clocks c.states h).group ≡ Some (Endstop tick) → Answered m switches pins entries b h.start h.axis before turns tick
 answer_own m v switches pins entries b came turns run so ahead c before are h tick known on answer =
     let size : length came ≡ length ahead + length (c ∷ before) = ap length are ∙ length-append ahead (c ∷ before) in
     let f = split_at m switches pins entries b (length before) came turns run (omega (arith, size)) in
     let same = same_place f.ahead f.c f.before ahead c before (sym f.came_is ∙ are) f.at in
     let here = so_at m switches pins entries b (ReadsSwitchTrue m switches b) came turns f.ahead f.c f.before f.later f.t f.past run f.run f.came_is f.turns_is so in
+    let was_run = run_before m switches pins entries b f.c f.before f.t f.past f.run in
+    let count = as_long m switches b f.before f.past was_run.both in
+    let at = f.at in
     let Says : Came → List Came → Type 0 = λ d. λ past. (noted m d.note (known_by m switches past)).homing ≡ Some h
-    → answer_in (length past) h.start (hears_all (noted m d.note (known_by m switches past)).clocks d.states h).group ≡ Some (Endstop tick) → IsReadIn m switches pins b h.start h.axis past tick in
-    let was : Says f.c f.before = λ is ends.
-    answered_read m v switches pins entries b f.c f.before f.past h tick (run_before m switches pins entries b f.c f.before f.t f.past f.run) f.run.both.0 here.0 here.1 here.2 is on ends in
-    subst (λ (z : Came). Says z before) same.0 (subst (λ (z : List Came). Says f.c z) same.1 was) known answer
+    → answer_in (length past) h.start (hears_all (noted m d.note (known_by m switches past)).clocks d.states h).group ≡ Some (Endstop tick) → IsTriggerOf m switches pins entries b h.start h.axis past f.past tick in
+    let was : Says f.c f.before = λ is ends. answered_read m v switches pins entries b f.c f.before f.past h tick was_run f.run.both.0 here.0 here.1 here.2 is on ends in record {
+      later = f.later ++ f.t ∷ [];
+      past = f.past;
+      are = f.turns_is ∙ sym (append_assoc f.later (f.t ∷ []) f.past);
+      long = omega (arith, count, at);
+      is = subst (λ (z : Came). Says z before) same.0 (subst (λ (z : List Came). Says f.c z) same.1 was) known answer;
+    }
 
 module _ (m : Machine) (v : IsValidMachine m) (s : Scene) (ts : List MotionTurn) (p : Plans m (length m.boards) ts) (t : Told) (first : ReactorTurn) (rest : List ReactorTurn) (end : ReactorTurn) (c : Cause) (told : p.seen.told ≡ Some t) (f : Facts m s ts (first ∷ rest) end c)
     (short : HaveShortDictionaries m) (reads : AllSwitchesReadTrue m s ts (first ∷ (rest ++ end ∷ []))) where
@@ -120,7 +134,7 @@ module _ (m : Machine) (v : IsValidMachine m) (s : Scene) (ts : List MotionTurn)
       (λ past x later axis cut home near. starts_behind m v b (length rest) ready t.first t.clocks p.seen.begun low l (row m v s ts p t first rest end c told f short) r.early past x later cut (omega (arith, near, long))) in
       (so.0, subst Reads (came_cut [] first rest end) (reads b low (whole m v s ts p t first rest end c told f short b low)), so.1)
 
-  cut_own : (ahead : List Came) (y : Came) (before : List Came) (lines_of : List ReportLine) (x : TellsAnswer m s.switches y before lines_of) → Heard ≡ ahead ++ y ∷ before → IsOwnReading m s.switches x.homing.start x.homing.axis before x.tick
+  cut_own : (ahead : List Came) (y : Came) (before : List Came) (lines_of : List ReportLine) (x : TellsAnswer m s.switches y before lines_of) → Heard ≡ ahead ++ y ∷ before → IsTriggerIn m s ts first (rest ++ end ∷ []) x.homing.start x.homing.axis before x.tick
   cut_own ahead y before lines_of x are =
       let plan = by m v s ts p t first rest end c told f short in
       let Goes : List Came → Type 0 = λ z. GoesOn m s.switches z in
@@ -133,10 +147,11 @@ module _ (m : Machine) (v : IsValidMachine m) (s : Scene) (ts : List MotionTurn)
       let axis_is = was.9 in
       let board = axis_board m m.axes x.homing.axis (omega (arith, low, three, axis_is)) v.axes in
       let b = (axis_at m x.homing.axis).board in
-      answer_own m v s.switches (pins_of (board_at m b) b s.switches) s.entries b Heard (Turns_of m v s ts p t first rest end c told f short b board) (run_of m v s ts p t first rest end c told f short b board) (all_so b board)
-      ahead y before are x.homing x.tick x.known refl x.answer
+      let k = answer_own m v s.switches (pins_of (board_at m b) b s.switches) s.entries b Heard (Turns_of m v s ts p t first rest end c told f short b board) (run_of m v s ts p t first rest end c told f short b board) (all_so b board)
+      ahead y before are x.homing x.tick x.known refl x.answer in
+      record { board = b; board_is = refl; there = board; w = whole m v s ts p t first rest end c told f short b board; later = k.later; past = k.past; are = k.are; long = k.long; is = k.is }
 
-  pub own_turns : (before : List Came) (rs : List ReactorTurn) → Heard ≡ came_from before rs → TellOwn m s.switches before rs
+  pub own_turns : (before : List Came) (rs : List ReactorTurn) → Heard ≡ came_from before rs → TellTriggersBehind m s ts first (rest ++ end ∷ []) before rs
   own_turns before [] are = tt
   own_turns before (r ∷ rs) are = let a = came_ahead (came_in r ∷ before) rs in (λ x. cut_own a.0 (came_in r) before r.lines x (are ∙ a.1), own_turns (came_in r ∷ before) rs are)
 
@@ -144,27 +159,28 @@ module _ (m : Machine) (v : IsValidMachine m) (s : Scene) (ts : List MotionTurn)
 no_line : (m : Machine) (switches : List Switch) (i : ℕ) (a : AxisDef) (tick : ℕ) → [] ≡ cut_line m switches i a (Some tick) → ⊥
 no_line m switches i a tick e = cc
 
-none_own : (m : Machine) (switches : List Switch) (begun : List Started) (k : ℕ) (before : List Came) (rs last : List ReactorTurn) → begun ≡ [] → TellEnds m switches begun k (rs ++ last) → TellOwn m switches before rs
-none_own m switches begun k before [] last none ends = tt
-none_own m switches begun k before (r ∷ rs) last none ends = (
+none_own : (m : Machine) (s : Scene) (ts : List MotionTurn) (first : ReactorTurn) (rest : List ReactorTurn) (begun : List Started) (k : ℕ) (before : List Came) (rs last : List ReactorTurn) → begun ≡ [] → TellEnds m s.switches begun k (rs ++ last)
+    → TellTriggersBehind m s ts first rest before rs
+none_own m s ts first rest begun k before [] last none ends = tt
+none_own m s ts first rest begun k before (r ∷ rs) last none ends = (
   λ x. elim ends.0 [
     | inl w ↦ let e = w.ended in absurd (in_none e.past e.s e.later begun none e.cut)
-    | inr n ↦ absurd (no_line m switches x.homing.section (axis_at m x.homing.axis) x.tick (sym n.lines_are ∙ x.lines_are))
+    | inr n ↦ absurd (no_line m s.switches x.homing.section (axis_at m x.homing.axis) x.tick (sym n.lines_are ∙ x.lines_are))
   ],
-  none_own m switches begun (k + 1) (came_in r ∷ before) rs last none ends.1,
+  none_own m s ts first rest begun (k + 1) (came_in r ∷ before) rs last none ends.1,
 )
 
 module _ (m : Machine) (v : IsValidMachine m) (s : Scene) (ts : List MotionTurn) (p : Plans m (length m.boards) ts) (end : ReactorTurn) (c : Cause) (short : HaveShortDictionaries m) where
-  own_by : (o : Option Told) (first : ReactorTurn) (rest : List ReactorTurn) → Ended m s ts (first ∷ rest) end c → p.seen.told ≡ o → AllSwitchesReadTrue m s ts (first ∷ (rest ++ end ∷ [])) → TellOwn m s.switches [] (first ∷ rest)
-  own_by None first rest e told reads = none_own m s.switches p.seen.begun 0 [] (first ∷ rest) (end ∷ []) (not_told m v s ts p end c told) (all_ends m v s ts p end c (first ∷ rest) e)
+  own_by : (o : Option Told) (first : ReactorTurn) (rest : List ReactorTurn) → Ended m s ts (first ∷ rest) end c → p.seen.told ≡ o → AllSwitchesReadTrue m s ts (first ∷ (rest ++ end ∷ [])) → TellTriggers m s ts (first ∷ rest) end
+  own_by None first rest e told reads = none_own m s ts first (rest ++ end ∷ []) p.seen.begun 0 [] (first ∷ rest) (end ∷ []) (not_told m v s ts p end c told) (all_ends m v s ts p end c (first ∷ rest) e)
   own_by (Some t) first rest e told reads = own_turns m v s ts p t first rest end c told e.facts short reads [] (first ∷ rest) refl
 
-  all_own : (rs : List ReactorTurn) → Ended m s ts rs end c → AllSwitchesReadTrue m s ts (rs ++ end ∷ []) → TellOwn m s.switches [] rs
+  all_own : (rs : List ReactorTurn) → Ended m s ts rs end c → AllSwitchesReadTrue m s ts (rs ++ end ∷ []) → TellTriggers m s ts rs end
   all_own [] e reads = tt
   all_own (first ∷ rest) e reads = own_by p.seen.told first rest e refl reads
 
 pub run_own : {F S : Type 0} (f : Files F) (o : Sink S) (m : Machine) (s : Scene) (name : List ℕ) (files files' : F) (out out' : S) (kept kept' : Kept) (t : near.Told Run) (r : RunsOver f o m s name files out kept t files' out' kept') → IsValidMachine m → HaveShortDictionaries m → (text : List ℕ)
-    → f.told files name ≡ Some text → kept.at ≡ 0 → (t.cause ≡ cause.Memory → ⊥) → AllSwitchesReadTrue m s r.runs.0 (r.runs.1 ++ r.runs.2 ∷ []) → ∥ TellOwn m s.switches [] r.runs.1 ∥₁
+    → f.told files name ≡ Some text → kept.at ≡ 0 → (t.cause ≡ cause.Memory → ⊥) → AllSwitchesReadTrue m s r.runs.0 (r.runs.1 ++ r.runs.2 ∷ []) → ∥ TellTriggers m s r.runs.0 r.runs.1 r.runs.2 ∥₁
 run_own f o m s name files files' out out' kept kept' t r v short text told at other reads =
     ∥∥₁_map (run_made f o m s name files files' out out' kept kept' t r text told at)
     (λ w. all_own m v s r.runs.0 w.0.plans r.runs.2 t.cause short r.runs.1 (run_ended f o m s name files files' out out' kept kept' t r other) reads)

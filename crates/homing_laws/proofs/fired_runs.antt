@@ -5,3 +5,7 @@ pub mod Reported
 pub mod Rested
 pub mod Halting
 pub mod Waiting
+pub mod Blind
+pub mod Sight
+pub mod Seeing
+pub mod Heard

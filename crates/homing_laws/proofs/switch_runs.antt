@@ -1,7 +1,6 @@
 pub mod Firing
 pub mod Telling
 pub mod Ordering
-pub mod Renewing
+pub mod Made
 pub mod Homes
-pub mod Own
-pub mod Answered
+pub mod Exact

@@ -1,4 +1,5 @@
 pub mod Reading
 pub mod Runs
-pub mod Renewed
+pub mod Made
 pub mod Reports
+pub mod Taken

@@ -4,7 +4,7 @@ ghost use Rattle.std.specs.Prelude.{◌≡◌, ◌⊎◌, ◌+◌, ℕ, List, So
 ghost use Rattle.plan_types.specs.declared.levels.Level.{Level};
 ghost use Rattle.plan_types.specs.declared.machine.Machine.{Machine};
 ghost use Rattle.plan_types.specs.declared.plan.BoardState.TheVariants.{Running};
-ghost use Rattle.plan_types.specs.Machines.{IsValidMachine, board_at};
+ghost use Rattle.plan_types.specs.Machines.{IsValidMachine, axis_at, board_at};
 ghost use Rattle.plan_types.specs.Machines as machine;
 ghost use Rattle.wire_scene.specs.declared.scene.Entry.{Entry};
 ghost use Rattle.wire_scene.specs.declared.scene.Switch.{Switch};
@@ -14,6 +14,7 @@ ghost use Rattle.board_world.specs.World.{Step};
 ghost use Rattle.link_work.specs.Stands.{first_state};
 ghost use Rattle.board_asking.specs.Machine.{trigger_of};
 ghost use Rattle.trigger_group.specs.declared.order.End.{End};
+ghost use Rattle.trigger_group.specs.declared.order.End.TheVariants.{Endstop};
 ghost use Rattle.axis_homing.specs.declared.homing.Homing.{Homing};
 ghost use Rattle.axis_homing.specs.Homing.{answer_in, hears_all};
 ghost use Rattle.axis_homing.specs.Rising.{members_of};
@@ -21,9 +22,12 @@ ghost use Rattle.host_reactor.specs.Notes.{noted};
 ghost use Rattle.host_reactor.specs.Runs.{Came, known_by, state_at};
 ghost use Rattle.board_runs.specs.Turns.{BoardTurn, latest_state, stands_after};
 ghost use Rattle.clock_runs.specs.Runs.{IsInRun};
-ghost use Rattle.homing_laws.specs.home_runs.Sections.{IsAnswered, IsMoved};
+ghost use Rattle.homing_laws.specs.home_runs.Sections.{HomesFrom, IsAnswered, IsMoved, TakesSetUp};
 ghost use Rattle.homing_laws.specs.home_runs.Told.{IsMember};
-ghost use Rattle.homing_laws.specs.fired_runs.Since.{AreBehind, AreReadTrue, BeginsApart, HasFiredSince};
+ghost use Rattle.homing_laws.specs.home_runs.Settled.{SetNoClockFrom};
+ghost use Rattle.homing_laws.specs.switch_runs.Reports.{HearsSoon};
+ghost use Rattle.homing_laws.specs.switch_runs.Taken.{IsTriggerOf};
+ghost use Rattle.homing_laws.specs.fired_runs.Since.{AreBehind, AreRead, AreReadTrue, BeginsApart, HasFiredSince, ReadsSwitchTrue, ReadsTrue};
 ghost use Rattle.run_laws.specs.Finds.{StepsFindHalted};
 ghost use Rattle.homing_laws.specs.fired_runs.Waiting.{MoveNoneIn, TookNone};
 
@@ -36,6 +40,30 @@ pub fn answered_triggers_have_fired()
         IsInRun m switches pins entries b before turns → state_at b c.states ≡ latest_state turns → BeginsApart m switches (c ∷ before) → AreReadTrue m switches b (c ∷ before) turns → AreBehind m switches b (c ∷ before) →
         (noted m c.note (known_by m switches before)).homing ≡ Some h → answer_in (length before) h.start (hears_all (noted m c.note (known_by m switches before)).clocks c.states h).group ≡ Some e → IsMember b (members_of h.group) →
         HasFiredSince (trigger_of m b) h.start (first_state (board_at m b) pins b entries) turns }
+{}
+
+/// The law of trigger ticks, whatever comes late: where the group of a homing section answers that its switch closed, it does
+/// so with the section's trigger tick (`IsTriggerOf`): the last reading of the first group of readings that show the switch
+/// pressed throughout, of those that begin with the section's command as the board of its axis's endstop took it, from the
+/// section's start on. What it takes is that the board's reports that readings triggered its trigger are read as ticks
+/// since which it could not trigger for that reason (`ReadsSwitchTrue`), and else what the law of firings takes.
+pub fn answers_are_of_trigger_ticks()
+    ensures { (m : Machine) (switches : List Switch) (pins : List (List Level)) (entries : List Entry) (b : ℕ) (c : Came) (before : List Came) (turns : List BoardTurn) (h : Homing) (tick : ℕ) → IsValidMachine m →
+        IsInRun m switches pins entries b before turns → state_at b c.states ≡ latest_state turns → BeginsApart m switches (c ∷ before) → AreRead (ReadsSwitchTrue m switches b) (c ∷ before) turns → AreBehind m switches b (c ∷ before) →
+        (noted m c.note (known_by m switches before)).homing ≡ Some h → (axis_at m h.axis).board ≡ b → answer_in (length before) h.start (hears_all (noted m c.note (known_by m switches before)).clocks c.states h).group ≡ Some (Endstop tick) →
+        IsTriggerOf m switches pins entries b h.start h.axis before turns tick }
+{}
+
+/// The law of half a round: what the state of a board's turn tells of its trigger is read true (`ReadsTrue`,
+/// `ReadsSwitchTrue`), where it comes within half a round of the 32-bit clock of the tick since which the trigger stands (`HearsSoon`), and the board
+/// took the set-up of the homing section in time. What it takes is that the section is known from 254 turns before its
+/// start on, and that no unit sets a clock from there on.
+pub fn reports_heard_soon_are_read_true()
+    ensures { (m : Machine) (switches : List Switch) (pins : List (List Level)) (entries : List Entry) (b : ℕ) (c : Came) (before : List Came) (h : Homing) (from : ℕ) (t : BoardTurn) (earlier : List BoardTurn) → IsValidMachine m →
+        IsInRun m switches pins entries b before (t ∷ earlier) → state_at b c.states ≡ latest_state (t ∷ earlier) → (noted m c.note (known_by m switches before)).homing ≡ Some h → from + 254 ≡ h.start →
+        HomesFrom m switches from h.start (members_of h.group) before → SetNoClockFrom from (t ∷ earlier) → TakesSetUp (first_state (board_at m b) pins b entries) h.start (t ∷ earlier) →
+        (stands_after (first_state (board_at m b) pins b entries) (t ∷ earlier)).core.board.controller.state ≡ Running → HearsSoon m switches b h.start c before t (length earlier) →
+        ReadsTrue m switches b c before (t ∷ earlier) × ReadsSwitchTrue m switches b c before (t ∷ earlier) }
 {}
 
 /// The law of halts, whatever comes late: as the turn begins in which the group of a homing section answers, every stepper that moves in the section is

@@ -85,7 +85,7 @@ use Rattle.session_laws.proofs.home_headline.Sections.{all_begun}
 use Rattle.session_laws.proofs.home_headline.Shows.{all_shows}
 use Rattle.session_laws.proofs.home_headline.Switches.{all_ends, run_last}
 use Rattle.session_laws.specs.home_wholes.Whole.{AllWholeHomes}
-use Rattle.session_laws.proofs.home_wholes.Joined.{run_own}
+use Rattle.session_laws.proofs.home_wholes.Own.{run_own}
 use Rattle.session_laws.proofs.home_wholes.Shows.{all_wholes}
 use Rattle.session_laws.specs.clear_homes.Closes.{AllClose}
 use Rattle.session_laws.proofs.clear_homes.Clear as homed
@@ -1035,7 +1035,7 @@ module _ {F S : Type 0} (f : Files F) (o : Sink S) (m : Machine) (s : Scene) (gc
     shows = texts r;
     begun = begun_texts r;
     homes = home_texts r;
-    own = λ text told other little soon sends. run_own f o m s gcode files files' out r.behind r.kept r.kept' r.told r.runs v short text told r.fresh.at other little soon sends;
+    own = λ text told other reads. run_own f o m s gcode files files' out r.behind r.kept r.kept' r.told r.runs v short text told r.fresh.at other reads;
     complete = completes r;
     complete_homes = homes_complete r;
     complete_switches = switches_complete r;

@@ -15,7 +15,6 @@ pub mod Between
 pub mod Heeding
 pub mod Lost
 pub mod Axes
-pub mod Own
 pub mod Lines
 pub mod Shows
-pub mod Joined
+pub mod Own

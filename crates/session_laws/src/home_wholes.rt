@@ -36,8 +36,8 @@ ghost use Rattle.session_laws.specs.run_headline.Made.{IsMade};
 ghost use Rattle.session_laws.specs.run_headline.Timely.{clocks_heard, ready_heard};
 ghost use Rattle.session_laws.specs.home_headline.Cuts.{TellEnds};
 ghost use Rattle.session_laws.specs.home_headline.Follow.{AllShowHomes};
-ghost use Rattle.session_laws.specs.home_headline.Little.{AllHomeLittle, SendsOut};
-ghost use Rattle.session_laws.specs.home_wholes.Own.{AllHearSoon, TellOwn};
+ghost use Rattle.session_laws.specs.home_headline.Little.{AllHomeLittle};
+ghost use Rattle.session_laws.specs.home_wholes.Own.{AllSwitchesReadTrue, TellTriggers};
 ghost use Rattle.session_laws.specs.home_wholes.Still.{IsStillIn};
 ghost use Rattle.session_laws.specs.home_wholes.Whole.{AllWholeHomes};
 
@@ -89,17 +89,14 @@ pub fn homing_runs_are_whole<F: Files, S: Sink>()
         ((t.cause ≡ Cause.Memory → ⊥) → TellEnds m s.switches made.plans.seen.begun 0 (r.runs.1 ++ r.runs.2 ∷ []))) ∥₁ }
 {}
 
-/// The law of own readings: in whatever threads a run went that does not end for want of memory, each of the reactor's turns before the last
-/// one that tells that the switch of a homing section closed tells of a tick at which this very section's readings of its axis's endstop are
-/// complete (`TellOwn`), whatever happens on the lines.
+/// The law of trigger ticks: of a whole run that doesn't end for want of memory, in any scene, each turn before the last one that
+/// tells that the switch of a homing section closed tells of the section's trigger tick (`TellTriggers`): the last reading of the
+/// first group of readings that show the switch pressed throughout, of those that begin with the section's command as the board
+/// of its axis's endstop took it, from the section's start on; whatever happens on the lines.
 ///
-/// It is asked of each board that it holds nothing long (`AllHomeLittle`), that units of moves are sent by four turns
-/// behind their section's end (`SendsOut`), and of the endstop's that in a scene with entries it takes the set-up in
-/// time, and that what its trigger does in the section is heard of within half a round of its 32-bit clock
-/// (`AllHearSoon`).
-pub fn homing_runs_are_cut_by_their_own_readings<F: Files, S: Sink>()
+/// It is asked that each board's reports that readings triggered its trigger are read true (`AllSwitchesReadTrue`).
+pub fn homing_runs_are_cut_at_trigger_ticks<F: Files, S: Sink>()
     ensures { (m : Machine) (s : Scene) (name : List ℕ) (files files' : F) (out out' : S) (kept kept' : Kept) (t : Told Run) →
         (r : RunsOver F.Files S.Sink m s name files out kept t files' out' kept') → IsValidMachine m → HaveShortDictionaries m → (text : List ℕ) → F.told files name ≡ Some text → kept.at ≡ 0 →
-        (t.cause ≡ Cause.Memory → ⊥) → AllHomeLittle m s text r.runs.0 (r.runs.1 ++ r.runs.2 ∷ []) → AllHearSoon m s text r.runs.0 (r.runs.1 ++ r.runs.2 ∷ []) →
-        SendsOut m text r.runs.0 → ∥ TellOwn m s.switches [] r.runs.1 ∥₁ }
+        (t.cause ≡ Cause.Memory → ⊥) → AllSwitchesReadTrue m s r.runs.0 (r.runs.1 ++ r.runs.2 ∷ []) → ∥ TellTriggers m s r.runs.0 r.runs.1 r.runs.2 ∥₁ }
 {}

@@ -73,7 +73,7 @@ member_at b [] is = absurd is
 member_at b (x ∷ ms) (inl e) = (0, omega arith, λ d. e)
 member_at b (x ∷ ms) (inr is) = let rest = member_at b ms is in let l = rest.1 in (suc rest.0, omega (arith, l), rest.2)
 
-rise_first : (b : ℕ) (x : Member) (ms : List Member) → BoardsRise (x ∷ ms) → IsMember b ms → x.board < b
+pub rise_first : (b : ℕ) (x : Member) (ms : List Member) → BoardsRise (x ∷ ms) → IsMember b ms → x.board < b
 rise_first b x ms rise is =
     let at = member_at b ms is in
     let l = at.1 in

@@ -1,5 +1,5 @@
 -- Between a board's homing sections its trigger is at rest; and in the turn in which a group answers it has triggered since the section's start.
-use Rattle.std.proofs.Common.{◌≡◌, ℕ, ◌+◌, ◌-◌, ◌*◌, ◌<◌, ◌≤◌, ◌⊎◌, inl, inr, false, List, [], ◌∷◌, ◌++◌, length, drop, map, Option, Some, None, refl, ap, sym, ◌∙◌, subst, arith, append_assoc, append-nil}
+use Rattle.std.proofs.Common.{◌≡◌, ℕ, ◌+◌, ◌-◌, ◌*◌, ◌<◌, ◌≤◌, ◌⊎◌, inl, inr, false, List, [], ◌∷◌, ◌++◌, length, drop, map, Option, Some, None, refl, ap, sym, ◌∙◌, subst, arith, append_assoc, append-nil, length-append}
 use Rattle.std.proofs.lemmas.Bool.Decides.{eqb_tells, leb_tells}
 use Rattle.std.proofs.lemmas.List.{append_cancel_left, take-append-drop}
 use Rattle.plan_types.specs.declared.levels.Level.{Level}
@@ -55,7 +55,8 @@ use Rattle.homing_laws.proofs.clear_groups.Noted.{drift_small, noted_newly, some
 use Rattle.homing_laws.proofs.clear_groups.Plain.{none_at, none_some}
 use Rattle.homing_laws.proofs.clear_groups.Resting.{Together, clash, known_together, newly_together, next_of, some_same, taken_tame, heard_together}
 use Rattle.homing_laws.proofs.clear_groups.Starting.{member_or_not, starts_either}
-use Rattle.homing_laws.specs.fired_runs.Since.{AreBehind, AreReadTrue, BeginsApart, HasFiredSince, IsAtRest, IsFiredAt, IsOff, IsStart, WasFiredAt}
+use Rattle.homing_laws.specs.missed_groups.Ticks.{IsReader}
+use Rattle.homing_laws.specs.fired_runs.Since.{AreBehind, AreRead, AreReadTrue, BeginsApart, HasFiredSince, IsAtRest, IsFiredAt, IsOff, IsStart, ReadsSwitchTrue, ReadsTrue, WasFiredAt}
 use Rattle.homing_laws.proofs.fired_runs.Old.{OldAt, tame_both, tame_parts, turns_old}
 use Rattle.homing_laws.proofs.fired_runs.Once.{turn_split}
 use Rattle.homing_laws.proofs.fired_runs.Reported.{before_start, member_told, sole_state}
@@ -70,57 +71,75 @@ queue_later (t ∷ later) past =
     (rest.0 ++ new, ap (λ (l : List Meant). l ++ new) rest.1 ∙ append_assoc (queued_by past) rest.0 new)
 
 -- where a trigger was fired
-was_at : (first : LinkState) (j tick : ℕ) (turns : List BoardTurn) → WasFiredAt j tick turns → (later x : List BoardTurn) × (turns ≡ later ++ x) × IsFiredAt j tick (stands_after first x).core.board
-was_at first j tick [] w = absurd w
-was_at first j tick (t ∷ turns) (inl here) = ([], t ∷ turns, refl, here)
-was_at first j tick (t ∷ turns) (inr old) = let rest = was_at first j tick turns old in (t ∷ rest.0, rest.1, ap (λ (l : List BoardTurn). t ∷ l) rest.2, rest.3)
+pub was_at : (first : LinkState) (j reason tick : ℕ) (turns : List BoardTurn) → WasFiredAt j reason tick turns → (later x : List BoardTurn) × (turns ≡ later ++ x) × IsFiredAt j reason tick (stands_after first x).core.board
+was_at first j reason tick [] w = absurd w
+was_at first j reason tick (t ∷ turns) (inl here) = ([], t ∷ turns, refl, here)
+was_at first j reason tick (t ∷ turns) (inr old) = let rest = was_at first j reason tick turns old in (t ∷ rest.0, rest.1, ap (λ (l : List BoardTurn). t ∷ l) rest.2, rest.3)
 
 -- earlier turns of a run
-run_at : (m : Machine) (switches : List Switch) (pins : List (List Level)) (entries : List Entry) (b : ℕ) (came : List Came) (later past : List BoardTurn) → IsInRun m switches pins entries b came (later ++ past)
+pub run_at : (m : Machine) (switches : List Switch) (pins : List (List Level)) (entries : List Entry) (b : ℕ) (came : List Came) (later past : List BoardTurn) → IsInRun m switches pins entries b came (later ++ past)
     → (before : List Came) × IsInRun m switches pins entries b before past
 run_at m switches pins entries b came [] past r = (came, r)
 run_at m switches pins entries b [] (t ∷ later) past r = absurd r.both
 run_at m switches pins entries b (c ∷ before) (t ∷ later) past r = run_at m switches pins entries b before later past (run_before m switches pins entries b c before t (later ++ past) r)
 
 -- a report that counts for the section that was known since a turn before its start
-record Read (m : Machine) (b start : ℕ) (f : Fired) (turns : List BoardTurn) : Type 0 where
-  was : WasFiredAt (trigger_of m b) f.tick turns
-  late : board_tick (clock_of (board_at m b)) (start - 1) ≤ f.tick
+pub record Read (m : Machine) (b start : ℕ) (f : Fired) (W : List BoardTurn → Type 0) (turns : List BoardTurn) : Type 0 where
+  pub was : W turns
+  pub late : board_tick (clock_of (board_at m b)) (start - 1) ≤ f.tick
 
-of_some : (start : ℕ) (ms : List Member) (o : Option Homing) → IsOf start ms o → (h : Homing) × (o ≡ Some h) × (h.start ≡ start) × (members_of h.group ≡ ms)
-of_some start ms None of = absurd of
-of_some start ms (Some h) of = (h, refl, of.0, of.2)
+module _ (m : Machine) (switches : List Switch) (pins : List (List Level)) (entries : List Entry) (b from start : ℕ) (ms : List Member) (low : from < start) (f : Fired) (R : Came → List Came → List BoardTurn → Type 0) (W : List BoardTurn → Type 0)
+    (more : (t : BoardTurn) (turns : List BoardTurn) → W turns → W (t ∷ turns))
+    (use_read : (c : Came) (before : List Came) (turns : List BoardTurn) (h : Homing) → (noted m c.note (known_by m switches before)).homing ≡ Some h → members_of h.group ≡ ms → R c before turns → IsReport m switches b h.start f c before → W turns) where
+  of_some : (o : Option Homing) → IsOf start ms o → (h : Homing) × (o ≡ Some h) × (h.start ≡ start) × (members_of h.group ≡ ms)
+  of_some None of = absurd of
+  of_some (Some h) of = (h, refl, of.0, of.2)
 
-read_now : (m : Machine) (switches : List Switch) (pins : List (List Level)) (entries : List Entry) (b from start : ℕ) (ms : List Member) (f : Fired) (c : Came) (before : List Came) (turns : List BoardTurn) → IsInRun m switches pins entries b before turns
-    → state_at b c.states ≡ latest_state turns → HomesFrom m switches from start ms (c ∷ before) → from < start → IsMember b ms → AreReadTrue m switches b (c ∷ before) turns → AreBehind m switches b (c ∷ before) → IsReport m switches b start f c before → Read m b start f turns
-read_now m switches pins entries b from start ms f c before [] r latest homes low member reads behind x = absurd (let came = x.came in cc)
-read_now m switches pins entries b from start ms f c before (t ∷ earlier) r latest homes low member reads behind x =
-    let lines = clocks_at (noted m c.note (known_by m switches before)).clocks b in
-    let same : t.state ≡ x.state = sole_state t.state x.state (sym latest ∙ x.came) in
-    let turn : x.state.turn ≡ length earlier = ap (λ (s : State). s.turn) (sym same) ∙ r.turns_are.0.1.turn in
-    let counts = x.counts in
-    let long = as_long m switches b before (t ∷ earlier) r.both in
-    let known = of_some start ms (noted m c.note (known_by m switches before)).homing (homes.0 (omega (arith, counts, turn, long, low))).1 in
-    let own = known.2 in
-    let begin = behind.0 known.0 known.1 (omega (arith, own, counts, turn, long)) in
-    let At : ℕ → Type 0 = λ n. board_tick (clock_of (board_at m b)) (n - 1) ≤ lines_tick lines (n * turn_ns) in
-    let ordered = subst At own begin in
-    record {
-      was = reads.0 known.0 f known.1 (subst (IsMember b) (sym known.3) member) (subst (λ (n : ℕ). IsReport m switches b n f c before) (sym own) x);
-      late = elim (leb_tells (lines_tick lines (start * turn_ns)) f.tick) [
-        | inl p ↦ let far = p.1 in omega (arith, ordered, far)
-        | inr p ↦ let low_tick = p.1 in let early = before_start lines start f.tick f.turn (omega (arith, low)) (omega (arith, low_tick)) x.turn_is in let late = x.late in absurd (omega (arith, early, late))
-      ];
-    }
+  read_now : (c : Came) (before : List Came) (turns : List BoardTurn) → IsInRun m switches pins entries b before turns → state_at b c.states ≡ latest_state turns → HomesFrom m switches from start ms (c ∷ before) → AreRead R (c ∷ before) turns
+      → AreBehind m switches b (c ∷ before) → IsReport m switches b start f c before → Read m b start f W turns
+  read_now c before [] r latest homes reads behind x = absurd (let came = x.came in cc)
+  read_now c before (t ∷ earlier) r latest homes reads behind x =
+      let lines = clocks_at (noted m c.note (known_by m switches before)).clocks b in
+      let same : t.state ≡ x.state = sole_state t.state x.state (sym latest ∙ x.came) in
+      let turn : x.state.turn ≡ length earlier = ap (λ (s : State). s.turn) (sym same) ∙ r.turns_are.0.1.turn in
+      let counts = x.counts in
+      let long = as_long m switches b before (t ∷ earlier) r.both in
+      let known = of_some (noted m c.note (known_by m switches before)).homing (homes.0 (omega (arith, counts, turn, long, low))).1 in
+      let own = known.2 in
+      let begin = behind.0 known.0 known.1 (omega (arith, own, counts, turn, long)) in
+      let At : ℕ → Type 0 = λ n. board_tick (clock_of (board_at m b)) (n - 1) ≤ lines_tick lines (n * turn_ns) in
+      let ordered = subst At own begin in
+      record {
+        was = use_read c before (t ∷ earlier) known.0 known.1 known.3 reads.0 (subst (λ (n : ℕ). IsReport m switches b n f c before) (sym own) x);
+        late = elim (leb_tells (lines_tick lines (start * turn_ns)) f.tick) [
+          | inl p ↦ let far = p.1 in omega (arith, ordered, far)
+          | inr p ↦ let low_tick = p.1 in let early = before_start lines start f.tick f.turn (omega (arith, low)) (omega (arith, low_tick)) x.turn_is in let late = x.late in absurd (omega (arith, early, late))
+        ];
+      }
 
-was_read : (m : Machine) (switches : List Switch) (pins : List (List Level)) (entries : List Entry) (b from start : ℕ) (ms : List Member) (f : Fired) (c : Came) (before : List Came) (turns : List BoardTurn) → IsInRun m switches pins entries b before turns
-    → state_at b c.states ≡ latest_state turns → HomesFrom m switches from start ms (c ∷ before) → from < start → IsMember b ms → AreReadTrue m switches b (c ∷ before) turns → AreBehind m switches b (c ∷ before) → WasReported m switches b start f (c ∷ before) → Read m b start f turns
-was_read m switches pins entries b from start ms f c before turns r latest homes low member reads behind (inl now) = read_now m switches pins entries b from start ms f c before turns r latest homes low member reads behind now
-was_read m switches pins entries b from start ms f c [] turns r latest homes low member reads behind (inr old) = absurd old
-was_read m switches pins entries b from start ms f c (d ∷ before) [] r latest homes low member reads behind (inr old) = absurd r.both
-was_read m switches pins entries b from start ms f c (d ∷ before) (t ∷ earlier) r latest homes low member reads behind (inr old) =
-    let rest = was_read m switches pins entries b from start ms f d before earlier (run_before m switches pins entries b d before t earlier r) r.both.0 homes.1 low member reads.1 behind.1 old in
-    record { was = inr rest.was; late = rest.late }
+  was_read : (c : Came) (before : List Came) (turns : List BoardTurn) → IsInRun m switches pins entries b before turns → state_at b c.states ≡ latest_state turns → HomesFrom m switches from start ms (c ∷ before) → AreRead R (c ∷ before) turns
+      → AreBehind m switches b (c ∷ before) → WasReported m switches b start f (c ∷ before) → Read m b start f W turns
+  was_read c before turns r latest homes reads behind (inl now) = read_now c before turns r latest homes reads behind now
+  was_read c [] turns r latest homes reads behind (inr old) = absurd old
+  was_read c (d ∷ before) [] r latest homes reads behind (inr old) = absurd r.both
+  was_read c (d ∷ before) (t ∷ earlier) r latest homes reads behind (inr old) =
+      let rest = was_read d before earlier (run_before m switches pins entries b d before t earlier r) r.both.0 homes.1 reads.1 behind.1 old in
+      record { was = more t earlier rest.was; late = rest.late }
+
+-- of a member; and of the board with the endstop, that readings triggered its trigger
+fired_read : (m : Machine) (switches : List Switch) (pins : List (List Level)) (entries : List Entry) (b from start : ℕ) (ms : List Member) (f : Fired) (c : Came) (before : List Came) (turns : List BoardTurn) → IsInRun m switches pins entries b before turns
+    → state_at b c.states ≡ latest_state turns → HomesFrom m switches from start ms (c ∷ before) → from < start → IsMember b ms → AreReadTrue m switches b (c ∷ before) turns → AreBehind m switches b (c ∷ before) → WasReported m switches b start f (c ∷ before)
+    → Read m b start f (λ (z : List BoardTurn). (reason : ℕ) × WasFiredAt (trigger_of m b) reason f.tick z) turns
+fired_read m switches pins entries b from start ms f c before turns r latest homes low member reads behind told =
+    was_read m switches pins entries b from start ms low f (ReadsTrue m switches b) (λ (z : List BoardTurn). (reason : ℕ) × WasFiredAt (trigger_of m b) reason f.tick z) (λ t ts w. (w.0, inr w.1))
+    (λ d past ts h is members read x. read h f is (subst (IsMember b) (sym members) member) x) c before turns r latest homes reads behind told
+
+pub switch_read : (m : Machine) (switches : List Switch) (pins : List (List Level)) (entries : List Entry) (b from start : ℕ) (ms : List Member) (f : Fired) (c : Came) (before : List Came) (turns : List BoardTurn) → IsInRun m switches pins entries b before turns
+    → state_at b c.states ≡ latest_state turns → HomesFrom m switches from start ms (c ∷ before) → from < start → IsReader b ms → f.reason ≡ 1 → AreRead (ReadsSwitchTrue m switches b) (c ∷ before) turns → AreBehind m switches b (c ∷ before)
+    → WasReported m switches b start f (c ∷ before) → Read m b start f (WasFiredAt (trigger_of m b) 1 f.tick) turns
+switch_read m switches pins entries b from start ms f c before turns r latest homes low reader one reads behind told =
+    was_read m switches pins entries b from start ms low f (ReadsSwitchTrue m switches b) (WasFiredAt (trigger_of m b) 1 f.tick) (λ t ts w. inr w)
+    (λ d past ts h is members read x. read h f is (subst (IsReader b) (sym members) reader) one x) c before turns r latest homes reads behind told
 
 connecting_or : (p : Phase) → (p ≡ Connecting) ⊎ (p ≡ Connecting → ⊥)
 connecting_or Connecting = inl refl
@@ -148,13 +167,25 @@ module _ (m : Machine) (v : IsValidMachine m) (switches : List Switch) (pins : L
   abbrev Turns : List BoardTurn → Type 0
   Turns turns = AreBoardTurns (clock_of (board_at m b)) First turns
 
-  grows : (k n : ℕ) → k ≤ n → Own k ≤ Own n
+  pub grows : (k n : ℕ) → k ≤ n → Own k ≤ Own n
   grows k n l = let c = clock_of (board_at m b) in rise c.start c.freq k n c.drift l
 
-  rises : b < length m.boards → (k : ℕ) → Own k < Own (k + 1)
+  pub rises : b < length m.boards → (k : ℕ) → Own k < Own (k + 1)
   rises within k =
       let valid = v.boards b _ within in
       board_rises (clock_of (board_at m b)) k valid.freq (drift_small (board_at m b).drift valid.drift_low valid.drift_high)
+
+  -- what had fired did so by the tick of its last turn
+  pub was_under : (before : List Came) (turns : List BoardTurn) (reason tick : ℕ) → Run before turns → WasFiredAt Oid reason tick turns → tick ≤ Own (length turns)
+  was_under before turns reason tick r was =
+      let x = was_at First Oid reason tick turns was in
+      let run = run_at m switches pins entries b before x.0 x.1 (subst (Run before) x.2 r) in
+      let low = under_after m switches pins entries b run.0 x.1 run.1 Oid x.3.slot x.3.is in
+      let size = ap (λ (l : List BoardTurn). length l) x.2 in
+      let long = length-append x.0 x.1 in
+      let on = grows (length x.1) (length turns) (omega (arith, size, long)) in
+      let at = x.3.at in
+      omega (arith, low, on, at)
 
   -- what is left of the queue
   pub left_of : (turns : List BoardTurn) → Turns turns → (left : List Meant) × (Taken turns ++ left ≡ queued_by turns)
@@ -174,8 +205,8 @@ module _ (m : Machine) (v : IsValidMachine m) (switches : List Switch) (pins : L
   off_of : (most : ℕ) (turns : List BoardTurn) → OldAt Oid most (Board turns) → IsOff Oid (Board turns)
   off_of most turns old s at = (old Oid s refl at).off
 
-  fired_off : (tick : ℕ) (turns : List BoardTurn) → IsFiredAt Oid tick (Board turns) → IsOff Oid (Board turns)
-  fired_off tick turns f s at = subst (λ (x : Slot). x.trigger.can ≡ false) (one_slot (slot_at (Board turns) Oid) f.slot s f.is at) f.fired
+  fired_off : (reason tick : ℕ) (turns : List BoardTurn) → IsFiredAt Oid reason tick (Board turns) → IsOff Oid (Board turns)
+  fired_off reason tick turns f s at = subst (λ (x : Slot). x.trigger.can ≡ false) (one_slot (slot_at (Board turns) Oid) f.slot s f.is at) f.fired
 
   -- at rest over turns that bring no start
   rests_on : (came : List Came) (later past : List BoardTurn) (q : List Meant) → Run came (later ++ past) → queued_by (later ++ past) ≡ queued_by past ++ q → EachTame (commands_of q) → IsAtRest Oid First past → IsAtRest Oid First (later ++ past)
@@ -211,8 +242,8 @@ module _ (m : Machine) (v : IsValidMachine m) (switches : List Switch) (pins : L
     before : EachTame (commands_of front)
     behind : EachTame (commands_of more)
 
-  module _ (start : ℕ) (came : List Came) (later early : List BoardTurn) (g : Begun start later early) (r : Run came (later ++ early)) (tick : ℕ) (late : Own (start - 1) ≤ tick) (l x : List BoardTurn) (same : later ++ early ≡ l ++ x)
-      (f : IsFiredAt Oid tick (Board x)) where
+  module _ (start : ℕ) (came : List Came) (later early : List BoardTurn) (g : Begun start later early) (r : Run came (later ++ early)) (reason tick : ℕ) (late : Own (start - 1) ≤ tick) (l x : List BoardTurn) (same : later ++ early ≡ l ++ x)
+      (f : IsFiredAt Oid reason tick (Board x)) where
     abbrev Most : ℕ
     Most = Own (start - 1)
 
@@ -298,7 +329,7 @@ module _ (m : Machine) (v : IsValidMachine m) (switches : List Switch) (pins : L
           append_cancel_left (Taken x) (took.0 ++ now.0) Behind (sym (append_assoc (Taken x) took.0 now.0) ∙ ap (λ (y : List Meant). y ++ now.0) (sym took.1) ∙ now.1 ∙ sym queued_x) in
           let parts = tame_parts took.0 now.0 (subst (λ (y : List Meant). EachTame (commands_of y)) (sym rest) tame.1) in
           let most = Own (length x) + 1 in
-          let off = off_of most (l ++ x) (turns_old Oid most clock First l x took.0 (omega arith) run_x.turns_are took.1 parts.0 (old_of own_x.0 x most own_x.1 (omega arith) (fired_off tick x f))) in
+          let off = off_of most (l ++ x) (turns_old Oid most clock First l x took.0 (omega arith) run_x.turns_are took.1 parts.0 (old_of own_x.0 x most own_x.1 (omega arith) (fired_off reason tick x f))) in
           let whole : Taken (l ++ x) ≡ queued_by early ++ (g.front ++ g.begin ∷ (k ++ took.0)) =
           took.1 ∙ ap (λ (y : List Meant). y ++ took.0) (ms.1 ∙ ap (λ (y : List Meant). Taken early ++ y) (e ∙ append_assoc le.0 g.front (z ∷ k)) ∙ sym (append_assoc (Taken early) le.0 (g.front ++ z ∷ k)) ∙ ap (λ (y : List Meant). y ++ (g.front ++ z ∷ k)) le.1)
           ∙ append_assoc (queued_by early) (g.front ++ z ∷ k) took.0 ∙ ap (λ (y : List Meant). queued_by early ++ y) (append_assoc g.front (z ∷ k) took.0) ∙ ap (λ (y : Meant). queued_by early ++ (g.front ++ y ∷ (k ++ took.0))) (sym heads.0) in
@@ -323,12 +354,12 @@ module _ (m : Machine) (v : IsValidMachine m) (switches : List Switch) (pins : L
         | inr p ↦ taken_by p.0 p.1 p.2 p.3
       ]
 
-  fired_since : (start : ℕ) (came : List Came) (later early : List BoardTurn) → Begun start later early → Run came (later ++ early) → (tick : ℕ) → Own (start - 1) ≤ tick → WasFiredAt Oid tick (later ++ early) → HasFiredSince Oid start First (later ++ early)
-  fired_since start came later early g r tick late w =
-      let x = was_at First Oid tick (later ++ early) w in
+  fired_since : (start : ℕ) (came : List Came) (later early : List BoardTurn) → Begun start later early → Run came (later ++ early) → (reason tick : ℕ) → Own (start - 1) ≤ tick → WasFiredAt Oid reason tick (later ++ early) → HasFiredSince Oid start First (later ++ early)
+  fired_since start came later early g r reason tick late w =
+      let x = was_at First Oid reason tick (later ++ early) w in
       elim (cuts later early x.0 x.1 x.2) [
-        | inl p ↦ absurd (not_early start came later early g r tick late x.0 x.1 x.2 x.3 p.0 p.2)
-        | inr p ↦ fired_here start came later early g r tick late x.0 x.1 x.2 x.3 (p.0 ∷ p.1) p.2 p.3
+        | inl p ↦ absurd (not_early start came later early g r reason tick late x.0 x.1 x.2 x.3 p.0 p.2)
+        | inr p ↦ fired_here start came later early g r reason tick late x.0 x.1 x.2 x.3 (p.0 ∷ p.1) p.2 p.3
       ]
 
   -- the section that is known has not begun to start the board's trigger
@@ -365,9 +396,9 @@ module _ (m : Machine) (v : IsValidMachine m) (switches : List Switch) (pins : L
       let now : IsOf h.start ms (noted m c.note (known_by m switches before)).homing = subst (λ (o : Option Homing). IsOf h.start ms o) (sym still) (refl, u.together, refl) in
       let homes : HomesFrom m switches (length u.early) h.start ms (c ∷ before) = (λ l. (open_past, now), u.since) in
       let at = u.begun_is.at in
-      let read = was_read m switches pins entries b (length u.early) h.start ms told.0 c before turns r latest homes (omega (arith, at)) u.member reads behind told.1 in
+      let read = fired_read m switches pins entries b (length u.early) h.start ms told.0 c before turns r latest homes (omega (arith, at)) u.member reads behind told.1 in
       subst (λ (z : List BoardTurn). HasFiredSince Oid h.start First z) (sym u.are)
-      (fired_since h.start before u.later u.early u.begun_is (subst (λ (z : List BoardTurn). Run before z) u.are r) told.0.tick read.late (subst (λ (z : List BoardTurn). WasFiredAt Oid told.0.tick z) u.are read.was))
+      (fired_since h.start before u.later u.early u.begun_is (subst (λ (z : List BoardTurn). Run before z) u.are r) read.was.0 told.0.tick read.late (subst (λ (z : List BoardTurn). WasFiredAt Oid read.was.0 told.0.tick z) u.are read.was.1))
 
   module _ (d : Came) (past : List Came) (t : BoardTurn) (turns : List BoardTurn) (now : Run (d ∷ past) (t ∷ turns)) (apart : BeginsApart m switches (d ∷ past)) where
     abbrev K : ℕ
@@ -385,7 +416,7 @@ module _ (m : Machine) (v : IsValidMachine m) (switches : List Switch) (pins : L
     rest_tame : EachTame t.control.commands → IsAtRest Oid First turns → IsAtRest Oid First (t ∷ turns)
     rest_tame tame k = rests_on (d ∷ past) (t ∷ []) turns New now refl (taken_tame t tame) k
 
-    group_start : (h : Homing) → (noted m d.note (known_by m switches past)).homing ≡ Some h → h.group.start ≡ h.start
+    pub group_start : (h : Homing) → (noted m d.note (known_by m switches past)).homing ≡ Some h → h.group.start ≡ h.start
     group_start h is =
         let known = known_by m switches past in
         let together : Together (noted m d.note known).homing = elim (some_or_none (news_of d.note)) [
@@ -395,7 +426,7 @@ module _ (m : Machine) (v : IsValidMachine m) (switches : List Switch) (pins : L
         subst Together is together
 
     -- the section behind the turn
-    none_stays : (noted m d.note (known_by m switches past)).homing ≡ None → (known_by m switches (d ∷ past)).homing ≡ None
+    pub none_stays : (noted m d.note (known_by m switches past)).homing ≡ None → (known_by m switches (d ∷ past)).homing ≡ None
     none_stays e =
         let known = known_by m switches past in
         let n = noted m d.note known in
@@ -405,28 +436,28 @@ module _ (m : Machine) (v : IsValidMachine m) (switches : List Switch) (pins : L
           | inr later ↦ elim later [ inl x ↦ subst So (sym x.is) e | inr x ↦ subst So (sym x.is) (ap (λ (o : Option Homing). homing_after n.clocks K d.states o) e) ]
         ]
 
-    answered_over : (h : Homing) → (noted m d.note (known_by m switches past)).homing ≡ Some h → ((noted m d.note (known_by m switches past)).phase ≡ Connecting → ⊥) → (e : End)
+    pub answered_over : (h : Homing) → (noted m d.note (known_by m switches past)).homing ≡ Some h → ((noted m d.note (known_by m switches past)).phase ≡ Connecting → ⊥) → (e : End)
         → answer_in K h.start (hears_all (noted m d.note (known_by m switches past)).clocks d.states h).group ≡ Some e → (known_by m switches (d ∷ past)).homing ≡ None
     answered_over h is open_it e ends =
         let n = noted m d.note (known_by m switches past) in
         let heard = hears_all n.clocks d.states h in
         (next_of m switches d past now.goes_on open_it).homing ∙ ap (λ (o : Option Homing). homing_after n.clocks K d.states o) is ∙ ap (λ (o : Option End). goes_on_homing K heard o) ends
 
-    abbrev Heard : Homing → Homing
+    abbrev pub Heard : Homing → Homing
     Heard h = hears_all (noted m d.note (known_by m switches past)).clocks d.states h
 
-    goes_to : (h : Homing) → (noted m d.note (known_by m switches past)).homing ≡ Some h → ((noted m d.note (known_by m switches past)).phase ≡ Connecting → ⊥)
+    pub goes_to : (h : Homing) → (noted m d.note (known_by m switches past)).homing ≡ Some h → ((noted m d.note (known_by m switches past)).phase ≡ Connecting → ⊥)
         → answer_in K h.start (Heard h).group ≡ None → (known_by m switches (d ∷ past)).homing ≡ Some (behind_turn (Heard h) K)
     goes_to h is open_it none =
         let n = noted m d.note (known_by m switches past) in
         (next_of m switches d past now.goes_on open_it).homing ∙ ap (λ (o : Option Homing). homing_after n.clocks K d.states o) is ∙ ap (λ (o : Option End). goes_on_homing K (Heard h) o) none
 
-    same_members : (h : Homing) → members_of (after (Heard h).group K) ≡ members_of h.group
+    pub same_members : (h : Homing) → members_of (after (Heard h).group K) ≡ members_of h.group
     same_members h =
         let n = noted m d.note (known_by m switches past) in
         ap (λ (xs : List Seen). map (λ (x : Seen). x.member) xs) (after_members (Heard h).group K) ∙ members_states n.clocks 0 h.start d.states h.group
 
-    same_start : (h : Homing) → h.group.start ≡ h.start → (behind_turn (Heard h) K).group.start ≡ h.start
+    pub same_start : (h : Homing) → h.group.start ≡ h.start → (behind_turn (Heard h) K).group.start ≡ h.start
     same_start h e = after_start (Heard h).group K ∙ heard_together (noted m d.note (known_by m switches past)).clocks d.states h e
 
     -- under way, where it is known and doesn't answer
@@ -576,14 +607,14 @@ module _ (m : Machine) (v : IsValidMachine m) (switches : List Switch) (pins : L
   first_ahead : Ahead 0 (known_by m switches []).phase (known_by m switches []).homing
   first_ahead h is = absurd (clash (known_by m switches []).homing h refl is)
 
-  abbrev rest_of : List BoardTurn → List BoardTurn
+  abbrev pub rest_of : List BoardTurn → List BoardTurn
   rest_of [] = []
   rest_of (t ∷ turns) = turns
 
-  earlier_reads : (c : Came) (before : List Came) (turns : List BoardTurn) → Run before turns → AreReadTrue m switches b (c ∷ before) turns → AreReadTrue m switches b before (rest_of turns)
-  earlier_reads c [] turns r k = tt
-  earlier_reads c (d ∷ past) [] r k = absurd r.both
-  earlier_reads c (d ∷ past) (t ∷ turns) r k = k.1
+  pub earlier_reads : (R : Came → List Came → List BoardTurn → Type 0) (c : Came) (before : List Came) (turns : List BoardTurn) → Run before turns → AreRead R (c ∷ before) turns → AreRead R before (rest_of turns)
+  earlier_reads R c [] turns r k = tt
+  earlier_reads R c (d ∷ past) [] r k = absurd r.both
+  earlier_reads R c (d ∷ past) (t ∷ turns) r k = k.1
 
   all_way : (before : List Came) (turns : List BoardTurn) → Run before turns → BeginsApart m switches before → AreReadTrue m switches b before (rest_of turns) → AreBehind m switches b before → Way before turns
   all_way [] [] r apart reads behind = inl (first_rest, first_ahead)
@@ -591,7 +622,7 @@ module _ (m : Machine) (v : IsValidMachine m) (switches : List Switch) (pins : L
   all_way (d ∷ past) [] r apart reads behind = absurd r.both
   all_way (d ∷ past) (t ∷ turns) r apart reads behind =
       let was_so = run_before m switches pins entries b d past t turns r in
-      step d past t turns r apart reads behind (all_way past turns was_so apart.1 (earlier_reads d past turns was_so reads) behind.1)
+      step d past t turns r apart reads behind (all_way past turns was_so apart.1 (earlier_reads (ReadsTrue m switches b) d past turns was_so reads) behind.1)
 
   pub answered_fired : (c : Came) (before : List Came) (turns : List BoardTurn) (h : Homing) (e : End) → Run before turns → state_at b c.states ≡ latest_state turns → BeginsApart m switches (c ∷ before) → AreReadTrue m switches b (c ∷ before) turns
       → AreBehind m switches b (c ∷ before) → (noted m c.note (known_by m switches before)).homing ≡ Some h
@@ -600,7 +631,7 @@ module _ (m : Machine) (v : IsValidMachine m) (switches : List Switch) (pins : L
       let known = known_by m switches before in
       let n = noted m c.note known in
       let late = answered_late (length before) h.start (hears_all n.clocks c.states h).group e ends in
-      elim (all_way before turns r apart.1 (earlier_reads c before turns r reads) behind.1) [
+      elim (all_way before turns r apart.1 (earlier_reads (ReadsTrue m switches b) c before turns r reads) behind.1) [
         | inl x ↦ elim apart.0 [
           | inl none ↦ (let far = (x.1 h (sym (noted_none m c.note known none) ∙ is)).1 member in absurd (omega (arith, far, late)))
           | inr begun_now ↦ (let far = (begun_now.1 h is).1 in absurd (omega (arith, far, late)))

@@ -227,7 +227,7 @@ under_after m switches pins entries b (c ∷ before) (t ∷ turns) r =
     let was = under_after m switches pins entries b before turns old in
     let tick = tick_is d pins b entries turns old.turns_are in
     let up = rise clock.start clock.freq (length turns) (length turns + 1) clock.drift (omega arith) in
-    let fit = bring_fit m switches pins entries b (λ n. Unit {0}) (c ∷ before) (t ∷ turns) r (λ n k. tt) in
+    let fit = bring_fit m switches pins entries b (λ n x. Unit {0}) (c ∷ before) (t ∷ turns) r (λ n k. tt) in
     let next : length turns + 1 ≡ length (t ∷ turns) = omega arith in
     subst (λ (n : ℕ). AllUnder (board_tick clock n) t.after.core.board) next
     (turn_keeps (IsEndstop m b) (λ x. x < most) (λ x. Unit {0}) pins (IsUnder most) (under_step (IsEndstop m b) pins most) clock (first_state d pins b entries) t turns r.turns_are.0 (λ x early u. early) fit.0

@@ -32,8 +32,7 @@ use Rattle.homing_laws.proofs.home_parts.Ends.{ends_told}
 use Rattle.homing_laws.proofs.home_parts.Held.{tick_known}
 use Rattle.homing_laws.proofs.home_parts.Told.{past_tail, row_from, tells_now, tells_tail}
 use Rattle.homing_laws.proofs.clear_groups.Over.{told_over}
-use Rattle.board_runs.specs.Turns.{BoardTurn}
-use Rattle.homing_laws.specs.fired_runs.Since.{AllReadTrue, AreBehind, AreReadSo, BeginsApart}
+use Rattle.homing_laws.specs.fired_runs.Since.{AreBehind, BeginsApart}
 
 -- what is known is of a homing section that starts by one turn, and doesn't end before another
 abbrev pub IsOpen : List Started → ℕ → ℕ → Option Homing → Type 0
@@ -202,13 +201,12 @@ module _ (m : Machine) (switches : List Switch) (b ready first : ℕ) (begun : L
       let low : Starts (length before) = λ xs s ys axis cut kind l. starts xs s ys axis cut kind (omega (arith, l)) in
       (one_behind c before on notes knows past.0 low, all_behind before (goes_front m switches before on) notes.1 knows.1 past.1 low)
 
--- so what a board tells in a planner's run is read so, where each report that counts is read true
-pub read_so : (m : Machine) (switches : List Switch) (b : ℕ) (ts : List MotionTurn) (p : Plans m (length m.boards) ts) (ready first : ℕ) (clocks : List Clocks) (came : List Came) (turns : List BoardTurn) → ready + 260 ≤ first → AreInARow first p.seen.begun
+-- so in a planner's run
+pub so_begun : (m : Machine) (switches : List Switch) (b : ℕ) (ts : List MotionTurn) (p : Plans m (length m.boards) ts) (ready first : ℕ) (clocks : List Clocks) (came : List Came) → ready + 260 ≤ first → AreInARow first p.seen.begun
     → IsPlannedBy m switches (length m.boards) ts p came → ArePastConnecting m switches ready came → AreKept (clocks_at clocks b) → KnowsLately m switches clocks came
     → ((past : List Started) (s : Started) (later : List Started) (axis : ℕ) → p.seen.begun ≡ past ++ s ∷ later → s.section.kind ≡ Home axis → s.start ≤ length came
-    → board_tick (clock_of (board_at m b)) (s.start - 1) ≤ lines_tick (clocks_at clocks b) (s.start * turn_ns)) → AllReadTrue m switches b came turns → AreReadSo m switches b came turns
-read_so m switches b ts p ready first clocks came turns early row by connected kept knows starts reads = record {
-  apart = all_apart m switches ts p ready first early row came by connected [] came refl by.goes_on by.notes connected;
-  reads = reads;
-  behind = all_behind m switches b ready first p.seen.begun clocks (omega (arith, early)) row kept came (goes_front m switches came by.goes_on) by.notes knows connected starts;
-}
+    → board_tick (clock_of (board_at m b)) (s.start - 1) ≤ lines_tick (clocks_at clocks b) (s.start * turn_ns)) → BeginsApart m switches came × AreBehind m switches b came
+so_begun m switches b ts p ready first clocks came early row by connected kept knows starts = (
+  all_apart m switches ts p ready first early row came by connected [] came refl by.goes_on by.notes connected,
+  all_behind m switches b ready first p.seen.begun clocks (omega (arith, early)) row kept came (goes_front m switches came by.goes_on) by.notes knows connected starts,
+)

@@ -27,7 +27,7 @@ use Rattle.run_plans.proofs.Running.{started_in}
 use Rattle.homing_laws.specs.home_runs.Sections.{TakesSetUp}
 use Rattle.homing_laws.specs.home_runs.Words.{IsBegunIn, TellsHomed}
 use Rattle.homing_laws.specs.home_runs.Ended.{AreToldIn, IsToldIn}
-use Rattle.homing_laws.specs.fired_runs.Since.{AllReadTrue, AreBehind, AreReadSo, AreReadTrue, BeginsApart, IsReadSo}
+use Rattle.homing_laws.specs.fired_runs.Since.{AllRead, AreBehind, AreRead, AreReadSo, BeginsApart, IsReadSo, ReadsTrue}
 use Rattle.homing_laws.specs.home_plans.Notes.{AreInARow, CameNotes, IsSilentFrom}
 use Rattle.homing_laws.proofs.home_plans.Noting.{begun_in, begun_row, none_later}
 use Rattle.homing_laws.specs.home_parts.Answers.{ArePastConnecting, IsPlannedBy, MayHome, TakeSetUps, TellNone, TellsIn}
@@ -35,7 +35,6 @@ use Rattle.homing_laws.specs.home_parts.Cuts.{cut_on, cuts_on}
 use Rattle.run_plans.proofs.Heard.{heard_few}
 use Rattle.homing_laws.proofs.home_parts.Ends.{ends_low, ends_made, ends_told, waits_silent}
 use Rattle.homing_laws.proofs.home_parts.Known.{tells_low}
-use Rattle.run_laws.proofs.Lists.{same_place}
 
 -- a turn that stops parts is one in which a homing section sets its clocks
 record Stops (begun : List Started) (turn end : ℕ) : Type 0 where
@@ -171,27 +170,32 @@ behind_tail : (m : Machine) (switches : List Switch) (b : ℕ) (xs ys : List Cam
 behind_tail m switches b [] ys a = a
 behind_tail m switches b (x ∷ xs) ys a = behind_tail m switches b xs ys a.1
 
-reads_tail : (m : Machine) (switches : List Switch) (b : ℕ) (xs : List Came) (c : Came) (before : List Came) (zs : List BoardTurn) (t : BoardTurn) (past : List BoardTurn) → length xs ≡ length zs → AllReadTrue m switches b (xs ++ c ∷ before) (zs ++ t ∷ past)
-    → AreReadTrue m switches b (c ∷ before) past
-reads_tail m switches b [] c before [] t past e r = r
-reads_tail m switches b [] c before (z ∷ zs) t past e r = absurd (omega (arith, e))
-reads_tail m switches b (x ∷ xs) c before [] t past e r = absurd (omega (arith, e))
-reads_tail m switches b (x ∷ []) c before (z ∷ []) t past e r = r.1
-reads_tail m switches b (x ∷ y ∷ xs) c before (z ∷ []) t past e r = absurd (omega (arith, e))
-reads_tail m switches b (x ∷ xs) c before (z ∷ w ∷ zs) t past e r = reads_tail m switches b xs c before (w ∷ zs) t past (omega (arith, e)) r.1
+reads_tail : (R : Came → List Came → List BoardTurn → Type 0) (xs : List Came) (c : Came) (before : List Came) (zs : List BoardTurn) (t : BoardTurn) (past : List BoardTurn) → length xs ≡ length zs → AllRead R (xs ++ c ∷ before) (zs ++ t ∷ past) → AreRead R (c ∷ before) past
+reads_tail R [] c before [] t past e r = r
+reads_tail R [] c before (z ∷ zs) t past e r = absurd (omega (arith, e))
+reads_tail R (x ∷ xs) c before [] t past e r = absurd (omega (arith, e))
+reads_tail R (x ∷ []) c before (z ∷ []) t past e r = r.1
+reads_tail R (x ∷ y ∷ xs) c before (z ∷ []) t past e r = absurd (omega (arith, e))
+reads_tail R (x ∷ xs) c before (z ∷ w ∷ zs) t past e r = reads_tail R xs c before (w ∷ zs) t past (omega (arith, e)) r.1
+
+pub so_at : (m : Machine) (switches : List Switch) (pins : List (List Level)) (entries : List Entry) (b : ℕ) (R : Came → List Came → List BoardTurn → Type 0) (came : List Came) (turns : List BoardTurn) (xs : List Came) (c : Came) (before : List Came) (zs : List BoardTurn)
+    (t : BoardTurn) (past : List BoardTurn) → IsInRun m switches pins entries b came turns → IsInRun m switches pins entries b (c ∷ before) (t ∷ past) → came ≡ xs ++ c ∷ before → turns ≡ zs ++ t ∷ past
+    → BeginsApart m switches came × AllRead R came turns × AreBehind m switches b came → BeginsApart m switches (c ∷ before) × AreRead R (c ∷ before) past × AreBehind m switches b (c ∷ before)
+so_at m switches pins entries b R came turns xs c before zs t past run here are cut so =
+    let all = as_long m switches b came turns run.both in
+    let some = as_long m switches b (c ∷ before) (t ∷ past) here.both in
+    let x = ap length are ∙ length-append xs (c ∷ before) in
+    let z = ap length cut ∙ length-append zs (t ∷ past) in (
+      apart_tail m switches xs (c ∷ before) (subst (λ (l : List Came). BeginsApart m switches l) are so.0),
+      reads_tail R xs c before zs t past (omega (arith, all, some, x, z)) (subst (λ (l : List Came). AllRead R l (zs ++ t ∷ past)) are (subst (λ (k : List BoardTurn). AllRead R came k) cut so.1)),
+      behind_tail m switches b xs (c ∷ before) (subst (λ (l : List Came). AreBehind m switches b l) are so.2),
+    )
 
 read_at : (m : Machine) (switches : List Switch) (pins : List (List Level)) (entries : List Entry) (b : ℕ) (came : List Came) (turns : List BoardTurn) (xs : List Came) (c : Came) (before : List Came) (zs : List BoardTurn) (t : BoardTurn) (past : List BoardTurn)
     → IsInRun m switches pins entries b came turns → IsInRun m switches pins entries b (c ∷ before) (t ∷ past) → came ≡ xs ++ c ∷ before → turns ≡ zs ++ t ∷ past → AreReadSo m switches b came turns → IsReadSo m switches b c before past
 read_at m switches pins entries b came turns xs c before zs t past run here are cut so =
-    let all = as_long m switches b came turns run.both in
-    let some = as_long m switches b (c ∷ before) (t ∷ past) here.both in
-    let x = ap length are ∙ length-append xs (c ∷ before) in
-    let z = ap length cut ∙ length-append zs (t ∷ past) in
-    record {
-      apart = apart_tail m switches xs (c ∷ before) (subst (λ (l : List Came). BeginsApart m switches l) are so.apart);
-      reads = reads_tail m switches b xs c before zs t past (omega (arith, all, some, x, z)) (subst (λ (l : List Came). AllReadTrue m switches b l (zs ++ t ∷ past)) are (subst (λ (k : List BoardTurn). AllReadTrue m switches b came k) cut so.reads));
-      behind = behind_tail m switches b xs (c ∷ before) (subst (λ (l : List Came). AreBehind m switches b l) are so.behind);
-    }
+    let x = so_at m switches pins entries b (ReadsTrue m switches b) came turns xs c before zs t past run here are cut (so.apart, so.reads, so.behind) in
+    record { apart = x.0; reads = x.1; behind = x.2 }
 
 module _ (m : Machine) (switches : List Switch) (pins : List (List Level)) (entries : List Entry) (b : ℕ) (ts : List MotionTurn) (p : Plans m (length m.boards) ts) (t : Told) (ready : ℕ) (came : List Came) (by : IsPlannedBy m switches (length m.boards) ts p came)
     (told : p.seen.told ≡ Some t) (early : ready + 260 ≤ t.first) (past : ArePastConnecting m switches ready came) (may : MayHome m p.seen.begun) where
@@ -263,18 +267,6 @@ module _ (m : Machine) (switches : List Switch) (pins : List (List Level)) (entr
           | inr so ↦ inr (read_at m switches pins entries b came turns f.ahead f.c f.before f.later f.t f.past run f.run f.came_is f.turns_is so)
         ];
       }
-
-  -- and told of in that turn
-  pub section_told : (turns : List BoardTurn) → IsInRun m switches pins entries b came turns → TakeSetUps m pins entries b p.seen.begun turns ⊎ AreReadSo m switches b came turns → (xs : List Started) (s : Started) (later : List Started) (axis : ℕ) → p.seen.begun ≡ xs ++ s ∷ later
-      → s.section.kind ≡ Home axis → (ahead : List Came) (c : Came) (before : List Came) → came ≡ ahead ++ c ∷ before → length before ≡ s.end
-      → (x : IsToldIn m switches pins entries b s.start s.end turns) × (x.came ≡ c) × (x.before ≡ before) × (x.members ≡ members_from m (axis_at m axis) s.moving 0 m.boards)
-  unfolding told_one
-  section_told turns run takes xs s later axis cut home ahead c before are at =
-      let size : length came ≡ length ahead + length (c ∷ before) = ap length are ∙ length-append ahead (c ∷ before) in
-      let low : s.end < length came = omega (arith, size, at) in
-      let f = split_at m switches pins entries b s.end came turns run low in
-      let same = same_place f.ahead f.c f.before ahead c before (sym f.came_is ∙ are) (f.at ∙ sym at) in
-      (told_one turns run takes xs s later axis cut home low, same.0, same.1, refl)
 
   pub cut_split : (turn : ℕ) (xs : List Started) (s : Started) (later : List Started) (axis : ℕ) → p.seen.begun ≡ xs ++ s ∷ later → cuts_on m t.clocks turn p.seen.begun b ≡ cuts_on m t.clocks turn xs b ++ cut_on m t.clocks turn b s ∷ cuts_on m t.clocks turn later b
   cut_split turn xs s later axis cut = ap (map (cut_on m t.clocks turn b)) cut ∙ map-append (cut_on m t.clocks turn b) xs (s ∷ later)

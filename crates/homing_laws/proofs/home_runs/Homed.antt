@@ -70,7 +70,7 @@ orders_front clocks ss turn [] ps a = tt
 orders_front clocks ss turn (o ∷ os) ps a = (a.0, a.1, orders_front clocks ss (turn + 1) os ps a.2)
 
 -- no unit sets a clock from 254 turns before the start of one on
-pub none_set : (m : Machine) (switches : List Switch) (pins : List (List Level)) (entries : List Entry) (b freq slots ready end by : ℕ) (own : ℕ → ℕ) (clocks : Clocks) (stops : ℕ → Option ℕ) (past : List RunSection) (s : RunSection) (later : List RunSection)
+none_set : (m : Machine) (switches : List Switch) (pins : List (List Level)) (entries : List Entry) (b freq slots ready end by : ℕ) (own : ℕ → ℕ) (clocks : Clocks) (stops : ℕ → Option ℕ) (past : List RunSection) (s : RunSection) (later : List RunSection)
     (turns : List BoardTurn) → IsHomeRun own clocks freq slots ready stops (past ++ s ∷ later) (orders_in turns) → AreSoon by (past ++ s ∷ later) → s.section.end ≤ by → s.homes ≡ true → s.section.end ≡ end
     → (t : IsToldIn m switches pins entries b s.section.start end turns) → (from : ℕ) → from + 254 ≡ s.section.start → SetNoClockFrom from t.past
 none_set m switches pins entries b freq slots ready end by own clocks stops past s later turns run out low homes at t from begins =

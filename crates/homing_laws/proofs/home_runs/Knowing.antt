@@ -67,7 +67,7 @@ ended_end : (o : Option Cause) (m : Machine) (switches : List Switch) (r : Known
 ended_end (Some cause) m switches r k states lines e h = cc
 ended_end None m switches r k states lines e h = phase_end r.phase m switches r k states lines e h
 
-turn_end : (m : Machine) (switches : List Switch) (r : Known) (k : ℕ) (states : List State) (note : Option Note) → (noted m note r).phase ≡ Running → (reacts m switches r k states note).ordered.end ≡ None
+pub turn_end : (m : Machine) (switches : List Switch) (r : Known) (k : ℕ) (states : List State) (note : Option Note) → (noted m note r).phase ≡ Running → (reacts m switches r k states note).ordered.end ≡ None
     → (homing_turn (noted m note r).clocks k states (noted m note r).homing).end ≡ None
 turn_end m switches r k states note e h =
     let s = noted m note r in
@@ -227,9 +227,6 @@ known_on m switches from start ms (c ∷ before) g b =
 -- the turn whose word tells of the answer
 pub homing_known : (m : Machine) (switches : List Switch) (from start : ℕ) (ms : List Member) (came : List Came) → GoesOn m switches came → IsBegunIn m switches from start ms came → HomesFrom m switches from start ms came
 homing_known m switches from start ms came g b = (known_on m switches from start ms came g b).0
-
-pub past_known : (m : Machine) (switches : List Switch) (from start : ℕ) (ms : List Member) (came : List Came) → GoesOn m switches came → IsBegunIn m switches from start ms came → from < length came → (known_by m switches came).phase ≡ Connecting → ⊥
-past_known m switches from start ms came g b later = ((known_on m switches from start ms came g b).1 later).past
 
 pub word_answers : (m : Machine) (switches : List Switch) (from start : ℕ) (ms : List Member) (c : Came) (before : List Came) → GoesOn m switches (c ∷ before) → IsBegunIn m switches from start ms before → from < length before → BeginsNone (news_of c.note)
     → TellsHomed (last_turn m switches c before).ordered.word.news

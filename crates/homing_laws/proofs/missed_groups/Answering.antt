@@ -1,5 +1,5 @@
 -- A homing group that answers that no switch closed: none of its members is known to have expired in time, and no endstop's board to have read its switch.
-use Rattle.std.proofs.Common.{◌≡◌, ◌⊎◌, ℕ, ◌≤◌, ◌==◌, Bool, true, false, cond, List, [], ◌∷◌, map, Option, Some, None, refl, ap, sym, ◌∙◌, subst, arith, inl, inr}
+use Rattle.std.proofs.Common.{◌≡◌, ℕ, ◌≤◌, ◌==◌, Bool, true, false, cond, List, [], ◌∷◌, map, Option, Some, None, refl, ap, ◌∙◌, subst, arith, inl, inr}
 use Rattle.std.specs.Prelude.{◌&&◌, nat_le}
 use Rattle.std.proofs.lemmas.Bool.Decides.{eqb_tells, leb_tells}
 use Rattle.trigger_group.specs.declared.order.End.{End}
@@ -133,74 +133,3 @@ reader_fired last b (x ∷ xs) k (inl here) W own each =
       subst (λ (n : ℕ). W n some.0) here.0 (each.0.0 some.0 some.1),
     )
 reader_fired last b (x ∷ xs) k (inr more) W own each = reader_fired last b xs (rest_missed last x xs k) more W own each.1
-
--- A group that answers that a switch closed: a member with an endstop is known to have triggered for it, and at this tick.
-pub record Closed (tick : ℕ) (xs : List Seen) : Type 0 where
-  pub seen : Seen
-  pub fired : Fired
-  pub reads : IsReader seen.member.board (map (λ (x : Seen). x.member) xs)
-  pub on : IsMember seen.member.board (map (λ (x : Seen). x.member) xs)
-  pub reason : fired.reason ≡ 1
-  pub tick_is : fired.tick ≡ tick
-
-ended_in : (c : Bool) (x y : End) → cond c (Some x) None ≡ Some y → x ≡ y
-ended_in true x y e = cc
-ended_in false x y e = absurd (let f : None ≡ Some y = e in cc)
-
-some_if : (c : Bool) (o : Option End) (y : End) → cond c o None ≡ Some y → o ≡ Some y
-some_if true o y e = e
-some_if false o y e = absurd (let f : None ≡ Some y = e in cc)
-
--- an answer that says that a switch closed, or none
-abbrev NotSwitched : Option End → Type 0
-NotSwitched None = Unit {0}
-NotSwitched (Some (Endstop tick)) = ⊥
-NotSwitched (Some end) = Unit {0}
-
-unswitched_if : (c : Bool) (board turn : ℕ) → NotSwitched (cond c (Some (Expired board turn)) None)
-unswitched_if true board turn = tt
-unswitched_if false board turn = tt
-
-expired_unswitched : (last board : ℕ) (o : Option Fired) → NotSwitched (expired last board o)
-expired_unswitched last board None = tt
-expired_unswitched last board (Some f) = unswitched_if ((f.reason == 2) && nat_le f.turn last) board f.turn
-
-either_unswitched : (x y : Option End) → NotSwitched x → NotSwitched y → NotSwitched (or_else x y)
-either_unswitched None y a b = b
-either_unswitched (Some z) y a b = a
-
-all_unswitched : (last : ℕ) (xs : List Seen) → NotSwitched (first_expired last xs)
-all_unswitched last [] = tt
-all_unswitched last (x ∷ xs) = either_unswitched (expired last x.member.board x.fired) (first_expired last xs) (expired_unswitched last x.member.board x.fired) (all_unswitched last xs)
-
-switch_of : (x y : Option End) (tick : ℕ) → NotSwitched x → or_none (or_else x y) ≡ Endstop tick → y ≡ Some (Endstop tick)
-switch_of None None tick a e = absurd (let f : NoSwitch ≡ Endstop tick = e in cc)
-switch_of None (Some z) tick a e = let f : z ≡ Endstop tick = e in ap (λ (w : End). Some w) f
-switch_of (Some z) y tick a e = absurd (let f : z ≡ Endstop tick = e in subst (λ (w : End). NotSwitched (Some w)) f a)
-
-first_of : (x y : Option End) (z : End) → or_else x y ≡ Some z → (x ≡ Some z) ⊎ (y ≡ Some z)
-first_of None y z e = inr e
-first_of (Some w) y z e = inl e
-
-closed_if : (c : Bool) (tick at : ℕ) → cond c (Some (Endstop tick)) None ≡ Some (Endstop at) → (c ≡ true) × (tick ≡ at)
-closed_if true tick at e = (refl, cc)
-closed_if false tick at e = absurd (let f : None ≡ Some (Endstop at) = e in cc)
-
-fired_closed : (e : Bool) (o : Option Fired) (tick : ℕ) → switched e o ≡ Some (Endstop tick) → (f : Fired) × (o ≡ Some f) × (e ≡ true) × (f.reason ≡ 1) × (f.tick ≡ tick)
-fired_closed e None tick is = absurd (let f : None ≡ Some (Endstop tick) = is in cc)
-fired_closed e (Some f) tick is =
-    let x = closed_if (e && (f.reason == 1)) f.tick tick is in
-    let y = both_parts e (f.reason == 1) x.0 in
-    (f, refl, y.0, elim (eqb_tells f.reason 1) [ inl p ↦ p.1 | inr p ↦ absurd (let bad : false ≡ true = sym p.0 ∙ y.1 in cc) ], x.1)
-
-pub first_closed : (tick : ℕ) (xs : List Seen) → first_switched xs ≡ Some (Endstop tick) → (W : ℕ → Fired → Type 0) (own : ℕ) → Each W own xs → (z : Closed tick xs) × W z.seen.member.board z.fired
-first_closed tick [] e W own each = absurd (let f : None ≡ Some (Endstop tick) = e in cc)
-first_closed tick (x ∷ xs) e W own each = elim (first_of (switched x.member.endstop x.fired) (first_switched xs) (Endstop tick) e) [
-  | inl now ↦ (let y = fired_closed x.member.endstop x.fired tick now in (record { seen = x; fired = y.0; reads = inl (refl, y.2); on = inl refl; reason = y.3; tick_is = y.4 }, each.0.0 y.0 y.1))
-  | inr more ↦ (let y = first_closed tick xs more W own each.1 in (record { seen = y.0.seen; fired = y.0.fired; reads = inr y.0.reads; on = inr y.0.on; reason = y.0.reason; tick_is = y.0.tick_is }, y.1))
-]
-
-pub closed : (k start : ℕ) (g : GroupState) (tick : ℕ) → answer_in k start g ≡ Some (Endstop tick) → first_switched g.members ≡ Some (Endstop tick)
-closed k start g tick e =
-    let x = ended_in (all_fired g.members) (answer g) (Endstop tick) (some_if (nat_le start k) (ended g) (Endstop tick) e) in
-    switch_of (first_expired g.last g.members) (first_switched g.members) tick (all_unswitched g.last g.members) x

@@ -15,12 +15,12 @@ use Rattle.host_reactor.specs.declared.ordered.Phase.TheVariants.{Connecting}
 use Rattle.host_reactor.specs.Runs.{Came, known_by}
 use Rattle.board_runs.specs.Turns.{BoardTurn, stands_after}
 use Rattle.clock_runs.specs.Runs.{IsInRun, orders_in}
-use Rattle.homing_laws.specs.switch_runs.Renewed.{MakesEndstop}
+use Rattle.homing_laws.specs.switch_runs.Made.{MakesEndstop}
 use Rattle.homing_laws.specs.switch_runs.Runs.{IsEndstop}
 use Rattle.homing_laws.proofs.home_runs.Whole.{Only, queue_only, run_only}
 use Rattle.homing_laws.proofs.switch_runs.Homes.{endstop_of, endstop_small, run_makes}
 use Rattle.homing_laws.proofs.switch_runs.Ordering.{bring_fit, pin_of}
-use Rattle.homing_laws.proofs.switch_runs.Renewing.{AnyTick, whole_after}
+use Rattle.homing_laws.proofs.switch_runs.Made.{AnyTick, whole_after}
 use Rattle.homing_laws.proofs.clear_groups.Owning.{taken_all}
 
 pub endstop_stands : (m : Machine) (switches : List Switch) (pins : List (List Level)) (entries : List Entry) (b axis : ℕ) (came : List Came) (turns : List BoardTurn) → IsValidMachine m → entries ≡ [] → IsInRun m switches pins entries b came turns → AllKeepLimits (orders_in turns)
@@ -33,12 +33,12 @@ endstop_stands m switches pins entries b axis came turns v none r limits open_it
     let d = board_at m b in
     let core = (stands_after (first_state d pins b entries) turns).core in
     let E = IsEndstop m b in
-    let fit = bring_fit m switches pins entries b AnyTick came turns r (λ tick k. tt) in
-    let whole = whole_after E AnyTick AnyTick d pins b entries turns e j r.turns_are (endstop_small m b (axis_at m axis) v) fit (λ k l x early any. tt) in
+    let fit = bring_fit m switches pins entries b (λ now. AnyTick) came turns r (λ tick k. tt) in
+    let whole = whole_after E d pins b entries turns e j r.turns_are (endstop_small m b (axis_at m axis) v) fit in
     let taken = taken_all d pins b entries turns none r.turns_are limits in
     let only : Only j (commands_of core.taken) = subst (λ (ms : List Meant). Only j (commands_of ms)) (sym taken) (queue_only j turns (run_only m switches pins entries b came turns v r)) in
     let makes : MakesEndstop e (commands_of core.taken) = subst (λ (ms : List Meant). MakesEndstop e (commands_of ms)) (sym taken) (run_makes m switches pins entries b axis came turns v r open_it low on) in
-    elim ((whole.1 runs only).stood.made makes) [
+    elim ((whole.1 runs only).made makes) [
       | inl h ↦
           let pin : h.0 ≡ (axis_at m axis).pin = pin_of (j + 1) (axis_at m axis).pin h.0 (endstop_pins m b) (whole.0.board.ends e h.0 h.1) in
           (h.1 ∙ ap (λ (n : ℕ). Some n) pin, whole.0.board.pins_are)

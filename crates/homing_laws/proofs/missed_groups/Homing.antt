@@ -38,7 +38,7 @@ use Rattle.homing_laws.specs.missed_groups.Minds.{Hits, Minds}
 use Rattle.homing_laws.specs.missed_groups.Ticks.{IsReader, IsSwitchTick, readings_from}
 use Rattle.homing_laws.proofs.clear_groups.SetUp.{AllSetting, IsSetting, first_at, homes_setting, running}
 use Rattle.homing_laws.proofs.clear_boards.Turned.{ran}
-use Rattle.homing_laws.proofs.switch_runs.Renewing.{acts_ends}
+use Rattle.homing_laws.proofs.switch_runs.Made.{acts_ends}
 use Rattle.homing_laws.proofs.switch_runs.Homes.{endstop_of}
 use Rattle.homing_laws.proofs.missed_groups.Beginning.{Never}
 
@@ -83,7 +83,7 @@ module _ (m : Machine) (clocks : Clocks) (b start : ℕ) (axis : AxisDef) (Q : T
   abbrev G : Reading
   G = readings m b axis (low (turn_tick clocks start))
 
-  abbrev Sampled : Sampling
+  abbrev pub Sampled : Sampling
   Sampled = record {
     at = trig.first_from now (nearest now (low (turn_tick clocks start))) (trig.rest_of G);
     sample = G.sample_ticks;
@@ -93,7 +93,7 @@ module _ (m : Machine) (clocks : Clocks) (b start : ℕ) (axis : AxisDef) (Q : T
     reason = 1;
   }
 
-  sampled_is : Sampled ≡ readings_from m b axis base
+  pub sampled_is : Sampled ≡ readings_from m b axis base
   sampled_is =
       let rest : trig.rest_of G ≡ (board_at m b).freq / 10_000 = rest_is ((board_at m b).freq / 10_000) some in
       let at : trig.first_from now (nearest now (low (turn_tick clocks start))) (trig.rest_of G) ≡ base =

@@ -21,6 +21,8 @@ use Rattle.axis_homing.specs.Homing.{answer_in, hears_all}
 use Rattle.axis_homing.specs.Rising.{members_of}
 use Rattle.host_reactor.specs.Notes.{noted}
 use Rattle.host_reactor.specs.Runs.{Came, known_by}
+use Rattle.trigger_group.specs.declared.seen.Fired.{Fired}
+use Rattle.clock_runs.proofs.Lines.{as_long, run_before}
 use Rattle.homing_laws.specs.home_runs.Told.{IsMember}
 use Rattle.homing_laws.proofs.home_runs.Grouped.{members_states}
 use Rattle.homing_laws.specs.clear_boards.Firing.{AllSmall}
@@ -34,16 +36,19 @@ use Rattle.homing_laws.specs.clear_groups.Sections.{IsClearSection, IsFollowed, 
 use Rattle.homing_laws.specs.clear_groups.SetUp.{HoldsOf, IsPrepared}
 use Rattle.homing_laws.proofs.clear_groups.Beginning as beginning
 use Rattle.homing_laws.proofs.clear_groups.Begun as begun
-use Rattle.homing_laws.proofs.clear_groups.Known.{answered_late, behind_turn, of_known, some_known}
+use Rattle.homing_laws.proofs.clear_groups.Known.{answered_late, behind_turn, homing_next, of_known, some_known}
 use Rattle.homing_laws.proofs.clear_groups.Owning.{one_trigger}
 use Rattle.homing_laws.proofs.clear_groups.Plain.{turn_before}
 use Rattle.homing_laws.proofs.clear_groups.Resting.{board_runs, off_at}
 use Rattle.homing_laws.proofs.clear_groups.Runs.{earlier, prepared_all, quiet_all, rises}
 use Rattle.homing_laws.proofs.clear_groups.Sections.{cut, stays_safe}
-use Rattle.homing_laws.specs.switch_runs.Reports.{HearSoon}
+use Rattle.homing_laws.specs.switch_runs.Reports.{WasReported}
+use Rattle.homing_laws.specs.fired_runs.Since.{AreBehind, AreRead, ReadsSwitchTrue, WasFiredAt}
+use Rattle.homing_laws.proofs.fired_runs.Reported.{answer_told}
+use Rattle.homing_laws.proofs.fired_runs.Rested.{grows, rises as own_rises, switch_read, was_under}
 use Rattle.homing_laws.specs.missed_groups.Known.{AxesLow}
 use Rattle.homing_laws.specs.missed_groups.Ticks.{IsReader, IsSwitchTick}
-use Rattle.homing_laws.proofs.missed_groups.Answering.{Missed, closed, first_closed, known_read, missed, reader_fired}
+use Rattle.homing_laws.proofs.missed_groups.Answering.{Missed, known_read, missed, reader_fired}
 use Rattle.homing_laws.proofs.missed_groups.Axes.{OfBoard, of_axis}
 use Rattle.homing_laws.proofs.missed_groups.Beginning.{RestsOf}
 use Rattle.homing_laws.proofs.missed_groups.Setting.{begins_known, begins_mindful}
@@ -52,34 +57,36 @@ use Rattle.homing_laws.proofs.missed_groups.Stepping.{IsMindful, Stood, step_kno
 some_same : {A : Type 0} → (x y : A) → Some x ≡ Some y → x ≡ y
 some_same x y e = cc
 
--- the group of the homing section that is known in a turn, and its boards; and so as the turn with this number began
-abbrev MindsIn : (m : Machine) (switches : List Switch) (pins : ℕ → List (List Level)) (entries : List Entry) (lines : ℕ → Clocks) (start last : ℕ) (members : List Member) (near : Type 0) → Came → List Came → List (ℕ → BoardTurn) → Type 0
-MindsIn m switches pins entries lines start last members near c before all =
-    (h : Homing) × ((noted m c.note (known_by m switches before)).homing ≡ Some h)
-    × IsMindful m pins lines start last members h.axis (axis_at m h.axis).board near (length before) (hears_all (noted m c.note (known_by m switches before)).clocks c.states h).group (rig_at m pins entries all)
+reader_member : (b : ℕ) (ms : List Member) → IsReader b ms → IsMember b ms
+reader_member b [] k = absurd k
+reader_member b (x ∷ ms) (inl k) = inl k.0
+reader_member b (x ∷ ms) (inr k) = inr (reader_member b ms k)
 
-abbrev MindsAt : (m : Machine) (switches : List Switch) (pins : ℕ → List (List Level)) (entries : List Entry) (lines : ℕ → Clocks) (start last : ℕ) (members : List Member) (near : Type 0) (at : ℕ) → List Came → List (ℕ → BoardTurn) → Type 0
-MindsAt m switches pins entries lines start last members near at [] all = Unit {0}
-MindsAt m switches pins entries lines start last members near at (c ∷ before) all =
-    (length before ≡ at → MindsIn m switches pins entries lines start last members near c before all) × MindsAt m switches pins entries lines start last members near at before (rest_of all)
+-- the group of the homing section that is known in a turn, and its boards; and so as the turn with this number began
+abbrev MindsIn : (m : Machine) (switches : List Switch) (pins : ℕ → List (List Level)) (entries : List Entry) (lines : ℕ → Clocks) (start last : ℕ) (members : List Member) → Came → List Came → List (ℕ → BoardTurn) → Type 0
+MindsIn m switches pins entries lines start last members c before all =
+    (h : Homing) × ((noted m c.note (known_by m switches before)).homing ≡ Some h)
+    × IsMindful m pins lines start last members h.axis (axis_at m h.axis).board (length before) (hears_all (noted m c.note (known_by m switches before)).clocks c.states h).group (rig_at m pins entries all)
+
+abbrev MindsAt : (m : Machine) (switches : List Switch) (pins : ℕ → List (List Level)) (entries : List Entry) (lines : ℕ → Clocks) (start last : ℕ) (members : List Member) (at : ℕ) → List Came → List (ℕ → BoardTurn) → Type 0
+MindsAt m switches pins entries lines start last members at [] all = Unit {0}
+MindsAt m switches pins entries lines start last members at (c ∷ before) all =
+    (length before ≡ at → MindsIn m switches pins entries lines start last members c before all) × MindsAt m switches pins entries lines start last members at before (rest_of all)
 
 -- over the turns of a section
 module _ (m : Machine) (v : IsValidMachine m) (switches : List Switch) (pins : ℕ → List (List Level)) (entries : List Entry) (none : entries ≡ []) (lines : ℕ → Clocks) (ready from start last till at : ℕ) (members : List Member)
-    (followed : (b : ℕ) → IsMember b members → IsFollowed m b (lines b) ready start last till) (early : from ≤ at) (low_so : ready + 4 ≤ at) (far : start ≤ at + 249) (near : Type 0) where
-  abbrev Soon : Came → List Came → List (ℕ → BoardTurn) → Type 0
-  Soon c before all = near → (b : ℕ) → IsReader b members → HearSoon m switches b start (c ∷ before) (turns_of b all)
-
-  goes_minding : (c : Came) (before : List Came) (all : List (ℕ → BoardTurn)) → Soon c before all → IsClearSection m switches pins entries lines from start members c before all → length before + 276 ≤ till → at ≤ length before
-      → IsSafeAt m switches pins entries lines start last members at (c ∷ before) all → MindsAt m switches pins entries lines start last members near at (c ∷ before) all → MindsIn m switches pins entries lines start last members near c before all
-  goes_minding c [] [] so s r l safe mind = mind.0 (omega (arith, l))
-  goes_minding c [] (j ∷ js) so s r l safe mind = absurd (let size = s.long in omega (arith, size))
-  goes_minding c (d ∷ past) [] so s r l safe mind = absurd (let size = s.long in omega (arith, size))
-  goes_minding c (d ∷ past) (j ∷ js) so s r l safe mind = elim (leb_tells at (length past)) [
+    (followed : (b : ℕ) → IsMember b members → IsFollowed m b (lines b) ready start last till) (early : from ≤ at) (low_so : ready + 4 ≤ at) (far : start ≤ at + 249) where
+  goes_minding : (c : Came) (before : List Came) (all : List (ℕ → BoardTurn)) → IsClearSection m switches pins entries lines from start members c before all → length before + 276 ≤ till → at ≤ length before
+      → IsSafeAt m switches pins entries lines start last members at (c ∷ before) all → MindsAt m switches pins entries lines start last members at (c ∷ before) all → MindsIn m switches pins entries lines start last members c before all
+  goes_minding c [] [] s r l safe mind = mind.0 (omega (arith, l))
+  goes_minding c [] (j ∷ js) s r l safe mind = absurd (let size = s.long in omega (arith, size))
+  goes_minding c (d ∷ past) [] s r l safe mind = absurd (let size = s.long in omega (arith, size))
+  goes_minding c (d ∷ past) (j ∷ js) s r l safe mind = elim (leb_tells at (length past)) [
     | inl p ↦
         let reached = p.1 in
         let old = cut m switches pins entries none lines ready from start last till at members followed early low_so far c d past j js s in
         let reach : length past + 276 ≤ till = omega (arith, r) in
-        let was = goes_minding d past js (λ n b reads. (so n b reads).1) old reach reached safe.1 mind.1 in
+        let was = goes_minding d past js old reach reached safe.1 mind.1 in
         let h = was.0 in
         let x = (stays_safe m switches pins entries none lines ready from start last till at members followed early low_so far d past js old reach reached safe.1).0 in
         let next = (stays_safe m switches pins entries none lines ready from start last till at members followed early low_so far c (d ∷ past) (j ∷ js) s r l safe).0 in
@@ -92,11 +99,11 @@ module _ (m : Machine) (v : IsValidMachine m) (switches : List Switch) (pins : �
         let far_here : start ≤ length past + 249 = omega (arith, far, reached) in
         let small : (b : ℕ) → IsMember b members → AllSmall (rig_at m pins entries (j ∷ js) b) = next.2.small in
         let own = (axis_at m h.axis).board in
-        let known = step_known m v switches pins entries none lines ready from start last till members followed h.axis own near c d past j js s early_so low_here far_here reach h was.1 safe_now was.2 small (λ n b reads on. (so n b reads).0) in
-        let step = step_mindful m v switches pins entries none lines ready from start last till members followed h.axis own near c d past j js s early_so low_here far_here reach h was.1 safe_now was.2 small (λ n b reads on. (so n b reads).0) in
+        let known = step_known m v switches pins entries none lines ready from start last till members followed h.axis own c d past j js s early_so low_here far_here reach h was.1 safe_now was.2 small in
+        let step = step_mindful m v switches pins entries none lines ready from start last till members followed h.axis own c d past j js s early_so low_here far_here reach h was.1 safe_now was.2 small in
         let e : length past + 1 ≡ length (d ∷ past) = omega arith in
         let Next : Homing = behind_turn (hears_all clocks d.states h) (length past) in
-        let At : ℕ → Type 0 = λ n. IsMindful m pins lines start last members h.axis own near n (hears_all (noted m c.note (known_by m switches (d ∷ past))).clocks c.states Next).group (rig_at m pins entries (j ∷ js)) in
+        let At : ℕ → Type 0 = λ n. IsMindful m pins lines start last members h.axis own n (hears_all (noted m c.note (known_by m switches (d ∷ past))).clocks c.states Next).group (rig_at m pins entries (j ∷ js)) in
         (Next, known, subst At e step)
     | inr p ↦ (let below = p.1 in mind.0 (omega (arith, l, below)))
   ]
@@ -117,39 +124,34 @@ module _ (m : Machine) (v : IsValidMachine m) (switches : List Switch) (pins : �
       by (inr (inl k)) = absurd (never g.sent (k b on).0)
       by (inr (inr k)) = absurd (never g.sent (k.2 b on).0)
 
-  reader_member : (b : ℕ) (ms : List Member) → IsReader b ms → IsMember b ms
-  reader_member b [] k = absurd k
-  reader_member b (x ∷ ms) (inl k) = inl k.0
-  reader_member b (x ∷ ms) (inr k) = inr (reader_member b ms k)
-
   -- what its group answers
-  pub answers_late : (c : Came) (before : List Came) (all : List (ℕ → BoardTurn)) → Soon c before all → IsClearSection m switches pins entries lines from start members c before all → length before + 276 ≤ till → at ≤ length before
-      → IsSafeAt m switches pins entries lines start last members at (c ∷ before) all → MindsAt m switches pins entries lines start last members near at (c ∷ before) all → (h : Homing) → (noted m c.note (known_by m switches before)).homing ≡ Some h
+  pub answers_late : (c : Came) (before : List Came) (all : List (ℕ → BoardTurn)) → IsClearSection m switches pins entries lines from start members c before all → length before + 276 ≤ till → at ≤ length before
+      → IsSafeAt m switches pins entries lines start last members at (c ∷ before) all → MindsAt m switches pins entries lines start last members at (c ∷ before) all → (h : Homing) → (noted m c.note (known_by m switches before)).homing ≡ Some h
       → IsReader (axis_at m h.axis).board members → answer_in (length before) h.start (hears_all (noted m c.note (known_by m switches before)).clocks c.states h).group ≡ Some end.NoSwitch
       → (tick : ℕ) → IsSwitchTick m (pins (axis_at m h.axis).board) (axis_at m h.axis).board (axis_at m h.axis) (lines_tick (lines (axis_at m h.axis).board) (start * turn_ns)) tick
       → lines_tick (lines (axis_at m h.axis).board) ((last + 1) * turn_ns) ≤ tick
-  answers_late c before all so s r l safe_at mind_at h is reads answers tick hit =
+  answers_late c before all s r l safe_at mind_at h is reads answers tick hit =
       let clocks = (noted m c.note (known_by m switches before)).clocks in
       let g = (hears_all clocks c.states h).group in
       let rigs = rig_at m pins entries all in
       let b = (axis_at m h.axis).board in
       let oid = trigger_of m b in
       let x = (stays_safe m switches pins entries none lines ready from start last till at members followed early low_so far c before all s r l safe_at).0 in
-      let y = goes_minding c before all so s r l safe_at mind_at in
+      let y = goes_minding c before all s r l safe_at mind_at in
       let same_x : x.0 ≡ h = some_same x.0 h (sym x.1 ∙ is) in
       let same_y : y.0 ≡ h = some_same y.0 h (sym y.1 ∙ is) in
       let Safe : Homing → Type 0 = λ z. IsSafe m lines start last members (length before) (hears_all clocks c.states z).group rigs in
-      let Mind : Homing → Type 0 = λ z. IsMindful m pins lines start last members z.axis (axis_at m z.axis).board near (length before) (hears_all clocks c.states z).group rigs in
+      let Mind : Homing → Type 0 = λ z. IsMindful m pins lines start last members z.axis (axis_at m z.axis).board (length before) (hears_all clocks c.states z).group rigs in
       let safe : Safe h = subst Safe same_x x.2 in
       let mind : Mind h = subst Mind same_y y.2 in
       let of = of_known start members (noted m c.note (known_by m switches before)).homing h (s.homes.0 (omega (arith, early, l))).1 is in
       let members_are : members_of g ≡ members = members_states clocks 0 h.start c.states h.group ∙ of.2 in
       let ends = safe.ends in
       let miss = subst (λ (n : ℕ). Missed n g.members) ends (missed (length before) h.start g answers) in
-      let W = Stood m pins lines start last members h.axis b near rigs in
+      let W = Stood m pins lines start last members h.axis b rigs in
       let on : IsMember b members = reader_member b members reads in
       let fired = reader_fired last b g.members miss (subst (IsReader b) (sym members_are) reads) W b mind.told in
-      let stood = (fired.2 on).0 in
+      let stood = fired.2 on in
       let mine = mind.minded b on in
       let slots : mine.slot ≡ stood.slot = one_slot (slot_at (rigs b) oid) mine.slot stood.slot mine.is stood.is in
       let off : mine.slot.trigger.can ≡ false = ap (λ (z : Slot). z.trigger.can) slots ∙ stood.fired in
@@ -161,7 +163,7 @@ module _ (m : Machine) (v : IsValidMachine m) (switches : List Switch) (pins : �
           | inr three ↦
               let read = known_read last g.members miss three.1 W b mind.told in
               let their_on = subst (IsMember read.0) members_are read.2 in
-              let theirs = (read.4 their_on).0 in
+              let theirs = read.4 their_on in
               let their = mind.minded read.0 their_on in
               let their_slots : their.slot ≡ theirs.slot = one_slot (slot_at (rigs read.0) (trigger_of m read.0)) their.slot theirs.slot their.is theirs.is in
               let their_off : their.slot.trigger.can ≡ false = ap (λ (z : Slot). z.trigger.can) their_slots ∙ theirs.fired in
@@ -169,7 +171,7 @@ module _ (m : Machine) (v : IsValidMachine m) (switches : List Switch) (pins : �
               absurd (elim (their.minds.fired their_off) [
                 | inl one ↦
                     let again = reader_fired last read.0 g.members miss (subst (IsReader read.0) (sym members_are) one.1.0) W b mind.told in
-                    let their_stood = (again.2 their_on).0 in
+                    let their_stood = again.2 their_on in
                     let same_slot : their.slot ≡ their_stood.slot = one_slot (slot_at (rigs read.0) (trigger_of m read.0)) their.slot their_stood.slot their.is their_stood.is in
                     again.1 (sym (ap (λ (z : Slot). z.trigger.reason) same_slot ∙ their_stood.reason_is) ∙ their_reason)
                 | inr more ↦ elim more.0 [ inl two ↦ omega (arith, two, their_reason) | inr three_so ↦ (let t = three_so.0 in omega (arith, t, their_reason)) ]
@@ -177,42 +179,83 @@ module _ (m : Machine) (v : IsValidMachine m) (switches : List Switch) (pins : �
         ]
       ]
 
-  -- and where it answers that the switch closed, that is the tick
-  pub answers_first : (c : Came) (before : List Came) (all : List (ℕ → BoardTurn)) → Soon c before all → IsClearSection m switches pins entries lines from start members c before all → length before + 276 ≤ till → at ≤ length before
-      → IsSafeAt m switches pins entries lines start last members at (c ∷ before) all → MindsAt m switches pins entries lines start last members near at (c ∷ before) all → near → (h : Homing) → (noted m c.note (known_by m switches before)).homing ≡ Some h
-      → (tick : ℕ) → answer_in (length before) h.start (hears_all (noted m c.note (known_by m switches before)).clocks c.states h).group ≡ Some (end.Endstop tick)
-      → (b : ℕ) × IsReader b members × IsSwitchTick m (pins b) b (axis_at m h.axis) (lines_tick (lines b) (start * turn_ns)) tick
-  answers_first c before all so s r l safe_at mind_at is_near h is tick answers =
-      let clocks = (noted m c.note (known_by m switches before)).clocks in
-      let g = (hears_all clocks c.states h).group in
-      let rigs = rig_at m pins entries all in
-      let own = (axis_at m h.axis).board in
-      let y = goes_minding c before all so s r l safe_at mind_at in
-      let same_y : y.0 ≡ h = some_same y.0 h (sym y.1 ∙ is) in
-      let Mind : Homing → Type 0 = λ z. IsMindful m pins lines start last members z.axis (axis_at m z.axis).board near (length before) (hears_all clocks c.states z).group rigs in
-      let mind : Mind h = subst Mind same_y y.2 in
-      let of = of_known start members (noted m c.note (known_by m switches before)).homing h (s.homes.0 (omega (arith, early, l))).1 is in
-      let members_are : members_of g ≡ members = members_states clocks 0 h.start c.states h.group ∙ of.2 in
-      let W = Stood m pins lines start last members h.axis own near rigs in
-      let hit = first_closed tick g.members (closed (length before) h.start g tick answers) W own mind.told in
-      let f = hit.0 in
-      let b = f.seen.member.board in
-      let on : IsMember b members = subst (IsMember b) members_are f.on in
-      let reads : IsReader b members = subst (IsReader b) members_are f.reads in
-      let told = hit.1 on in
-      let stood = told.0 in
-      let mine = mind.minded b on in
-      let slots : mine.slot ≡ stood.slot = one_slot (slot_at (rigs b) (trigger_of m b)) mine.slot stood.slot mine.is stood.is in
-      let off : mine.slot.trigger.can ≡ false = ap (λ (z : Slot). z.trigger.can) slots ∙ stood.fired in
-      let reason : mine.slot.trigger.reason ≡ 1 = ap (λ (z : Slot). z.trigger.reason) slots ∙ stood.reason_is ∙ f.reason in
-      let ticks : mine.slot.trigger.tick ≡ tick = ap (λ (z : Slot). z.trigger.tick) slots ∙ told.1 is_near reads ∙ f.tick_is in
-      elim (mine.minds.fired off) [
-        | inl one ↦ (b, reads, subst (IsSwitchTick m (pins b) b (axis_at m h.axis) (lines_tick (lines b) (start * turn_ns))) ticks one.1.1)
-        | inr other ↦ absurd (elim other.0 [ inl two ↦ omega (arith, two, reason) | inr three ↦ (let t = three.0 in omega (arith, t, reason)) ])
+  -- where readings had triggered the trigger of the board with the endstop, since a tick of the section, this is its switch's tick
+  fired_reads : at + 1 ≤ start → (c : Came) (before : List Came) (all : List (ℕ → BoardTurn)) → IsClearSection m switches pins entries lines from start members c before all → length before + 276 ≤ till
+      → IsSafeAt m switches pins entries lines start last members at (c ∷ before) all → MindsAt m switches pins entries lines start last members at (c ∷ before) all → (h : Homing) → (noted m c.note (known_by m switches before)).homing ≡ Some h
+      → (b : ℕ) → IsMember b members → (tick : ℕ) → board_tick (clock_of (board_at m b)) (start - 1) ≤ tick → WasFiredAt (trigger_of m b) 1 tick (turns_of b all)
+      → IsSwitchTick m (pins b) b (axis_at m h.axis) (lines_tick (lines b) (start * turn_ns)) tick
+  fired_reads ahead c [] all s r safe mind h is b on tick late was = absurd (let size = s.long in none_was all was (omega (arith, size)))
+    where
+      none_was : (all : List (ℕ → BoardTurn)) → WasFiredAt (trigger_of m b) 1 tick (turns_of b all) → length all ≤ 0 → ⊥
+      none_was [] was l = was
+      none_was (j ∷ js) was l = omega (arith, l)
+  fired_reads ahead c (d ∷ past) [] s r safe mind h is b on tick late was = absurd was
+  fired_reads ahead c (d ∷ past) (j ∷ js) s r safe mind h is b on tick late was = elim (leb_tells at (length (d ∷ past))) [
+    | inr p ↦
+        let run = (s.plain b on).run in
+        let long = as_long m switches b (d ∷ past) (turns_of b (j ∷ js)) run.both in
+        let low = was_under m v switches (pins b) entries b (d ∷ past) (turns_of b (j ∷ js)) 1 tick run was in
+        let below = p.1 in
+        let up = own_rises m v switches (pins b) entries b run.board (length (turns_of b (j ∷ js))) in
+        let on_to = grows m v switches (pins b) entries b (length (turns_of b (j ∷ js)) + 1) (start - 1) (omega (arith, below, long, ahead)) in
+        absurd (omega (arith, low, up, on_to, late))
+    | inl p ↦ by (λ before_it o known was_so. fired_reads ahead d past js before_it (omega (arith, r)) safe.1 mind.1 o known b on tick late was_so) p.1 was
+  ]
+    where
+      by : ((x : IsClearSection m switches pins entries lines from start members d past js) (o : Homing) → (noted m d.note (known_by m switches past)).homing ≡ Some o → WasFiredAt (trigger_of m b) 1 tick (turns_of b js)
+          → IsSwitchTick m (pins b) b (axis_at m o.axis) (lines_tick (lines b) (start * turn_ns)) tick)
+          → at ≤ length (d ∷ past) → WasFiredAt (trigger_of m b) 1 tick (turns_of b (j ∷ js)) → IsSwitchTick m (pins b) b (axis_at m h.axis) (lines_tick (lines b) (start * turn_ns)) tick
+      by again l (inl now) =
+          let y = goes_minding c (d ∷ past) (j ∷ js) s r l safe mind in
+          let same : y.0 ≡ h = some_same y.0 h (sym y.1 ∙ is) in
+          let rigs = rig_at m pins entries (j ∷ js) in
+          let Mind : Homing → Type 0 = λ z. IsMindful m pins lines start last members z.axis (axis_at m z.axis).board (length (d ∷ past)) (hears_all (noted m c.note (known_by m switches (d ∷ past))).clocks c.states z).group rigs in
+          let mind_now : Mind h = subst Mind same y.2 in
+          let mine = mind_now.minded b on in
+          let slots : mine.slot ≡ now.slot = one_slot (slot_at (rigs b) (trigger_of m b)) mine.slot now.slot mine.is now.is in
+          let off : mine.slot.trigger.can ≡ false = ap (λ (z : Slot). z.trigger.can) slots ∙ now.fired in
+          let reason : mine.slot.trigger.reason ≡ 1 = ap (λ (z : Slot). z.trigger.reason) slots ∙ now.why in
+          let ticks : mine.slot.trigger.tick ≡ tick = ap (λ (z : Slot). z.trigger.tick) slots ∙ now.at in
+          elim (mine.minds.fired off) [
+            | inl one ↦ subst (IsSwitchTick m (pins b) b (axis_at m h.axis) (lines_tick (lines b) (start * turn_ns))) ticks one.1.1
+            | inr other ↦ absurd (elim other.0 [ inl two ↦ omega (arith, two, reason) | inr three ↦ (let t = three.0 in omega (arith, t, reason)) ])
+          ]
+      by again l (inr old) = elim (leb_tells at (length past)) [
+        | inl q ↦
+            let reached = q.1 in
+            let before = cut m switches pins entries none lines ready from start last till at members followed early low_so far c d past j js s in
+            let y = goes_minding d past js before (omega (arith, r)) reached safe.1 mind.1 in
+            let next = homing_next m switches from start members c d past y.0 s.homes s.begins.0 s.goes_on (omega (arith, early, reached)) y.1 in
+            let axis : y.0.axis ≡ h.axis = ap (λ (z : Homing). z.axis) (some_same (behind_turn (hears_all (noted m d.note (known_by m switches past)).clocks d.states y.0) (length past)) h (sym next.0 ∙ is)) in
+            subst (λ (i : ℕ). IsSwitchTick m (pins b) b (axis_at m i) (lines_tick (lines b) (start * turn_ns)) tick) axis (again before y.0 y.1 old)
+        | inr q ↦
+            let run = (s.plain b on).run in
+            let was_run = run_before m switches (pins b) entries b d past (j b) (turns_of b js) run in
+            let long = as_long m switches b past (turns_of b js) was_run.both in
+            let low = was_under m v switches (pins b) entries b past (turns_of b js) 1 tick was_run old in
+            let below = q.1 in
+            let up = own_rises m v switches (pins b) entries b run.board (length (turns_of b js)) in
+            let on_to = grows m v switches (pins b) entries b (length (turns_of b js) + 1) (start - 1) (omega (arith, below, long, ahead)) in
+            absurd (omega (arith, low, up, on_to, late))
       ]
 
+  -- and where it answers that the switch closed, that is the tick
+  pub answers_first : at + 1 ≤ start → from < start → (c : Came) (before : List Came) (all : List (ℕ → BoardTurn)) → IsClearSection m switches pins entries lines from start members c before all → length before + 276 ≤ till
+      → IsSafeAt m switches pins entries lines start last members at (c ∷ before) all → MindsAt m switches pins entries lines start last members at (c ∷ before) all → (h : Homing) → (noted m c.note (known_by m switches before)).homing ≡ Some h → h.start ≡ start
+      → IsReader (axis_at m h.axis).board members → AreRead (ReadsSwitchTrue m switches (axis_at m h.axis).board) (c ∷ before) (turns_of (axis_at m h.axis).board all) → AreBehind m switches (axis_at m h.axis).board (c ∷ before)
+      → (tick : ℕ) → answer_in (length before) h.start (hears_all (noted m c.note (known_by m switches before)).clocks c.states h).group ≡ Some (end.Endstop tick)
+      → IsSwitchTick m (pins (axis_at m h.axis).board) (axis_at m h.axis).board (axis_at m h.axis) (lines_tick (lines (axis_at m h.axis).board) (start * turn_ns)) tick
+  answers_first ahead some c before all s r safe_at mind_at h is begins reader reads behind tick answers =
+      let b = (axis_at m h.axis).board in
+      let on : IsMember b members = reader_member b members reader in
+      let run = (s.plain b on).run in
+      let told = answer_told m switches c before h tick run.goes_on is answers in
+      let f : Fired = record { reason = 1; tick = tick; turn = told.0 } in
+      let read = switch_read m switches (pins b) entries b from start members f c before (turns_of b all) run (s.states b on) s.homes some reader refl reads behind (subst (λ (n : ℕ). WasReported m switches b n f (c ∷ before)) begins told.1) in
+      fired_reads ahead c before all s r safe_at mind_at h is b on tick read.late read.was
+
 -- over the turns of a run
-module _ (m : Machine) (v : IsValidMachine m) (switches : List Switch) (pins : ℕ → List (List Level)) (entries : List Entry) (none : entries ≡ []) (lines : ℕ → ℕ → Clocks) (ready till : ℕ) (near : Type 0) where
+module _ (m : Machine) (v : IsValidMachine m) (switches : List Switch) (pins : ℕ → List (List Level)) (entries : List Entry) (none : entries ≡ []) (lines : ℕ → ℕ → Clocks) (ready till : ℕ) where
   -- the boards whose set-up it is rest before it
   rests_all : (start : ℕ) (c d e : Came) (past : List Came) (i j : ℕ → BoardTurn) (js : List (ℕ → BoardTurn)) (x : IsSetUp m switches pins entries (lines start) ready till start c d e past i j js) → start ≡ length past + 251 → (b : ℕ)
       → ((k : ℕ) → board_tick (clock_of (board_at m b)) k ≤ board_tick (clock_of (board_at m b)) (k + 1)) → IsPlain m switches (pins b) entries b past (turns_of b js) → BeginsAlone m switches (e ∷ past)
@@ -228,7 +271,7 @@ module _ (m : Machine) (v : IsValidMachine m) (switches : List Switch) (pins : �
       record { slot = own.1.slot; is = own.1.is; off = record { can = can; told = so.told; idle = so.idle can; none = quiet (trigger_of m b) own.1.slot own.1.is can } }
 
   module _ (from start : ℕ) (members : List Member) (begun_so : from + 251 ≤ start) where
-    minds_none : (at last : ℕ) (came : List Came) (all : List (ℕ → BoardTurn)) → length came ≤ at → MindsAt m switches pins entries (lines start) start last members near at came all
+    minds_none : (at last : ℕ) (came : List Came) (all : List (ℕ → BoardTurn)) → length came ≤ at → MindsAt m switches pins entries (lines start) start last members at came all
     minds_none at last [] all l = tt
     minds_none at last (c ∷ before) all l = ((λ e. absurd (omega (arith, e, l))), minds_none at last before (rest_of all) (omega (arith, l)))
 
@@ -241,7 +284,7 @@ module _ (m : Machine) (v : IsValidMachine m) (switches : List Switch) (pins : �
       followed : (b : ℕ) → IsMember b members → IsFollowed m b (lines start b) ready start last till
       low_so : ready + 255 ≤ start
       safe : IsSafeAt m switches pins entries (lines start) start last members (start - 249) came all
-      minds : MindsAt m switches pins entries (lines start) start last members near (start - 249) came all
+      minds : MindsAt m switches pins entries (lines start) start last members (start - 249) came all
 
     here : (c d e : Came) (past : List Came) (i j : ℕ → BoardTurn) (js : List (ℕ → BoardTurn)) → IsClearSection m switches pins entries (lines start) from start members c (d ∷ e ∷ past) (i ∷ j ∷ js) → BeginsAlone m switches (d ∷ e ∷ past) → AreSetUp m switches pins entries lines ready till (c ∷ d ∷ e ∷ past) (i ∷ j ∷ js)
         → AxesLow m switches (c ∷ d ∷ e ∷ past) → length (d ∷ e ∷ past) + 276 ≤ till → length (d ∷ e ∷ past) + 249 ≡ start → Found (c ∷ d ∷ e ∷ past) (i ∷ j ∷ js)
@@ -272,12 +315,12 @@ module _ (m : Machine) (v : IsValidMachine m) (switches : List Switch) (pins : �
         let set : length past + 251 ≡ start = omega (arith, at) in
         let first_reach : length past + 276 ≤ till = omega (arith, reach) in
         let safe_in = beginning.begins_safe m switches pins entries none (lines start) ready x.from start x.last till x.members x.followed c d e past i j js x.section x.early x.begins set x.goes first_reach x.first x.second x.new.0 x.new.1 x.new.2 prepared in
-        let is_known = begins_known m v switches pins entries none (lines start) ready x.from start x.last till x.members x.followed c d e past i j js x.section x.early x.begins set x.goes first_reach x.first x.second x.new.0 x.new.1 x.new.2 low_axis of_board near in
-        let mindful = begins_mindful m v switches pins entries none (lines start) ready x.from start x.last till x.members x.followed c d e past i j js x.section x.early x.begins set x.goes first_reach x.first x.second x.new.0 x.new.1 x.new.2 low_axis of_board near prepared rests in
+        let is_known = begins_known m v switches pins entries none (lines start) ready x.from start x.last till x.members x.followed c d e past i j js x.section x.early x.begins set x.goes first_reach x.first x.second x.new.0 x.new.1 x.new.2 low_axis of_board in
+        let mindful = begins_mindful m v switches pins entries none (lines start) ready x.from start x.last till x.members x.followed c d e past i j js x.section x.early x.begins set x.goes first_reach x.first x.second x.new.0 x.new.1 x.new.2 low_axis of_board prepared rests in
         let Second : Homing = beginning.Second m switches pins entries none (lines start) ready x.from start x.last till x.members x.followed c d e past i j js x.section x.early x.begins set x.goes first_reach x.first x.second x.new.0 x.new.1 x.new.2 in
-        let minds_in : MindsIn m switches pins entries (lines start) start x.last x.members near c (d ∷ e ∷ past) (i ∷ j ∷ js) = (Second, is_known, mindful) in
+        let minds_in : MindsIn m switches pins entries (lines start) start x.last x.members c (d ∷ e ∷ past) (i ∷ j ∷ js) = (Second, is_known, mindful) in
         let All : List Member → Type 0 = λ ms. ((b : ℕ) → IsMember b ms → IsFollowed m b (lines start b) ready start x.last till) × IsSafeIn m switches pins entries (lines start) start x.last ms c (d ∷ e ∷ past) (i ∷ j ∷ js)
-        × MindsIn m switches pins entries (lines start) start x.last ms near c (d ∷ e ∷ past) (i ∷ j ∷ js) in
+        × MindsIn m switches pins entries (lines start) start x.last ms c (d ∷ e ∷ past) (i ∷ j ∷ js) in
         let all : All members = subst All same (x.followed, safe_in, minds_in) in
         record {
           last = x.last;
@@ -301,13 +344,12 @@ module _ (m : Machine) (v : IsValidMachine m) (switches : List Switch) (pins : �
       | inr p ↦ let below = p.1 in here c d e past i j js s alone set_up low reach (omega (arith, l, below))
     ]
 
-  -- what a group answers in a run
-  run_late : (c : Came) (before : List Came) (all : List (ℕ → BoardTurn)) → IsClearRun m switches pins entries lines ready till c before all → length before + 276 ≤ till → AxesLow m switches (c ∷ before) → (h : Homing) → (noted m c.note (known_by m switches before)).homing ≡ Some h
-      → (near → (b : ℕ) → IsReader b (members_of h.group) → HearSoon m switches b h.start (c ∷ before) (turns_of b all))
+  -- it answers that no switch closed only where its readings are complete at no tick before that behind its last turn
+  pub run_misses : (c : Came) (before : List Came) (all : List (ℕ → BoardTurn)) → IsClearRun m switches pins entries lines ready till c before all → length before + 276 ≤ till → AxesLow m switches (c ∷ before) → (h : Homing) → (noted m c.note (known_by m switches before)).homing ≡ Some h
       → answer_in (length before) h.start (hears_all (noted m c.note (known_by m switches before)).clocks c.states h).group ≡ Some end.NoSwitch
       → (tick : ℕ) → IsSwitchTick m (pins (axis_at m h.axis).board) (axis_at m h.axis).board (axis_at m h.axis) (lines_tick (lines h.start (axis_at m h.axis).board) (h.start * turn_ns)) tick
       → lines_tick (lines h.start (axis_at m h.axis).board) ((h.group.last + 1) * turn_ns) ≤ tick
-  run_late c before all r reach low h is so answers tick hit =
+  run_misses c before all r reach low h is answers tick hit =
       let y = begun.began_in m v switches pins entries none lines ready till c before all r h is in
       let s = begun.section_in m v switches pins entries none lines ready till c before all r h y in
       let soon = y.soon in
@@ -321,18 +363,28 @@ module _ (m : Machine) (v : IsValidMachine m) (switches : List Switch) (pins : �
       let of = of_axis m switches c before r.goes_on h is in
       let valid : IsValidAxis m (axis_at m h.axis) = v.axes h.axis _ (low.0 h is) in
       let reads : IsReader b members = of.1 valid.board in
-      let late_so = answers_late m v switches pins entries none (lines start) ready from start x.last till (start - 249) members x.followed (omega (arith, soon)) (omega (arith, low_so)) (omega arith) near c before all so s reach (omega (arith, late, soon)) x.safe x.minds h is reads answers tick hit in
+      let late_so = answers_late m v switches pins entries none (lines start) ready from start x.last till (start - 249) members x.followed (omega (arith, soon)) (omega (arith, low_so)) (omega arith) c before all s reach (omega (arith, late, soon)) x.safe x.minds h is reads answers tick hit in
       let safe = (stays_safe m switches pins entries none (lines start) ready from start x.last till (start - 249) members x.followed (omega (arith, soon)) (omega (arith, low_so)) (omega arith) c before all s reach (omega (arith, late, soon)) x.safe).0 in
       let clocks = (noted m c.note (known_by m switches before)).clocks in
       let same : safe.0 ≡ h = some_same safe.0 h (sym safe.1 ∙ is) in
       let ends : h.group.last ≡ x.last = sym (hears_keep clocks c.states h).last ∙ ap (λ (z : Homing). (hears_all clocks c.states z).group.last) (sym same) ∙ safe.2.ends in
       subst (λ (n : ℕ). lines_tick (lines start b) ((n + 1) * turn_ns) ≤ tick) (sym ends) late_so
 
-  run_near : (c : Came) (before : List Came) (all : List (ℕ → BoardTurn)) → IsClearRun m switches pins entries lines ready till c before all → length before + 276 ≤ till → AxesLow m switches (c ∷ before) → near → (h : Homing) → (noted m c.note (known_by m switches before)).homing ≡ Some h
-      → HearSoon m switches (axis_at m h.axis).board h.start (c ∷ before) (turns_of (axis_at m h.axis).board all)
+  -- and where they are complete before it, it answers that the switch closed
+  pub run_closes : (c : Came) (before : List Came) (all : List (ℕ → BoardTurn)) → IsClearRun m switches pins entries lines ready till c before all → length before + 276 ≤ till → AxesLow m switches (c ∷ before) → (h : Homing) → (noted m c.note (known_by m switches before)).homing ≡ Some h
+      → (tick : ℕ) → IsSwitchTick m (pins (axis_at m h.axis).board) (axis_at m h.axis).board (axis_at m h.axis) (lines_tick (lines h.start (axis_at m h.axis).board) (h.start * turn_ns)) tick
+      → tick < lines_tick (lines h.start (axis_at m h.axis).board) ((h.group.last + 1) * turn_ns) → (x : End)
+      → answer_in (length before) h.start (hears_all (noted m c.note (known_by m switches before)).clocks c.states h).group ≡ Some x → (at : ℕ) × (x ≡ end.Endstop at)
+  run_closes c before all r reach low h is tick hit early (end.Endstop at) answers = (at, refl)
+  run_closes c before all r reach low h is tick hit early end.NoSwitch answers = absurd (let late = run_misses c before all r reach low h is answers tick hit in omega (arith, late, early))
+  run_closes c before all r reach low h is tick hit early (end.Expired b turn) answers = absurd (begun.run_answers m v switches pins entries none lines ready till c before all r reach h is b turn answers)
+
+  -- and that is at the tick at which its switch closes, where what its board tells is read true
+  pub run_switches : (c : Came) (before : List Came) (all : List (ℕ → BoardTurn)) → IsClearRun m switches pins entries lines ready till c before all → length before + 276 ≤ till → AxesLow m switches (c ∷ before) → (h : Homing) → (noted m c.note (known_by m switches before)).homing ≡ Some h
+      → AreRead (ReadsSwitchTrue m switches (axis_at m h.axis).board) (c ∷ before) (turns_of (axis_at m h.axis).board all) → AreBehind m switches (axis_at m h.axis).board (c ∷ before)
       → (tick : ℕ) → answer_in (length before) h.start (hears_all (noted m c.note (known_by m switches before)).clocks c.states h).group ≡ Some (end.Endstop tick)
       → IsSwitchTick m (pins (axis_at m h.axis).board) (axis_at m h.axis).board (axis_at m h.axis) (lines_tick (lines h.start (axis_at m h.axis).board) (h.start * turn_ns)) tick
-  run_near c before all r reach low is_near h is hear tick answers =
+  run_switches c before all r reach low h is read behind tick answers =
       let y = begun.began_in m v switches pins entries none lines ready till c before all r h is in
       let s = begun.section_in m v switches pins entries none lines ready till c before all r h y in
       let soon = y.soon in
@@ -344,31 +396,6 @@ module _ (m : Machine) (v : IsValidMachine m) (switches : List Switch) (pins : �
       let x = find from start members soon c before all s (begun.well_alone m switches lines ready till before r.begins.1) (begun.set_up_all m v switches pins entries none lines ready till c before all r) low reach (omega (arith, late)) in
       let low_so = x.low_so in
       let of = of_axis m switches c before r.goes_on h is in
-      let so : near → (b : ℕ) → IsReader b members → HearSoon m switches b start (c ∷ before) (turns_of b all) = λ n b reads. subst (λ (z : ℕ). HearSoon m switches z start (c ∷ before) (turns_of z all)) (of.0 b reads) hear in
-      let hit = answers_first m v switches pins entries none (lines start) ready from start x.last till (start - 249) members x.followed (omega (arith, soon)) (omega (arith, low_so)) (omega arith) near c before all so s reach (omega (arith, late, soon)) x.safe x.minds is_near h is tick answers in
-      subst (λ (z : ℕ). IsSwitchTick m (pins z) z (axis_at m h.axis) (lines_tick (lines start z) (start * turn_ns)) tick) (sym (of.0 hit.0 hit.1)) hit.2
-
--- over the turns of a run
-module _ (m : Machine) (v : IsValidMachine m) (switches : List Switch) (pins : ℕ → List (List Level)) (entries : List Entry) (none : entries ≡ []) (lines : ℕ → ℕ → Clocks) (ready till : ℕ) where
-  -- it answers that no switch closed only where its readings are complete at no tick before that behind its last turn
-  pub run_misses : (c : Came) (before : List Came) (all : List (ℕ → BoardTurn)) → IsClearRun m switches pins entries lines ready till c before all → length before + 276 ≤ till → AxesLow m switches (c ∷ before) → (h : Homing) → (noted m c.note (known_by m switches before)).homing ≡ Some h
-      → answer_in (length before) h.start (hears_all (noted m c.note (known_by m switches before)).clocks c.states h).group ≡ Some end.NoSwitch
-      → (tick : ℕ) → IsSwitchTick m (pins (axis_at m h.axis).board) (axis_at m h.axis).board (axis_at m h.axis) (lines_tick (lines h.start (axis_at m h.axis).board) (h.start * turn_ns)) tick
-      → lines_tick (lines h.start (axis_at m h.axis).board) ((h.group.last + 1) * turn_ns) ≤ tick
-  run_misses c before all r reach low h is answers tick hit = run_late m v switches pins entries none lines ready till ⊥ c before all r reach low h is (λ n b reads. absurd n) answers tick hit
-
-  -- and where they are complete before it, it answers that the switch closed
-  pub run_closes : (c : Came) (before : List Came) (all : List (ℕ → BoardTurn)) → IsClearRun m switches pins entries lines ready till c before all → length before + 276 ≤ till → AxesLow m switches (c ∷ before) → (h : Homing) → (noted m c.note (known_by m switches before)).homing ≡ Some h
-      → (tick : ℕ) → IsSwitchTick m (pins (axis_at m h.axis).board) (axis_at m h.axis).board (axis_at m h.axis) (lines_tick (lines h.start (axis_at m h.axis).board) (h.start * turn_ns)) tick
-      → tick < lines_tick (lines h.start (axis_at m h.axis).board) ((h.group.last + 1) * turn_ns) → (x : End)
-      → answer_in (length before) h.start (hears_all (noted m c.note (known_by m switches before)).clocks c.states h).group ≡ Some x → (at : ℕ) × (x ≡ end.Endstop at)
-  run_closes c before all r reach low h is tick hit early (end.Endstop at) answers = (at, refl)
-  run_closes c before all r reach low h is tick hit early end.NoSwitch answers = absurd (let late = run_misses c before all r reach low h is answers tick hit in omega (arith, late, early))
-  run_closes c before all r reach low h is tick hit early (end.Expired b turn) answers = absurd (begun.run_answers m v switches pins entries none lines ready till c before all r reach h is b turn answers)
-
-  -- and that is at the first tick at which they are complete, where its board's report is heard within half a round of its clock
-  pub run_switches : (c : Came) (before : List Came) (all : List (ℕ → BoardTurn)) → IsClearRun m switches pins entries lines ready till c before all → length before + 276 ≤ till → AxesLow m switches (c ∷ before) → (h : Homing) → (noted m c.note (known_by m switches before)).homing ≡ Some h
-      → HearSoon m switches (axis_at m h.axis).board h.start (c ∷ before) (turns_of (axis_at m h.axis).board all)
-      → (tick : ℕ) → answer_in (length before) h.start (hears_all (noted m c.note (known_by m switches before)).clocks c.states h).group ≡ Some (end.Endstop tick)
-      → IsSwitchTick m (pins (axis_at m h.axis).board) (axis_at m h.axis).board (axis_at m h.axis) (lines_tick (lines h.start (axis_at m h.axis).board) (h.start * turn_ns)) tick
-  run_switches c before all r reach low h is hear tick answers = run_near m v switches pins entries none lines ready till (Unit {0}) c before all r reach low tt h is hear tick answers
+      let valid : IsValidAxis m (axis_at m h.axis) = v.axes h.axis _ (low.0 h is) in
+      answers_first m v switches pins entries none (lines start) ready from start x.last till (start - 249) members x.followed (omega (arith, soon)) (omega (arith, low_so)) (omega arith) (omega (arith, soon)) (omega (arith, soon))
+      c before all s reach x.safe x.minds h is refl (of.1 valid.board) read behind tick answers

@@ -99,7 +99,7 @@ module _ (m : Machine) (v : IsValidMachine m) (switches : List Switch) (pins : �
     (followed : (b : ℕ) → IsMember b members → IsFollowed m b (lines b) ready start last till) (c d e : Came) (past : List Came) (i j : ℕ → BoardTurn) (js : List (ℕ → BoardTurn))
     (s : IsClearSection m switches pins entries lines from start members c (d ∷ e ∷ past) (i ∷ j ∷ js)) (early : from ≤ length past) (low_so : ready + 4 ≤ length past) (set_up : length past + 251 ≡ start) (order : start ≤ last) (reach : length past + 276 ≤ till)
     (first : AreOfTurn (length past + 1) d.states) (second : AreOfTurn (length past + 2) c.states) (h : Homing) (is : (noted m e.note (known_by m switches past)).homing ≡ Some h)
-    (new : IsNew start last members (hears_all (noted m e.note (known_by m switches past)).clocks e.states h).group) (low_axis : h.axis < length m.axes) (of : OfBoard (axis_at m h.axis).board (length m.boards) members) (near : Type 0) where
+    (new : IsNew start last members (hears_all (noted m e.note (known_by m switches past)).clocks e.states h).group) (low_axis : h.axis < length m.axes) (of : OfBoard (axis_at m h.axis).board (length m.boards) members) where
   abbrev Last_homing : Homing
   Last_homing = beginning.Last m switches pins entries none lines ready from start last till members followed c d e past i j js s early low_so set_up order reach first second h is new
 
@@ -199,7 +199,7 @@ module _ (m : Machine) (v : IsValidMachine m) (switches : List Switch) (pins : �
           let minded = able_minded Oid T Q q (alive_before Oid until q tail behind alive) (able (ran q tail runs_tail)) in
           subst (Minded Oid T Q) (sym now) (passes_minded Oid T Q until (takes_all q tail).rig (others_minded Oid Q T q tail behind calm minded))
 
-    second_minded : Minded Oid (Reads m pins lines start last members h.axis (axis_at m h.axis).board near b) Q (rig_at m pins entries (i ∷ j ∷ js) b)
+    second_minded : Minded Oid (Reads m pins lines start last members h.axis (axis_at m h.axis).board b) Q (rig_at m pins entries (i ∷ j ∷ js) b)
     second_minded =
         let r = rig_at m pins entries (j ∷ js) b in
         let f = followed b on in
@@ -214,7 +214,7 @@ module _ (m : Machine) (v : IsValidMachine m) (switches : List Switch) (pins : �
         let never : Able Oid Never Q r = record { slot = x.slot; is = x.is; minds = λ can. x.minds } in
         let members_so : members_of g ≡ members = ap (λ (y : GroupState). members_of y) (beginning.group_first m switches pins entries none lines ready from start last till members followed c d e past i j js s early low_so set_up order reach first second h is new)
         ∙ beginning.members_are m switches pins entries none lines ready from start last till members followed c d e past i j js s early low_so set_up order reach first second h is new b on prep in
-        let T : ℕ → Type 0 = Reads m pins lines start last members h.axis (axis_at m h.axis).board near b in
+        let T : ℕ → Type 0 = Reads m pins lines start last members h.axis (axis_at m h.axis).board b in
         let pins_now = (rig_at m pins entries (i ∷ j ∷ js) b).pins in
         let turn = length (turns_of b (j ∷ js)) in
         let size = long_mid in
@@ -239,13 +239,13 @@ module _ (m : Machine) (v : IsValidMachine m) (switches : List Switch) (pins : �
   -- the group and its boards
   pub begins_mindful : ((b : ℕ) → IsMember b members → HoldsOf (trigger_of m b) (λ ps x. IsPrepared (lines_tick (lines b) (start * turn_ns)) ps x) (rig_at m pins entries js b))
       → ((b : ℕ) → IsMember b members → RestsOf (trigger_of m b) (rig_at m pins entries js b))
-      → IsMindful m pins lines start last members h.axis (axis_at m h.axis).board near (length (d ∷ e ∷ past)) Last_homing.group (rig_at m pins entries (i ∷ j ∷ js))
+      → IsMindful m pins lines start last members h.axis (axis_at m h.axis).board (length (d ∷ e ∷ past)) Last_homing.group (rig_at m pins entries (i ∷ j ∷ js))
   begins_mindful prep rests =
       let group = beginning.group_second m switches pins entries none lines ready from start last till members followed c d e past i j js s early low_so set_up order reach first second h is new in
       let calm : Last_homing.group.relay ≡ None = ap (λ (g : GroupState). g.relay) group ∙ new.calm in
       let members_are : Last_homing.group.members ≡ map unseen members = ap (λ (g : GroupState). g.members) group ∙ new.unheard in
       let own = (axis_at m h.axis).board in
-      let W = Stood m pins lines start last members h.axis own near (rig_at m pins entries (i ∷ j ∷ js)) in
+      let W = Stood m pins lines start last members h.axis own (rig_at m pins entries (i ∷ j ∷ js)) in
       record {
         minded = λ b on. second_minded b on (prep b on) (rests b on);
         relay = λ k is_some. absurd (let bad : None ≡ Some k = sym calm ∙ is_some in cc);

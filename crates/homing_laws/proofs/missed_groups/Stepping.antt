@@ -27,10 +27,6 @@ use Rattle.homing_laws.specs.home_runs.Guards.{AreCalm}
 use Rattle.homing_laws.specs.home_runs.Told.{IsMember}
 use Rattle.homing_laws.specs.home_runs.Windows.{HasAnswer, IsWatched}
 use Rattle.homing_laws.proofs.home_runs.Guarding.{Next, passes_next}
-use Rattle.homing_laws.specs.switch_runs.Reports.{HearsSoon}
-use Rattle.homing_laws.proofs.switch_runs.Answered.{tells_fired}
-use Rattle.board_step.proofs.Whole.{nearest_is}
-use Rattle.plan_types.specs.Board.{nearest}
 use Rattle.plan_types.specs.Sections.{clocks_at}
 use Rattle.homing_laws.proofs.home_runs.Joining.{all_queued}
 use Rattle.homing_laws.proofs.home_runs.Resting.{rests_up}
@@ -84,12 +80,11 @@ still_fired : (could can : Bool) → (can ≡ true → could ≡ true) → could
 still_fired could true f off = absurd (let e = f refl in let bad : true ≡ false = sym e ∙ off in cc)
 still_fired could false f off = refl
 
-fired_on : (i oid reason : ℕ) (r q : Rig) → Next i oid r q → (z : FiredSo oid reason r) → (y : FiredSo oid reason q) × (y.slot.trigger.tick ≡ z.slot.trigger.tick)
+fired_on : (i oid reason : ℕ) (r q : Rig) → Next i oid r q → FiredSo oid reason r → FiredSo oid reason q
 fired_on i oid reason r q x z =
     let b = x.slots z.slot z.is in
     let fell = still_fired z.slot.trigger.can b.slot.trigger.can b.stays.can z.fired in
-    let same = b.stays.same z.fired z.none in
-    (record { slot = b.slot; is = b.is; fired = fell; none = b.stays.quiet (λ e. z.none) fell; reason_is = same.0 ∙ z.reason_is }, same.1)
+    record { slot = b.slot; is = b.is; fired = fell; none = b.stays.quiet (λ e. z.none) fell; reason_is = (b.stays.same z.fired z.none).0 ∙ z.reason_is }
 
 no_both : (b : Bool) → b ≡ true → b ≡ false → ⊥
 no_both true e f = cc
@@ -131,12 +126,12 @@ relay_after Rests g turn k e = inl e
 relay_after Goes g turn k e = relay_goes (all_fired g.members) g turn k (sym (relay_of_if (all_fired g.members) g _) ∙ e)
 
 -- what a board minds in a section, and what the group knows
-module _ (m : Machine) (pins : ℕ → List (List Level)) (lines : ℕ → Clocks) (start last : ℕ) (members : List Member) (axis own : ℕ) (near : Type 0) where
+module _ (m : Machine) (pins : ℕ → List (List Level)) (lines : ℕ → Clocks) (start last : ℕ) (members : List Member) (axis own : ℕ) where
   abbrev pub Reads : ℕ → ℕ → Type 0
   Reads b x = IsReader b members × IsSwitchTick m (pins b) b (axis_at m axis) (lines_tick (lines b) (start * turn_ns)) x
 
   abbrev pub Stood : (ℕ → Rig) → ℕ → Fired → Type 0
-  Stood rigs b f = IsMember b members → (z : FiredSo (trigger_of m b) f.reason (rigs b)) × (near → IsReader b members → z.slot.trigger.tick ≡ f.tick)
+  Stood rigs b f = IsMember b members → FiredSo (trigger_of m b) f.reason (rigs b)
 
   pub record IsMindful (turn : ℕ) (g : GroupState) (rigs : ℕ → Rig) : Type 0 where
     pub minded : (b : ℕ) → IsMember b members → Minded (trigger_of m b) (Reads b) (KnownIn last g.members) (rigs b)
@@ -145,7 +140,7 @@ module _ (m : Machine) (pins : ℕ → List (List Level)) (lines : ℕ → Clock
 
 -- over a turn
 module _ (m : Machine) (v : IsValidMachine m) (switches : List Switch) (pins : ℕ → List (List Level)) (entries : List Entry) (none : entries ≡ []) (lines : ℕ → Clocks) (ready from start last till : ℕ) (members : List Member)
-    (followed : (b : ℕ) → IsMember b members → IsFollowed m b (lines b) ready start last till) (axis own : ℕ) (near : Type 0) (c d : Came) (past : List Came) (j : ℕ → BoardTurn) (js : List (ℕ → BoardTurn))
+    (followed : (b : ℕ) → IsMember b members → IsFollowed m b (lines b) ready start last till) (axis own : ℕ) (c d : Came) (past : List Came) (j : ℕ → BoardTurn) (js : List (ℕ → BoardTurn))
     (s : IsClearSection m switches pins entries lines from start members c (d ∷ past) (j ∷ js)) (early : from ≤ length past) (low_so : ready + 4 ≤ length past) (far : start ≤ length past + 249) (reach : length past + 276 ≤ till)
     (h : Homing) (is : (noted m d.note (known_by m switches past)).homing ≡ Some h) where
   abbrev K : ℕ
@@ -179,7 +174,7 @@ module _ (m : Machine) (v : IsValidMachine m) (switches : List Switch) (pins : �
   Own b = λ k. board_tick (clock_of (board_at m b)) k
 
   abbrev Mindful : ℕ → GroupState → (ℕ → Rig) → Type 0
-  Mindful = IsMindful m pins lines start last members axis own near
+  Mindful = IsMindful m pins lines start last members axis own
 
   next_known : ((noted m c.note (known_by m switches (d ∷ past))).homing ≡ Some Behind) × (answer_in K h.start G ≡ None)
   next_known = homing_next m switches from start members c d past h s.homes s.begins.0 s.goes_on early is
@@ -280,7 +275,7 @@ module _ (m : Machine) (v : IsValidMachine m) (switches : List Switch) (pins : �
             elim k.1 [ inl pre ↦ (let low_start = pre.0 in omega (arith, low_start, begins, order, late)) | inr go ↦ (let ahead = go.1 in omega (arith, ahead, most, ends, late)) ]
 
   -- a member that is known to have triggered
-  module _ (safe : IsSafe m lines start last members K G Rigs) (mind : IsMindful m pins lines start last members axis own near K G Rigs) where
+  module _ (safe : IsSafe m lines start last members K G Rigs) (mind : IsMindful m pins lines start last members axis own K G Rigs) where
     know_on : KnownIn last G.members → KnownIn last N.members
     know_on k = states_stay last All 0 Behind.start c.states Behind.group (subst (KnownIn last) (sym same_members) k)
 
@@ -295,7 +290,7 @@ module _ (m : Machine) (v : IsValidMachine m) (switches : List Switch) (pins : �
           | inr other ↦ elim other.0 [ inl two ↦ inl (inr (sym reason ∙ two)) | inr three ↦ inr three.1 ]
         ]
 
-    any_known : (xs : List Seen) → any_fired_by last xs ≡ true → Each (Stood m pins lines start last members axis own near Rigs) own xs → ((b : ℕ) → IsMember b (map (λ (x : Seen). x.member) xs) → IsMember b members) → KnownIn last xs ⊎ KnownIn last G.members
+    any_known : (xs : List Seen) → any_fired_by last xs ≡ true → Each (Stood m pins lines start last members axis own Rigs) own xs → ((b : ℕ) → IsMember b (map (λ (x : Seen). x.member) xs) → IsMember b members) → KnownIn last xs ⊎ KnownIn last G.members
     any_known [] e each within = absurd (cc)
     any_known (x ∷ xs) e each within = elim (either_part (fired_by last x.fired) (any_fired_by last xs) e) [
       | inl here ↦ by x.fired refl here
@@ -306,7 +301,7 @@ module _ (m : Machine) (v : IsValidMachine m) (switches : List Switch) (pins : �
         by None is here = absurd (cc)
         by (Some f) is here =
             let on = within x.member.board (inl refl) in
-            elim (cause_of x.member.board on f (each.0.0 f is on).0) [ inl k ↦ inl (inl (f, is, le_so f.turn last here, k)) | inr k ↦ inr k ]
+            elim (cause_of x.member.board on f (each.0.0 f is on)) [ inl k ↦ inl (inl (f, is, le_so f.turn last here, k)) | inr k ↦ inr k ]
 
     begun_known : relay_begins G K ≡ true → (last + 5 ≤ K) ⊎ KnownIn last G.members
     begun_known e =
@@ -327,10 +322,10 @@ module _ (m : Machine) (v : IsValidMachine m) (switches : List Switch) (pins : �
     relay_known None true e f b on relays u there can = elim (begun_known f) [ inl late ↦ absurd (off_late b on safe late u there can) | inr known ↦ known ]
     relay_known None false e f b on relays u there can = absurd (none_relay (Commands b) ((sent b on safe.begins).none e f) relays)
 
-    minded_next : (b : ℕ) → IsMember b members → Minded (trigger_of m b) (Reads m pins lines start last members axis own near b) (KnownIn last N.members) (Later b)
+    minded_next : (b : ℕ) → IsMember b members → Minded (trigger_of m b) (Reads m pins lines start last members axis own b) (KnownIn last N.members) (Later b)
     minded_next b on =
         let oid = trigger_of m b in
-        let T = Reads m pins lines start last members axis own near b in
+        let T = Reads m pins lines start last members axis own b in
         let Q = KnownIn last N.members in
         let x = mind.minded b on in
         let now : Minded oid T Q (Rigs b) = record { slot = x.slot; is = x.is; minds = minds_map T T (KnownIn last G.members) Q (Rigs b).pins x.slot (λ n k. k) (λ n k. k) know_on x.minds } in
@@ -347,7 +342,7 @@ module _ (m : Machine) (v : IsValidMachine m) (switches : List Switch) (pins : �
     ]
 
     -- what was told of a trigger
-    stays_stood : (b : ℕ) → IsMember b members → (reason : ℕ) → (z : FiredSo (trigger_of m b) reason (Rigs b)) → (y : FiredSo (trigger_of m b) reason (Later b)) × (y.slot.trigger.tick ≡ z.slot.trigger.tick)
+    stays_stood : (b : ℕ) → IsMember b members → (reason : ℕ) → FiredSo (trigger_of m b) reason (Rigs b) → FiredSo (trigger_of m b) reason (Later b)
     stays_stood b on reason z =
         let oid = trigger_of m b in
         let r = Rigs b in
@@ -355,9 +350,8 @@ module _ (m : Machine) (v : IsValidMachine m) (switches : List Switch) (pins : �
         let q = (takes_all r cs).rig in
         let until = Own b (length (turns_of b js) + 1) in
         let one = fired_on (above cs) oid reason r q (next_all oid (Clock b on) r cs (sent b on safe.begins).behind) z in
-        let two = fired_on (above cs) oid reason q (passes q until).rig (passes_next (above cs) oid q until) one.0 in
-        let Out : Rig → Type 0 = λ p. (y : FiredSo oid reason p) × (y.slot.trigger.tick ≡ z.slot.trigger.tick) in
-        subst Out (sym (taken b on)) (two.0, two.1 ∙ one.1)
+        let two = fired_on (above cs) oid reason q (passes q until).rig (passes_next (above cs) oid q until) one in
+        subst (FiredSo oid reason) (sym (taken b on)) two
 
     watched : (b : ℕ) → IsMember b members → (i : ℕ) → IsWatched i (trigger_of m b) (stands_after (first_state (board_at m b) (pins b) b entries) (turns_of b js)).core
     watched b on i =
@@ -379,33 +373,24 @@ module _ (m : Machine) (v : IsValidMachine m) (switches : List Switch) (pins : �
     one_state : (x y : State) → x ∷ [] ≡ y ∷ [] → x ≡ y
     one_state x y e = cc
 
-    module _ (small : (b : ℕ) → IsMember b members → AllSmall (Later b)) (soon : near → (b : ℕ) → IsReader b members → IsMember b members → HearsSoon m switches b start c (d ∷ past) (j b) (length (turns_of b js))) where
-      new_told : (b : ℕ) (f : Fired) → Telling All c.states Behind.start b f → Stood m pins lines start last members axis own near Later b f
+    module _ (small : (b : ℕ) → IsMember b members → AllSmall (Later b)) where
+      new_told : (b : ℕ) (f : Fired) → Telling All c.states Behind.start b f → Stood m pins lines start last members axis own Later b f
       new_told b f t on =
           let oid = trigger_of m b in
           let cs = Commands b in
-          let k = length (turns_of b js) in
           let same : (j b).state ≡ t.state = one_state (j b).state t.state (sym (s.states b on) ∙ t.came) in
           let told = subst (λ (x : State). HasAnswer (cmd.TrsyncState t.oid 0 f.reason t.clock) x.news) (sym same) t.told in
           let calm = calm_meant (above cs) oid (Clock b on) (queued_in (orders (j b).control (j b).batch)) (omega arith) (sent b on safe.begins).behind in
           let stands = told_stands (board_at m b) (pins b) b entries (j b) [] (turns_of b js) (above cs) oid t.oid f.reason t.clock (plain b on).run.turns_are (watched b on (above cs)) (calm, tt) (λ u there. (small b on oid u there).reason) told in
-          let turn : t.state.turn ≡ k = ap (λ (x : State). x.turn) (sym same) ∙ (plain b on).run.turns_are.0.1.turn in
-          let counts = t.counts in
-          let begins = next_of.0 in
-          let clock = stands.clock_is in (
-            record { slot = stands.slot; is = stands.is; fired = stands.fired; none = stands.none; reason_is = stands.reason_is },
-            λ is_near reads. (
-                let close = soon is_near b reads on (omega (arith, counts, begins, turn)) (tells_fired t.oid f.reason t.clock (j b).state.news told) stands.slot stands.is stands.fired in
-                sym (nearest_is (turn_tick (clocks_at All b) k) t.clock stands.slot.trigger.tick close (omega (arith, clock))) ∙ ap (λ (n : ℕ). nearest (turn_tick (clocks_at All b) n) t.clock) (sym turn) ∙ sym t.tick_is),
-          )
+          record { slot = stands.slot; is = stands.is; fired = stands.fired; none = stands.none; reason_is = stands.reason_is }
 
-      told_next : Each (Stood m pins lines start last members axis own near Later) own N.members
+      told_next : Each (Stood m pins lines start last members axis own Later) own N.members
       told_next =
-          let S = Stood m pins lines start last members axis own near in
-          let kept = each_more (S Rigs) (S Later) own G.members (λ b f w on. (let z = w on in let y = stays_stood b on f.reason z.0 in (y.0, λ n reads. y.1 ∙ z.1 n reads))) mind.told in
+          let S = Stood m pins lines start last members axis own in
+          let kept = each_more (S Rigs) (S Later) own G.members (λ b f w on. stays_stood b on f.reason (w on)) mind.told in
           all_each All c.states Behind.start own (S Later) new_told Behind.group (next_of.1 ∙ sym next_of.0) (subst (Each (S Later) own) (sym same_members) kept)
 
-      pub step_mindful : IsMindful m pins lines start last members axis own near (K + 1) N Later
+      pub step_mindful : IsMindful m pins lines start last members axis own (K + 1) N Later
       step_mindful = record { minded = minded_next; relay = relay_next; told = told_next }
 
       pub step_known : (noted m c.note (known_by m switches (d ∷ past))).homing ≡ Some Behind

@@ -24,6 +24,7 @@ use Rattle.board_sim.specs.Board.{stepper_at, takes as board_takes}
 use Rattle.board_sim.specs.Rig.{Passed, Rig, Slot, acts, acts_running, all_left, at_of, becomes, bind, earliest, expires_at_once, goes_on, happens, happens_to, home, make_endstop, make_trigger, new_rig, no_objects, pass, passes, passes_by, rested, rests_to, runs_to, set_timeout, slot_at, start, takes, takes_all, tell, told, trigger}
 use Rattle.board_sim.specs.Turn.{says_shut}
 use Rattle.board_sim.proofs.Bound.{map_at, same_or_not, slot_range}
+use Rattle.board_sim.proofs.RigTicks.{takes_rig_tick}
 use Rattle.board_world.specs.World.{says, shut_before}
 use Rattle.clock_runs.proofs.Answers.{Each, each_both}
 use Rattle.homing_laws.proofs.clear_boards.Held.{at_set, ended_reason, rested_is, sampled_reason, switch_reason}
@@ -84,7 +85,7 @@ ended_true None levels until s y x e at =
     read_on until levels until s x (subst (λ (z : Sampling). IsTriggerTick levels z x) same at)
 ended_true (Some tick) levels until s y x e at = absurd (cc)
 
-read_true : (o : Option Sampling) (levels : List Level) (until : ℕ) (y : Sampling) → trig.read_to levels until o ≡ Some y
+pub read_true : (o : Option Sampling) (levels : List Level) (until : ℕ) (y : Sampling) → trig.read_to levels until o ≡ Some y
     → (s : Sampling) × (o ≡ Some s) × (y.reason ≡ s.reason) × ((x : ℕ) → IsTriggerTick levels y x → IsTriggerTick levels s x)
 read_true None levels until y e = absurd (cc)
 read_true (Some s) levels until y e =
@@ -101,7 +102,7 @@ early_so : (until : ℕ) (o : Option ℕ) (x : ℕ) → ((n : ℕ) → o ≡ Som
 early_so until None x early l = l
 early_so until (Some n) x early l = let m = early n refl in omega (arith, l, m)
 
-next_switch : (levels : List Level) (until : ℕ) (t : Trigger) (x : ℕ) → trig.next levels until t ≡ Switches x → SwitchesAt levels t x × (x < until)
+pub next_switch : (levels : List Level) (until : ℕ) (t : Trigger) (x : ℕ) → trig.next levels until t ≡ Switches x → SwitchesAt levels t x × (x < until)
 next_switch levels until t x is =
     let expiry = trig.expiry_of until t in
     let at = was_switch levels (trig.or_until until expiry) t.can t.sampling x (earliest_switch expiry (trig.switch_of levels until t) (trig.report_of levels until t) x is) in
@@ -302,7 +303,7 @@ begun_reason false now g y e = cc
 
 -- the readings that a command begins are in place of those that went on, whatever those were
 pub begun_true : (E : ℕ → (ℕ → Type 0)) (F G H : ℕ → Type 0) (pins : List (List Level)) (oid pin now : ℕ) (g : Homing) (s : Slot) → E oid pin → g.reason < 2 ^ 8
-    → (g.reason ≡ 1 → (pin tick : ℕ) → E oid pin → IsComplete (slice_index_or pins pin []) g tick → G tick) → IsTrue F H pins s → IsTrue F G pins (record s { trigger = trig.sampling now g s.trigger; pin = pin })
+    → (g.reason ≡ 1 → (pin tick : ℕ) → E oid pin → IsComplete (slice_index_or pins pin []) g now tick → G tick) → IsTrue F H pins s → IsTrue F G pins (record s { trigger = trig.sampling now g s.trigger; pin = pin })
 begun_true E F G H pins oid pin now g s at l n k = record {
   reason = k.reason;
   expire = k.expire;
@@ -310,12 +311,12 @@ begun_true E F G H pins oid pin now g s at l n k = record {
   fired = k.fired;
   sampled = λ y is. (
       let same = begun_reason (g.sample_count == 0) now g y is in
-      (omega (arith, l, same), λ one x done. n (same ∙ one) pin x at (record { now = now; sampling = y; begun = is; complete = done })));
+      (omega (arith, l, same), λ one x done. n (same ∙ one) pin x at (record { sampling = y; begun = is; complete = done })));
   ended = k.ended;
 }
 
 home_true : (E : ℕ → (ℕ → Type 0)) (F G : ℕ → Type 0) (pins : List (List Level)) (r : Rig) (oid other : ℕ) (p : Option ℕ) (o : Option Slot) (g : Homing) → slice_index_or r.endstops oid None ≡ p → slot_at r other ≡ o → g.reason < 2 ^ 8
-    → (g.reason ≡ 1 → (pin tick : ℕ) → E oid pin → IsComplete (slice_index_or pins pin []) g tick → G tick) → AllTrue E F G pins r → AllTrue E F G pins (home r p other o g)
+    → (g.reason ≡ 1 → (pin tick : ℕ) → E oid pin → IsComplete (slice_index_or pins pin []) g r.controller.tick tick → G tick) → AllTrue E F G pins r → AllTrue E F G pins (home r p other o g)
 home_true E F G pins r oid other None o g at e l n all = all
 home_true E F G pins r oid other (Some pin) None g at e l n all = all
 home_true E F G pins r oid other (Some pin) (Some s) g at e l n all =
@@ -355,30 +356,30 @@ endstop_true E F G pins r oid pin None is all = record {
 }
 endstop_true E F G pins r oid pin (Some p) is all = all
 
-acts_true : (E : ℕ → (ℕ → Type 0)) (F G : ℕ → Type 0) (pins : List (List Level)) (r : Rig) (c : Cmd) → IsFit E G pins c → AllTrue E F G pins r → AllTrue E F G pins (acts r c).rig × Each (Says F) (acts r c).answers
-acts_true E F G pins r (cmd.ConfigTrsync oid) fit all = (made_true E F G pins r oid (slot_at r oid) all, tt)
-acts_true E F G pins r (cmd.TrsyncStart oid clock every reason) fit all = (start_true E F G pins r oid (slot_at r oid) clock every reason fit.0 fit.1 refl all, tt)
-acts_true E F G pins r (cmd.TrsyncSetTimeout oid clock) fit all = limit_true E F G pins r oid clock (slot_at r oid) refl all
-acts_true E F G pins r (cmd.TrsyncTrigger oid reason) fit all = trigger_true E F G pins r oid reason (slot_at r oid) fit.0 fit.1 refl all
-acts_true E F G pins r (cmd.StepperStopOnTrigger oid other) fit all = (bind_true E F G pins r oid other (stepper_at r.controller oid) (slot_at r other) refl all, tt)
-acts_true E F G pins r (cmd.ConfigEndstop oid pin pull) fit all = (endstop_true E F G pins r oid pin (slice_index_or r.endstops oid None) fit all, tt)
-acts_true E F G pins r (cmd.EndstopHome oid clock sample count rest value other reason) fit all = (
-  home_true E F G pins r oid other (slice_index_or r.endstops oid None) (slot_at r other) (record { clock = clock; sample_ticks = sample; sample_count = count; rest_ticks = rest; pin_value = value; reason = reason }) refl refl fit.0 fit.1 all,
+acts_true : (E : ℕ → (ℕ → Type 0)) (F G : ℕ → Type 0) (H : ℕ → (ℕ → Type 0)) (pins : List (List Level)) (r : Rig) (c : Cmd) → ((x : ℕ) → H r.controller.tick x → G x) → IsFit E H pins c → AllTrue E F G pins r → AllTrue E F G pins (acts r c).rig × Each (Says F) (acts r c).answers
+acts_true E F G H pins r (cmd.ConfigTrsync oid) to fit all = (made_true E F G pins r oid (slot_at r oid) all, tt)
+acts_true E F G H pins r (cmd.TrsyncStart oid clock every reason) to fit all = (start_true E F G pins r oid (slot_at r oid) clock every reason fit.0 fit.1 refl all, tt)
+acts_true E F G H pins r (cmd.TrsyncSetTimeout oid clock) to fit all = limit_true E F G pins r oid clock (slot_at r oid) refl all
+acts_true E F G H pins r (cmd.TrsyncTrigger oid reason) to fit all = trigger_true E F G pins r oid reason (slot_at r oid) fit.0 fit.1 refl all
+acts_true E F G H pins r (cmd.StepperStopOnTrigger oid other) to fit all = (bind_true E F G pins r oid other (stepper_at r.controller oid) (slot_at r other) refl all, tt)
+acts_true E F G H pins r (cmd.ConfigEndstop oid pin pull) to fit all = (endstop_true E F G pins r oid pin (slice_index_or r.endstops oid None) fit all, tt)
+acts_true E F G H pins r (cmd.EndstopHome oid clock sample count rest value other reason) to fit all = (
+  home_true E F G pins r oid other (slice_index_or r.endstops oid None) (slot_at r other) (record { clock = clock; sample_ticks = sample; sample_count = count; rest_ticks = rest; pin_value = value; reason = reason }) refl refl fit.0 (λ one pin tick at k. to tick (fit.1 one pin r.controller.tick tick at k)) all,
   tt,
 )
-acts_true E F G pins r c fit all = (same_true E F G pins r (acts r c).rig refl refl refl all, others_say F (board_takes r.controller c).answers (board_tells r.controller c))
+acts_true E F G H pins r c to fit all = (same_true E F G pins r (acts r c).rig refl refl refl all, others_say F (board_takes r.controller c).answers (board_tells r.controller c))
 
-running_true : (o : BoardState) (E : ℕ → (ℕ → Type 0)) (F G : ℕ → Type 0) (pins : List (List Level)) (r : Rig) (c : Cmd) → IsFit E G pins c → AllTrue E F G pins r → AllTrue E F G pins (acts_running o r c).rig × Each (Says F) (acts_running o r c).answers
-running_true Running E F G pins r c fit all = acts_true E F G pins r c fit all
-running_true (Shut reason at first) E F G pins r c fit all =
+running_true : (o : BoardState) (E : ℕ → (ℕ → Type 0)) (F G : ℕ → Type 0) (H : ℕ → (ℕ → Type 0)) (pins : List (List Level)) (r : Rig) (c : Cmd) → ((x : ℕ) → H r.controller.tick x → G x) → IsFit E H pins c → AllTrue E F G pins r → AllTrue E F G pins (acts_running o r c).rig × Each (Says F) (acts_running o r c).answers
+running_true Running E F G H pins r c to fit all = acts_true E F G H pins r c to fit all
+running_true (Shut reason at first) E F G H pins r c to fit all =
     (same_true E F G pins r (acts_running (Shut reason at first) r c).rig refl refl refl all, others_say F (board_takes r.controller c).answers (board_tells r.controller c))
 
--- commands keep a board so, and what it answers of its triggers is so
-pub takes_true : (E : ℕ → (ℕ → Type 0)) (F G : ℕ → Type 0) (pins : List (List Level)) (r : Rig) (cs : List Cmd) → Each (IsFit E G pins) cs → AllTrue E F G pins r → AllTrue E F G pins (takes_all r cs).rig × Each (Says F) (takes_all r cs).answers
-takes_true E F G pins r [] fit all = (all, tt)
-takes_true E F G pins r (c ∷ cs) fit all =
-    let one = running_true r.controller.state E F G pins r c fit.0 all in
-    let rest = takes_true E F G pins (takes r c).rig cs fit.1 one.0 in
+-- commands that are fit at the board's tick keep it so, and what it answers of its triggers is so
+pub takes_true : (E : ℕ → (ℕ → Type 0)) (F G : ℕ → Type 0) (H : ℕ → (ℕ → Type 0)) (pins : List (List Level)) (r : Rig) (cs : List Cmd) → ((x : ℕ) → H r.controller.tick x → G x) → Each (IsFit E H pins) cs → AllTrue E F G pins r → AllTrue E F G pins (takes_all r cs).rig × Each (Says F) (takes_all r cs).answers
+takes_true E F G H pins r [] to fit all = (all, tt)
+takes_true E F G H pins r (c ∷ cs) to fit all =
+    let one = running_true r.controller.state E F G H pins r c to fit.0 all in
+    let rest = takes_true E F G H pins (takes r c).rig cs (λ x k. to x (subst (λ (n : ℕ). H n x) (takes_rig_tick r c) k)) fit.1 one.0 in
     (rest.0, each_both (Says F) (takes r c).answers (takes_all (takes r c).rig cs).answers one.1 rest.1)
 
 shut_if : (F : ℕ → Type 0) (b : Bool) (reason : ℕ) → Each (Says F) (if b then cmd.IsShutdown reason ∷ [] else [])

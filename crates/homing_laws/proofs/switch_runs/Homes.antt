@@ -1,5 +1,5 @@
--- 250 turns before its start a homing section's endstop board is ordered to read the switch, behind what made that endstop.
-use Rattle.std.proofs.Common.{◌≡◌, ◌≢◌, ℕ, zero, suc, ◌+◌, ◌<◌, ◌≤◌, ◌==◌, ◌&&◌, ◌⊎◌, inl, inr, Bool, true, false, not, cond, List, [], ◌∷◌, ◌++◌, length, map, drop, Option, Some, None, refl, ap, sym, ◌∙◌, subst, arith}
+-- Past connecting the endstop of each axis was made on its board.
+use Rattle.std.proofs.Common.{◌≡◌, ℕ, zero, suc, ◌+◌, ◌<◌, ◌≤◌, ◌==◌, ◌&&◌, ◌⊎◌, inl, inr, Bool, true, false, not, cond, List, [], ◌∷◌, ◌++◌, length, map, refl, sym, subst, arith}
 use Rattle.std.specs.Prelude.{slice_index_or}
 use Rattle.std.specs.List.{filter, flat_map}
 use Rattle.std.proofs.lemmas.Bool.{eq-eqb}
@@ -7,185 +7,37 @@ use Rattle.std.proofs.lemmas.Bool.Decides.{eqb_tells}
 use Rattle.std.proofs.lemmas.List.{map-append}
 use Rattle.plan_types.specs.declared.levels.Level.{Level}
 use Rattle.plan_types.specs.declared.machine.AxisDef.{AxisDef}
-use Rattle.plan_types.specs.declared.machine.BoardDef.{BoardDef}
 use Rattle.plan_types.specs.declared.machine.Machine.{Machine}
-use Rattle.plan_types.specs.Lines.{Clocks}
-use Rattle.plan_types.specs.Machines.{IsValidMachine, axis_at, board_at}
+use Rattle.plan_types.specs.Machines.{IsValidMachine, axis_at}
 use Rattle.msg_code.specs.declared.cmd.Cmd.{Cmd}
 use Rattle.msg_code.specs.declared.cmd.Cmd.TheVariants as cmd
-use Rattle.msg_code.specs.declared.talk.State.{State}
-use Rattle.msg_code.specs.declared.unit.Control.{Control}
 use Rattle.wire_scene.specs.declared.scene.Entry.{Entry}
 use Rattle.wire_scene.specs.declared.scene.Switch.{Switch}
 use Rattle.board_sim.specs.Fair.{commands_of}
 use Rattle.board_world.specs.Orders.{units_orders}
 use Rattle.link_work.specs.Runs.{queued_in}
 use Rattle.link_work.specs.Stands.{orders}
-use Rattle.board_asking.specs.declared.asking.Asking.{Asking}
 use Rattle.board_asking.specs.declared.setup.Setup.TheVariants.{Finish, Trsync}
-use Rattle.board_asking.specs.Drift.{clock_question, drifts, waits_in}
 use Rattle.board_asking.specs.Machine.{configuration, endstop_pins, is_among, pins_of, setup_command, setup_endstops, setup_stepper, trigger_of}
-use Rattle.trigger_group.specs.declared.order.End.{End}
-use Rattle.trigger_group.specs.declared.order.Ctl.{Ctl}
-use Rattle.trigger_group.specs.declared.order.Member.{Member}
-use Rattle.trigger_group.specs.declared.order.Order.TheVariants as order
-use Rattle.trigger_group.specs.declared.round.Phase.{Phase}
-use Rattle.trigger_group.specs.declared.round.Phase.TheVariants.{Sends}
-use Rattle.trigger_group.specs.declared.round.Round.TheVariants.{Homes}
-use Rattle.trigger_group.specs.declared.seen.Seen.{Seen}
-use Rattle.trigger_group.specs.Group.{orders_in, orders_to, phase, round_of, steppers, stop, to_board}
-use Rattle.axis_homing.specs.declared.homing.Homing.{Homing}
-use Rattle.axis_homing.specs.Homing.{answer_in, by_answer, commands_to, hears_all, homing_turn, member_where, members_from, moving_on, order_command, place_from}
-use Rattle.axis_homing.specs.Rising.{members_of}
-use Rattle.host_reactor.specs.declared.ordered.Known.{Known}
+use Rattle.trigger_group.specs.Group.{phase, steppers}
+use Rattle.axis_homing.specs.Homing.{place_from}
 use Rattle.host_reactor.specs.declared.ordered.Phase.TheVariants.{Connecting}
-use Rattle.host_reactor.specs.Notes.{noted}
-use Rattle.host_reactor.specs.Reactor.{Reacted, homing_commands, stop_command, stops}
-use Rattle.host_reactor.specs.Runs.{Came, known_by, last_turn}
+use Rattle.host_reactor.specs.Runs.{Came, known_by}
 use Rattle.board_runs.specs.Turns.{BoardTurn}
 use Rattle.clock_runs.specs.Ordered.{commands_in, configures}
 use Rattle.clock_runs.specs.Runs.{IsInRun}
 use Rattle.clock_runs.specs.Samples.{IsAmong}
 use Rattle.clock_runs.proofs.Configured.{all_configured, pins_few}
-use Rattle.clock_runs.proofs.Controls.{states_start}
-use Rattle.clock_runs.proofs.Lines.{noted_phase, turn_of}
-use Rattle.clock_runs.proofs.Turning.{Asks, BoardTurned, Ends, Runs}
 use Rattle.run_parts.proofs.Controlled.{few_on}
-use Rattle.homing_laws.specs.home_runs.Sections.{IsOf, queued_by}
-use Rattle.homing_laws.proofs.home_runs.Controlling.{connecting_not, not_yet, phase_homes}
-use Rattle.homing_laws.proofs.home_runs.Forming.{IsFormed, known_formed, noted_formed}
-use Rattle.homing_laws.proofs.home_runs.Grouped.{members_states}
+use Rattle.homing_laws.specs.home_runs.Sections.{queued_by}
 use Rattle.homing_laws.proofs.home_runs.Setting.{commands_both}
 use Rattle.homing_laws.proofs.home_runs.Staging as staging
 use Rattle.homing_laws.proofs.home_runs.Whole.{turn_commands}
-use Rattle.homing_laws.specs.switch_runs.Renewed.{IsHome, MakesEndstop}
-use Rattle.homing_laws.specs.switch_runs.Runs.{IsFor}
-
--- some commands have a homing command
-abbrev pub HasHome : ℕ → ℕ → List Cmd → Type 0
-HasHome e j [] = ⊥
-HasHome e j (c ∷ cs) = IsHome e j c ⊎ HasHome e j cs
-
-pub home_front : (e j : ℕ) (xs ys : List Cmd) → HasHome e j xs → HasHome e j (xs ++ ys)
-home_front e j [] ys h = absurd h
-home_front e j (x ∷ xs) ys (inl h) = inl h
-home_front e j (x ∷ xs) ys (inr h) = inr (home_front e j xs ys h)
-
-pub home_behind : (e j : ℕ) (xs ys : List Cmd) → HasHome e j ys → HasHome e j (xs ++ ys)
-home_behind e j [] ys h = h
-home_behind e j (x ∷ xs) ys h = inr (home_behind e j xs ys h)
+use Rattle.homing_laws.specs.switch_runs.Made.{MakesEndstop}
 
 -- the object id of an axis's endstop on a board
 abbrev pub endstop_of : Machine → ℕ → AxisDef → ℕ
 endstop_of m b axis = place_from (trigger_of m b + 1) axis.pin (endstop_pins m b)
-
--- a board is the member with the endstop
-abbrev EndsOn : ℕ → List Member → Type 0
-EndsOn b [] = ⊥
-EndsOn b (x ∷ ms) = ((x.board ≡ b) × (x.endstop ≡ true)) ⊎ EndsOn b ms
-
-abbrev SeenOn : ℕ → List Seen → Type 0
-SeenOn b [] = ⊥
-SeenOn b (x ∷ xs) = ((x.member.board ≡ b) × (x.member.endstop ≡ true)) ⊎ SeenOn b xs
-
-seen_ends : (b : ℕ) (xs : List Seen) → EndsOn b (map (λ (x : Seen). x.member) xs) → SeenOn b xs
-seen_ends b [] k = absurd k
-seen_ends b (x ∷ xs) (inl k) = inl k
-seen_ends b (x ∷ xs) (inr k) = inr (seen_ends b xs k)
-
-ends_behind : (b : ℕ) (xs ys : List Member) → EndsOn b ys → EndsOn b (xs ++ ys)
-ends_behind b [] ys k = k
-ends_behind b (x ∷ xs) ys k = inr (ends_behind b xs ys k)
-
-members_end : (m : Machine) (axis : AxisDef) (b n moving : ℕ) (boards : List BoardDef) → axis.board ≡ b → n ≤ b → b < n + length boards → EndsOn b (members_from m axis moving n boards)
-members_end m axis b n moving [] same low high = absurd (omega (arith, low, high))
-members_end m axis b n moving (d ∷ boards) same low high =
-    let rest = members_from m axis moving (n + 1) boards in
-    let At : Bool → Type 0 = λ t. EndsOn b (member_where n t (moving_on n moving m.steppers) ++ rest) in
-    elim (eqb_tells axis.board n) [
-      | inl p ↦ subst At (sym p.0) (inl (sym p.1 ∙ same, refl))
-      | inr p ↦
-          let other : n ≢ b = λ e. p.1 (same ∙ sym e) in
-          subst At (sym p.0) (ends_behind b (member_where n false (moving_on n moving m.steppers)) rest (members_end m axis b (n + 1) moving boards same (grind (arith, low, other)) (omega (arith, high))))
-    ]
-
--- the order to read the switch
-orders_home : (m : Machine) (own : Clocks) (b start : ℕ) (axis : AxisDef) (x : Seen) → x.member.board ≡ b → x.member.endstop ≡ true
-    → HasHome (endstop_of m b axis) (trigger_of m b) (commands_to m own b start axis (orders_to Homes x))
-orders_home m own b start axis x same is =
-    let e = endstop_of m b axis in
-    let j = trigger_of m b in
-    let stops = map (stop x) (drop 8 (steppers x)) in
-    let end_of : List Ctl = to_board x order.Home ∷ [] in
-    let one : HasHome e j (commands_to m own b start axis end_of) =
-    subst (λ (t : Bool). HasHome e j (cond t (order_command m own b start axis order.Home ∷ []) [] ++ [])) (sym (eq-eqb x.member.board b same)) (inl (refl, refl)) in
-    let By : Bool → Type 0 = λ t. HasHome e j (commands_to m own b start axis (stops ++ cond t end_of [])) in
-    subst By (sym is)
-    (subst (λ (l : List Cmd). HasHome e j l) (sym (commands_both m own b start axis stops end_of)) (home_behind e j (commands_to m own b start axis stops) (commands_to m own b start axis end_of) one))
-
-round_home : (m : Machine) (own : Clocks) (b start : ℕ) (axis : AxisDef) (xs : List Seen) → SeenOn b xs → HasHome (endstop_of m b axis) (trigger_of m b) (commands_to m own b start axis (round_of Homes xs))
-round_home m own b start axis [] k = absurd k
-round_home m own b start axis (x ∷ xs) k =
-    let e = endstop_of m b axis in
-    let j = trigger_of m b in
-    let first = commands_to m own b start axis (orders_to Homes x) in
-    let rest = commands_to m own b start axis (round_of Homes xs) in
-    subst (λ (l : List Cmd). HasHome e j l) (sym (commands_both m own b start axis (orders_to Homes x) (round_of Homes xs))) (elim k [
-      | inl here ↦ home_front e j first rest (orders_home m own b start axis x here.0 here.1)
-      | inr later ↦ home_behind e j first rest (round_home m own b start axis xs later)
-    ])
-
--- in the turn of that round
-group_home : (m : Machine) (own : Clocks) (b k : ℕ) (g : Homing) → answer_in k g.start g.group ≡ None → phase g.group.start g.group.last k ≡ Sends Homes → SeenOn b g.group.members
-    → HasHome (endstop_of m b (axis_at m g.axis)) (trigger_of m b) (homing_commands m (by_answer k g (answer_in k g.start g.group)) own b)
-group_home m own b k g none is on =
-    let e = endstop_of m b (axis_at m g.axis) in
-    let j = trigger_of m b in
-    let By : Option End → Type 0 = λ o. HasHome e j (homing_commands m (by_answer k g o) own b) in
-    let In : Phase → Type 0 = λ p. HasHome e j (commands_to m own b g.start (axis_at m g.axis) (orders_in p g.group k)) in
-    subst By (sym none) (subst In (sym is) (round_home m own b g.start (axis_at m g.axis) g.group.members on))
-
-homes_now : (m : Machine) (all : List Clocks) (states : List State) (own : Clocks) (b k : ℕ) (h : Homing) → h.start ≡ h.group.start → h.group.start ≡ k + 250 → EndsOn b (members_of h.group)
-    → HasHome (endstop_of m b (axis_at m h.axis)) (trigger_of m b) (homing_commands m (homing_turn all k states (Some h)) own b)
-homes_now m all states own b k h together e on =
-    let g = hears_all all states h in
-    let members = members_states all 0 h.start states h.group in
-    group_home m own b k g (not_yet k g.start g.group (omega (arith, e, together))) (phase_homes g.group.start g.group.last k (states_start all 0 h.start states h.group ∙ e))
-    (seen_ends b g.group.members (subst (λ (l : List Member). EndsOn b l) (sym members) on))
-
--- the control of a board that is past connecting
-control_home : (m : Machine) (e b : ℕ) (c : Came) (r : Known) (k start : ℕ) (ms : List Member) (a : Asking) (x : Reacted) (t : BoardTurn) (o : Option Homing) → r.homing ≡ o → IsOf start ms o
-    → (r.phase ≡ Connecting → ⊥) → BoardTurned m r b k c.states a x t.control
-    → ((h : Homing) (own : Clocks) → r.homing ≡ Some h → HasHome e (trigger_of m b) (homing_commands m (homing_turn r.clocks k c.states (Some h)) own b)) → HasHome e (trigger_of m b) t.control.commands
-control_home m e b c r k start ms a x t o is of n (Asks p g) has = absurd (n p)
-control_home m e b c r k start ms a x t o is of n (Ends p g) has = absurd (n p)
-control_home m e b c r k start ms a x t None is of n (Runs p g) has = absurd of
-control_home m e b c r k start ms a x t (Some h) is of n (Runs p g) has =
-    let j = trigger_of m b in
-    let waits = waits_in (drifts (board_at m b).drift) k a in
-    let commands = homing_commands m (homing_turn r.clocks k c.states r.homing) g.own b in
-    let Home : Option Homing → Type 0 = λ y. HasHome e j (homing_commands m (homing_turn r.clocks k c.states y) g.own b) in
-    subst (λ (y : Control). HasHome e j y.commands) (sym g.control_is) (home_front e j commands (clock_question commands waits ++ stop_command (stops g.stop)) (subst Home (sym is) (has h g.own is)))
-
--- the board of the axis's endstop is ordered so, 250 turns before the start
-pub turn_home : (m : Machine) (switches : List Switch) (pins : List (List Level)) (entries : List Entry) (b : ℕ) (c : Came) (before : List Came) (t : BoardTurn) (turns : List BoardTurn) (start axis : ℕ) (ms : List Member)
-    → IsInRun m switches pins entries b (c ∷ before) (t ∷ turns) → ((known_by m switches before).phase ≡ Connecting → ⊥) → IsOf start ms (noted m c.note (known_by m switches before)).homing
-    → IsFor start axis (noted m c.note (known_by m switches before)).homing → start ≡ length before + 250 → (axis_at m axis).board ≡ b → b < length m.boards
-    → HasHome (endstop_of m b (axis_at m axis)) (trigger_of m b) t.control.commands
-turn_home m switches pins entries b c before t turns start axis ms r n of for e on low =
-    let x = turn_of m switches pins entries b c before t turns r in
-    let known = known_by m switches before in
-    let now = noted m c.note known in
-    let formed = noted_formed m c.note known (known_formed m switches before r.goes_on.1) in
-    control_home m (endstop_of m b (axis_at m axis)) b c now (length before) start ms x.a (last_turn m switches c before) t now.homing refl of (connecting_not now known (noted_phase m c.note known) n) x.turned
-    (λ h own is.
-    let o = subst (λ (z : Option Homing). IsOf start ms z) is of in
-    let a = subst (λ (z : Option Homing). IsFor start axis z) is for in
-    let f = subst (λ (z : Option Homing). IsFormed m z) is formed in
-    let same : f.0 ≡ axis_at m axis = f.3 ∙ ap (axis_at m) a.1 in
-    let ends : EndsOn b (members_of h.group) = subst (λ (l : List Member). EndsOn b l) (sym f.2) (members_end m f.0 b 0 f.1 m.boards (ap (λ (z : AxisDef). z.board) same ∙ on) (omega arith) (omega (arith, low))) in
-    subst (λ (i : ℕ). HasHome (endstop_of m b (axis_at m i)) (trigger_of m b) (homing_commands m (homing_turn now.clocks (length before) c.states (Some h)) own b)) a.1
-    (homes_now m now.clocks c.states own b (length before) h (o.0 ∙ sym o.1) (o.1 ∙ e) ends))
 
 -- the endstop of an axis is made as its board is configured
 makes_behind : (e : ℕ) (xs ys : List Cmd) → MakesEndstop e ys → MakesEndstop e (xs ++ ys)

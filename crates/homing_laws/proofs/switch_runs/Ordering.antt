@@ -131,14 +131,14 @@ fitting_pinned E room (s ∷ ss) a = one (nat_le (command_bytes (setup_command s
     one true k = (a.0, k)
     one false k = tt
 
-setup_fit : (E : ℕ → (ℕ → Type 0)) (F : ℕ → Type 0) (pins : List (List Level)) (s : Setup) → Pinned E s → IsFit E F pins (setup_command s)
+setup_fit : (E : ℕ → (ℕ → Type 0)) (F : ℕ → (ℕ → Type 0)) (pins : List (List Level)) (s : Setup) → Pinned E s → IsFit E F pins (setup_command s)
 setup_fit E F pins (Oids count) a = tt
 setup_fit E F pins (Stepper oid step dir) a = tt
 setup_fit E F pins (Trsync oid) a = tt
 setup_fit E F pins (Endstop oid pin) a = a
 setup_fit E F pins Finish a = tt
 
-setups_fit : (E : ℕ → (ℕ → Type 0)) (F : ℕ → Type 0) (pins : List (List Level)) (ss : List Setup) → AllPinned E ss → Each (IsFit E F pins) (map setup_command ss)
+setups_fit : (E : ℕ → (ℕ → Type 0)) (F : ℕ → (ℕ → Type 0)) (pins : List (List Level)) (ss : List Setup) → AllPinned E ss → Each (IsFit E F pins) (map setup_command ss)
 setups_fit E F pins [] a = tt
 setups_fit E F pins (s ∷ ss) a = (setup_fit E F pins s a.0, setups_fit E F pins ss a.1)
 
@@ -146,7 +146,7 @@ fit_if : (P : Cmd → Type 0) (t : Bool) (cs : List Cmd) → Each P cs → Each 
 fit_if P true cs a = a
 fit_if P false cs a = tt
 
-asks_fit : (E : ℕ → (ℕ → Type 0)) (F : ℕ → Type 0) (pins : List (List Level)) (setups : List Setup) (k : ℕ) (a : Asking) (stage : Stage) → AllPinned E setups → Each (IsFit E F pins) (asks setups k a stage)
+asks_fit : (E : ℕ → (ℕ → Type 0)) (F : ℕ → (ℕ → Type 0)) (pins : List (List Level)) (setups : List Setup) (k : ℕ) (a : Asking) (stage : Stage) → AllPinned E setups → Each (IsFit E F pins) (asks setups k a stage)
 asks_fit E F pins setups k a (Identify offset) p = fit_if (IsFit E F pins) (is_due k a.since) (question (Identify offset)) (tt, tt)
 asks_fit E F pins setups k a Uptime p = fit_if (IsFit E F pins) (is_due k a.since) (question Uptime) (tt, tt)
 asks_fit E F pins setups k a (Configure n) p = setups_fit E F pins (fitting control_bytes (drop n setups)) (fitting_pinned E control_bytes (drop n setups) (dropped_pinned E n setups p))
@@ -154,39 +154,39 @@ asks_fit E F pins setups k a Config p = fit_if (IsFit E F pins) (is_due k a.sinc
 asks_fit E F pins setups k a Connected p = fit_if (IsFit E F pins) (is_due k a.since) (question Connected) tt
 
 -- what homing orders
-abbrev pub Reads : Machine → List (List Level) → ℕ → (ℕ → Type 0) → Clocks → ℕ → AxisDef → Type 0
-Reads m pins b F own start axis = (tick : ℕ) → IsComplete (slice_index_or pins axis.pin []) (readings m b axis (low (turn_tick own start))) tick → F tick
+abbrev pub Reads : Machine → List (List Level) → ℕ → (ℕ → (ℕ → Type 0)) → Clocks → ℕ → AxisDef → Type 0
+Reads m pins b F own start axis = (now tick : ℕ) → IsComplete (slice_index_or pins axis.pin []) (readings m b axis (low (turn_tick own start))) now tick → F now tick
 
-order_fit : (m : Machine) (pins : List (List Level)) (b : ℕ) (F : ℕ → Type 0) (own : Clocks) (start : ℕ) (axis : AxisDef) (o : Order) → Reads m pins b F own start axis → IsFit (IsEndstop m b) F pins (order_command m own b start axis o)
+order_fit : (m : Machine) (pins : List (List Level)) (b : ℕ) (F : ℕ → (ℕ → Type 0)) (own : Clocks) (start : ℕ) (axis : AxisDef) (o : Order) → Reads m pins b F own start axis → IsFit (IsEndstop m b) F pins (order_command m own b start axis o)
 order_fit m pins b F own start axis (order.Reset i) f = tt
 order_fit m pins b F own start axis (order.Stop i) f = tt
 order_fit m pins b F own start axis order.Start f = (omega arith, λ e. absurd (omega (arith, e)))
 order_fit m pins b F own start axis (order.Timeout turn) f = tt
 order_fit m pins b F own start axis order.Home f =
-    (omega arith, λ e pin tick at complete. f tick (subst (λ (n : ℕ). IsComplete (slice_index_or pins n []) (readings m b axis (low (turn_tick own start))) tick) (pin_of (trigger_of m b + 1) axis.pin pin (endstop_pins m b) at) complete))
+    (omega arith, λ e pin now tick at complete. f now tick (subst (λ (n : ℕ). IsComplete (slice_index_or pins n []) (readings m b axis (low (turn_tick own start))) now tick) (pin_of (trigger_of m b + 1) axis.pin pin (endstop_pins m b) at) complete))
 order_fit m pins b F own start axis order.Trigger f = (omega arith, λ e. absurd (omega (arith, e)))
 
-ctls_fit : (m : Machine) (pins : List (List Level)) (b : ℕ) (F : ℕ → Type 0) (own : Clocks) (start : ℕ) (axis : AxisDef) (ctls : List Ctl) → Reads m pins b F own start axis
+ctls_fit : (m : Machine) (pins : List (List Level)) (b : ℕ) (F : ℕ → (ℕ → Type 0)) (own : Clocks) (start : ℕ) (axis : AxisDef) (ctls : List Ctl) → Reads m pins b F own start axis
     → Each (IsFit (IsEndstop m b) F pins) (commands_to m own b start axis ctls)
 ctls_fit m pins b F own start axis [] f = tt
 ctls_fit m pins b F own start axis (c ∷ ctls) f =
     each_both (IsFit (IsEndstop m b) F pins) (command_to m own b start axis c) (commands_to m own b start axis ctls)
     (fit_if (IsFit (IsEndstop m b) F pins) (c.board == b) (order_command m own b start axis c.what ∷ []) (order_fit m pins b F own start axis c.what f, tt)) (ctls_fit m pins b F own start axis ctls f)
 
-answer_fit : (m : Machine) (pins : List (List Level)) (b k : ℕ) (F : ℕ → Type 0) (own : Clocks) (h : Homing) (o : Option End) → Reads m pins b F own h.start (axis_at m h.axis)
+answer_fit : (m : Machine) (pins : List (List Level)) (b k : ℕ) (F : ℕ → (ℕ → Type 0)) (own : Clocks) (h : Homing) (o : Option End) → Reads m pins b F own h.start (axis_at m h.axis)
     → Each (IsFit (IsEndstop m b) F pins) (homing_commands m (by_answer k h o) own b)
 answer_fit m pins b k F own h None f = ctls_fit m pins b F own h.start (axis_at m h.axis) (by_answer k h None).ctls.items f
 answer_fit m pins b k F own h (Some (end.Endstop tick)) f = tt
 answer_fit m pins b k F own h (Some end.NoSwitch) f = tt
 answer_fit m pins b k F own h (Some (end.Expired board turn)) f = tt
 
-homing_fit : (m : Machine) (pins : List (List Level)) (b k : ℕ) (F : ℕ → Type 0) (all : List Clocks) (states : List State) (own : Clocks) (o : Option Homing) → ((h : Homing) → o ≡ Some h → Reads m pins b F own h.start (axis_at m h.axis))
+homing_fit : (m : Machine) (pins : List (List Level)) (b k : ℕ) (F : ℕ → (ℕ → Type 0)) (all : List Clocks) (states : List State) (own : Clocks) (o : Option Homing) → ((h : Homing) → o ≡ Some h → Reads m pins b F own h.start (axis_at m h.axis))
     → Each (IsFit (IsEndstop m b) F pins) (homing_commands m (homing_turn all k states o) own b)
 homing_fit m pins b k F all states own None f = tt
 homing_fit m pins b k F all states own (Some h) f = let g = hears_all all states h in answer_fit m pins b k F own g (answer_in k g.start g.group) (f h refl)
 
 -- the control of a turn
-question_fit : (E : ℕ → (ℕ → Type 0)) (F : ℕ → Type 0) (pins : List (List Level)) (commands : List Cmd) (a : Asking) (stop : Bool) → Each (IsFit E F pins) (clock_question commands a ++ stop_command stop)
+question_fit : (E : ℕ → (ℕ → Type 0)) (F : ℕ → (ℕ → Type 0)) (pins : List (List Level)) (commands : List Cmd) (a : Asking) (stop : Bool) → Each (IsFit E F pins) (clock_question commands a ++ stop_command stop)
 question_fit E F pins commands a stop =
     each_both (IsFit E F pins) (clock_question commands a) (stop_command stop) (fit_if (IsFit E F pins) (asks_now commands a) (cmd.GetUptime ∷ []) (tt, tt)) (one stop)
   where
@@ -199,7 +199,7 @@ lines_at b [] own e = cc
 lines_at zero (c ∷ clocks) own e = cc
 lines_at (suc b) (c ∷ clocks) own e = lines_at b clocks own e
 
-pub control_fit : (m : Machine) (pins : List (List Level)) (b k : ℕ) (F : ℕ → Type 0) (r : Known) (states : List State) (a : Asking) (x : Reacted) (c : Control) → BoardTurned m r b k states a x c
+pub control_fit : (m : Machine) (pins : List (List Level)) (b k : ℕ) (F : ℕ → (ℕ → Type 0)) (r : Known) (states : List State) (a : Asking) (x : Reacted) (c : Control) → BoardTurned m r b k states a x c
     → ((h : Homing) (own : Clocks) → r.homing ≡ Some h → own ≡ clocks_at r.clocks b → Reads m pins b F own h.start (axis_at m h.axis)) → Each (IsFit (IsEndstop m b) F pins) c.commands
 control_fit m pins b k F r states a x c (Asks p g) f =
     let ready_a = ready (configuration m b) a in
@@ -213,15 +213,15 @@ control_fit m pins b k F r states a x c (Runs p g) f =
     (homing_fit m pins b k F r.clocks states g.own r.homing (λ h e. f h g.own e (lines_at b r.clocks g.own g.own_is))) (question_fit (IsEndstop m b) F pins commands waits (stops g.stop)))
 
 -- what comes to a board in a turn
-pub fit_both : (E : ℕ → (ℕ → Type 0)) (F : ℕ → Type 0) (pins : List (List Level)) (xs ys : List Meant) → AreFit E F pins xs → AreFit E F pins ys → AreFit E F pins (xs ++ ys)
+pub fit_both : (E : ℕ → (ℕ → Type 0)) (F : ℕ → (ℕ → Type 0)) (pins : List (List Level)) (xs ys : List Meant) → AreFit E F pins xs → AreFit E F pins ys → AreFit E F pins (xs ++ ys)
 fit_both E F pins [] ys a b = b
 fit_both E F pins (x ∷ xs) ys a b = (a.0, fit_both E F pins xs ys a.1 b)
 
-pub plain_fit : (E : ℕ → (ℕ → Type 0)) (F : ℕ → Type 0) (pins : List (List Level)) (cs : List Cmd) → Each (IsFit E F pins) cs → AreFit E F pins (map plain cs)
+pub plain_fit : (E : ℕ → (ℕ → Type 0)) (F : ℕ → (ℕ → Type 0)) (pins : List (List Level)) (cs : List Cmd) → Each (IsFit E F pins) cs → AreFit E F pins (map plain cs)
 plain_fit E F pins [] a = tt
 plain_fit E F pins (c ∷ cs) a = (a.0, plain_fit E F pins cs a.1)
 
-unit_fit : (E : ℕ → (ℕ → Type 0)) (F : ℕ → Type 0) (pins : List (List Level)) (u : StepUnit) → AreFit E F pins (unit_orders u)
+unit_fit : (E : ℕ → (ℕ → Type 0)) (F : ℕ → (ℕ → Type 0)) (pins : List (List Level)) (u : StepUnit) → AreFit E F pins (unit_orders u)
 unit_fit E F pins u = one u.reset u.up
   where
     one : (r : Option ℕ) (d : Option Bool) → AreFit E F pins (map plain (reset_commands u.stepper r) ++ (map plain (dir_commands u.stepper d) ++ record { command = step_command u; ticks = unit_ticks u } ∷ []))
@@ -230,30 +230,30 @@ unit_fit E F pins u = one u.reset u.up
     one (Some r) None = (tt, (tt, tt))
     one (Some r) (Some d) = (tt, (tt, (tt, tt)))
 
-pub units_fit : (E : ℕ → (ℕ → Type 0)) (F : ℕ → Type 0) (pins : List (List Level)) (us : List StepUnit) → AreFit E F pins (units_orders us)
+pub units_fit : (E : ℕ → (ℕ → Type 0)) (F : ℕ → (ℕ → Type 0)) (pins : List (List Level)) (us : List StepUnit) → AreFit E F pins (units_orders us)
 units_fit E F pins [] = tt
 units_fit E F pins (u ∷ us) = fit_both E F pins (unit_orders u) (units_orders us) (unit_fit E F pins u) (units_fit E F pins us)
 
 -- over the turns of a run
-pub bring_fit : (m : Machine) (switches : List Switch) (pins : List (List Level)) (entries : List Entry) (b : ℕ) (F : ℕ → Type 0) (came : List Came) (turns : List BoardTurn) → IsInRun m switches pins entries b came turns
-    → ((tick : ℕ) → IsRead m switches pins b came tick → F tick) → BringFit (IsEndstop m b) F pins turns
+pub bring_fit : (m : Machine) (switches : List Switch) (pins : List (List Level)) (entries : List Entry) (b : ℕ) (F : ℕ → (ℕ → Type 0)) (came : List Came) (turns : List BoardTurn) → IsInRun m switches pins entries b came turns
+    → ((tick : ℕ) (k : IsRead m switches pins b came tick) → F k.now tick) → BringFit (IsEndstop m b) F pins turns
 bring_fit m switches pins entries b F [] [] r f = tt
 bring_fit m switches pins entries b F [] (t ∷ turns) r f = absurd r.both
 bring_fit m switches pins entries b F (c ∷ before) [] r f = absurd r.both
 bring_fit m switches pins entries b F (c ∷ before) (t ∷ turns) r f =
     let x = turn_of m switches pins entries b c before t turns r in
     let known = noted m c.note (known_by m switches before) in
-    let reads = λ (h : Homing). λ (own : Clocks). λ (is : known.homing ≡ Some h). λ (lines : own ≡ clocks_at known.clocks b). λ (tick : ℕ).
-    λ (complete : IsComplete (slice_index_or pins (axis_at m h.axis).pin []) (readings m b (axis_at m h.axis) (low (turn_tick own h.start))) tick).
-    f tick (record { start = h.start; axis = h.axis; read = record { lines = own; knew = inl (record { homing = h; known = is; start_is = refl; axis_is = refl; lines_are = lines }); complete = complete } }) in (
+    let reads = λ (h : Homing). λ (own : Clocks). λ (is : known.homing ≡ Some h). λ (lines : own ≡ clocks_at known.clocks b). λ (now : ℕ). λ (tick : ℕ).
+    λ (complete : IsComplete (slice_index_or pins (axis_at m h.axis).pin []) (readings m b (axis_at m h.axis) (low (turn_tick own h.start))) now tick).
+    f tick (record { at = length before; start = h.start; axis = h.axis; now = now; read = record { lines = own; knew = inl (refl, record { homing = h; known = is; start_is = refl; axis_is = refl; lines_are = lines }); complete = complete } }) in (
       fit_both (IsEndstop m b) F pins (map plain t.control.commands) (units_orders t.batch.units)
           (plain_fit (IsEndstop m b) F pins t.control.commands (control_fit m pins b (length before) F known c.states x.a (last_turn m switches c before) t.control x.turned reads)) (units_fit (IsEndstop m b) F pins t.batch.units),
       bring_fit m switches pins entries b F before turns (run_before m switches pins entries b c before t turns r)
-          (λ tick k. f tick (record { start = k.start; axis = k.axis; read = record { lines = k.read.lines; knew = inr k.read.knew; complete = k.read.complete } })),
+          (λ tick k. f tick (record { at = k.at; start = k.start; axis = k.axis; now = k.now; read = record { lines = k.read.lines; knew = inr k.read.knew; complete = k.read.complete } })),
     )
 
 pub run_tells : (m : Machine) (switches : List Switch) (pins : List (List Level)) (entries : List Entry) (b : ℕ) (came : List Came) (turns : List BoardTurn) → IsInRun m switches pins entries b came turns
     → AllTellTrue (IsRead m switches pins b came) turns
 run_tells m switches pins entries b came turns r =
     let F = IsRead m switches pins b came in
-    all_true (IsEndstop m b) F (board_at m b) pins b entries turns r.turns_are (bring_fit m switches pins entries b F came turns r (λ tick k. k))
+    all_true (IsEndstop m b) F (board_at m b) pins b entries turns r.turns_are (bring_fit m switches pins entries b (λ n. F) came turns r (λ tick k. k))

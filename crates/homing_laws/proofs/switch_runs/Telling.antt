@@ -58,15 +58,15 @@ tells_by : (F : ℕ → Type 0) (h : Core) (e : Event) → Each (Says F) (does h
 tells_by F h e t k = up_by (Tells F) h e (λ n oid clock none. absurd (none_said (cmd.TrsyncState oid 0 1 clock) none)) (λ n is. tells_answers F n (does h e).answers t) k
 
 -- commands that are fit
-fit_both : (E : ℕ → (ℕ → Type 0)) (G : ℕ → Type 0) (pins : List (List Level)) (xs ys : List Meant) → AreFit E G pins xs → AreFit E G pins ys → AreFit E G pins (xs ++ ys)
+fit_both : (E : ℕ → (ℕ → Type 0)) (G : ℕ → (ℕ → Type 0)) (pins : List (List Level)) (xs ys : List Meant) → AreFit E G pins xs → AreFit E G pins ys → AreFit E G pins (xs ++ ys)
 fit_both E G pins [] ys a b = b
 fit_both E G pins (x ∷ xs) ys a b = (a.0, fit_both E G pins xs ys a.1 b)
 
-pub fit_parts : (E : ℕ → (ℕ → Type 0)) (G : ℕ → Type 0) (pins : List (List Level)) (xs ys : List Meant) → AreFit E G pins (xs ++ ys) → AreFit E G pins xs × AreFit E G pins ys
+pub fit_parts : (E : ℕ → (ℕ → Type 0)) (G : ℕ → (ℕ → Type 0)) (pins : List (List Level)) (xs ys : List Meant) → AreFit E G pins (xs ++ ys) → AreFit E G pins xs × AreFit E G pins ys
 fit_parts E G pins [] ys a = (tt, a)
 fit_parts E G pins (x ∷ xs) ys a = let p = fit_parts E G pins xs ys a.1 in ((a.0, p.0), p.1)
 
-pub fit_each : (E : ℕ → (ℕ → Type 0)) (G : ℕ → Type 0) (pins : List (List Level)) (xs : List Meant) → AreFit E G pins xs → Each (IsFit E G pins) (commands_of xs)
+pub fit_each : (E : ℕ → (ℕ → Type 0)) (G : ℕ → (ℕ → Type 0)) (pins : List (List Level)) (xs : List Meant) → AreFit E G pins xs → Each (IsFit E G pins) (commands_of xs)
 fit_each E G pins [] a = tt
 fit_each E G pins (x ∷ xs) a = (a.0, fit_each E G pins xs a.1)
 
@@ -80,11 +80,11 @@ abbrev pub AllInTime : (ℕ → Type 0) → (ℕ → Type 0) → BoardClock → 
 AllInTime F G clock turns = (k : ℕ) → k ≤ length turns → InTime F G (event.Pass (board_tick clock k))
 
 -- what the board does and says in an event
-board_by : (E : ℕ → (ℕ → Type 0)) (F G : ℕ → Type 0) (pins : List (List Level)) (h : Core) (e : Event) → InTime F G e → Each (IsFit E G pins) (commands_of (takes_in h e)) → AllTrue E F G pins h.board
+board_by : (E : ℕ → (ℕ → Type 0)) (F G : ℕ → Type 0) (pins : List (List Level)) (h : Core) (e : Event) → InTime F G e → Each (IsFit E (λ n. G) pins) (commands_of (takes_in h e)) → AllTrue E F G pins h.board
     → AllTrue E F G pins (does h e).board × Each (Says F) (does h e).answers
 board_by E F G pins h (event.Pass t) soon fit k = time_true E F G pins h.board t soon k
-board_by E F G pins h event.Arrive soon fit k = takes_true E F G pins h.board (commands_of (takes_in h event.Arrive)) fit k
-board_by E F G pins h event.Repeat soon fit k = takes_true E F G pins h.board (commands_of (takes_in h event.Repeat)) fit k
+board_by E F G pins h event.Arrive soon fit k = takes_true E F G (λ n. G) pins h.board (commands_of (takes_in h event.Arrive)) (λ x y. y) fit k
+board_by E F G pins h event.Repeat soon fit k = takes_true E F G (λ n. G) pins h.board (commands_of (takes_in h event.Repeat)) (λ x y. y) fit k
 board_by E F G pins h (event.Put b) soon fit k = (k, tt)
 board_by E F G pins h (event.Control c) soon fit k = (k, tt)
 board_by E F G pins h event.Send soon fit k = (k, tt)
@@ -100,21 +100,21 @@ pub record Keeps (E : ℕ → (ℕ → Type 0)) (F G : ℕ → Type 0) (pins : L
   pub board : AllTrue E F G pins h.board
   pub left : List Meant
   pub rest : h.taken ++ left ≡ h.queued
-  pub fit : AreFit E G pins left
+  pub fit : AreFit E (λ n. G) pins left
 
 -- what a step queues is fit, and it runs the board on in time
 abbrev pub Brings : (ℕ → (ℕ → Type 0)) → (ℕ → Type 0) → (ℕ → Type 0) → List (List Level) → Step → Type 0
-Brings E F G pins (Do e) = AreFit E G pins (orders_of e) × InTime F G e
+Brings E F G pins (Do e) = AreFit E (λ n. G) pins (orders_of e) × InTime F G e
 Brings E F G pins (Turn turn) = Unit {0}
 
 -- such an event keeps the link so, what is taken in it is fit, and what the board says in it is true
 pub keeps_by : (E : ℕ → (ℕ → Type 0)) (F G : ℕ → Type 0) (pins : List (List Level)) (h : Core) (e : Event) → Brings E F G pins (Do e) → Keeps E F G pins h
-    → Keeps E F G pins (happens h e) × AreFit E G pins (takes_in h e) × Each (Says F) (does h e).answers
+    → Keeps E F G pins (happens h e) × AreFit E (λ n. G) pins (takes_in h e) × Each (Says F) (does h e).answers
 keeps_by E F G pins h e brings k =
     let o = ordered_by h e k.ordered in
     let l = left_by h e k.left o k.rest in
-    let both = fit_parts E G pins (takes_in h e) l.0 (subst (λ (x : List Meant). AreFit E G pins x) (sym l.1) (fit_both E G pins k.left (orders_of e) k.fit brings.0)) in
-    let done = board_by E F G pins h e brings.1 (fit_each E G pins (takes_in h e) both.0) k.board in
+    let both = fit_parts E (λ n. G) pins (takes_in h e) l.0 (subst (λ (x : List Meant). AreFit E (λ n. G) pins x) (sym l.1) (fit_both E (λ n. G) pins k.left (orders_of e) k.fit brings.0)) in
+    let done = board_by E F G pins h e brings.1 (fit_each E (λ n. G) pins (takes_in h e) both.0) k.board in
     (record { ordered = o; board = done.0; left = l.0; rest = l.2; fit = both.1 }, both.0, done.1)
 
 pub keeps_turn : (E : ℕ → (ℕ → Type 0)) (F G : ℕ → Type 0) (pins : List (List Level)) (h : Core) (turn : ℕ) → Keeps E F G pins h → Keeps E F G pins (in_turn h turn)
@@ -139,9 +139,9 @@ along P Q keep [] h b q = q
 along P Q keep (s ∷ steps) h b q = along P Q keep steps (after h s) b.1 (keep h s b.0 q)
 
 -- the steps of a turn queue what is ordered in it
-host_brings : (E : ℕ → (ℕ → Type 0)) (F G : ℕ → Type 0) (pins : List (List Level)) (turn : ℕ) (o : Orders) (resent : Bool) → AreFit E G pins (queued_in o) → AllOf (Brings E F G pins) (host_steps turn o resent)
+host_brings : (E : ℕ → (ℕ → Type 0)) (F G : ℕ → Type 0) (pins : List (List Level)) (turn : ℕ) (o : Orders) (resent : Bool) → AreFit E (λ n. G) pins (queued_in o) → AllOf (Brings E F G pins) (host_steps turn o resent)
 host_brings E F G pins turn o resent fit =
-    let both = fit_parts E G pins (map plain o.control.commands) (units_orders o.batch.units) fit in
+    let both = fit_parts E (λ n. G) pins (map plain o.control.commands) (units_orders o.batch.units) fit in
     let P : Step → Type 0 = Brings E F G pins in
     (tt, ((both.0, tt), ((both.1, tt), all_append P (resends resent) (sends 12) (all_resent P (tt, tt) resent) (all_sent P (tt, tt) 12))))
 
@@ -160,7 +160,7 @@ up_brings E F G pins Garbled = ((tt, tt), tt)
 -- what each step keeps, a turn keeps, up to its replies and behind them
 turn_parts : (E : ℕ → (ℕ → Type 0)) (F G : ℕ → Type 0) (pins : List (List Level)) (Q : Core → Type 0) → ((h : Core) (s : Step) → Brings E F G pins s → Q h → Q (after h s))
     → (clock : BoardClock) (turn : ℕ) (o : Orders) (resent : Bool) (l l1 l2 l3 : LinkState) → l1 ≡ after_host turn o resent l → l2 ≡ after_board clock turn l1 → l3 ≡ after_replies turn l2
-    → InTime F G (event.Pass (board_tick clock (turn + 1))) → AreFit E G pins (queued_in o) → Q l.core → Q l2.core × Q l3.core
+    → InTime F G (event.Pass (board_tick clock (turn + 1))) → AreFit E (λ n. G) pins (queued_in o) → Q l.core → Q l2.core × Q l3.core
 turn_parts E F G pins Q keep clock turn o resent l l1 l2 l3 e1 e2 e3 soon fit q =
     let P : Step → Type 0 = Brings E F G pins in
     let host = host_steps turn o resent in
@@ -176,7 +176,7 @@ turn_parts E F G pins Q keep clock turn o resent l l1 l2 l3 e1 e2 e3 soon fit q 
 
 pub turn_keeps : (E : ℕ → (ℕ → Type 0)) (F G : ℕ → Type 0) (pins : List (List Level)) (Q : Core → Type 0) → ((h : Core) (s : Step) → Brings E F G pins s → Q h → Q (after h s))
     → (clock : BoardClock) (first : LinkState) (t : BoardTurn) (before : List BoardTurn) (x : IsTurnAfter clock first t before)
-    → InTime F G (event.Pass (board_tick clock (length before + 1))) → AreFit E G pins (queued_in (orders t.control t.batch)) → Q (stands_after first before).core
+    → InTime F G (event.Pass (board_tick clock (length before + 1))) → AreFit E (λ n. G) pins (queued_in (orders t.control t.batch)) → Q (stands_after first before).core
     → Q (before_replies clock (length before) (orders t.control t.batch) x.0.resent (stands_after first before)).core × Q t.after.core
 turn_keeps E F G pins Q keep clock first t before x soon fit q =
     let turn = length before in
@@ -205,7 +205,7 @@ start_keeps E F G b pins = record { ordered = start_ordered b pins; board = new_
 
 -- the link stands so behind any turns that bring fit commands, and what is told in them is true
 stands_tell : (E : ℕ → (ℕ → Type 0)) (F G : ℕ → Type 0) (b : BoardDef) (pins : List (List Level)) (board : ℕ) (entries : List Entry) (turns : List BoardTurn)
-    → AreBoardTurns (clock_of b) (first_state b pins board entries) turns → BringFit E G pins turns → AllInTime F G (clock_of b) turns
+    → AreBoardTurns (clock_of b) (first_state b pins board entries) turns → BringFit E (λ n. G) pins turns → AllInTime F G (clock_of b) turns
     → Stands E F G pins (stands_after (first_state b pins board entries) turns).core × AllTellTrue F turns
 stands_tell E F G b pins board entries [] are fit soon = (record { keeps = start_keeps E F G b pins; told = tt }, tt)
 stands_tell E F G b pins board entries (t ∷ before) are fit soon =
@@ -219,5 +219,5 @@ stands_tell E F G b pins board entries (t ∷ before) are fit soon =
 
 -- Where commands are fit, whatever comes to the host that tells that readings triggered a trigger tells of a tick of complete readings.
 pub all_true : (E : ℕ → (ℕ → Type 0)) (F : ℕ → Type 0) (b : BoardDef) (pins : List (List Level)) (board : ℕ) (entries : List Entry) (turns : List BoardTurn)
-    → AreBoardTurns (clock_of b) (first_state b pins board entries) turns → BringFit E F pins turns → AllTellTrue F turns
+    → AreBoardTurns (clock_of b) (first_state b pins board entries) turns → BringFit E (λ n. F) pins turns → AllTellTrue F turns
 all_true E F b pins board entries turns are fit = (stands_tell E F F b pins board entries turns are fit (λ k l x early complete. complete)).1

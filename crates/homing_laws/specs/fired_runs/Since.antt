@@ -22,32 +22,50 @@ use Rattle.board_runs.specs.Turns.{BoardTurn, stands_after}
 use Rattle.homing_laws.specs.home_runs.Sections.{queued_by}
 use Rattle.homing_laws.specs.home_runs.Told.{IsMember}
 use Rattle.homing_laws.specs.home_runs.Words.{BeginsNone}
+use Rattle.homing_laws.specs.missed_groups.Ticks.{IsReader}
 use Rattle.homing_laws.specs.switch_runs.Reports.{IsReport}
 use Rattle.homing_laws.specs.clear_groups.Resting.{EachTame}
 
--- a trigger stands here that can't trigger, since this tick
-pub record IsFiredAt (trigger tick : ℕ) (r : Rig) : Type 0 where
+-- a trigger stands here that can't trigger, for this reason since this tick
+pub record IsFiredAt (trigger reason tick : ℕ) (r : Rig) : Type 0 where
   pub slot : Slot
   pub is : slot_at r trigger ≡ Some slot
   pub fired : slot.trigger.can ≡ false
+  pub why : slot.trigger.reason ≡ reason
   pub at : slot.trigger.tick ≡ tick
 
 -- so as one of some turns of a board ended
-abbrev pub WasFiredAt : ℕ → ℕ → List BoardTurn → Type 0
-WasFiredAt trigger tick [] = ⊥
-WasFiredAt trigger tick (t ∷ before) = IsFiredAt trigger tick t.after.core.board ⊎ WasFiredAt trigger tick before
+abbrev pub WasFiredAt : ℕ → ℕ → ℕ → List BoardTurn → Type 0
+WasFiredAt trigger reason tick [] = ⊥
+WasFiredAt trigger reason tick (t ∷ before) =
+    IsFiredAt trigger reason tick t.after.core.board ⊎ WasFiredAt trigger reason tick before
 
--- Where the state of a board that comes in a turn of the reactor tells that its trigger has triggered, and that counts for the homing section that is
--- known, of which the board is a member, the tick as which it is read is one since which the board's trigger could not trigger, as one of these turns ended.
+-- Where the state of a board that comes in a turn of the reactor tells that its trigger has triggered, and that counts
+-- for the homing section that is known, of which the board is a member, the tick as which it is read is one since which
+-- the board's trigger could not trigger, as one of these turns ended.
 abbrev pub ReadsTrue : Machine → List Switch → ℕ → Came → List Came → List BoardTurn → Type 0
 ReadsTrue m switches b c before turns =
-    (h : Homing) (f : Fired) → (noted m c.note (known_by m switches before)).homing ≡ Some h → IsMember b (members_of h.group) → IsReport m switches b h.start f c before → WasFiredAt (trigger_of m b) f.tick turns
+    (h : Homing) (f : Fired) → (noted m c.note (known_by m switches before)).homing ≡ Some h →
+    IsMember b (members_of h.group) → IsReport m switches b h.start f c before →
+    (reason : ℕ) × WasFiredAt (trigger_of m b) reason f.tick turns
+
+-- Where such a state is of the board of the section's endstop, and tells that readings (1) triggered its trigger, the
+-- tick as which it is read is one since which the board's trigger could not trigger for that reason, as one of these
+-- turns ended.
+abbrev pub ReadsSwitchTrue : Machine → List Switch → ℕ → Came → List Came → List BoardTurn → Type 0
+ReadsSwitchTrue m switches b c before turns =
+    (h : Homing) (f : Fired) → (noted m c.note (known_by m switches before)).homing ≡ Some h →
+    IsReader b (members_of h.group) → f.reason ≡ 1 → IsReport m switches b h.start f c before →
+    WasFiredAt (trigger_of m b) 1 f.tick turns
 
 -- so in each of some turns; the first state that came is that of the latest of the board's turns
+abbrev pub AreRead : (Came → List Came → List BoardTurn → Type 0) → List Came → List BoardTurn → Type 0
+AreRead R [] turns = Unit {0}
+AreRead R (c ∷ before) [] = Unit {0}
+AreRead R (c ∷ before) (t ∷ earlier) = R c before (t ∷ earlier) × AreRead R before earlier
+
 abbrev pub AreReadTrue : Machine → List Switch → ℕ → List Came → List BoardTurn → Type 0
-AreReadTrue m switches b [] turns = Unit {0}
-AreReadTrue m switches b (c ∷ before) [] = Unit {0}
-AreReadTrue m switches b (c ∷ before) (t ∷ earlier) = ReadsTrue m switches b c before (t ∷ earlier) × AreReadTrue m switches b before earlier
+AreReadTrue m switches b came turns = AreRead (ReadsTrue m switches b) came turns
 
 -- As a homing section that is known starts a board is no more than a turn ahead of its clock lines, by those that are known in some turns from the start
 -- on: its own tick of the turn in front of the start is no later than theirs of the start.
@@ -106,9 +124,12 @@ pub record IsReadSo (m : Machine) (switches : List Switch) (b : ℕ) (c : Came) 
   pub behind : AreBehind m switches b (c ∷ before)
 
 -- so all that a board tells in a run: what comes in each turn of the reactor is of the board's turns before it, of which there are as many
+abbrev pub AllRead : (Came → List Came → List BoardTurn → Type 0) → List Came → List BoardTurn → Type 0
+AllRead R came [] = Unit {0}
+AllRead R came (t ∷ earlier) = AreRead R came earlier
+
 abbrev pub AllReadTrue : Machine → List Switch → ℕ → List Came → List BoardTurn → Type 0
-AllReadTrue m switches b came [] = Unit {0}
-AllReadTrue m switches b came (t ∷ earlier) = AreReadTrue m switches b came earlier
+AllReadTrue m switches b came turns = AllRead (ReadsTrue m switches b) came turns
 
 -- What a board tells in a whole run is read so (`IsReadSo`), up to each of its turns.
 pub record AreReadSo (m : Machine) (switches : List Switch) (b : ℕ) (came : List Came) (turns : List BoardTurn) : Type 0 where

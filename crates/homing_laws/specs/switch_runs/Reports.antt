@@ -1,10 +1,7 @@
 -- What a board told of its trigger, in a homing section, by the states that came to the reactor.
-use Rattle.std.specs.Prelude.{◌≡◌, ◌⊎◌, ◌≤◌, ◌+◌, ◌-◌, ◌*◌, ℕ, false, List, [], ◌∷◌, Some, length}
+use Rattle.std.specs.Prelude.{◌≡◌, ◌⊎◌, ◌≤◌, ◌+◌, ℕ, false, List, [], ◌∷◌, Some}
 use Rattle.plan_types.specs.declared.machine.Machine.{Machine}
 use Rattle.plan_types.specs.Board.{IsNear, nearest}
-use Rattle.plan_types.specs.Clock.{board_tick, clock_of, turn_ns}
-use Rattle.plan_types.specs.Lines.{lines_tick}
-use Rattle.plan_types.specs.Machines.{board_at}
 use Rattle.plan_types.specs.Sections.{clocks_at}
 use Rattle.clock_line.specs.Early.{turn_in_run, turn_tick}
 use Rattle.msg_code.specs.declared.cmd.Cmd.TheVariants as cmd
@@ -44,16 +41,3 @@ abbrev pub HearsSoon : Machine → List Switch → ℕ → ℕ → Came → List
 HearsSoon m switches b start c before t k =
     start ≤ k + 1 → SayFired t.state.news →
     (slot : Slot) → slot_at t.after.core.board (trigger_of m b) ≡ Some slot → slot.trigger.can ≡ false → IsNear (turn_tick (clocks_at (noted m c.note (known_by m switches before)).clocks b) k) slot.trigger.tick
-
--- so in each of some turns; the first state that came is that of the latest of the board's turns
-abbrev pub HearSoon : Machine → List Switch → ℕ → ℕ → List Came → List BoardTurn → Type 0
-HearSoon m switches b start [] turns = Unit {0}
-HearSoon m switches b start (c ∷ before) [] = Unit {0}
-HearSoon m switches b start (c ∷ before) (t ∷ earlier) = HearsSoon m switches b start c before t (length earlier) × HearSoon m switches b start before earlier
-
--- As a section starts a board is no more than a turn ahead of its clock lines, by those that are known in some turns from the start on: its own
--- tick of the turn in front of the start is no later than theirs of the start.
-abbrev pub IsBehind : Machine → List Switch → ℕ → ℕ → List Came → Type 0
-IsBehind m switches b start [] = Unit {0}
-IsBehind m switches b start (c ∷ before) =
-    (start ≤ length before → board_tick (clock_of (board_at m b)) (start - 1) ≤ lines_tick (clocks_at (noted m c.note (known_by m switches before)).clocks b) (start * turn_ns)) × IsBehind m switches b start before

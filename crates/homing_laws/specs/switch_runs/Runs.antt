@@ -1,5 +1,5 @@
 -- What the endstops of a board read in a run.
-use Rattle.std.specs.Prelude.{◌≡◌, ◌⊎◌, ◌<◌, ◌≤◌, ◌+◌, ◌*◌, ◌/◌, ◌%◌, ◌^◌, ℕ, false, List, [], ◌∷◌, Option, None, Some, length, slice_index_or}
+use Rattle.std.specs.Prelude.{◌≡◌, ◌⊎◌, ◌+◌, ◌*◌, ◌/◌, ℕ, List, [], ◌∷◌, Some, length, slice_index_or}
 use Rattle.plan_types.specs.declared.levels.Level.{Level}
 use Rattle.plan_types.specs.declared.machine.AxisDef.{AxisDef}
 use Rattle.plan_types.specs.declared.machine.Machine.{Machine}
@@ -9,7 +9,6 @@ use Rattle.plan_types.specs.Sections.{clocks_at}
 use Rattle.clock_line.specs.Early.{turn_tick}
 use Rattle.board_trig.specs.declared.sampling.Homing.{Homing as Readings}
 use Rattle.wire_scene.specs.declared.scene.Switch.{Switch}
-use Rattle.board_sim.specs.Rig.{Rig, Slot, slot_at}
 use Rattle.board_asking.specs.Machine.{endstop_pins, trigger_of}
 use Rattle.axis_homing.specs.declared.homing.Homing.{Homing}
 use Rattle.axis_homing.specs.Homing.{flag, low}
@@ -45,40 +44,27 @@ pub record KnowsSo (m : Machine) (switches : List Switch) (b start axis : ℕ) (
   pub axis_is : homing.axis ≡ axis
   pub lines_are : lines ≡ clocks_at (noted m c.note (known_by m switches before)).clocks b
 
--- so in one of some turns
-abbrev pub KnewSo : Machine → List Switch → ℕ → ℕ → ℕ → Clocks → List Came → Type 0
-KnewSo m switches b start axis lines [] = ⊥
-KnewSo m switches b start axis lines (c ∷ before) = KnowsSo m switches b start axis lines c before ⊎ KnewSo m switches b start axis lines before
+-- so in the turn with this number, of some turns
+abbrev pub KnewSo : Machine → List Switch → ℕ → ℕ → ℕ → ℕ → Clocks → List Came → Type 0
+KnewSo m switches b at start axis lines [] = ⊥
+KnewSo m switches b at start axis lines (c ∷ before) =
+    ((length before ≡ at) × KnowsSo m switches b start axis lines c before)
+    ⊎ KnewSo m switches b at start axis lines before
 
--- A tick at which a board's readings of an axis's endstop are complete: those that the homing section of this axis with this start has it
--- make, from its start on.
-pub record IsReadIn (m : Machine) (switches : List Switch) (pins : List (List Level)) (b start axis : ℕ) (came : List Came) (tick : ℕ) : Type 0 where
+-- A tick at which a board's readings of an axis's endstop are complete, where it took the command that begins them at another:
+-- those that the homing section of this axis with this start has it make, from its start on, by the clock lines that are known
+-- in the turn with this number.
+pub record IsReadAt (m : Machine) (switches : List Switch) (pins : List (List Level)) (b at start axis : ℕ) (came : List Came)
+    (now tick : ℕ) : Type 0 where
   pub lines : Clocks
-  pub knew : KnewSo m switches b start axis lines came
-  pub complete : IsComplete (slice_index_or pins (axis_at m axis).pin []) (readings m b (axis_at m axis) (low (turn_tick lines start))) tick
+  pub knew : KnewSo m switches b at start axis lines came
+  pub complete : IsComplete (slice_index_or pins (axis_at m axis).pin [])
+      (readings m b (axis_at m axis) (low (turn_tick lines start))) now tick
 
--- so those that any homing section has it make
+-- so those that any homing section has it make, whenever it took their command
 pub record IsRead (m : Machine) (switches : List Switch) (pins : List (List Level)) (b : ℕ) (came : List Came) (tick : ℕ) : Type 0 where
+  pub at : ℕ
   pub start : ℕ
   pub axis : ℕ
-  pub read : IsReadIn m switches pins b start axis came tick
-
--- a homing section that is known has this start and this axis
-abbrev pub IsFor : ℕ → ℕ → Option Homing → Type 0
-IsFor start axis None = ⊥
-IsFor start axis (Some h) = (h.start ≡ start) × (h.axis ≡ axis)
-
--- from a turn on the homing section that is known has this start and this axis
-abbrev pub ReadsFrom : Machine → List Switch → ℕ → ℕ → ℕ → List Came → Type 0
-ReadsFrom m switches from start axis [] = Unit {0}
-ReadsFrom m switches from start axis (c ∷ before) =
-    (from ≤ length before → IsFor start axis (noted m c.note (known_by m switches before)).homing) × ReadsFrom m switches from start axis before
-
--- A board's trigger can't trigger any more, since a tick with these lower 32 bits: a tick before another one, or one at which the readings of a
--- homing section are complete.
-pub record HasTriggered (m : Machine) (switches : List Switch) (pins : List (List Level)) (b start axis : ℕ) (came : List Came) (begin clock : ℕ) (r : Rig) : Type 0 where
-  pub slot : Slot
-  pub is : slot_at r (trigger_of m b) ≡ Some slot
-  pub fired : slot.trigger.can ≡ false
-  pub clock_is : slot.trigger.tick % 2 ^ 32 ≡ clock
-  pub read : (slot.trigger.tick < begin) ⊎ IsReadIn m switches pins b start axis came slot.trigger.tick
+  pub now : ℕ
+  pub read : IsReadAt m switches pins b at start axis came now tick

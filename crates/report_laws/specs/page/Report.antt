@@ -47,7 +47,8 @@ pub record IsPrinted (m : Machine) (old new : Option (List ℕ)) (given own : Ca
 abbrev pub IsTrigger : Machine → Scene → List LogLine → ℕ → ℕ → ℕ → Type 0
 IsTrigger m s lines axis turn tick =
     let a = axis_at m axis in
-    IsComplete (slice_index_or (pins_of (board_at m a.board) a.board s.switches) a.pin []) (readings m a.board a (low (turn_tick (clocks_at (told m lines) a.board) turn))) tick
+    (now : ℕ) × IsComplete (slice_index_or (pins_of (board_at m a.board) a.board s.switches) a.pin [])
+        (readings m a.board a (low (turn_tick (clocks_at (told m lines) a.board) turn))) now tick
 
 -- Cuts: a cut line stands behind that of the section that it names, which homes an axis; it tells of the endstop of the axis, of a tick at which
 -- the section's readings are complete, and of the scene's line that closed the switch by then; and there is one.

@@ -101,10 +101,11 @@ use Rattle.session_laws.proofs.clear_homes.Punctual.{RunsLed, cuts_led, soon_not
 use Rattle.session_laws.proofs.clear_homes.Whole.{closes_first, never_expired, never_missed}
 use Rattle.session_laws.specs.clear_homes.Closes.{ClosesFirst, MissesSwitch, TellFirst}
 use Rattle.session_laws.specs.home_headline.Cuts.{EndsIn, TellEnds, TellsAnswer}
-use Rattle.session_laws.specs.home_wholes.Own.{AllHearSoon}
 use Rattle.session_laws.proofs.home_headline.Ended.{goes_behind, notes_behind}
-use Rattle.session_laws.proofs.home_headline.Switches.{came_ahead, came_snoc}
-use Rattle.homing_laws.specs.switch_runs.Reports.{HearSoon}
+use Rattle.session_laws.proofs.home_headline.Switches.{came_ahead}
+use Rattle.homing_laws.specs.fired_runs.Since.{AreBehind, AreRead, ReadsSwitchTrue}
+use Rattle.session_laws.specs.home_wholes.Own.{AllSwitchesReadTrue}
+use Rattle.session_laws.proofs.home_wholes.Own.{all_so, read_to}
 use Rattle.host_reactor.specs.Reactor.{cut_line}
 use Rattle.host_reactor.specs.Runs.{GoesOn}
 use Rattle.plan_types.specs.declared.machine.AxisDef.{AxisDef}
@@ -492,9 +493,10 @@ module _ (m : Machine) (v : IsValidMachine m) (short : HaveShortDictionaries m) 
         missed_so section (subst By e so).1
 
     -- each turn that tells that a switch closed tells of the first tick at which it did
-    module _ (t : Told) (told : p.seen.told ≡ Some t) (soon : AllHearSoon m s p.seen.text ts (first ∷ (rest ++ end ∷ []))) where
+    module _ (t : Told) (told : p.seen.told ≡ Some t) (reads : AllSwitchesReadTrue m s ts (first ∷ (rest ++ end ∷ []))) where
       first_at : (ahead : List Came) (y : Came) (before : List Came) (lines : List ReportLine) (x : TellsAnswer m s.switches y before lines) → All_came ≡ ahead ++ y ∷ before → (number axis : ℕ) → EndsIn p.seen.begun (length before) number axis → number ≡ x.homing.section
           → ClosesFirst m s p.seen x.homing.section x.tick
+      unfolding w
       first_at ahead y before lines x are number axis e same_number =
           let Goes : List Came → Type 0 = λ z. GoesOn m s.switches z in
           let Notes : List Came → Type 0 = λ z. CameNotes p.seen.begun z in
@@ -505,13 +507,11 @@ module _ (m : Machine) (v : IsValidMachine m) (short : HaveShortDictionaries m) 
           let same : was.1 ≡ e.s = one_place was.0 was.1 was.2 e.past e.s e.later (sym was.4 ∙ e.cut) (sym was.8 ∙ sym same_number ∙ e.number_is) in
           let ends : was.1.end ≡ length before = ap (λ (z : Started). z.end) same ∙ e.end in
           let at_end : came_in end ∷ All_came ≡ (came_in end ∷ ahead) ++ y ∷ before = ap (λ (z : List Came). came_in end ∷ z) are in
-          let hear : (low : (axis_at m h.axis).board < length m.boards) (later turns : List BoardTurn) → behind [] (f.boards (axis_at m h.axis).board first rest low refl).made ≡ later ++ turns → length turns ≡ length before
-          → HearSoon m s.switches (axis_at m h.axis).board h.start (y ∷ before) turns
-          = λ low later turns made long_so. (
-          subst (λ (n : ℕ). HearSoon m s.switches (axis_at m h.axis).board n (y ∷ before) turns) (sym was.6)
-          (soon p (axis_at m h.axis).board refl low (f.boards (axis_at m h.axis).board first rest low refl) was.0 was.1 was.2 was.3 was.4 was.5 (ap (λ (n : ℕ). (axis_at m n).board) (sym was.9))
-          (came_in end ∷ ahead) y before later turns (came_snoc (came_in first ∷ []) rest end ∙ at_end) made (sym ends) (long_so ∙ sym ends)).1) in
-          let closes = closes_first m v s ts p t first rest end c told f long short (little t told) clear not_stopping (have 0 v.boards_some) (λ b low. in_time b low) notes (outs t told) (came_in end ∷ ahead) y before at_end h x.known hear x.tick x.answer in
+          let b = (axis_at m h.axis).board in
+          let reads_so : (low : b < length m.boards) (later turns : List BoardTurn) → behind [] (f.boards b first rest low refl).made ≡ later ++ turns → length turns ≡ length before
+          → AreRead (ReadsSwitchTrue m s.switches b) (y ∷ before) turns × AreBehind m s.switches b (y ∷ before) = λ low later turns made long_so.
+          read_to m s.switches (pins_of (board_at m b) b s.switches) s.entries b All_came (behind [] (f.boards b first rest low refl).made) (run b low) (all_so m v s ts p t first rest end c told f short reads b low) ahead y before are later turns made long_so in
+          let closes = closes_first m v s ts p t first rest end c told f long short (little t told) clear not_stopping (have 0 v.boards_some) (λ b low. in_time b low) notes (outs t told) (came_in end ∷ ahead) y before at_end h x.known reads_so x.tick x.answer in
           let At : ℕ → ℕ → Type 0 = λ axis start. IsSwitchTick m (pins_of (board_at m (axis_at m axis).board) (axis_at m axis).board s.switches) (axis_at m axis).board (axis_at m axis)
           (lines_tick (clocks_at t.clocks (axis_at m axis).board) (start * turn_ns)) x.tick in
           let at_start : At h.axis was.1.start = subst (λ (n : ℕ). At h.axis n) was.6 closes in
@@ -541,9 +541,9 @@ module _ (m : Machine) (v : IsValidMachine m) (short : HaveShortDictionaries m) 
       none_first none (k + 1) (came_in r ∷ before) rs ends.1,
     )
 
-    pub first_all : AllHearSoon m s p.seen.text ts (first ∷ (rest ++ end ∷ [])) → TellEnds m s.switches p.seen.begun 0 (first ∷ rest) → TellFirst m s p.seen [] (first ∷ rest)
-    first_all soon ends = by p.seen.told refl
+    pub first_all : AllSwitchesReadTrue m s ts (first ∷ (rest ++ end ∷ [])) → TellEnds m s.switches p.seen.begun 0 (first ∷ rest) → TellFirst m s p.seen [] (first ∷ rest)
+    first_all reads ends = by p.seen.told refl
       where
         by : (o : Option Told) → p.seen.told ≡ o → TellFirst m s p.seen [] (first ∷ rest)
         by None e = none_first (not_told m v s ts p end c e) 0 [] (first ∷ rest) ends
-        by (Some t) e = first_turns t e soon [] (first ∷ rest) refl ends
+        by (Some t) e = first_turns t e reads [] (first ∷ rest) refl ends

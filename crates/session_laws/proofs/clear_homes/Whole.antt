@@ -55,7 +55,7 @@ use Rattle.homing_laws.proofs.home_plans.Knowing.{now_was}
 use Rattle.homing_laws.specs.missed_groups.Known.{AxesLow}
 use Rattle.homing_laws.specs.missed_groups.Ticks.{IsSwitchTick}
 use Rattle.homing_laws.proofs.missed_groups.Running.{run_misses, run_switches}
-use Rattle.homing_laws.specs.switch_runs.Reports.{HearSoon}
+use Rattle.homing_laws.specs.fired_runs.Since.{AreBehind, AreRead, ReadsSwitchTrue}
 use Rattle.session_laws.proofs.home_headline.Ended.{notes_behind}
 use Rattle.wire_scene.specs.declared.scene.Entry.{Entry}
 use Rattle.wire_scene.specs.declared.scene.Switch.{Switch}
@@ -274,10 +274,10 @@ module _ (m : Machine) (v : IsValidMachine m) (s : Scene) (ts : List MotionTurn)
 
   -- one of an earlier turn answers that a switch closed, at the first tick at which its readings are complete
   pub closes_first : (ahead : List Came) (y : Came) (before : List Came) → came_in end ∷ Came_all ≡ ahead ++ y ∷ before → (h : Homing) → (noted m y.note (known_by m s.switches before)).homing ≡ Some h
-      → ((low : (axis_at m h.axis).board < length m.boards) (later turns : List BoardTurn) → behind [] (Whole (axis_at m h.axis).board low).made ≡ later ++ turns → length turns ≡ length before → HearSoon m s.switches (axis_at m h.axis).board h.start (y ∷ before) turns)
+      → ((low : (axis_at m h.axis).board < length m.boards) (later turns : List BoardTurn) → behind [] (Whole (axis_at m h.axis).board low).made ≡ later ++ turns → length turns ≡ length before → AreRead (ReadsSwitchTrue m s.switches (axis_at m h.axis).board) (y ∷ before) turns × AreBehind m s.switches (axis_at m h.axis).board (y ∷ before))
       → (tick : ℕ) → answer_in (length before) h.start (hears_all (noted m y.note (known_by m s.switches before)).clocks y.states h).group ≡ Some (end_of.Endstop tick)
       → IsSwitchTick m (Pins (axis_at m h.axis).board) (axis_at m h.axis).board (axis_at m h.axis) (lines_tick (Lines h.start (axis_at m h.axis).board) (h.start * turn_ns)) tick
-  closes_first ahead y before are h is hear tick answers =
+  closes_first ahead y before are h is reads tick answers =
       let n = length m.boards in
       let size = many in
       let some = v.boards_some in
@@ -298,5 +298,5 @@ module _ (m : Machine) (v : IsValidMachine m) (s : Scene) (ts : List MotionTurn)
       let valid : IsValidAxis m (axis_at m h.axis) = v.axes h.axis _ low in
       let there : b < length m.boards = valid.board in
       let turns_are : Turns b there ≡ turns_of b cut.later ++ turns_of b cut.made = sym (all.2 b there ∙ turns_same b n Turns (is_low b n) there) ∙ ap (turns_of b) cut.are ∙ turns_append b cut.later cut.made in
-      run_switches m v s.switches Pins s.entries clear Lines (From + 1) Till y before cut.made cut.run near_end (axes_known y before cut.run.goes_on notes_so) h is
-      (hear there (turns_of b cut.later) (turns_of b cut.made) turns_are (turns_long b cut.made ∙ cut.run.long)) tick answers
+      let so = reads there (turns_of b cut.later) (turns_of b cut.made) turns_are (turns_long b cut.made ∙ cut.run.long) in
+      run_switches m v s.switches Pins s.entries clear Lines (From + 1) Till y before cut.made cut.run near_end (axes_known y before cut.run.goes_on notes_so) h is so.0 so.1 tick answers

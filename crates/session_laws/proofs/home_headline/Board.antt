@@ -12,7 +12,6 @@ use Rattle.msg_code.specs.declared.talk.WordMsg.{WordMsg}
 use Rattle.wire_scene.specs.declared.scene.Scene.{Scene}
 use Rattle.link_work.specs.Ends.{spoiled}
 use Rattle.link_work.specs.Limits.{AllKeepLimits}
-use Rattle.link_work.specs.Runs.{AreTurns}
 use Rattle.link_work.specs.Switches.{pins_of}
 use Rattle.link_work.specs.Turn.{LinkState, Orders}
 use Rattle.host_reactor.specs.Runs.{Came}
@@ -29,7 +28,6 @@ use Rattle.session_work.specs.Leads.{last_words}
 use Rattle.session_work.specs.Rows.{gather}
 use Rattle.session_run.specs.Boards.{AreReactorTurns, came_from, came_in}
 use Rattle.run_laws.specs.Boards.{OnBoard}
-use Rattle.run_laws.specs.Ends.{MayBe}
 use Rattle.run_laws.specs.Homes.{AreOut, AreSoon, HasUnits, IsHomeBoard, IsHomeRun, IsSplitIn, RunSection, SetsAny, lost_at}
 use Rattle.board_world.specs.World.{start}
 use Rattle.run_laws.specs.Links.{AreTold, ends_of, steps_of, turns_told}
@@ -68,14 +66,13 @@ use Rattle.homing_laws.proofs.home_parts.Limits.{turns_fit}
 use Rattle.homing_laws.proofs.home_parts.Movers.{all_movers}
 use Rattle.homing_laws.proofs.home_parts.Set.{all_set}
 use Rattle.homing_laws.specs.fired_runs.Since.{AllReadTrue, AreReadSo}
-use Rattle.homing_laws.proofs.home_parts.Apart.{read_so}
+use Rattle.homing_laws.proofs.home_parts.Apart.{so_begun}
 use Rattle.homing_laws.proofs.home_parts.Told.{all_told, row_from}
 use Rattle.session_laws.specs.clock_ages.Renewed.{StayYoung}
 use Rattle.session_laws.proofs.clock_ages.Own.{AreRenewed, Own, follow_on}
 use Rattle.session_laws.specs.home_headline.Little.{HomesLittle}
 use Rattle.session_laws.proofs.home_headline.Clear.{clear_set_ups}
 use Rattle.session_laws.proofs.home_headline.Clocks.{run_knows}
-use Rattle.session_laws.proofs.home_headline.Good.{may_at}
 use Rattle.session_laws.proofs.home_headline.Made.{IsOwn, set_own, units_own}
 use Rattle.session_laws.proofs.home_headline.Planned.{planned_by}
 use Rattle.session_laws.proofs.home_wholes.Lost.{board_heeds}
@@ -196,8 +193,9 @@ pub told_by : (m : Machine) (v : IsValidMachine m) (s : Scene) (ts : List Motion
 told_by m v s ts p t b turns ready whole made there l early row by knows connected long are (inl clear) = inl (clear_set_ups m (pins_of (board_at m b) b s.switches) s.entries b made clear.0 are clear.1 t.first p.seen.begun (omega (arith, early)) row)
 told_by m v s ts p t b turns ready whole made there l early row by knows connected long are (inr (inl takes)) = inl takes
 told_by m v s ts p t b turns ready whole made there l early row by knows connected long are (inr (inr reads)) =
-    inr (read_so m s.switches b ts p ready t.first t.clocks whole made early row by connected l.tracked.kept knows
-    (λ past x later axis cut home low. starts_behind m v b turns ready t.first t.clocks p.seen.begun there l row early past x later cut (omega (arith, low, long))) reads)
+    let so = so_begun m s.switches b ts p ready t.first t.clocks whole early row by connected l.tracked.kept knows
+    (λ past x later axis cut home low. starts_behind m v b turns ready t.first t.clocks p.seen.begun there l row early past x later cut (omega (arith, low, long))) in
+    inr (record { apart = so.0; reads = reads; behind = so.1 })
 
 module _ (m : Machine) (v : IsValidMachine m) (s : Scene) (ts : List MotionTurn) (p : Plans m (length m.boards) ts) (t : Told) (first : ReactorTurn) (rest : List ReactorTurn) (end : ReactorTurn) (told : p.seen.told ≡ Some t) where
   -- what came to a board, and what it told, with its sections as far as their units are released before a turn
@@ -329,15 +327,6 @@ module _ (m : Machine) (v : IsValidMachine m) (s : Scene) (ts : List MotionTurn)
 
     pub boarded_by : IsHomeBoard b s.entries (length (came_from [] r.past)) (length (rest ++ end ∷ [])) (cuts_on m t.clocks until p.seen.begun b) (here_by until b w)
     boarded_by = boarded_until.0
-
-    -- behind its last turn it runs, or shut down for one of the two reasons
-    pub may_by : MayBe (stands_after (link_of m s b) (behind [] w.made)).core.board.controller.state
-    may_by =
-        let clock = clock_of (board_at m b) in
-        let end_is = stands_after (link_of m s b) (behind [] w.made) in
-        let Turns : List Orders → Type 0 = λ os. AreTurns clock 0 os (link_of m s b) end_is in
-        may_at b s.entries (length (came_from [] r.past)) (length (rest ++ end ∷ [])) (cuts_on m t.clocks until p.seen.begun b) (here_by until b w) end_is boarded_by
-        (subst Turns (sym w.in_order) (turns_told clock 0 (orders_of w.made) (states_of w.made) (link_of m s b) end_is w.told))
 
   -- where the planner made as many turns as the run has
   pub homing_in : (n b : ℕ) (left : List WordMsg) (w : IsInWhole m s.switches b (clock_of (board_at m b)) (link_of m s b) ts first (rest ++ end ∷ [])) (r : Ready m v s ts p t first rest end told) → b < length m.boards → AreReactorTurns m s.switches [] (first ∷ rest)

@@ -9,7 +9,6 @@ use Rattle.plan_types.specs.declared.clock.BoardClock.{BoardClock}
 use Rattle.plan_types.specs.declared.levels.Level.{Level}
 use Rattle.plan_types.specs.declared.machine.BoardDef.{BoardDef}
 use Rattle.plan_types.specs.declared.machine.Machine.{Machine}
-use Rattle.plan_types.specs.declared.plan.BoardState.{BoardState}
 use Rattle.plan_types.specs.declared.plan.BoardState.TheVariants.{Running, Shut}
 use Rattle.plan_types.specs.Clock.{clock_of}
 use Rattle.plan_types.specs.Machines.{board_at}
@@ -134,12 +133,3 @@ stays_shut clock first (t ∷ later) past reason tick at are shut =
     let steps = turns_are_steps clock (length before) (orders t.control t.batch ∷ []) l t.after (t.after, are.0.0, refl) in
     let rest = stays_shut clock first later past reason tick at are.1 shut in
     ap (λ (h : Core). h.board.controller.state) steps.1 ∙ shut_steps steps.0 l.core (ap is_shut rest) ∙ rest
-
--- a board that runs, or shut down for a reason that it may, did so before
-pub may_front : (clock : BoardClock) (first : LinkState) (later past : List BoardTurn) → AreBoardTurns clock first (later ++ past) → MayBe (stands_after first (later ++ past)).core.board.controller.state
-    → MayBe (stands_after first past).core.board.controller.state
-may_front clock first later past are may = by (stands_after first past).core.board.controller.state refl
-  where
-    by : (o : BoardState) → (stands_after first past).core.board.controller.state ≡ o → MayBe o
-    by Running e = tt
-    by (Shut reason tick at) e = subst MayBe (stays_shut clock first later past reason tick at are e) may

@@ -1,118 +1,186 @@
 -- Why the answer of a homing section is of its own readings, in a whole run in which axes home.
-use Rattle.std.proofs.Common.{◌≡◌, ℕ, ◌+◌, ◌-◌, ◌*◌, ◌<◌, ◌≤◌, List, [], ◌∷◌, ◌++◌, length, Option, Some, None, ap, sym, ◌∙◌, subst, arith, inl, inr}
+use Rattle.std.proofs.Common.{◌≡◌, ℕ, zero, suc, ◌+◌, ◌<◌, List, [], ◌∷◌, ◌++◌, length, map, Option, Some, None, All, get_or, refl, ap, sym, ◌∙◌, subst, arith, append_assoc, length-append, inl, inr}
+use Rattle.std.proofs.Math.Logic.{∥∥₁_map}
+use Rattle.std.proofs.lemmas.List.Elements.{All-head, All-tail}
+use Rattle.plan_types.specs.declared.cause.Cause.{Cause}
+use Rattle.plan_types.specs.declared.cause.Cause.TheVariants as cause
 use Rattle.plan_types.specs.declared.levels.Level.{Level}
+use Rattle.plan_types.specs.declared.machine.AxisDef.{AxisDef}
 use Rattle.plan_types.specs.declared.machine.Machine.{Machine}
-use Rattle.plan_types.specs.declared.plan.SectionKind.TheVariants.{Home}
-use Rattle.plan_types.specs.declared.plan.BoardState.TheVariants.{Running}
-use Rattle.plan_types.specs.Clock.{board_tick, clock_of, turn_ns}
-use Rattle.plan_types.specs.Lines.{Clocks, lines_tick}
-use Rattle.plan_types.specs.Machines.{IsValidMachine, axis_at, board_at}
-use Rattle.plan_types.specs.Sections.{clocks_at}
+use Rattle.plan_types.specs.Machines.{IsValidAxis, IsValidMachine, axis_at, board_at, no_axis}
+use Rattle.io_core.specs.declared.traits.Files.{Ghosts as Files}
+use Rattle.io_core.specs.declared.traits.Sink.{Ghosts as Sink}
+use Rattle.gcode_program.specs.Programs.{outcome_of}
 use Rattle.wire_scene.specs.declared.scene.Entry.{Entry}
+use Rattle.wire_scene.specs.declared.scene.Scene.{Scene}
 use Rattle.wire_scene.specs.declared.scene.Switch.{Switch}
-use Rattle.link_work.specs.Stands.{first_state}
+use Rattle.link_work.specs.Switches.{pins_of}
 use Rattle.trigger_group.specs.declared.order.End.TheVariants.{Endstop}
-use Rattle.trigger_group.specs.declared.order.Member.{Member}
 use Rattle.axis_homing.specs.declared.homing.Homing.{Homing}
 use Rattle.axis_homing.specs.Homing.{answer_in, hears_all}
-use Rattle.axis_homing.specs.Rising.{members_of}
-use Rattle.host_reactor.specs.declared.ordered.Phase.TheVariants.{Connecting}
 use Rattle.host_reactor.specs.Notes.{noted}
+use Rattle.host_reactor.specs.Reactor.{Run, cut_line}
 use Rattle.host_reactor.specs.Runs.{Came, GoesOn, known_by}
-use Rattle.board_runs.specs.Turns.{BoardTurn, stands_after}
-use Rattle.clock_runs.proofs.Lines.{as_long}
-use Rattle.clock_line.specs.Kept.{AreKept}
+use Rattle.report_text.specs.declared.line.ReportLine.{ReportLine}
+use Rattle.board_runs.specs.Turns.{BoardTurn}
+use Rattle.clock_runs.specs.Runs.{IsInRun}
+use Rattle.clock_runs.proofs.Lines.{as_long, run_before}
 use Rattle.motion_work.specs.Seen.{Started}
-use Rattle.homing_laws.specs.home_runs.Sections.{HomesFrom, IsOf, TakesSetUp}
-use Rattle.homing_laws.specs.home_runs.Settled.{SetNoClockFrom}
-use Rattle.homing_laws.specs.home_runs.Ended.{IsToldIn}
-use Rattle.homing_laws.proofs.home_runs.Joining.{homes_later}
-use Rattle.homing_laws.proofs.home_runs.Knowing.{homing_known, past_known, word_answers}
-use Rattle.homing_laws.specs.home_plans.Notes.{AreInARow, CameNotes, WasBegun}
+use Rattle.motion_work.specs.Told.{Told}
+use Rattle.session_lanes.specs.declared.near.Told as near
+use Rattle.session_desk.specs.declared.tell.Kept.{Kept}
+use Rattle.session_work.specs.declared.table.MotionTurn.{MotionTurn}
+use Rattle.session_work.specs.declared.table.ReactorTurn.{ReactorTurn}
+use Rattle.session_run.specs.Boards.{came_from, came_in}
+use Rattle.session_run.specs.Runs.{RunsOver}
+use Rattle.run_laws.proofs.Lists.{cons_same, same_place}
+use Rattle.run_plans.specs.Planned.{Plans}
+use Rattle.cause_runs.specs.Short.{HaveShortDictionaries}
+use Rattle.homing_laws.specs.fired_runs.Since.{AllRead, AreBehind, AreRead, BeginsApart, ReadsSwitchTrue}
+use Rattle.homing_laws.proofs.fired_runs.Seeing.{answered_read}
+use Rattle.homing_laws.specs.home_plans.Notes.{CameNotes, WasBegun}
 use Rattle.homing_laws.proofs.home_plans.Knowing.{now_was}
-use Rattle.homing_laws.specs.home_parts.Known.{KnowsLately}
-use Rattle.homing_laws.proofs.home_parts.Held.{tick_known}
-use Rattle.homing_laws.proofs.home_parts.Ends.{row_later, row_past}
-use Rattle.homing_laws.proofs.home_parts.Told.{row_from}
-use Rattle.homing_laws.specs.switch_runs.Reports.{HearSoon, IsBehind, WasReported}
-use Rattle.homing_laws.specs.switch_runs.Runs.{IsFor, IsReadIn, ReadsFrom}
-use Rattle.homing_laws.proofs.switch_runs.Answered.{answered_own}
-use Rattle.session_laws.proofs.home_headline.Ended.{some_same}
-use Rattle.session_laws.proofs.home_wholes.Places.{place_of}
+use Rattle.homing_laws.proofs.home_parts.Apart.{so_begun}
+use Rattle.homing_laws.proofs.home_parts.Told.{so_at, split_at}
+use Rattle.homing_laws.specs.switch_runs.Taken.{IsTriggerOf}
+use Rattle.session_laws.specs.home_headline.Cuts.{TellEnds, TellsAnswer}
+use Rattle.session_laws.specs.home_wholes.Own.{AllSwitchesReadTrue, IsTriggerIn, TellTriggers, TellTriggersBehind}
+use Rattle.session_laws.proofs.home_headline.Board.{starts_behind}
+use Rattle.session_laws.proofs.home_headline.Ended.{goes_behind, notes_behind}
+use Rattle.session_laws.proofs.home_headline.Switches.{all_ends, came_ahead}
+use Rattle.session_laws.proofs.home_wholes.Axes.{axis_low}
+use Rattle.session_laws.proofs.home_wholes.Lines.{Came_all, By, Turns_of, by, connected, knows, lines, row, run_of, turn, whole}
+use Rattle.session_laws.proofs.run_headline.Boarded.{came_cut, came_long}
+use Rattle.session_laws.proofs.run_headline.Joining.{of_sections}
+use Rattle.session_laws.proofs.run_headline.Making.{run_made}
+use Rattle.session_laws.proofs.run_headline.Runs.{run_ended}
+use Rattle.session_laws.proofs.run_headline.Showing.{Ended, Facts, in_none, not_told}
 
--- of sections one behind the other only one starts in a turn
-one_start : (ready : ℕ) (past : List Started) (s : Started) (later us : List Started) (u : Started) (vs : List Started) → AreInARow ready (past ++ s ∷ later) → past ++ s ∷ later ≡ us ++ u ∷ vs → u.start ≡ s.start → u ≡ s
-one_start ready past s later us u vs row are same = elim (place_of past s later us u vs are) [
-  | inl a ↦ let at = row_past ready u past s later row a in absurd (omega (arith, at.0, at.1, same))
-  | inr other ↦ elim other [
-    | inl is ↦ is
-    | inr a ↦
-        let far = row_later ready u past s later row a in
-        let own = (row_from ready past s later row).1 in
-        absurd (omega (arith, far, own, same))
-  ]
-]
+axis_board : (m : Machine) (axes : List AxisDef) (i : ℕ) → i < length axes → All (IsValidAxis m) axes → (get_or axes i no_axis).board < length m.boards
+axis_board m [] i low all = absurd (omega (arith, low))
+axis_board m (a ∷ axes) zero low all = (All-head (IsValidAxis m) a axes all).board
+axis_board m (a ∷ axes) (suc i) low all = axis_board m axes i (omega (arith, low)) (All-tail (IsValidAxis m) a axes all)
 
-pub one_axis : (a b : ℕ) → Home a ≡ Home b → a ≡ b
-one_axis a b e = cc
+-- what a board tells of its switch in a run is read so
+abbrev pub SoRead : Machine → List Switch → ℕ → List Came → List BoardTurn → Type 0
+SoRead m switches b came turns = BeginsApart m switches came × AllRead (ReadsSwitchTrue m switches b) came turns × AreBehind m switches b came
 
--- behind a section's note its axis is known as well as its start
-module _ (m : Machine) (switches : List Switch) (ready from axis : ℕ) (ms : List Member) (past : List Started) (s : Started) (later : List Started) (row : AreInARow ready (past ++ s ∷ later)) (home : s.section.kind ≡ Home axis) where
-  known_for : (o : Option Homing) → WasBegun (past ++ s ∷ later) o → IsOf s.start ms o → IsFor s.start axis o
-  known_for None w of = of
-  known_for (Some h) w of =
-      let (us, u, vs, other, are, kind, start, group, number, axis_is, last_is) = w in
-      let same = one_start ready past s later us u vs row are (sym start ∙ of.0) in
-      (of.0, axis_is ∙ one_axis other axis (sym kind ∙ ap (λ (z : Started). z.section.kind) same ∙ home))
+back_same : {X : Type 0} (xs ys us vs : List X) → xs ++ ys ≡ us ++ vs → length ys ≡ length vs → ys ≡ vs
+back_same [] ys [] vs e same = e
+back_same [] ys (u ∷ us) vs e same = absurd (let size = ap length e in let long = length-append us vs in omega (arith, size, long, same))
+back_same (x ∷ xs) ys [] vs e same = absurd (let size = ap length e in let long = length-append xs ys in omega (arith, size, long, same))
+back_same (x ∷ xs) ys (u ∷ us) vs e same = back_same xs ys us vs (cons_same x u (xs ++ ys) (us ++ vs) e).1 same
 
-  reads_from : (came : List Came) → GoesOn m switches came → CameNotes (past ++ s ∷ later) came → HomesFrom m switches from s.start ms came → ReadsFrom m switches from s.start axis came
-  reads_from [] goes notes since = tt
-  reads_from (c ∷ before) goes notes since = (
-    λ late. known_for (noted m c.note (known_by m switches before)).homing (now_was m switches (past ++ s ∷ later) c before goes.1 notes) (since.0 late).1,
-    reads_from before goes.1 notes.1 since.1,
-  )
+-- what is read so in a run is so up to a turn
+pub read_to : (m : Machine) (switches : List Switch) (pins : List (List Level)) (entries : List Entry) (b : ℕ) (came : List Came) (turns : List BoardTurn) → IsInRun m switches pins entries b came turns → SoRead m switches b came turns
+    → (ahead : List Came) (c : Came) (before : List Came) → came ≡ ahead ++ c ∷ before → (later past : List BoardTurn) → turns ≡ later ++ past → length past ≡ length before
+    → AreRead (ReadsSwitchTrue m switches b) (c ∷ before) past × AreBehind m switches b (c ∷ before)
+read_to m switches pins entries b came turns run so ahead c before are later past made long =
+    let size : length came ≡ length ahead + length (c ∷ before) = ap length are ∙ length-append ahead (c ∷ before) in
+    let f = split_at m switches pins entries b (length before) came turns run (omega (arith, size)) in
+    let same = same_place f.ahead f.c f.before ahead c before (sym f.came_is ∙ are) f.at in
+    let here = so_at m switches pins entries b (ReadsSwitchTrue m switches b) came turns f.ahead f.c f.before f.later f.t f.past run f.run f.came_is f.turns_is so in
+    let count = as_long m switches b f.before f.past (run_before m switches pins entries b f.c f.before f.t f.past f.run).both in
+    let at = f.at in
+    let turns_same = back_same (f.later ++ f.t ∷ []) f.past later past (append_assoc f.later (f.t ∷ []) f.past ∙ sym f.turns_is ∙ made) (omega (arith, count, at, long)) in
+    let Is : Came → List Came → List BoardTurn → Type 0 = λ d came_by z. AreRead (ReadsSwitchTrue m switches b) (d ∷ came_by) z × AreBehind m switches b (d ∷ came_by) in
+    subst (λ (z : List BoardTurn). Is c before z) turns_same (subst (λ (z : Came). Is z before f.past) same.0 (subst (λ (z : List Came). Is f.c z f.past) same.1 (here.1, here.2)))
 
--- as a section starts its board is no more than a turn ahead of the lines that are known in the turns in which the section is
-module _ (m : Machine) (switches : List Switch) (b from start : ℕ) (ms : List Member) (clocks : List Clocks) (low : from ≤ start) (kept : AreKept (clocks_at clocks b))
-    (begin : board_tick (clock_of (board_at m b)) (start - 1) ≤ lines_tick (clocks_at clocks b) (start * turn_ns)) where
-  behind_now : (c : Came) (before : List Came) → start ≤ length before → ((known_by m switches before).phase ≡ Connecting → ⊥) → KnowsLately m switches clocks (c ∷ before)
-      → board_tick (clock_of (board_at m b)) (start - 1) ≤ lines_tick (clocks_at (noted m c.note (known_by m switches before)).clocks b) (start * turn_ns)
-  behind_now c before late past knows =
-      subst (λ (n : ℕ). board_tick (clock_of (board_at m b)) (start - 1) ≤ n) (sym (tick_known (noted m c.note (known_by m switches before)).clocks clocks (length before + 276) b start (knows.0 past) kept (omega (arith, late)))) begin
+-- the answer in a turn of a run, by the turns of the board before it
+record Answered (m : Machine) (switches : List Switch) (pins : List (List Level)) (entries : List Entry) (b start axis : ℕ) (before : List Came) (turns : List BoardTurn) (tick : ℕ) : Type 0 where
+  later : List BoardTurn
+  past : List BoardTurn
+  are : turns ≡ later ++ past
+  long : length past ≡ length before
+  is : IsTriggerOf m switches pins entries b start axis before past tick
 
-  behind_all : (came : List Came) → HomesFrom m switches from start ms came → KnowsLately m switches clocks came → IsBehind m switches b start came
-  behind_all [] since knows = tt
-  behind_all (c ∷ before) since knows = (λ late. behind_now c before late (since.0 (omega (arith, late, low))).0 knows, behind_all before since.1 knows.1)
+answer_own : (m : Machine) (v : IsValidMachine m) (switches : List Switch) (pins : List (List Level)) (entries : List Entry) (b : ℕ) (came : List Came) (turns : List BoardTurn) → IsInRun m switches pins entries b came turns → SoRead m switches b came turns
+    → (ahead : List Came) (c : Came) (before : List Came) → came ≡ ahead ++ c ∷ before → (h : Homing) (tick : ℕ) → (noted m c.note (known_by m switches before)).homing ≡ Some h → (axis_at m h.axis).board ≡ b
+    → answer_in (length before) h.start (hears_all (noted m c.note (known_by m switches before)).clocks c.states h).group ≡ Some (Endstop tick) → Answered m switches pins entries b h.start h.axis before turns tick
+answer_own m v switches pins entries b came turns run so ahead c before are h tick known on answer =
+    let size : length came ≡ length ahead + length (c ∷ before) = ap length are ∙ length-append ahead (c ∷ before) in
+    let f = split_at m switches pins entries b (length before) came turns run (omega (arith, size)) in
+    let same = same_place f.ahead f.c f.before ahead c before (sym f.came_is ∙ are) f.at in
+    let here = so_at m switches pins entries b (ReadsSwitchTrue m switches b) came turns f.ahead f.c f.before f.later f.t f.past run f.run f.came_is f.turns_is so in
+    let was_run = run_before m switches pins entries b f.c f.before f.t f.past f.run in
+    let count = as_long m switches b f.before f.past was_run.both in
+    let at = f.at in
+    let Says : Came → List Came → Type 0 = λ d. λ past. (noted m d.note (known_by m switches past)).homing ≡ Some h
+    → answer_in (length past) h.start (hears_all (noted m d.note (known_by m switches past)).clocks d.states h).group ≡ Some (Endstop tick) → IsTriggerOf m switches pins entries b h.start h.axis past f.past tick in
+    let was : Says f.c f.before = λ is ends. answered_read m v switches pins entries b f.c f.before f.past h tick was_run f.run.both.0 here.0 here.1 here.2 is on ends in record {
+      later = f.later ++ f.t ∷ [];
+      past = f.past;
+      are = f.turns_is ∙ sym (append_assoc f.later (f.t ∷ []) f.past);
+      long = omega (arith, count, at);
+      is = subst (λ (z : Came). Says z before) same.0 (subst (λ (z : List Came). Says f.c z) same.1 was) known answer;
+    }
 
--- the answer in a homing section of a board, of which a word told
-pub own_told : (m : Machine) (switches : List Switch) (pins : List (List Level)) (entries : List Entry) (b end axis ready : ℕ) (turns : List BoardTurn) (past : List Started) (s : Started) (later : List Started) (h : Homing) (tick turn : ℕ) → IsValidMachine m
-    → AreInARow ready (past ++ s ∷ later) → s.section.kind ≡ Home axis → axis < length m.axes → (axis_at m axis).board ≡ b → (t : IsToldIn m switches pins entries b s.start end turns) → CameNotes (past ++ s ∷ later) t.before
-    → ((from : ℕ) → from + 254 ≡ s.start → SetNoClockFrom from t.past) → (stands_after (first_state (board_at m b) pins b entries) t.past).core.board.controller.state ≡ Running
-    → (noted m t.came.note (known_by m switches t.before)).homing ≡ Some h → answer_in (length t.before) h.start (hears_all (noted m t.came.note (known_by m switches t.before)).clocks t.came.states h).group ≡ Some (Endstop tick) → h.start ≡ s.start
-    → WasReported m switches b h.start (record { reason = 1; tick = tick; turn = turn }) (t.came ∷ t.before) → TakesSetUp (first_state (board_at m b) pins b entries) s.start t.past → HearSoon m switches b s.start (t.came ∷ t.before) t.past
-    → (clocks : List Clocks) → AreKept (clocks_at clocks b) → board_tick (clock_of (board_at m b)) (s.start - 1) ≤ lines_tick (clocks_at clocks b) (s.start * turn_ns) → KnowsLately m switches clocks (t.came ∷ t.before) → IsReadIn m switches pins b h.start axis t.before tick
-own_told m switches pins entries b end axis ready turns past s later h tick turn v row home small on t notes none runs known answer begin reported took soon_heard clocks kept order knows =
-    let run = t.run_is in
-    let long = as_long m switches b t.before t.past run.both in
-    let soon = t.soon in
-    let far = t.far in
-    let at = t.long in
-    let from = s.start - 254 in
-    let begins : from + 254 ≡ s.start = omega (arith, soon) in
-    let w = word_answers m switches t.begin s.start t.members t.came t.before (t.goes_on, run.goes_on) t.begun (omega (arith, soon, far, at, long)) t.none t.homed in
-    let past_it = past_known m switches t.begin s.start t.members t.before run.goes_on t.begun (omega (arith, soon, far, at, long)) in
-    let same : w.0 ≡ h = some_same w.0 h (sym w.2 ∙ known) in
-    let members : members_of h.group ≡ t.members = ap (λ (z : Homing). members_of z.group) (sym same) ∙ w.4 in
-    let since = homes_later m switches t.begin from s.start t.members t.before (omega (arith, soon, begins)) (homing_known m switches t.begin s.start t.members t.before run.goes_on t.begun) in
-    let reads = reads_from m switches ready from axis t.members past s later row home t.before run.goes_on notes since in
-    let behind : IsBehind m switches b s.start (t.came ∷ t.before) =
-    (λ late. behind_now m switches b from s.start t.members clocks (omega (arith, begins)) kept order t.came t.before late past_it knows, behind_all m switches b from s.start t.members clocks (omega (arith, begins)) kept order t.before since knows.1) in
-    let own_since : HomesFrom m switches from h.start (members_of h.group) t.before =
-    subst (λ (n : ℕ). HomesFrom m switches from n (members_of h.group) t.before) (sym begin) (subst (λ (ms : List Member). HomesFrom m switches from s.start ms t.before) (sym members) since) in
-    answered_own m switches pins entries b axis t.came t.before h t.past tick turn v run t.states
-    (record { known = known; end = Endstop tick; answer = answer; from = from; set_up = begins ∙ sym begin; since = own_since })
-    (none from begins)
-    (subst (λ (n : ℕ). ReadsFrom m switches from n axis t.before) (sym begin) reads) small on
-    (subst (λ (n : ℕ). TakesSetUp (first_state (board_at m b) pins b entries) n t.past) (sym begin) took) runs reported
-    (subst (λ (n : ℕ). HearSoon m switches b n (t.came ∷ t.before) t.past) (sym begin) soon_heard)
-    (subst (λ (n : ℕ). IsBehind m switches b n (t.came ∷ t.before)) (sym begin) behind)
+module _ (m : Machine) (v : IsValidMachine m) (s : Scene) (ts : List MotionTurn) (p : Plans m (length m.boards) ts) (t : Told) (first : ReactorTurn) (rest : List ReactorTurn) (end : ReactorTurn) (c : Cause) (told : p.seen.told ≡ Some t) (f : Facts m s ts (first ∷ rest) end c)
+    (short : HaveShortDictionaries m) (reads : AllSwitchesReadTrue m s ts (first ∷ (rest ++ end ∷ []))) where
+  abbrev Heard : List Came
+  Heard = Came_all m v s ts p t first rest end c told f short
+
+  -- what each board tells is read so
+  pub all_so : (b : ℕ) (low : b < length m.boards) → SoRead m s.switches b Heard (Turns_of m v s ts p t first rest end c told f short b low)
+  all_so b low =
+      let r = turn m v s ts p t first rest end c told f short in
+      let l = lines m v s ts p t first rest end c told f short b low in
+      let turns = Turns_of m v s ts p t first rest end c told f short b low in
+      let ready = By m v s ts p t first rest end c told f short in
+      let long = came_long [] (first ∷ rest) in
+      let Reads : List Came → Type 0 = λ z. AllRead (ReadsSwitchTrue m s.switches b) z turns in
+      let so = so_begun m s.switches b ts p ready t.first t.clocks Heard r.early (row m v s ts p t first rest end c told f short) (by m v s ts p t first rest end c told f short) (connected m v s ts p t first rest end c told f short)
+      l.tracked.kept (knows m v s ts p t first rest end c told f short)
+      (λ past x later axis cut home near. starts_behind m v b (length rest) ready t.first t.clocks p.seen.begun low l (row m v s ts p t first rest end c told f short) r.early past x later cut (omega (arith, near, long))) in
+      (so.0, subst Reads (came_cut [] first rest end) (reads b low (whole m v s ts p t first rest end c told f short b low)), so.1)
+
+  cut_own : (ahead : List Came) (y : Came) (before : List Came) (lines_of : List ReportLine) (x : TellsAnswer m s.switches y before lines_of) → Heard ≡ ahead ++ y ∷ before → IsTriggerIn m s ts first (rest ++ end ∷ []) x.homing.start x.homing.axis before x.tick
+  cut_own ahead y before lines_of x are =
+      let plan = by m v s ts p t first rest end c told f short in
+      let Goes : List Came → Type 0 = λ z. GoesOn m s.switches z in
+      let Notes : List Came → Type 0 = λ z. CameNotes p.seen.begun z in
+      let goes = goes_behind m s.switches ahead (y ∷ before) (subst Goes are plan.goes_on) in
+      let notes = notes_behind p.seen.begun ahead (y ∷ before) (subst Notes are plan.notes) in
+      let was : WasBegun p.seen.begun (Some x.homing) = subst (λ (o : Option Homing). WasBegun p.seen.begun o) x.known (now_was m s.switches p.seen.begun y before goes.1 notes) in
+      let low = axis_low m (length p.seen.begun) (outcome_of m p.seen.text).deeds was.0 was.1 was.2 was.3 (ap (map (λ z. z.section)) (sym was.4) ∙ of_sections m ts p) was.5 in
+      let three = v.axes_three in
+      let axis_is = was.9 in
+      let board = axis_board m m.axes x.homing.axis (omega (arith, low, three, axis_is)) v.axes in
+      let b = (axis_at m x.homing.axis).board in
+      let k = answer_own m v s.switches (pins_of (board_at m b) b s.switches) s.entries b Heard (Turns_of m v s ts p t first rest end c told f short b board) (run_of m v s ts p t first rest end c told f short b board) (all_so b board)
+      ahead y before are x.homing x.tick x.known refl x.answer in
+      record { board = b; board_is = refl; there = board; w = whole m v s ts p t first rest end c told f short b board; later = k.later; past = k.past; are = k.are; long = k.long; is = k.is }
+
+  pub own_turns : (before : List Came) (rs : List ReactorTurn) → Heard ≡ came_from before rs → TellTriggersBehind m s ts first (rest ++ end ∷ []) before rs
+  own_turns before [] are = tt
+  own_turns before (r ∷ rs) are = let a = came_ahead (came_in r ∷ before) rs in (λ x. cut_own a.0 (came_in r) before r.lines x (are ∙ a.1), own_turns (came_in r ∷ before) rs are)
+
+-- where no section was begun no turn tells of a switch
+no_line : (m : Machine) (switches : List Switch) (i : ℕ) (a : AxisDef) (tick : ℕ) → [] ≡ cut_line m switches i a (Some tick) → ⊥
+no_line m switches i a tick e = cc
+
+none_own : (m : Machine) (s : Scene) (ts : List MotionTurn) (first : ReactorTurn) (rest : List ReactorTurn) (begun : List Started) (k : ℕ) (before : List Came) (rs last : List ReactorTurn) → begun ≡ [] → TellEnds m s.switches begun k (rs ++ last)
+    → TellTriggersBehind m s ts first rest before rs
+none_own m s ts first rest begun k before [] last none ends = tt
+none_own m s ts first rest begun k before (r ∷ rs) last none ends = (
+  λ x. elim ends.0 [
+    | inl w ↦ let e = w.ended in absurd (in_none e.past e.s e.later begun none e.cut)
+    | inr n ↦ absurd (no_line m s.switches x.homing.section (axis_at m x.homing.axis) x.tick (sym n.lines_are ∙ x.lines_are))
+  ],
+  none_own m s ts first rest begun (k + 1) (came_in r ∷ before) rs last none ends.1,
+)
+
+module _ (m : Machine) (v : IsValidMachine m) (s : Scene) (ts : List MotionTurn) (p : Plans m (length m.boards) ts) (end : ReactorTurn) (c : Cause) (short : HaveShortDictionaries m) where
+  own_by : (o : Option Told) (first : ReactorTurn) (rest : List ReactorTurn) → Ended m s ts (first ∷ rest) end c → p.seen.told ≡ o → AllSwitchesReadTrue m s ts (first ∷ (rest ++ end ∷ [])) → TellTriggers m s ts (first ∷ rest) end
+  own_by None first rest e told reads = none_own m s ts first (rest ++ end ∷ []) p.seen.begun 0 [] (first ∷ rest) (end ∷ []) (not_told m v s ts p end c told) (all_ends m v s ts p end c (first ∷ rest) e)
+  own_by (Some t) first rest e told reads = own_turns m v s ts p t first rest end c told e.facts short reads [] (first ∷ rest) refl
+
+  all_own : (rs : List ReactorTurn) → Ended m s ts rs end c → AllSwitchesReadTrue m s ts (rs ++ end ∷ []) → TellTriggers m s ts rs end
+  all_own [] e reads = tt
+  all_own (first ∷ rest) e reads = own_by p.seen.told first rest e refl reads
+
+pub run_own : {F S : Type 0} (f : Files F) (o : Sink S) (m : Machine) (s : Scene) (name : List ℕ) (files files' : F) (out out' : S) (kept kept' : Kept) (t : near.Told Run) (r : RunsOver f o m s name files out kept t files' out' kept') → IsValidMachine m → HaveShortDictionaries m → (text : List ℕ)
+    → f.told files name ≡ Some text → kept.at ≡ 0 → (t.cause ≡ cause.Memory → ⊥) → AllSwitchesReadTrue m s r.runs.0 (r.runs.1 ++ r.runs.2 ∷ []) → ∥ TellTriggers m s r.runs.0 r.runs.1 r.runs.2 ∥₁
+run_own f o m s name files files' out out' kept kept' t r v short text told at other reads =
+    ∥∥₁_map (run_made f o m s name files files' out out' kept kept' t r text told at)
+    (λ w. all_own m v s r.runs.0 w.0.plans r.runs.2 t.cause short r.runs.1 (run_ended f o m s name files files' out out' kept kept' t r other) reads)

@@ -188,9 +188,9 @@ module _ (m : Machine) (v : IsValidMachine m) (s : Scene) (ts : List MotionTurn)
           let b = (stepper_at m place).board in
           let low : b < length m.boards = (v.steppers place h).board in
           let n = length (rest ++ end ∷ []) in
-          let all = Turns_of m v s ts p t first rest end c told f short small b low in
-          let states = (Here m v s ts p t first rest end c told f short small b low).states in
-          let took = took_states m v s ts p t first rest end c told f short small b low in
+          let all = Turns_of m v s ts p t first rest end c told f short b low in
+          let states = (Here m v s ts p t first rest end c told f short b low).states in
+          let took = took_states m v s ts p t first rest end c told f short b low in
           let last = lasts b rest end states took in
           let idle = one_idle b end.states last.last w_all.2.through.idle last.at in
           let in_order = one_in_time 0 b end.states last.last w_all.2.none_late last.at in
@@ -199,7 +199,7 @@ module _ (m : Machine) (v : IsValidMachine m) (s : Scene) (ts : List MotionTurn)
           let orders = order_length all in
           let Never : List Orders → Type 0 = λ os. NeverStop os in
           let never = subst Never (sym (take_all n (orders_in all) (omega (arith, many, orders))))
-          (never_stop m s.switches (pins_of (board_at m b) b s.switches) s.entries b Came_all all (run_of m v s ts p t first rest end c told f short small b low) (not_stopping w_all)) in
+          (never_stop m s.switches (pins_of (board_at m b) b s.switches) s.entries b Came_all all (run_of m v s ts p t first rest end c told f short b low) (not_stopping w_all)) in
           let within = w.within in
           let more = length-append rest (end ∷ []) in
           let Released : List Started → Type 0 = λ z. AreReleased n (parts_on m t.clocks z b) in
@@ -221,9 +221,9 @@ module _ (m : Machine) (v : IsValidMachine m) (s : Scene) (ts : List MotionTurn)
             let b = (stepper_at m place).board in
             let low : b < length m.boards = (v.steppers place h).board in
             let n = length rest in
-            let all = Turns_of m v s ts p t first rest end c told f short small b low in
-            let states = (Here m v s ts p t first rest end c told f short small b low).states in
-            let last = lasts b rest end states (took_states m v s ts p t first rest end c told f short small b low) in
+            let all = Turns_of m v s ts p t first rest end c told f short b low in
+            let states = (Here m v s ts p t first rest end c told f short b low).states in
+            let last = lasts b rest end states (took_states m v s ts p t first rest end c told f short b low) in
             let Took : List ReactorTurn → Type 0 = λ z. TookStates b z last.front in
             let took = subst Took y.are last.took in
             let here = lasts b y.front y.turn last.front took in
@@ -233,7 +233,7 @@ module _ (m : Machine) (v : IsValidMachine m) (s : Scene) (ts : List MotionTurn)
             let more = length-append rest (end ∷ []) in
             let many = count m v s ts p t first rest end c told f short small b low in
             let Run : List Came → Type 0 = λ z. IsInRun m s.switches (pins_of (board_at m b) b s.switches) s.entries b z all in
-            let run = subst Run y.came (run_of m v s ts p t first rest end c told f short small b low) in
+            let run = subst Run y.came (run_of m v s ts p t first rest end c told f short b low) in
             let never = front_never m s.switches (pins_of (board_at m b) b s.switches) s.entries b (came_in y.turn) (came_from [] (first ∷ y.front)) all n run not_about (omega (arith, many, more)) in
             let Released : List Started → Type 0 = λ z. AreReleased n (parts_on m t.clocks z b) in
             let released = gone_released m p.seen.text p.seen.begun n (noted m y.turn.note (known_by m s.switches (came_from [] (first ∷ y.front)))) (read.Stop y.line) t.clocks b n (gone_before y) (omega arith) low in

@@ -5,5 +5,5 @@ pub returns : goal.returns
 returns c = record {
   late = λ m switches pins entries lines ready until v none d before all r reach low h is answers tick hit. run_misses m v switches pins entries none lines ready until d before all r reach low h is answers tick hit;
   closes = λ m switches pins entries lines ready until v none d before all r reach low h is tick hit early x answers. run_closes m v switches pins entries none lines ready until d before all r reach low h is tick hit early x answers;
-  first = λ m switches pins entries lines ready until v none d before all r reach low h is hear tick answers. run_switches m v switches pins entries none lines ready until d before all r reach low h is hear tick answers;
+  first = λ m switches pins entries lines ready until v none d before all r reach low h is reads behind tick answers. run_switches m v switches pins entries none lines ready until d before all r reach low h is reads behind tick answers;
 }

@@ -1,5 +1,0 @@
-use Rattle.session_laws.proofs.home_wholes.Joined.{run_own}
-use Rattle.session_laws.proofs.home_wholes.homing_runs_are_cut_by_their_own_readings.Goals as goal
-
-pub returns : goal.returns
-returns g c = λ m s name files files' out out' kept kept' t r v short text told at other little soon sends. run_own g.F.Files g.S.Sink m s name files files' out out' kept kept' t r v short text told at other little soon sends

@@ -70,7 +70,7 @@ use Rattle.report_laws.proofs.Low.{AreNumbered, Facts, IsDue, keep_by, numbered_
 use Rattle.report_laws.proofs.Shorts.{told_timed}
 use Rattle.report_laws.proofs.Unbegun.{ShowsNone}
 use Rattle.report_laws.proofs.Standing.{AreAllKinds, apart_heads, are_behind, first_shown, of_run, shown_kinds, some_pulse, stands, told_behind, told_parts}
-use Rattle.report_laws.specs.page.Log.{Follows, SaysLog, TellsPulseOf}
+use Rattle.report_laws.specs.page.Log.{Follows, SaysLog, TellsPulseOf, log_of}
 use Rattle.report_laws.proofs.page.Front.{AreFronted, all-follows, lines-follow}
 use Rattle.report_laws.proofs.page.Going.{Ahead, AreOf, IsShown, goes-on}
 
@@ -331,7 +331,7 @@ none_first m xs ys shows = record {
 
 -- lines of a run that follow the plan are read back as a log that does
 pub read-back : (through : Type 0) (m : Machine) (sections : List Section) (said : List ReportLine) → IsValidMachine m → HasNames m → AreOfRun m said → AreFronted through m sections (further_told (map logged said)) (onto (map logged said) [])
-    → (log : List LogLine) × SaysLog m (report_text m said) log × Follows through m sections log
+    → SaysLog m (report_text m said) (log_of said) × Follows through m sections (log_of said)
 read-back through m sections said valid names of front =
     let logs = map logged said in
     let log = in_order logs in
@@ -340,7 +340,6 @@ read-back through m sections said valid names of front =
     let says : all_said m words ≡ map ok_line (in_order log) = own ∙ ap (map ok_line) (sym (in_order_twice logs)) in
     let among : further_told logs ≡ further_among log = sym (said-listed m words logs own ∙ listed_told logs) ∙ said-among m words log says in
     let on : onto logs [] ≡ log = onto-in-order logs [] ∙ append-nil log in (
-      log,
       ap (all_said m) (lines-read m said 1 valid names of) ∙ says,
       all-follows through m sections log (subst (λ (f : List Further). AreFronted through m sections f log) among (subst (λ (x : List LogLine). AreFronted through m sections (further_told logs) x) on front)),
     )
@@ -612,7 +611,7 @@ module _ (m : Machine) (switches : List Switch) (text : List ℕ) (c : Cause) (s
           let at : heads_of xs ≡ heads_of head ++ (report.Section 0 facts.apart.turn facts.apart.kind ∷ heads_of more) = ap heads_of e ∙ flat_map-append head_in head (l ∷ more) ∙ ap (λ (x : ReportLine). heads_of head ++ (head_in x ++ heads_of more)) same in
           absurd (not_empty (heads_of head) (report.Section 0 facts.apart.turn facts.apart.kind) (heads_of more) (sym at ∙ none))
 
-  pub home-front : HasNames m → (log : List LogLine) × SaysLog m (report_text m said) log × Follows (GoesThrough c) m Text log
+  pub home-front : HasNames m → SaysLog m (report_text m said) (log_of said) × Follows (GoesThrough c) m Text (log_of said)
   home-front names = read-back (GoesThrough c) m Text said valid names of_said front
 
   module _ (through : GoesThrough c) where

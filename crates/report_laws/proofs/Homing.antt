@@ -18,7 +18,6 @@ use Rattle.plan_types.specs.Sections.{clocks_at}
 use Rattle.report_text.specs.declared.line.ReportLine.{ReportLine}
 use Rattle.report_text.specs.declared.line.ReportLine.TheVariants as report
 use Rattle.report_text.specs.Text.{report_text}
-use Rattle.log_text.specs.declared.line.LogLine.{LogLine}
 use Rattle.report_laws.specs.Further.{further_told}
 use Rattle.report_laws.specs.Logged.{logged}
 use Rattle.report_laws.proofs.Configured.{names-of-reading}
@@ -73,7 +72,7 @@ use Rattle.report_laws.specs.Promises.{sections_over}
 use Rattle.report_laws.specs.Linked.{IsLinkReport}
 use Rattle.report_laws.specs.Shown.{section_turn, sections_shown}
 use Rattle.report_laws.proofs.Inside.{some_behind}
-use Rattle.report_laws.specs.page.Log.{Follows, SaysLog}
+use Rattle.report_laws.specs.page.Log.{Follows, SaysLog, log_of}
 use Rattle.report_laws.proofs.Faulted.{last_lines}
 use Rattle.report_laws.proofs.Homed.{home-checks, home-front, home-none, none_first, read-back}
 use Rattle.report_laws.proofs.Unbegun.{ShowsNone, counts_low}
@@ -290,10 +289,10 @@ module _ {F S : Type 0} (f : Files F) (o : Sink S) (printer : List ℕ) (m : Mac
       begun_first (x ∷ begun) e never = (x.start, first_shown 0 x.start x.section.kind (begun_lines 1 begun) r.reported.said e)
 
   -- what was printed before the end line follows the plan, as far as the run came
-  pub printed-front : (r.reported.told.cause ≡ cause.Memory → ⊥) → ∥ ((log : List LogLine) × SaysLog m (report_text m r.reported.said) log × Follows (GoesThrough c) m (sections_over m text) log) ∥₁
+  pub printed-front : (r.reported.told.cause ≡ cause.Memory → ⊥) → ∥ (SaysLog m (report_text m r.reported.said) (log_of r.reported.said) × Follows (GoesThrough c) m (sections_over m text) (log_of r.reported.said)) ∥₁
   printed-front other = ∥∥₁_elim (showing other) ∥∥₁_prop (λ (z : Showing). by z (heads_of r.reported.said) refl)
     where
-      by : (z : Showing) (heads : List ReportLine) → heads_of r.reported.said ≡ heads → ∥ ((log : List LogLine) × SaysLog m (report_text m r.reported.said) log × Follows (GoesThrough c) m (sections_over m text) log) ∥₁
+      by : (z : Showing) (heads : List ReportLine) → heads_of r.reported.said ≡ heads → ∥ (SaysLog m (report_text m r.reported.said) (log_of r.reported.said) × Follows (GoesThrough c) m (sections_over m text) (log_of r.reported.said)) ∥₁
       by z [] e = ∥∥₁_map (z.none e) (λ shows.
           read-back (GoesThrough c) m (sections_over m text) r.reported.said home_valid (names-of-reading printer m configured) shows.of_run (heads-follow (GoesThrough c) m (sections_over m text) (further_told (map logged r.reported.said)) r.reported.said shows.may shows.heads))
       by z (h ∷ hs) e =

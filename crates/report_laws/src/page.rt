@@ -12,7 +12,7 @@ ghost use Rattle.report_text.specs.declared.line.ReportLine.TheVariants as repor
 ghost use Rattle.report_text.specs.Text.{report_text};
 ghost use Rattle.report_laws.specs.Read.{IsSceneFor};
 ghost use Rattle.report_laws.specs.page.Causes.{EndsSo};
-ghost use Rattle.report_laws.specs.page.Log.{Follows, SaysLog};
+ghost use Rattle.report_laws.specs.page.Log.{Follows, SaysLog, log_of};
 ghost use Rattle.report_laws.specs.page.Report.{IsPrinted};
 ghost use Rattle.session_laws.specs.run_ends.Ends.{GoesThrough};
 ghost use Rattle.session_laws.specs.home_headline.Little.{AllHomeLittle};
@@ -49,5 +49,5 @@ pub fn printed_lines_follow_the_plan<F: Files, S: Sink>()
         reading printer ≡ Ok m → (r : IsLinkReport F.Files S.Sink m s gcode files files' out out' c lines counts links) → (text : List ℕ) → F.told files gcode ≡ Some text →
         AllHomeLittle m s text r.reported.runs.runs.0 (r.reported.runs.runs.1 ++ r.reported.runs.runs.2 ∷ []) →
         IsSceneFor m s → r.reported.told.cause ≢ Cause.Memory →
-        ∥ ((log : List LogLine) × SaysLog m (report_text m r.reported.said) log × Follows (GoesThrough c) m (sections_over m text) log) ∥₁ }
+        ∥ (SaysLog m (report_text m r.reported.said) (log_of r.reported.said) × Follows (GoesThrough c) m (sections_over m text) (log_of r.reported.said)) ∥₁ }
 {}

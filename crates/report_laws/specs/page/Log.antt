@@ -11,12 +11,18 @@ use Rattle.plan_types.specs.declared.machine.Machine.{Machine}
 use Rattle.plan_types.specs.declared.plan.Section.{Section}
 use Rattle.plan_types.specs.declared.plan.SectionKind.{SectionKind}
 use Rattle.plan_types.specs.Machines.{stepper_at}
+use Rattle.report_laws.specs.Logged.{logged}
+use Rattle.report_text.specs.declared.line.ReportLine.{ReportLine}
 use Rattle.text_core.specs.Lines.{lines_of}
 use Rattle.text_words.specs.Words.{worded_lines}
 
 -- a text's lines say a log, of which the last line stands first
 abbrev pub SaysLog : Machine → List ℕ → List LogLine → Type 0
 SaysLog m text log = all_said m (worded_lines 35 1 (lines_of text)) ≡ map ok_line (in_order log)
+
+-- the log that some lines of a report say: the last line stands first
+abbrev pub log_of : List ReportLine → List LogLine
+log_of said = in_order (map logged said)
 
 -- the turn that the boards' lines tell, from which on the first section may start
 abbrev pub board_turn : List LogLine → ℕ

@@ -72,9 +72,9 @@ use Rattle.report_laws.specs.Promises.{sections_over}
 use Rattle.report_laws.specs.Linked.{IsLinkReport}
 use Rattle.report_laws.specs.Shown.{section_turn, sections_shown}
 use Rattle.report_laws.proofs.Inside.{some_behind}
-use Rattle.report_laws.specs.page.Log.{Follows, SaysLog, log_of}
+use Rattle.report_laws.specs.page.Log.{Follows, SaysLog, StartsOnTime, log_of}
 use Rattle.report_laws.proofs.Faulted.{last_lines}
-use Rattle.report_laws.proofs.Homed.{home-checks, home-front, home-none, none_first, read-back}
+use Rattle.report_laws.proofs.Homed.{home-checks, home-front, home-none, none_first, read-back, shown-all}
 use Rattle.report_laws.proofs.Unbegun.{ShowsNone, counts_low}
 use Rattle.report_laws.proofs.Unshown.{alone_own, alone_plain, both_none, shown_heads, shown_none, whole_before}
 use Rattle.report_laws.proofs.page.Front.{heads-follow}
@@ -289,12 +289,13 @@ module _ {F S : Type 0} (f : Files F) (o : Sink S) (printer : List ℕ) (m : Mac
       begun_first (x ∷ begun) e never = (x.start, first_shown 0 x.start x.section.kind (begun_lines 1 begun) r.reported.said e)
 
   -- what was printed before the end line follows the plan, as far as the run came
-  pub printed-front : (r.reported.told.cause ≡ cause.Memory → ⊥) → ∥ (SaysLog m (report_text m r.reported.said) (log_of r.reported.said) × Follows (GoesThrough c) m (sections_over m text) (log_of r.reported.said)) ∥₁
+  pub printed-front : (r.reported.told.cause ≡ cause.Memory → ⊥) → ∥ (SaysLog m (report_text m r.reported.said) (log_of r.reported.said) × Follows (GoesThrough c) m (sections_over m text) (log_of r.reported.said) × StartsOnTime (GoesThrough c) m (sections_over m text) (log_of r.reported.said)) ∥₁
   printed-front other = ∥∥₁_elim (showing other) ∥∥₁_prop (λ (z : Showing). by z (heads_of r.reported.said) refl)
     where
-      by : (z : Showing) (heads : List ReportLine) → heads_of r.reported.said ≡ heads → ∥ (SaysLog m (report_text m r.reported.said) (log_of r.reported.said) × Follows (GoesThrough c) m (sections_over m text) (log_of r.reported.said)) ∥₁
+      by : (z : Showing) (heads : List ReportLine) → heads_of r.reported.said ≡ heads → ∥ (SaysLog m (report_text m r.reported.said) (log_of r.reported.said) × Follows (GoesThrough c) m (sections_over m text) (log_of r.reported.said) × StartsOnTime (GoesThrough c) m (sections_over m text) (log_of r.reported.said)) ∥₁
       by z [] e = ∥∥₁_map (z.none e) (λ shows.
-          read-back (GoesThrough c) m (sections_over m text) r.reported.said home_valid (names-of-reading printer m configured) shows.of_run (heads-follow (GoesThrough c) m (sections_over m text) (further_told (map logged r.reported.said)) r.reported.said shows.may shows.heads))
+          read-back (GoesThrough c) m (sections_over m text) r.reported.said home_valid (names-of-reading printer m configured) shows.of_run (heads-follow (GoesThrough c) m (sections_over m text) (further_told (map logged r.reported.said)) r.reported.said shows.may shows.heads)
+          (shown-all m s.switches text c r.reported.said z.shows))
       by z (h ∷ hs) e =
           let some : heads_of r.reported.said ≢ [] = λ none. (let g : h ∷ hs ≡ [] = sym e ∙ none in cc) in
           ∥∥₁_map (z.low some) (λ low.

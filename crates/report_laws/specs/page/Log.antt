@@ -32,9 +32,9 @@ board_turn (_ ∷ lines) = board_turn lines
 
 -- The turn from which on the next section may start, where no cut stands in the one before: the turn that the boards' lines tell; or 260
 -- turns behind that in which the plan of the one before ends.
-abbrev pub next_turn : Machine → List Section → List LogLine → List LogLine → ℕ → ℕ
-next_turn m sections log lines zero = board_turn lines
-next_turn m sections log lines (suc i) = end_by m sections (clocks m (further_among log) lines) (suc i) (start lines) + 260
+abbrev pub next_turn : Machine → List Section → List Further → List LogLine → ℕ → ℕ
+next_turn m sections further lines zero = board_turn lines
+next_turn m sections further lines (suc i) = end_by m sections (clocks m further lines) (suc i) (start lines) + 260
 
 -- A line stands behind others in a log as it may, by the further clock lines of the log: a board's line before the first section, in the order of
 -- the boards; a further clock line behind those of its board; a section, the next one of the text, not before its turn (`IsNext`), behind the lines
@@ -79,5 +79,5 @@ pub record Follows (through : Type 0) (m : Machine) (sections : List Section) (l
 -- before; and where the run went through each section of the text has its line.
 pub record StartsOnTime (through : Type 0) (m : Machine) (sections : List Section) (log : List LogLine) : Type 0 where
   pub due : (later lines : List LogLine) (i turn : ℕ) (kind : SectionKind) → log ≡ later ++ line.Section i turn kind ∷ lines → is_cut lines ≡ false →
-      turn ≡ next_turn m sections log lines (begun lines) + (section_at sections i).dwell
+      turn ≡ next_turn m sections (further_among log) lines (begun lines) + (section_at sections i).dwell
   pub all : through → begun log ≡ length sections

@@ -1,7 +1,6 @@
 -- The report of a run in which axes home checks.
 use Rattle.std.proofs.Common.{◌≡◌, ◌≢◌, ◌∙◌, ◌⊎◌, inl, inr, ℕ, zero, suc, ◌+◌, ◌<◌, ◌≤◌, Bool, true, false, List, [], ◌∷◌, ◌++◌, length, map, drop, ap, sym, refl, subst, arith, Some, None, append_assoc, append-nil, length-append}
 use Rattle.std.specs.Prelude.{if◌then◌else◌, Ok}
-use Rattle.std.proofs.Math.Seq.{get_or-append_seam}
 use Rattle.std.proofs.lemmas.Bool.Decides.{eqb_tells}
 use Rattle.std.proofs.lemmas.Grind.{flat_map-append}
 use Rattle.std.proofs.lemmas.List.{length-map, take-append-drop}
@@ -55,14 +54,13 @@ use Rattle.session_laws.specs.run_limits.Limits.{AreLow}
 use Rattle.session_laws.specs.home_headline.Cuts.{cuts_of}
 use Rattle.session_laws.proofs.home_wholes.Axes.{HasAxis, HaveAxes, have_axes}
 use Rattle.wire_scene.specs.declared.scene.Switch.{Switch}
-use Rattle.report_laws.specs.Body.{no_section}
 use Rattle.report_laws.specs.Checks.{check_cause}
 use Rattle.report_laws.specs.Cuts.{IsCutOf, cuts_in, lines_before, scene_line}
 use Rattle.report_laws.specs.Headline.{kind_of, moves_of, plan_by}
 use Rattle.report_laws.specs.Homes.{ShowsHomes}
 use Rattle.report_laws.specs.Promises.{FollowsPlanBy, IsCompleteOfMovesBy, sections_over}
 use Rattle.report_laws.specs.Shown.{begins, lines_behind, pulses_in, section_turn, sections_shown}
-use Rattle.report_laws.proofs.Inside.{turn_front}
+use Rattle.report_laws.proofs.Inside.{kind_at, section_here, turn_front}
 use Rattle.report_laws.specs.Stands.{IsPlannedAlike}
 use Rattle.report_laws.proofs.Bridging.{AreDue, IsCutOrNot, IsOneCut, fits-same, head-behind, head-pulses, head-shown, head-turn}
 use Rattle.report_laws.proofs.Checking.{cut-checks}
@@ -92,36 +90,6 @@ have_kinds (s ∷ sections) h = (has_kind s.kind h.0, have_kinds sections h.1)
 begun_kinds : (i : ℕ) (begun : List Started) → HaveKinds (map (λ s. s.section) begun) → AreAllKinds (begun_lines i begun)
 begun_kinds i [] kinds = tt
 begun_kinds i (s ∷ begun) kinds = (kinds.0, begun_kinds (i + 1) begun kinds.1)
-
--- the section of a number, of those that were begun
-record HasPlace (begun : List Started) (j : ℕ) : Type 0 where
-  past : List Started
-  s : Started
-  later : List Started
-  cut : begun ≡ past ++ s ∷ later
-  place : length past ≡ j
-
-place_of : (begun : List Started) (j : ℕ) → j < length begun → HasPlace begun j
-place_of [] j low = absurd (omega (arith, low))
-place_of (s ∷ begun) zero low = record { past = []; s = s; later = begun; cut = refl; place = refl }
-place_of (s ∷ begun) (suc j) low =
-    let h = place_of begun j (omega (arith, low)) in
-    record { past = s ∷ h.past; s = h.s; later = h.later; cut = ap (λ (z : List Started). s ∷ z) h.cut; place = ap suc h.place }
-
-map_cut : (past : List Started) (s : Started) (later : List Started) → map (λ x. x.section) (past ++ s ∷ later) ≡ map (λ x. x.section) past ++ s.section ∷ map (λ x. x.section) later
-map_cut [] s later = refl
-map_cut (y ∷ past) s later = ap (λ z. y.section ∷ z) (map_cut past s later)
-
-section_here : (sections more : List Section) (begun : List Started) (j : ℕ) (h : HasPlace begun j) → sections ≡ map (λ x. x.section) begun ++ more → section_at sections j ≡ h.s.section
-section_here sections more begun j h are =
-    let past = map (λ (x : Started). x.section) h.past in
-    let later = map (λ (x : Started). x.section) h.later in
-    let all : sections ≡ past ++ h.s.section ∷ (later ++ more) = are ∙ ap (λ (z : List Started). map (λ (x : Started). x.section) z ++ more) h.cut ∙ ap (λ (z : List Section). z ++ more) (map_cut h.past h.s h.later) ∙ append_assoc past (h.s.section ∷ later) more in
-    let place : j ≡ length past = sym h.place ∙ sym (length-map h.past (λ (x : Started). x.section)) in
-    ap (λ (ss : List Section). section_at ss j) all ∙ ap (λ (n : ℕ). section_at (past ++ h.s.section ∷ (later ++ more)) n) place ∙ get_or-append_seam past h.s.section (later ++ more) no_section
-
-kind_at : (sections more : List Section) (begun : List Started) (j : ℕ) (h : HasPlace begun j) → sections ≡ map (λ x. x.section) begun ++ more → kind_of sections j ≡ h.s.section.kind
-kind_at sections more begun j h are = ap (λ (x : Section). x.kind) (section_here sections more begun j h are)
 
 -- whether a section of a text homes
 abbrev homes_at : List Section → ℕ → Bool
@@ -470,69 +438,45 @@ module _ (m : Machine) (switches : List Switch) (text : List ℕ) (c : Cause) (s
       let many = length-map shows.begun (λ (x : Started). x.section) in
       record { from = d.from; inside = omega (arith, inside, size, many); late = d.late }
 
-  place_at : (j turn : ℕ) → section_turn j said ≡ Some turn → HasPlace shows.begun j
-  place_at j turn e = let d = (due_in j turn e).inside in place_of shows.begun j (omega (arith, d))
-
-  kind_is : (j : ℕ) (p : HasPlace shows.begun j) → kind_of Text j ≡ p.s.section.kind
-  kind_is j p = kind_at Text More shows.begun j p of_text
-
   -- its cut lines: none in a section of moves, one at most in one that homes, and one there where the next section is shown or the run went through
   uncut_at : (j turn : ℕ) → section_turn j said ≡ Some turn → kind_of Text j ≡ Moves → cuts_in j said ≡ []
-  uncut_at j turn e is =
-      let p = place_at j turn e in
-      ap (λ (n : ℕ). cuts_in n said) (sym p.place) ∙ shows.cuts.moves p.past p.s p.later p.cut (sym (kind_is j p) ∙ is)
+  uncut_at j turn e is = shows.cuts.moves j is
 
-  one_cut : (j axis : ℕ) (p : HasPlace shows.begun j) → IsCutOf m switches (length p.past) axis (cuts_in (length p.past) said) → IsOneCut j (cuts_in j said)
-  one_cut j axis p one = (
-    (axis_at m axis).board,
-    (axis_at m axis).pin,
-    one.0,
-    scene_line m switches axis one.0,
-    ap (λ (n : ℕ). cuts_in n said) (sym p.place) ∙ one.1 ∙ ap (λ (n : ℕ). report.Cut n (axis_at m axis).board (axis_at m axis).pin one.0 (scene_line m switches axis one.0) ∷ []) p.place,
-  )
+  one_cut : (j axis : ℕ) → IsCutOf m switches j axis (cuts_in j said) → IsOneCut j (cuts_in j said)
+  one_cut j axis one = ((axis_at m axis).board, (axis_at m axis).pin, one.0, scene_line m switches axis one.0, one.1)
 
   one_at : (j turn : ℕ) → section_turn j said ≡ Some turn → (cuts_in j said ≡ []) ⊎ IsOneCut j (cuts_in j said)
-  one_at j turn e =
-      let p = place_at j turn e in
-      by p p.s.section.kind refl
+  one_at j turn e = by (kind_of Text j) refl
     where
-      by : (p : HasPlace shows.begun j) (k : SectionKind) → p.s.section.kind ≡ k → (cuts_in j said ≡ []) ⊎ IsOneCut j (cuts_in j said)
-      by p Moves is = inl (ap (λ (n : ℕ). cuts_in n said) (sym p.place) ∙ shows.cuts.moves p.past p.s p.later p.cut is)
-      by p (Home axis) is = elim (shows.cuts.homes p.past p.s p.later axis p.cut is) [ inl none ↦ inl (ap (λ (n : ℕ). cuts_in n said) (sym p.place) ∙ none) | inr one ↦ inr (one_cut j axis p one) ]
+      by : (k : SectionKind) → kind_of Text j ≡ k → (cuts_in j said ≡ []) ⊎ IsOneCut j (cuts_in j said)
+      by Moves is = inl (shows.cuts.moves j is)
+      by (Home axis) is = elim (shows.cuts.homes j axis is) [ inl none ↦ inl none | inr one ↦ inr (one_cut j axis one) ]
 
   ended_at : (j turn : ℕ) → section_turn j said ≡ Some turn → ((next : ℕ) × (section_turn (j + 1) said ≡ Some next)) ⊎ GoesThrough c → is_home (kind_of Text j) ≡ true → IsOneCut j (cuts_in j said)
-  ended_at j turn e why homes =
-      let p = place_at j turn e in
-      by p (kind_is j p) p.s.section.kind refl
+  ended_at j turn e why homes = by (kind_of Text j) refl
     where
-      behind : (p : HasPlace shows.begun j) → ((next : ℕ) × (section_turn (length p.past + 1) said ≡ Some next)) ⊎ GoesThrough c
-      behind p = subst (λ (n : ℕ). ((next : ℕ) × (section_turn (n + 1) said ≡ Some next)) ⊎ GoesThrough c) (sym p.place) why
-
-      by : (p : HasPlace shows.begun j) → kind_of Text j ≡ p.s.section.kind → (k : SectionKind) → p.s.section.kind ≡ k → IsOneCut j (cuts_in j said)
-      by p at Moves is = absurd (let f : false ≡ true = sym (ap is_home (at ∙ is)) ∙ homes in cc)
-      by p at (Home axis) is = one_cut j axis p (shows.cuts.ended p.past p.s p.later axis p.cut is (behind p))
+      by : (k : SectionKind) → kind_of Text j ≡ k → IsOneCut j (cuts_in j said)
+      by Moves is = absurd (let f : false ≡ true = sym (ap is_home is) ∙ homes in cc)
+      by (Home axis) is = one_cut j axis (shows.cuts.ended j axis is why)
 
   -- they are small
   cut_small : (j turn : ℕ) → section_turn j said ≡ Some turn → AreSmall m (cuts_in j said)
-  cut_small j turn e =
-      let p = place_at j turn e in
-      by p (kind_is j p) p.s.section.kind refl
+  cut_small j turn e = by (kind_of Text j) refl
     where
       kind_low : (ss : List Section) (i : ℕ) → HaveKinds ss → i < 0 + length ss → IsKind (kind_of ss i)
       kind_low [] i ks lt = absurd (omega (arith, lt))
       kind_low (s ∷ ss) zero ks lt = ks.0
       kind_low (s ∷ ss) (suc i) ks lt = kind_low ss i ks.1 (omega (arith, lt))
 
-      by : (p : HasPlace shows.begun j) → kind_of Text j ≡ p.s.section.kind → (k : SectionKind) → p.s.section.kind ≡ k → AreSmall m (cuts_in j said)
-      by p at Moves is = subst (λ (z : List ReportLine). AreSmall m z) (sym (ap (λ (n : ℕ). cuts_in n said) (sym p.place) ∙ shows.cuts.moves p.past p.s p.later p.cut is)) tt
-      by p at (Home axis) is = elim (shows.cuts.homes p.past p.s p.later axis p.cut is) [
-        | inl none ↦ subst (λ (z : List ReportLine). AreSmall m z) (sym (ap (λ (n : ℕ). cuts_in n said) (sym p.place) ∙ none)) tt
+      by : (k : SectionKind) → kind_of Text j ≡ k → AreSmall m (cuts_in j said)
+      by Moves is = subst (λ (z : List ReportLine). AreSmall m z) (sym (shows.cuts.moves j is)) tt
+      by (Home axis) is = elim (shows.cuts.homes j axis is) [
+        | inl none ↦ subst (λ (z : List ReportLine). AreSmall m z) (sym none) tt
         | inr one ↦
-            let here : cuts_in j said ≡ report.Cut j (axis_at m axis).board (axis_at m axis).pin one.0 (scene_line m switches axis one.0) ∷ [] =
-            ap (λ (n : ℕ). cuts_in n said) (sym p.place) ∙ one.1 ∙ ap (λ (n : ℕ). report.Cut n (axis_at m axis).board (axis_at m axis).pin one.0 (scene_line m switches axis one.0) ∷ []) p.place in
+            let here : cuts_in j said ≡ report.Cut j (axis_at m axis).board (axis_at m axis).pin one.0 (scene_line m switches axis one.0) ∷ [] = one.1 in
             let wide : HaveLongCuts (report.Cut j (axis_at m axis).board (axis_at m axis).pin one.0 (scene_line m switches axis one.0) ∷ []) =
             subst (λ (z : List ReportLine). HaveLongCuts z) here (long_cuts (lines_before (lines_behind j said)) (long_before (lines_behind j said) (long_behind j said long))) in
-            let kind : IsKind (Home axis) = subst (λ (k : SectionKind). IsKind k) (at ∙ is) (kind_low Text j kinds (due_at j turn e).inside) in
+            let kind : IsKind (Home axis) = subst (λ (k : SectionKind). IsKind k) is (kind_low Text j kinds (due_at j turn e).inside) in
             let a = axis_valid m axis valid kind in
             let few = number_low j turn said low e in
             let early = turn_low j turn said low e in

@@ -1,5 +1,5 @@
 -- The report of a run over links follows the plans.
-use Rattle.std.proofs.Common.{◌≡◌, ◌≢◌, ℕ, zero, suc, ◌+◌, ◌<◌, ◌≤◌, ◌⊎◌, Bool, true, false, All, List, [], ◌∷◌, ◌++◌, get_or, map, take, drop, length, Some, None, refl, ap, sym, ◌∙◌, subst, arith, inl, inr, append_assoc, append-nil, length-append}
+use Rattle.std.proofs.Common.{take-append-drop, ◌≡◌, ◌≢◌, ℕ, zero, suc, ◌+◌, ◌<◌, ◌≤◌, ◌⊎◌, Bool, true, false, All, List, [], ◌∷◌, ◌++◌, get_or, map, take, drop, length, Some, None, refl, ap, sym, ◌∙◌, subst, arith, inl, inr, append_assoc, append-nil, length-append}
 use Rattle.std.proofs.Math.Logic.{∥∥₁_elim, ∥∥₁_map}
 use Rattle.std.proofs.Props.{props}
 use Rattle.std.specs.Prelude.{◌-◌, ◌==◌, if◌then◌else◌}
@@ -621,8 +621,9 @@ module _ (m : Machine) (switches : List Switch) (seen : Seen) (clocks : List Clo
     all = λ g.
         let t = h.through (went g) in
         (t.all ∙ ap (program_sections m) same, same_heads said ∙ ap heads_of (sym (whole g)) ∙ whole_heads m seen clocks ready first later starts t.over);
-    cuts = have_cuts m switches seen.begun spread ready (begun_row m clocks ready seen.begun h.started) (first ∷ later) h.lines ends c said rest shown_all numbered (λ g. (
+    cuts = have_cuts m switches (sections_over m text) (drop (length seen.begun) (sections_over m text)) seen.begun of_sections spread ready (begun_row m clocks ready seen.begun h.started) (first ∷ later) h.lines ends c said rest shown_all numbered (λ g. (
       (through g).0,
+      sym (ap length ((h.through (went g)).all ∙ ap (program_sections m) same)) ∙ length-map seen.begun (λ (x : Started). x.section),
       λ past s more cut.
           let Over : List Started → Type 0 = λ z. All (λ (y : Started). y.end + 5 ≤ length later) z in
           let over = over_at (length later) past s more (subst Over cut (h.through (went g)).over) in
@@ -657,6 +658,9 @@ module _ (m : Machine) (switches : List Switch) (seen : Seen) (clocks : List Clo
         follow_front short m text said reached.more (subst Follows reached.upto (fits_follow m seen text first (take reached.n later) spread h.of_text upto_lines same short (fits short firsts)));
   }
     where
+      of_sections : sections_over m text ≡ map (λ x. x.section) seen.begun ++ drop (length seen.begun) (sections_over m text)
+      of_sections = sym (take-append-drop (length seen.begun) (sections_over m text)) ∙ ap (λ z. z ++ drop (length seen.begun) (sections_over m text)) (sym (h.of_text ∙ ap (λ z. take (length seen.begun) (program_sections m z)) same))
+
       -- the last turn of which lines were written
       reached : Reach (first ∷ later) said rest
       reached = reach first later said rest shown_all

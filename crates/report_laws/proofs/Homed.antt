@@ -233,11 +233,11 @@ of_first m sections clocks k home soon [] ys h = tt
 of_first m sections clocks k home soon (x ∷ xs) ys h = (h.0, h.1, h.2, h.3, h.4, of_first m sections clocks (suc k) _ _ xs ys h.5)
 
 -- lists from their end, twice
-in_order_append : {A : Type 0} (xs ys : List A) → in_order (xs ++ ys) ≡ in_order ys ++ in_order xs
+pub in_order_append : {A : Type 0} (xs ys : List A) → in_order (xs ++ ys) ≡ in_order ys ++ in_order xs
 in_order_append [] ys = sym (append-nil (in_order ys))
 in_order_append (x ∷ xs) ys = ap (λ (z : List _). z ++ x ∷ []) (in_order_append xs ys) ∙ append_assoc (in_order ys) (in_order xs) (x ∷ [])
 
-in_order_twice : {A : Type 0} (xs : List A) → in_order (in_order xs) ≡ xs
+pub in_order_twice : {A : Type 0} (xs : List A) → in_order (in_order xs) ≡ xs
 in_order_twice [] = refl
 in_order_twice (x ∷ xs) = in_order_append (in_order xs) (x ∷ []) ∙ ap (λ (z : List _). x ∷ z) (in_order_twice xs)
 

@@ -1,5 +1,5 @@
 -- The report of a run in which axes home checks.
-use Rattle.std.proofs.Common.{◌≡◌, ◌≢◌, ◌∙◌, ◌⊎◌, inl, inr, ℕ, zero, suc, ◌+◌, ◌<◌, ◌≤◌, Bool, true, false, List, [], ◌∷◌, ◌++◌, length, map, drop, ap, sym, refl, subst, arith, Some, None, append_assoc, append-nil, length-append}
+use Rattle.std.proofs.Common.{Option, Ok, ◌≡◌, ◌≢◌, ◌∙◌, ◌⊎◌, inl, inr, ℕ, zero, suc, ◌+◌, ◌<◌, ◌≤◌, Bool, true, false, List, [], ◌∷◌, ◌++◌, length, map, drop, ap, sym, refl, subst, arith, Some, None, append_assoc, append-nil, length-append}
 use Rattle.std.specs.Prelude.{if◌then◌else◌, Ok}
 use Rattle.std.proofs.lemmas.Bool.Decides.{eqb_tells}
 use Rattle.std.proofs.lemmas.Grind.{flat_map-append}
@@ -29,13 +29,11 @@ use Rattle.log_check.specs.Behind.{begun, clocks, further_of, with_one}
 use Rattle.log_check.specs.Faults.{is_home}
 use Rattle.log_check.specs.Points.{section_at}
 use Rattle.log_laws.specs.Follows.{all_said, further_among, in_order, ok_line}
-use Rattle.log_laws.proofs.Following.{listed, said-among, said-listed}
 use Rattle.log_laws.proofs.Standing.{onto}
 use Rattle.report_laws.specs.Further.{AllMayStand, further_told}
 use Rattle.report_laws.specs.Logged.{AreOfRun, IsCauseOn, IsKind, logged}
 use Rattle.report_laws.specs.Names.{HasNames}
 use Rattle.report_laws.specs.Retold.{PlansAlike, all_retold, retold}
-use Rattle.report_laws.specs.Spelled.{numbered}
 use Rattle.report_laws.specs.Through.{AreHeads}
 use Rattle.report_laws.specs.Within.{ready_behind}
 use Rattle.report_laws.proofs.Fewer.{fewer}
@@ -70,8 +68,10 @@ use Rattle.report_laws.proofs.Low.{AreNumbered, Facts, IsDue, keep_by, numbered_
 use Rattle.report_laws.proofs.Shorts.{told_timed}
 use Rattle.report_laws.proofs.Unbegun.{ShowsNone}
 use Rattle.report_laws.proofs.Standing.{AreAllKinds, apart_heads, are_behind, first_shown, of_run, shown_kinds, some_pulse, stands, told_behind, told_parts}
+use Rattle.report_laws.specs.page.Clocks.{AreNearBoards}
 use Rattle.report_laws.specs.page.Log.{Follows, SaysLog, StartsOnTime, TellsPulseOf, board_turn, log_of}
-use Rattle.report_laws.proofs.page.Front.{AreFronted, all-follows, all-start, lines-follow}
+use Rattle.report_laws.proofs.page.Near.{near-boards}
+use Rattle.report_laws.proofs.page.Front.{in_order_append, in_order_twice, AreFronted, all-follows, all-start, lines-follow}
 use Rattle.report_laws.proofs.page.Going.{Ahead, AreOf, IsShown, goes-on}
 
 -- the sections of a text do what a log may tell
@@ -232,15 +232,6 @@ of_first : (m : Machine) (sections : List Section) (clocks : List Clocks) (k : �
 of_first m sections clocks k home soon [] ys h = tt
 of_first m sections clocks k home soon (x ∷ xs) ys h = (h.0, h.1, h.2, h.3, h.4, of_first m sections clocks (suc k) _ _ xs ys h.5)
 
--- lists from their end, twice
-pub in_order_append : {A : Type 0} (xs ys : List A) → in_order (xs ++ ys) ≡ in_order ys ++ in_order xs
-in_order_append [] ys = sym (append-nil (in_order ys))
-in_order_append (x ∷ xs) ys = ap (λ (z : List _). z ++ x ∷ []) (in_order_append xs ys) ∙ append_assoc (in_order ys) (in_order xs) (x ∷ [])
-
-pub in_order_twice : {A : Type 0} (xs : List A) → in_order (in_order xs) ≡ xs
-in_order_twice [] = refl
-in_order_twice (x ∷ xs) = in_order_append (in_order xs) (x ∷ []) ∙ ap (λ (z : List _). x ∷ z) (in_order_twice xs)
-
 -- a pulse that a log tells is one of its stepper, which is there
 is_pulse : (m : Machine) (x : ReportLine) (lines : List ReportLine) (s tick : ℕ) (up : Bool) → AreTold true m (x ∷ lines) → logged x ≡ line.Pulse s tick up → (s < length m.steppers) × (pulses_of s (x ∷ lines) ≢ [])
 is_pulse m (report.Pulse board stepper at way) lines s tick up told e =
@@ -277,10 +268,6 @@ told_pulse m b lines told t =
     let p = line.Pulse t.s t.tick t.up in
     pulse_among m lines (in_order t.before) (in_order t.later) t.s t.tick t.up told
     (sym (in_order_twice (map logged lines)) ∙ ap in_order t.are ∙ in_order_append t.later (p ∷ t.before) ∙ append_assoc (in_order t.before) (p ∷ []) (in_order t.later))
-
-listed_told : (lines : List LogLine) → listed lines ≡ further_told lines
-listed_told [] = refl
-listed_told (l ∷ lines) = ap (with_one (further_of (Ok l))) (listed_told lines)
 
 stand_first : (m : Machine) (before xs ys : List LogLine) → AllMayStand m before (xs ++ ys) → AllMayStand m before xs × AllMayStand m (onto xs before) ys
 stand_first m before [] ys stand = (tt, stand)
@@ -368,24 +355,34 @@ begun-shown (report.Count stepper many ∷ lines) before = begun-shown lines (li
 begun-shown (report.Fit section stepper many planned early late ∷ lines) before = begun-shown lines (line.Note ∷ before)
 begun-shown (report.End c ∷ lines) before = begun-shown lines (line.End ∷ before)
 
--- lines of a run that follow the plan are read back as a log that does
-pub read-back : (through : Type 0) (m : Machine) (sections : List Section) (said : List ReportLine) → IsValidMachine m → HasNames m → AreOfRun m said → AreFronted through m sections (further_told (map logged said)) (onto (map logged said) [])
-    → (through → length (sections_shown said) ≡ length sections) → SaysLog m (report_text m said) (log_of said) × Follows through m sections (log_of said) × StartsOnTime through m sections (log_of said)
-read-back through m sections said valid names of front all =
+-- the further clock lines that some lines tell, read from the end
+among-more : (l : LogLine) (xs : List LogLine) → further_among (xs ++ l ∷ []) ≡ with_one (further_of (Ok l)) (further_among xs)
+among-more l [] = refl
+among-more l (x ∷ xs) = ap (λ (z : List Further). z ++ with_one (further_of (Ok x)) []) (among-more l xs) ∙ by (further_of (Ok l))
+  where
+    by : (o : Option Further) → with_one o (further_among xs) ++ with_one (further_of (Ok x)) [] ≡ with_one o (further_among xs ++ with_one (further_of (Ok x)) [])
+    by None = refl
+    by (Some f) = refl
+
+among-told : (lines : List LogLine) → further_told lines ≡ further_among (in_order lines)
+among-told [] = refl
+among-told (l ∷ lines) = ap (with_one (further_of (Ok l))) (among-told lines) ∙ sym (among-more l (in_order lines))
+
+-- the log of lines that follow the plan does
+pub log-follows : (through : Type 0) (m : Machine) (sections : List Section) (said : List ReportLine) → AreFronted through m sections (further_told (map logged said)) (onto (map logged said) []) → (through → length (sections_shown said) ≡ length sections)
+    → Follows through m sections (log_of said) × StartsOnTime through m sections (log_of said)
+log-follows through m sections said front all =
     let logs = map logged said in
     let log = in_order logs in
-    let words = numbered m 1 said in
-    let own = words-said m said 1 valid names of in
-    let says : all_said m words ≡ map ok_line (in_order log) = own ∙ ap (map ok_line) (sym (in_order_twice logs)) in
-    let among : further_told logs ≡ further_among log = sym (said-listed m words logs own ∙ listed_told logs) ∙ said-among m words log says in
     let on : onto logs [] ≡ log = onto-in-order logs [] ∙ append-nil log in
-    let read = subst (λ (f : List Further). AreFronted through m sections f log) among (subst (λ (x : List LogLine). AreFronted through m sections (further_told logs) x) on front) in
+    let read = subst (λ (f : List Further). AreFronted through m sections f log) (among-told logs) (subst (λ (x : List LogLine). AreFronted through m sections (further_told logs) x) on front) in
     let count = begun-shown said [] in
-    let same = ap begun on in (
-      ap (all_said m) (lines-read m said 1 valid names of) ∙ says,
-      all-follows through m sections log read,
-      all-start through m sections log read (λ gone. (let e = all gone in omega (arith, count, same, e))),
-    )
+    let same = ap begun on in
+    (all-follows through m sections log read, all-start through m sections log read (λ gone. (let e = all gone in omega (arith, count, same, e))))
+
+-- and lines of a run say it
+pub says-log : (m : Machine) (said : List ReportLine) → IsValidMachine m → AreOfRun m said → HasNames m → SaysLog m (report_text m said) (log_of said)
+says-log m said valid of names = ap (all_said m) (lines-read m said 1 valid names of) ∙ words-said m said 1 valid names of ∙ ap (map ok_line) (sym (in_order_twice (map logged said)))
 
 -- a run that went through shows as many sections as the text has
 pub shown-all : (m : Machine) (switches : List Switch) (text : List ℕ) (c : Cause) (said : List ReportLine) → ShowsHomes m switches text c said → GoesThrough c → length (sections_shown said) ≡ length (sections_over m text)
@@ -643,8 +640,16 @@ module _ (m : Machine) (switches : List Switch) (text : List ℕ) (c : Cause) (s
           let at : heads_of xs ≡ heads_of head ++ (report.Section 0 facts.apart.turn facts.apart.kind ∷ heads_of more) = ap heads_of e ∙ flat_map-append head_in head (l ∷ more) ∙ ap (λ (x : ReportLine). heads_of head ++ (head_in x ++ heads_of more)) same in
           absurd (not_empty (heads_of head) (report.Section 0 facts.apart.turn facts.apart.kind) (heads_of more) (sym at ∙ none))
 
-  pub home-front : HasNames m → SaysLog m (report_text m said) (log_of said) × Follows (GoesThrough c) m Text (log_of said) × StartsOnTime (GoesThrough c) m Text (log_of said)
-  home-front names = read-back (GoesThrough c) m Text said valid names of_said front (shown-all m switches text c said shows)
+  pub home-front : Follows (GoesThrough c) m Text (log_of said) × StartsOnTime (GoesThrough c) m Text (log_of said)
+  home-front = log-follows (GoesThrough c) m Text said front (shown-all m switches text c said shows)
+
+  pub home-says : HasNames m → SaysLog m (report_text m said) (log_of said)
+  home-says = says-log m said valid of_said
+
+  -- and the clock lines that are told are near the boards' clocks
+  pub home-near : AreNearBoards m (log_of said)
+  unfolding facts
+  home-near = near-boards m shows.clocks shows.ready shows.last said facts.sound facts.boards low facts.further facts.names
 
   module _ (through : GoesThrough c) where
     begun_all : sections_shown said ≡ begun_lines 0 shows.begun

@@ -77,6 +77,7 @@ use Rattle.report_laws.specs.Headline.{kind_of, moves_of}
 use Rattle.homing_laws.proofs.home_plans.Noting.{begun_row}
 use Rattle.session_laws.specs.home_headline.Cuts.{TellEnds}
 use Rattle.session_laws.specs.home_headline.Follow.{AllShowBegun, AllShowHomes, HaveBegunLines, ShowHomes}
+use Rattle.session_laws.specs.run_headline.Made.{IsMade}
 use Rattle.session_laws.specs.home_headline.Little.{AllHomeLittle, ShownHoldLittle}
 use Rattle.session_laws.proofs.home_headline.Clear.{clear_little}
 use Rattle.session_laws.proofs.home_headline.Heads.{begun_heads, home_boards, homes_apart, homes_further, homes_sound, show_begun}
@@ -99,7 +100,8 @@ use Rattle.session_laws.proofs.clear_runs.Stopped.{run_is_for}
 use Rattle.session_laws.proofs.clear_runs.Through.{sends_hold}
 use Rattle.report_laws.specs.Promises.{FollowsPlanBy, IsCauseOf, IsCompleteBefore, IsCompleteBy, IsCompleteOfMovesBefore, IsCompleteOfMovesBy, lines_line, sections_over}
 use Rattle.report_laws.specs.Homes.{ShowsBegun, ShowsHomes}
-use Rattle.report_laws.specs.Linked.{IsLinkReport, ShowsText}
+use Rattle.report_laws.specs.Linked.{IsLinkReport, MeetPremise, ShowsText}
+use Rattle.report_laws.specs.page.Report.{Shows}
 use Rattle.report_laws.specs.Shown.{lines_behind, pulses_before, pulses_in, section_turn, sections_shown}
 use Rattle.report_laws.proofs.Behind.{AreNumbered, behind, behind_front, in_stays, next_begun, numbered_due, numbered_front}
 use Rattle.report_laws.proofs.Followed.{NextAt, shown}
@@ -812,7 +814,7 @@ memory_or c = elim (cause_either c) [
 
 module _ {F S : Type 0} (f : Files F) (o : Sink S) (m : Machine) (s : Scene) (gcode : List ℕ) (files files' : F) (out out' : S) (c : Cause) (lines : List ReportLine) (counts : List ℕ) (links : List LinkLog) (v : IsValidMachine m) (short : HaveShortDictionaries m) where
   -- a run that went through was written whole, and ends for its own cause
-  whole_of : (r : IsReported f o m s gcode files files' out out' c lines counts links) → GoesThrough c → (r.rest ≡ []) × (c ≡ r.told.cause)
+  pub whole_of : (r : IsReported f o m s gcode files files' out out' c lines counts links) → GoesThrough c → (r.rest ≡ []) × (c ≡ r.told.cause)
   whole_of r g =
       let not = through_whole c g in
       let w = r.cause_is not.0 not.1 in
@@ -894,31 +896,30 @@ module _ {F S : Type 0} (f : Files F) (o : Sink S) (m : Machine) (s : Scene) (gc
       })
 
   -- and of any text, all lines or the first ones
-  pub home_lines : (r : IsReported f o m s gcode files files' out out' c lines counts links) (text : List ℕ) → f.told files gcode ≡ Some text → (r.told.cause ≡ cause.Memory → ⊥)
+  pub home_lines : (r : IsReported f o m s gcode files files' out out' c lines counts links) (text : List ℕ) (made : IsMade m s r.runs.runs.0 r.runs.runs.1) → made.plans.seen.text ≡ text → (r.told.cause ≡ cause.Memory → ⊥)
       → AllHomeLittle m s text r.runs.runs.0 (r.runs.runs.1 ++ r.runs.runs.2 ∷ []) → (said rest : List ReportLine) (d : Cause) → (GoesThrough d → (rest ≡ []) × (d ≡ r.told.cause))
-      → gather (λ t. t.lines) (r.runs.runs.1 ++ r.runs.runs.2 ∷ []) ≡ said ++ rest → ∥ ShowsHomes m s.switches text d said ∥₁
-  home_lines r text told other little said rest d through shown =
-      ∥∥₁_map (run_made f o m s gcode files files' out r.behind r.kept r.kept' r.told r.runs text told r.fresh.at) (λ w.
-      let made = w.0 in
+      → gather (λ t. t.lines) (r.runs.runs.1 ++ r.runs.runs.2 ∷ []) ≡ said ++ rest → ShowsHomes m s.switches text d said
+  home_lines r text made same other little said rest d through shown =
       let seen = made.plans.seen in
       let turns = r.runs.runs.1 ++ r.runs.runs.2 ∷ [] in
       let Little : List ℕ → Type 0 = λ z. AllHomeLittle m s z r.runs.runs.0 turns in
-      let held = subst Little (sym w.1) little in
+      let held = subst Little (sym same) little in
       let all = facts f o m s gcode files files' out r.behind r.kept r.kept' r.told r.runs other in
-      homes_shown m s.switches seen (clocks_heard seen.told) (ready_heard seen.told) r.told.cause d text said rest (plans_spread m (length m.boards) r.runs.runs.0 made.plans) w.1 through turns (some_turns r.runs.runs.1 r.runs.runs.2)
+      homes_shown m s.switches seen (clocks_heard seen.told) (ready_heard seen.told) r.told.cause d text said rest (plans_spread m (length m.boards) r.runs.runs.0 made.plans) same through turns (some_turns r.runs.runs.1 r.runs.runs.2)
       (all_shows m v s r.runs.runs.0 made.plans r.runs.runs.2 r.told.cause r.runs.runs.1 all short held)
       (all_ends m v s r.runs.runs.0 made.plans r.runs.runs.2 r.told.cause r.runs.runs.1 (run_ended f o m s gcode files files' out r.behind r.kept r.kept' r.told r.runs other))
-      (all_wholes m v s r.runs.runs.0 made.plans r.runs.runs.2 r.told.cause r.runs.runs.1 all short held) shown)
+      (all_wholes m v s r.runs.runs.0 made.plans r.runs.runs.2 r.told.cause r.runs.runs.1 all short held) shown
 
   home_texts : (r : IsReported f o m s gcode files files' out out' c lines counts links) (text : List ℕ) → f.told files gcode ≡ Some text → (r.told.cause ≡ cause.Memory → ⊥)
       → AllHomeLittle m s text r.runs.runs.0 (r.runs.runs.1 ++ r.runs.runs.2 ∷ []) → ∥ ShowsHomes m s.switches text c r.said ∥₁
-  home_texts r text told other little = home_lines r text told other little r.said r.rest c (whole_of r) r.shown
+  home_texts r text told other little =
+      ∥∥₁_map (run_made f o m s gcode files files' out r.behind r.kept r.kept' r.told r.runs text told r.fresh.at) (λ w. home_lines r text w.0 w.1 other little r.said r.rest c (whole_of r) r.shown)
 
   -- whatever its links hold, and whatever ended it
   abbrev HoldLittle : IsReported f o m s gcode files files' out out' c lines counts links → List ℕ → Type 0
   HoldLittle r text = ShownHoldLittle m s text r.runs.runs.0 r.runs.runs.1 r.runs.runs.2 r.told.cause
 
-  begun_texts : (r : IsReported f o m s gcode files files' out out' c lines counts links) (text : List ℕ) → f.told files gcode ≡ Some text → ∥ ((begun : ShowsBegun m text c r.said) × (HoldLittle r text → FollowsPlanBy begun.clocks m (sections_over m text) r.said)) ∥₁
+  pub begun_texts : (r : IsReported f o m s gcode files files' out out' c lines counts links) (text : List ℕ) → f.told files gcode ≡ Some text → ∥ ((begun : ShowsBegun m text c r.said) × (HoldLittle r text → FollowsPlanBy begun.clocks m (sections_over m text) r.said)) ∥₁
   begun_texts r text told = elim (memory_or r.told.cause) [
     | inr other ↦ ∥∥₁_map (run_made f o m s gcode files files' out r.behind r.kept r.kept' r.told r.runs text told r.fresh.at) (λ w.
         let made = w.0 in
@@ -1023,8 +1024,11 @@ module _ {F S : Type 0} (f : Files F) (o : Sink S) (m : Machine) (s : Scene) (gc
         absurd (subst Through is (homed.run_closes f o m s gcode files files' out r.behind r.kept r.kept' r.told r.runs v short text told r.fresh.at clear (subst Own (sym is) tt) other goes sends closes))
   ]
 
-  pub planned : IsReported f o m s gcode files files' out out' c lines counts links → IsLinkReport f o m s gcode files files' out out' c lines counts links
-  planned r = record {
+  -- with what its lines show
+  pub planned : (r : IsReported f o m s gcode files files' out out' c lines counts links)
+      → ((text : List ℕ) → f.told files gcode ≡ Some text → ∥ Shows (MeetPremise m s text r.runs.runs.0 r.runs.runs.1 r.runs.runs.2 r.told.cause) m s text c r.said ∥₁)
+      → IsLinkReport f o m s gcode files files' out out' c lines counts links
+  planned r shown = record {
     reported = r;
     names = λ own other.
         let w = r.cause_is other (λ e. subst IsOwn e own) in
@@ -1036,9 +1040,9 @@ module _ {F S : Type 0} (f : Files F) (o : Sink S) (m : Machine) (s : Scene) (gc
     readings = run_reads f o m s gcode files files' out r.behind r.kept r.kept' r.told r.runs;
     boards = λ text told. subst (λ z. ∥ AreLinksIn m s text r.told.cause r.runs.runs.0 r.runs.runs.1 r.runs.runs.2 z ∥₁) (sym r.links_are)
         (run_links f o m s gcode files files' out r.behind r.kept r.kept' r.told r.runs text told r.fresh.at);
-    shows = texts r;
+    shows = shown;
+    moves = texts r;
     begun = begun_texts r;
-    homes = home_texts r;
     own = λ text told other little soon. run_own f o m s gcode files files' out r.behind r.kept r.kept' r.told r.runs v short text told r.fresh.at other little soon;
     complete = completes r;
     complete_homes = homes_complete r;

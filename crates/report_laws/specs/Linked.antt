@@ -1,5 +1,5 @@
 -- What a run over links shows.
-use Rattle.std.specs.Prelude.{◌≡◌, ◌⊎◌, ℕ, ◌<◌, false, List, [], ◌∷◌, ◌++◌, length, Some}
+use Rattle.std.specs.Prelude.{◌≡◌, ◌≢◌, ◌⊎◌, ℕ, ◌<◌, false, List, [], ◌∷◌, ◌++◌, length, Some}
 use Rattle.io_core.specs.declared.traits.Files.{Ghosts as Files}
 use Rattle.io_core.specs.declared.traits.Sink.{Ghosts as Sink}
 use Rattle.plan_types.specs.declared.cause.Cause.{Cause}
@@ -37,7 +37,11 @@ use Rattle.session_laws.specs.run_causes.Unanswered.{GaveNoAnswer, IsStaleSince}
 use Rattle.session_laws.specs.clear_runs.Clear.{SendsAllSoon}
 use Rattle.report_laws.specs.Body.{cause_of}
 use Rattle.report_laws.specs.Headline.{moves_of}
-use Rattle.report_laws.specs.Homes.{ShowsBegun, ShowsHomes}
+use Rattle.report_laws.specs.Homes.{ShowsBegun}
+use Rattle.report_laws.specs.Read.{IsSceneFor}
+use Rattle.report_laws.specs.page.Report.{Shows}
+use Rattle.session_work.specs.declared.table.MotionTurn.{MotionTurn}
+use Rattle.session_work.specs.declared.table.ReactorTurn.{ReactorTurn}
 use Rattle.report_laws.specs.Promises.{FollowsPlanBy, IsCauseOf, IsCompleteBefore, IsCompleteBy, lines_line, sections_by, sections_over}
 use Rattle.report_laws.specs.Shown.{section_turn, sections_shown}
 use Rattle.report_laws.specs.Times.{AreTimed}
@@ -82,6 +86,11 @@ pub record ShowsText (m : Machine) (text : List ℕ) (c : Cause) (said : List Re
   -- of what was read, and pulses of steppers that are there, on their own boards
   pub own : GoesThrough c → AreTold false m said
 
+-- The premise of what a run of a text shows: its scene is none, or one that was read; it did not end for want of memory; and each board holds nothing
+-- long, in all turns, of which `end` is the last.
+abbrev pub MeetPremise : Machine → Scene → List ℕ → List MotionTurn → List ReactorTurn → ReactorTurn → Cause → Type 0
+MeetPremise m s text planned turns end c = IsSceneFor m s × (c ≢ cause.Memory) × AllHomeLittle m s text planned (turns ++ end ∷ [])
+
 -- The report of a run over links. Its cause, where it is one of the run's own, is so in the reactor's last turn, and
 -- the first one that is; and in no earlier turn was any. Whatever ended it, each turn before the last tells of a switch
 -- exactly where the group of the homing section that is known then answers that it closed, at the tick of the answer;
@@ -117,14 +126,14 @@ pub record IsLinkReport {F S : Type 0} (f : Files F) (o : Sink S) (m : Machine) 
   pub answers : TellAnswers m s.switches [] reported.runs.runs.1
   pub readings : TellOfReadings m s.switches (came_from [] reported.runs.runs.1)
   pub boards : (text : List ℕ) → f.told files gcode ≡ Some text → ∥ AreLinksIn m s text reported.told.cause reported.runs.runs.0 reported.runs.runs.1 reported.runs.runs.2 links ∥₁
-  pub shows : (text : List ℕ) → f.told files gcode ≡ Some text → AreOfMoves (sections_over m text) → (reported.told.cause ≡ cause.Memory → ⊥) →
+  pub shows : (text : List ℕ) → f.told files gcode ≡ Some text →
+      ∥ Shows (MeetPremise m s text reported.runs.runs.0 reported.runs.runs.1 reported.runs.runs.2 reported.told.cause) m s text c reported.said ∥₁
+  pub moves : (text : List ℕ) → f.told files gcode ≡ Some text → AreOfMoves (sections_over m text) → (reported.told.cause ≡ cause.Memory → ⊥) →
       HoldsNothingLong m s text reported.runs.runs.0 (reported.runs.runs.1 ++ reported.runs.runs.2 ∷ []) → ∥ ShowsText m text c reported.said ∥₁
   pub begun : (text : List ℕ) → f.told files gcode ≡ Some text →
       ∥ ((begun : ShowsBegun m text c reported.said)
       × (ShownHoldLittle m s text reported.runs.runs.0 reported.runs.runs.1 reported.runs.runs.2 reported.told.cause →
       FollowsPlanBy begun.clocks m (sections_over m text) reported.said)) ∥₁
-  pub homes : (text : List ℕ) → f.told files gcode ≡ Some text → (reported.told.cause ≡ cause.Memory → ⊥) →
-      AllHomeLittle m s text reported.runs.runs.0 (reported.runs.runs.1 ++ reported.runs.runs.2 ∷ []) → ∥ ShowsHomes m s.switches text c reported.said ∥₁
   pub own : (text : List ℕ) → f.told files gcode ≡ Some text → (reported.told.cause ≡ cause.Memory → ⊥) →
       AllHomeLittle m s text reported.runs.runs.0 (reported.runs.runs.1 ++ reported.runs.runs.2 ∷ []) → AllHearSoon m s text reported.runs.runs.0 (reported.runs.runs.1 ++ reported.runs.runs.2 ∷ []) →
       ∥ TellOwn m s.switches [] reported.runs.runs.1 ∥₁

@@ -31,6 +31,15 @@ use Rattle.report_laws.specs.Shown.{pulses_before}
 use Rattle.report_laws.specs.page.Log.{Follows, FollowsFront, StandsBehind, StartsOnTime, TellsPulseOf, board_turn, next_turn}
 use Rattle.report_laws.proofs.Bridging.{fits-same}
 
+-- lists from their end, twice
+pub in_order_append : {A : Type 0} (xs ys : List A) → in_order (xs ++ ys) ≡ in_order ys ++ in_order xs
+in_order_append [] ys = sym (append-nil (in_order ys))
+in_order_append (x ∷ xs) ys = ap (λ (z : List _). z ++ x ∷ []) (in_order_append xs ys) ∙ append_assoc (in_order ys) (in_order xs) (x ∷ [])
+
+pub in_order_twice : {A : Type 0} (xs : List A) → in_order (in_order xs) ≡ xs
+in_order_twice [] = refl
+in_order_twice (x ∷ xs) = in_order_append (in_order xs) (x ∷ []) ∙ ap (λ (z : List _). x ∷ z) (in_order_twice xs)
+
 -- Each line stands as it may behind those before it, and with it the pulses of every stepper in the open section fit its plan.
 abbrev pub Fronted : Machine → List Section → List Further → List LogLine → Type 0
 Fronted m sections fs [] = Unit {0}

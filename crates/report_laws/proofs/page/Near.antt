@@ -1,7 +1,7 @@
 -- The clock lines that a report prints are near the boards' clocks.
-use Rattle.std.proofs.Common.{◌≡◌, ◌∙◌, ℕ, zero, suc, ◌+◌, ◌*◌, ◌<◌, ◌≤◌, ◌^◌, Bool, true, false, All, List, [], ◌∷◌, ◌++◌, length, map, ap, sym, refl, subst, arith, append_assoc, length-append}
+use Rattle.std.proofs.Common.{◌≡◌, ◌∙◌, ℕ, suc, ◌+◌, ◌*◌, ◌<◌, ◌≤◌, ◌^◌, Bool, true, All, List, [], ◌∷◌, ◌++◌, length, map, ap, sym, refl, subst, arith, append_assoc, length-append}
 use Rattle.std.proofs.Math.Seq.{get_or-append_seam}
-use Rattle.std.specs.Prelude.{◌==◌, ◌-◌, ◌/◌, min, pos, if◌then◌else◌, slice_index_or}
+use Rattle.std.specs.Prelude.{◌==◌, ◌-◌, ◌/◌, min, if◌then◌else◌}
 use Rattle.std.proofs.lemmas.Bool.Decides.{nat_tests}
 use Rattle.plan_types.specs.declared.machine.Machine.{Machine}
 use Rattle.plan_types.specs.declared.clock.BoardClock.{BoardClock}
@@ -27,13 +27,13 @@ use Rattle.session_laws.specs.run_headline.Further.{AreNamed, TellsFurther}
 use Rattle.session_laws.specs.run_headline.Near.{FollowsClock}
 use Rattle.session_laws.specs.run_headline.Timely.{AreSound}
 use Rattle.session_laws.specs.run_lines.Due.{BoardsHave}
-use Rattle.session_laws.specs.run_limits.Limits.{AreLow, greatest_tick, start_limit}
+use Rattle.session_laws.specs.run_limits.Limits.{AreLow}
 use Rattle.report_laws.specs.Logged.{logged}
 use Rattle.report_laws.specs.Retold.{HoldFrom, retold}
 use Rattle.report_laws.specs.page.Clocks.{AreNearBoards, IsNearBoard, IsOwnTick}
 use Rattle.report_laws.specs.page.Log.{log_of}
 use Rattle.report_laws.proofs.Further.{HaveTurns}
-use Rattle.report_laws.proofs.Homed.{in_order_append, in_order_twice}
+use Rattle.report_laws.proofs.page.Front.{in_order_append, in_order_twice}
 use Rattle.report_laws.proofs.Retelling.{AreTold, tick-retold}
 use Rattle.report_laws.proofs.Shorts.{early_first, early_from, early_turns, told_timed}
 

@@ -100,7 +100,7 @@ use Rattle.session_laws.proofs.clear_runs.Stopped.{run_is_for}
 use Rattle.session_laws.proofs.clear_runs.Through.{sends_hold}
 use Rattle.report_laws.specs.Promises.{FollowsPlanBy, IsCauseOf, IsCompleteBefore, IsCompleteBy, IsCompleteOfMovesBefore, IsCompleteOfMovesBy, lines_line, sections_over}
 use Rattle.report_laws.specs.Homes.{ShowsBegun, ShowsHomes}
-use Rattle.report_laws.specs.Linked.{IsLinkReport, MeetPremise, ShowsText}
+use Rattle.report_laws.specs.Linked.{EndsFor, IsLinkReport, MeetPremise, ShowsText}
 use Rattle.report_laws.specs.page.Report.{Shows}
 use Rattle.report_laws.specs.Shown.{lines_behind, pulses_before, pulses_in, section_turn, sections_shown}
 use Rattle.report_laws.proofs.Behind.{AreNumbered, behind, behind_front, in_stays, next_begun, numbered_due, numbered_front}
@@ -1024,6 +1024,20 @@ module _ {F S : Type 0} (f : Files F) (o : Sink S) (m : Machine) (s : Scene) (gc
         absurd (subst Through is (homed.run_closes f o m s gcode files files' out r.behind r.kept r.kept' r.told r.runs v short text told r.fresh.at clear (subst Own (sym is) tt) other goes sends closes))
   ]
 
+  -- what its cause says
+  cause_ends : (r : IsReported f o m s gcode files files' out out' c lines counts links) (d : Cause) → c ≡ d → EndsFor m s (f.told files gcode) r.runs.runs.0 r.runs.runs.1 r.runs.runs.2 d
+  cause_ends r (cause.Connect board turn) e = λ text told. answering.run_silent f o m s gcode files files' out r.behind r.kept r.kept' r.told r.runs v text told r.fresh.at board turn
+      (of_run r (cause.Connect board turn) (λ g. let h : cause.Connect board turn ≡ cause.Memory = g in cc) (λ g. let h : cause.Connect board turn ≡ cause.WriteFault = g in cc) e)
+  cause_ends r (cause.Stale board turn) e = answering.run_stale f o m s gcode files files' out r.behind r.kept r.kept' r.told r.runs v board turn
+      (of_run r (cause.Stale board turn) (λ g. let h : cause.Stale board turn ≡ cause.Memory = g in cc) (λ g. let h : cause.Stale board turn ≡ cause.WriteFault = g in cc) e)
+  cause_ends r (cause.Late board first arrival spoiled spill) e =
+      let is = of_late r board first arrival spoiled spill e in (
+        run_late f o m s gcode files files' out r.behind r.kept r.kept' r.told r.runs v board first arrival spoiled spill is,
+        λ text told little. ∥∥₁_map (run_home_units f o m s gcode files files' out r.behind r.kept r.kept' r.told r.runs v short board first arrival spoiled spill text told r.fresh.at is little)
+            (λ w. record { made = w.0; of_text = w.1; late = w.2; heard = w.3.0; known = w.3.1; unit = w.3.2 }),
+      )
+  cause_ends r _ e = tt
+
   -- with what its lines show
   pub planned : (r : IsReported f o m s gcode files files' out out' c lines counts links)
       → ((text : List ℕ) → f.told files gcode ≡ Some text → ∥ Shows (MeetPremise m s text r.runs.runs.0 r.runs.runs.1 r.runs.runs.2 r.told.cause) m s text c r.said ∥₁)
@@ -1051,15 +1065,9 @@ module _ {F S : Type 0} (f : Files F) (o : Sink S) (m : Machine) (s : Scene) (gc
     no_switch = λ text told goes clear sends. ∥∥₁_map (homed.run_misses f o m s gcode files files' out r.behind r.kept r.kept' r.told r.runs v short text told r.fresh.at clear goes sends) (λ w.
         (w.0, w.1, λ section e. w.2 section (of_no_switch r section e)));
     last_cut = λ text told. run_last f o m s gcode files files' out r.behind r.kept r.kept' r.told r.runs v text told r.fresh.at;
-    connect = λ text told board turn e. answering.run_silent f o m s gcode files files' out r.behind r.kept r.kept' r.told r.runs v text told r.fresh.at board turn
-        (of_run r (cause.Connect board turn) (λ g. let h : cause.Connect board turn ≡ cause.Memory = g in cc) (λ g. let h : cause.Connect board turn ≡ cause.WriteFault = g in cc) e);
-    stale = λ board turn e. answering.run_stale f o m s gcode files files' out r.behind r.kept r.kept' r.told r.runs v board turn
-        (of_run r (cause.Stale board turn) (λ g. let h : cause.Stale board turn ≡ cause.Memory = g in cc) (λ g. let h : cause.Stale board turn ≡ cause.WriteFault = g in cc) e);
+    ends = cause_ends r c refl;
     expired = λ board turn e. run_first f o m s gcode files files' out r.behind r.kept r.kept' r.told r.runs board turn
         (of_run r (cause.Expired board turn) (λ g. let h : cause.Expired board turn ≡ cause.Memory = g in cc) (λ g. let h : cause.Expired board turn ≡ cause.WriteFault = g in cc) e);
-    late = λ board first arrival spoiled spill e. run_late f o m s gcode files files' out r.behind r.kept r.kept' r.told r.runs v board first arrival spoiled spill (of_late r board first arrival spoiled spill e);
-    late_unit = λ text told board first arrival spoiled spill e little.
-        run_home_units f o m s gcode files files' out r.behind r.kept r.kept' r.told r.runs v short board first arrival spoiled spill text told r.fresh.at (of_late r board first arrival spoiled spill e) little;
     shutdowns = λ text told other near. elim near [
       | inl little ↦ run_home_tells f o m s gcode files files' out r.behind r.kept r.kept' r.told r.runs v short text told r.fresh.at other little
       | inr x ↦ run_near_tells f o m s gcode files files' out r.behind r.kept r.kept' r.told r.runs v short text told r.fresh.at other x.0 x.1

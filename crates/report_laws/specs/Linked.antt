@@ -1,5 +1,5 @@
 -- What a run over links shows.
-use Rattle.std.specs.Prelude.{◌≡◌, ◌≢◌, ◌⊎◌, ℕ, ◌<◌, false, List, [], ◌∷◌, ◌++◌, length, Some}
+use Rattle.std.specs.Prelude.{◌≡◌, ◌≢◌, ◌⊎◌, ℕ, ◌<◌, false, List, [], ◌∷◌, ◌++◌, length, Option, Some}
 use Rattle.io_core.specs.declared.traits.Files.{Ghosts as Files}
 use Rattle.io_core.specs.declared.traits.Sink.{Ghosts as Sink}
 use Rattle.plan_types.specs.declared.cause.Cause.{Cause}
@@ -91,6 +91,26 @@ pub record ShowsText (m : Machine) (text : List ℕ) (c : Cause) (said : List Re
 abbrev pub MeetPremise : Machine → Scene → List ℕ → List MotionTurn → List ReactorTurn → ReactorTurn → Cause → Type 0
 MeetPremise m s text planned turns end c = IsSceneFor m s × (c ≢ cause.Memory) × AllHomeLittle m s text planned (turns ++ end ∷ [])
 
+-- Steps that came too late are those of a unit of the plan of a text, with its spoiled turns and its spill.
+pub record AreOfUnit (m : Machine) (s : Scene) (text : List ℕ) (board first arrival spoiled spill : ℕ) (planned : List MotionTurn) (turns : List ReactorTurn) (end : ReactorTurn) : Type 0 where
+  pub made : IsMade m s planned turns
+  pub of_text : made.plans.seen.text ≡ text
+  pub late : ComesLateIn m s board first arrival spoiled spill planned turns end
+  pub heard : Heard
+  pub known : made.plans.seen.told ≡ Some heard
+  pub unit : HasLateUnitIn m s board first arrival spoiled spill planned turns end heard.clocks made.plans.seen.begun late
+
+-- What the cause of a run says, by the text of its file and its turns, of which `end` is the last. It ends for a board that gives no answer, or
+-- whose clock line is too old, only where its askings in a row were hindered on its link; and for steps that came too late only where the board
+-- took them so in its link's last turn, and they are a unit's of its plan where each board holds nothing long.
+abbrev pub EndsFor : Machine → Scene → Option (List ℕ) → List MotionTurn → List ReactorTurn → ReactorTurn → Cause → Type 0
+EndsFor m s told planned turns end (cause.Connect board turn) = (text : List ℕ) → told ≡ Some text → ∥ GaveNoAnswer m s board turn planned turns end ∥₁
+EndsFor m s told planned turns end (cause.Stale board turn) = IsStaleSince m s board turn planned turns end
+EndsFor m s told planned turns end (cause.Late board first arrival spoiled spill) =
+    ComesLateIn m s board first arrival spoiled spill planned turns end
+    × ((text : List ℕ) → told ≡ Some text → AllHomeLittle m s text planned (turns ++ end ∷ []) → ∥ AreOfUnit m s text board first arrival spoiled spill planned turns end ∥₁)
+EndsFor m s told planned turns end _ = Unit {0}
+
 -- The report of a run over links. Its cause, where it is one of the run's own, is so in the reactor's last turn, and
 -- the first one that is; and in no earlier turn was any. Whatever ended it, each turn before the last tells of a switch
 -- exactly where the group of the homing section that is known then answers that it closed, at the tick of the answer;
@@ -98,11 +118,10 @@ MeetPremise m s text planned turns end c = IsSceneFor m s × (c ≢ cause.Memory
 -- an axis that homes were complete. Whatever ended it, each board's lists in `links` hold the units of the text's
 -- sections, each in its turn, in order and with longest triples, the controls that the reactor orders, and the states
 -- of the board's turns, whose pulses its lines show (`AreLinksIn`). Its lines, as they were written, with those of
--- pulses, show the sections that were begun, whatever ended it and whatever its links hold (`ShowsBegun`). They show
--- Prefix too where no line holds a command for half a round of the 32-bit clock and each board takes the set-up of a
--- homing section in time or its reports are read true. And they show the file's text; of a run of moves that does not
--- end for want of memory, where no line holds a command for half a round of the 32-bit clock; and of one of any text,
--- where besides each board takes the set-up of a homing section in time or its reports are read true. Where moreover
+-- pulses, show the file's text (`Shows`), where the run met its premise (`MeetPremise`): of moves or homing, whatever
+-- ended it but want of memory. Whatever ended it and whatever its links hold they show the sections that were begun
+-- (`ShowsBegun`), with Prefix where each board held nothing long as far as its lines are shown. A run of moves shows its
+-- text where no line holds a command for half a round of the 32-bit clock (`ShowsText`). Where moreover
 -- the set-up is taken in time, and what a board's trigger does in a homing section is heard of within half a round
 -- (`AllHearSoon`), the tick that a turn tells of a switch is one at which this very section's readings are complete
 -- (`TellOwn`). What suffices for these premises in a scene without entries is said by laws
@@ -111,12 +130,9 @@ MeetPremise m s text planned turns end c = IsSceneFor m s × (c ≢ cause.Memory
 -- does, but for want of memory and for faults of files and output; and so does one of any text whose units are sent so,
 -- or a switch never closed; where each section's switch closes in time (`AllClose`) there is no such exception, each
 -- line of a switch is of the first tick at which it closes (`TellFirst`), and where a run ends since no switch closed,
--- none did in time (`MissesSwitch`). Causes: a run ends for a board that gives no answer, or whose clock line is too
--- old, only where its askings in a row were hindered on its link (`GaveNoAnswer`, `IsStaleSince`), and for a board that
--- expired only where, by what the members of the homing section's group told, it is the first of them
--- (`IsFirstExpired`). It ends for steps that came too late only where the board took them so in its link's last turn
--- (`ComesLateIn`), and they are a unit's of its plan, with its spoiled turns and its spill (`HasLateUnitIn`); no state
--- tells of any other shutdown but the order to stop (`AllMayTell`). Sections start and end in their turns (`AreTimed`),
+-- none did in time (`MissesSwitch`). Causes: what the cause of a run says of its turns (`EndsFor`); a run ends for a
+-- board that expired only where, by what the members of the homing section's group told, it is the first of them
+-- (`IsFirstExpired`); no state tells of any other shutdown but the order to stop (`AllMayTell`). Sections start and end in their turns (`AreTimed`),
 -- and the `board` lines are of clock lines that follow the boards' clocks (`TellKnownLines`). The turn that ends a run
 -- tells of no switch.
 pub record IsLinkReport {F S : Type 0} (f : Files F) (o : Sink S) (m : Machine) (s : Scene) (gcode : List ℕ) (files files' : F) (out out' : S) (c : Cause) (lines : List ReportLine) (counts : List ℕ) (links : List LinkLog) : Type 0 where
@@ -149,17 +165,8 @@ pub record IsLinkReport {F S : Type 0} (f : Files F) (o : Sink S) (m : Machine) 
   pub no_switch : (text : List ℕ) → f.told files gcode ≡ Some text → ((line : ℕ) → (program_end m text).stop ≡ read.Stop line → ⊥) → s.entries ≡ [] → SendsAllSoon m text reported.runs.runs.0 →
       ∥ ((made : IsMade m s reported.runs.runs.0 reported.runs.runs.1) × (made.plans.seen.text ≡ text) × ((section : ℕ) → c ≡ cause.NoSwitch section → MissesSwitch m s made.plans.seen section)) ∥₁
   pub last_cut : (text : List ℕ) → f.told files gcode ≡ Some text → cuts_of reported.runs.runs.2.lines ≡ []
-  pub connect : (text : List ℕ) → f.told files gcode ≡ Some text → (board turn : ℕ) → c ≡ cause.Connect board turn → ∥ GaveNoAnswer m s board turn reported.runs.runs.0 reported.runs.runs.1 reported.runs.runs.2 ∥₁
-  pub stale : (board turn : ℕ) → c ≡ cause.Stale board turn → IsStaleSince m s board turn reported.runs.runs.0 reported.runs.runs.1 reported.runs.runs.2
+  pub ends : EndsFor m s (f.told files gcode) reported.runs.runs.0 reported.runs.runs.1 reported.runs.runs.2 c
   pub expired : (board turn : ℕ) → c ≡ cause.Expired board turn → IsFirstExpired m s.switches board turn reported.runs.runs.1 reported.runs.runs.2
-  pub late : (board first arrival spoiled spill : ℕ) → c ≡ cause.Late board first arrival spoiled spill →
-      ComesLateIn m s board first arrival spoiled spill reported.runs.runs.0 reported.runs.runs.1 reported.runs.runs.2
-  pub late_unit : (text : List ℕ) → f.told files gcode ≡ Some text → (board first arrival spoiled spill : ℕ) → c ≡ cause.Late board first arrival spoiled spill →
-      AllHomeLittle m s text reported.runs.runs.0 (reported.runs.runs.1 ++ reported.runs.runs.2 ∷ []) →
-      ∥ ((made : IsMade m s reported.runs.runs.0 reported.runs.runs.1) × (made.plans.seen.text ≡ text)
-      × (x : ComesLateIn m s board first arrival spoiled spill reported.runs.runs.0 reported.runs.runs.1 reported.runs.runs.2)
-      × ((heard : Heard) × (made.plans.seen.told ≡ Some heard)
-      × HasLateUnitIn m s board first arrival spoiled spill reported.runs.runs.0 reported.runs.runs.1 reported.runs.runs.2 heard.clocks made.plans.seen.begun x)) ∥₁
   pub shutdowns : (text : List ℕ) → f.told files gcode ≡ Some text → (reported.told.cause ≡ cause.Memory → ⊥) →
       AllHomeLittle m s text reported.runs.runs.0 (reported.runs.runs.1 ++ reported.runs.runs.2 ∷ [])
       ⊎ (AreOfMoves (sections_over m text) × AllTakeNear m s text reported.runs.runs.0 (reported.runs.runs.1 ++ reported.runs.runs.2 ∷ [])) →

@@ -33,12 +33,16 @@ abbrev pub IsCutOf : Machine → List Switch → ℕ → ℕ → List ReportLine
 IsCutOf m switches i axis lines =
     (tick : ℕ) × (lines ≡ report.Cut i (axis_at m axis).board (axis_at m axis).pin tick (scene_line m switches axis tick) ∷ [])
 
--- The cut lines of a report of the sections of a text: there are none before the line of the first section, nor in sections of moves; and
--- in one that homes there is at most one, of its number and its axis's endstop, with a tick and the scene's line that closed the switch by
--- then. Where the next section has its line, or the run went through, there is one.
-pub record HaveCuts (m : Machine) (switches : List Switch) (c : Cause) (sections : List Section) (said : List ReportLine) : Type 0 where
+-- The cut lines of a report of the sections of a text: there are none before the line of the first section, nor in
+-- sections of moves; and in one that homes there is at most one, of its number and its axis's endstop, with a tick and
+-- the scene's line that closed the switch by then. Where the next section has its line, or the run went through, there
+-- is one.
+pub record HaveCuts (m : Machine) (switches : List Switch) (c : Cause) (sections : List Section)
+    (said : List ReportLine) : Type 0 where
   pub before : cuts_of (lines_before said) ≡ []
   pub moves : (i : ℕ) → kind_of sections i ≡ Moves → cuts_in i said ≡ []
-  pub homes : (i axis : ℕ) → kind_of sections i ≡ Home axis → (cuts_in i said ≡ []) ⊎ IsCutOf m switches i axis (cuts_in i said)
+  pub homes : (i axis : ℕ) → kind_of sections i ≡ Home axis →
+      (cuts_in i said ≡ []) ⊎ IsCutOf m switches i axis (cuts_in i said)
   pub ended : (i axis : ℕ) → kind_of sections i ≡ Home axis →
-      ((turn : ℕ) × (section_turn (i + 1) said ≡ Some turn)) ⊎ GoesThrough c → IsCutOf m switches i axis (cuts_in i said)
+      ((turn : ℕ) × (section_turn (i + 1) said ≡ Some turn)) ⊎ GoesThrough c →
+      IsCutOf m switches i axis (cuts_in i said)

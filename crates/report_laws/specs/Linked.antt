@@ -86,29 +86,36 @@ pub record ShowsText (m : Machine) (text : List ℕ) (c : Cause) (said : List Re
   -- of what was read, and pulses of steppers that are there, on their own boards
   pub own : GoesThrough c → AreTold false m said
 
--- The premise of what a run of a text shows: its scene is none, or one that was read; it did not end for want of memory; and each board holds nothing
--- long, in all turns, of which `end` is the last.
+-- The premise of what a run of a text shows: its scene is none, or one that was read; it did not end for want of
+-- memory; and each board holds nothing long, in all turns, of which `end` is the last.
 abbrev pub MeetPremise : Machine → Scene → List ℕ → List MotionTurn → List ReactorTurn → ReactorTurn → Cause → Type 0
-MeetPremise m s text planned turns end c = IsSceneFor m s × (c ≢ cause.Memory) × AllHomeLittle m s text planned (turns ++ end ∷ [])
+MeetPremise m s text planned turns end c =
+    IsSceneFor m s × (c ≢ cause.Memory) × AllHomeLittle m s text planned (turns ++ end ∷ [])
 
 -- Steps that came too late are those of a unit of the plan of a text, with its spoiled turns and its spill.
-pub record AreOfUnit (m : Machine) (s : Scene) (text : List ℕ) (board first arrival spoiled spill : ℕ) (planned : List MotionTurn) (turns : List ReactorTurn) (end : ReactorTurn) : Type 0 where
+pub record AreOfUnit (m : Machine) (s : Scene) (text : List ℕ) (board first arrival spoiled spill : ℕ)
+    (planned : List MotionTurn) (turns : List ReactorTurn) (end : ReactorTurn) : Type 0 where
   pub made : IsMade m s planned turns
   pub of_text : made.plans.seen.text ≡ text
   pub late : ComesLateIn m s board first arrival spoiled spill planned turns end
   pub heard : Heard
   pub known : made.plans.seen.told ≡ Some heard
-  pub unit : HasLateUnitIn m s board first arrival spoiled spill planned turns end heard.clocks made.plans.seen.begun late
+  pub unit :
+      HasLateUnitIn m s board first arrival spoiled spill planned turns end heard.clocks made.plans.seen.begun late
 
--- What the cause of a run says, by the text of its file and its turns, of which `end` is the last. It ends for a board that gives no answer, or
--- whose clock line is too old, only where its askings in a row were hindered on its link; and for steps that came too late only where the board
--- took them so in its link's last turn, and they are a unit's of its plan where each board holds nothing long.
-abbrev pub EndsFor : Machine → Scene → Option (List ℕ) → List MotionTurn → List ReactorTurn → ReactorTurn → Cause → Type 0
-EndsFor m s told planned turns end (cause.Connect board turn) = (text : List ℕ) → told ≡ Some text → ∥ GaveNoAnswer m s board turn planned turns end ∥₁
+-- What the cause of a run says, by the text of its file and its turns, of which `end` is the last. It ends for a board
+-- that gives no answer, or whose clock line is too old, only where its askings in a row were hindered on its link; and
+-- for steps that came too late only where the board took them so in its link's last turn, and they are a unit's of its
+-- plan where each board holds nothing long.
+abbrev pub EndsFor :
+    Machine → Scene → Option (List ℕ) → List MotionTurn → List ReactorTurn → ReactorTurn → Cause → Type 0
+EndsFor m s told planned turns end (cause.Connect board turn) =
+    (text : List ℕ) → told ≡ Some text → ∥ GaveNoAnswer m s board turn planned turns end ∥₁
 EndsFor m s told planned turns end (cause.Stale board turn) = IsStaleSince m s board turn planned turns end
 EndsFor m s told planned turns end (cause.Late board first arrival spoiled spill) =
     ComesLateIn m s board first arrival spoiled spill planned turns end
-    × ((text : List ℕ) → told ≡ Some text → AllHomeLittle m s text planned (turns ++ end ∷ []) → ∥ AreOfUnit m s text board first arrival spoiled spill planned turns end ∥₁)
+    × ((text : List ℕ) → told ≡ Some text → AllHomeLittle m s text planned (turns ++ end ∷ []) →
+    ∥ AreOfUnit m s text board first arrival spoiled spill planned turns end ∥₁)
 EndsFor m s told planned turns end _ = Unit {0}
 
 -- The report of a run over links. Its cause, where it is one of the run's own, is so in the reactor's last turn, and
@@ -120,8 +127,8 @@ EndsFor m s told planned turns end _ = Unit {0}
 -- of the board's turns, whose pulses its lines show (`AreLinksIn`). Its lines, as they were written, with those of
 -- pulses, show the file's text (`Shows`), where the run met its premise (`MeetPremise`): of moves or homing, whatever
 -- ended it but want of memory. Whatever ended it and whatever its links hold they show the sections that were begun
--- (`ShowsBegun`), with Prefix where each board held nothing long as far as its lines are shown. A run of moves shows its
--- text where no line holds a command for half a round of the 32-bit clock (`ShowsText`). Where moreover
+-- (`ShowsBegun`), with Prefix where each board held nothing long as far as its lines are shown. A run of moves shows
+-- its text where no line holds a command for half a round of the 32-bit clock (`ShowsText`). Where moreover
 -- the set-up is taken in time, and what a board's trigger does in a homing section is heard of within half a round
 -- (`AllHearSoon`), the tick that a turn tells of a switch is one at which this very section's readings are complete
 -- (`TellOwn`). What suffices for these premises in a scene without entries is said by laws
@@ -132,9 +139,9 @@ EndsFor m s told planned turns end _ = Unit {0}
 -- line of a switch is of the first tick at which it closes (`TellFirst`), and where a run ends since no switch closed,
 -- none did in time (`MissesSwitch`). Causes: what the cause of a run says of its turns (`EndsFor`); a run ends for a
 -- board that expired only where, by what the members of the homing section's group told, it is the first of them
--- (`IsFirstExpired`); no state tells of any other shutdown but the order to stop (`AllMayTell`). Sections start and end in their turns (`AreTimed`),
--- and the `board` lines are of clock lines that follow the boards' clocks (`TellKnownLines`). The turn that ends a run
--- tells of no switch.
+-- (`IsFirstExpired`); no state tells of any other shutdown but the order to stop (`AllMayTell`). Sections start and end
+-- in their turns (`AreTimed`), and the `board` lines are of clock lines that follow the boards' clocks
+-- (`TellKnownLines`). The turn that ends a run tells of no switch.
 pub record IsLinkReport {F S : Type 0} (f : Files F) (o : Sink S) (m : Machine) (s : Scene) (gcode : List ℕ) (files files' : F) (out out' : S) (c : Cause) (lines : List ReportLine) (counts : List ℕ) (links : List LinkLog) : Type 0 where
   pub reported : IsReported f o m s gcode files files' out out' c lines counts links
   pub names : IsOwn c → (c ≡ cause.Memory → ⊥) → IsNamed m s reported.runs.runs.1 reported.runs.runs.2 c
@@ -143,8 +150,10 @@ pub record IsLinkReport {F S : Type 0} (f : Files F) (o : Sink S) (m : Machine) 
   pub readings : TellOfReadings m s.switches (came_from [] reported.runs.runs.1)
   pub boards : (text : List ℕ) → f.told files gcode ≡ Some text → ∥ AreLinksIn m s text reported.told.cause reported.runs.runs.0 reported.runs.runs.1 reported.runs.runs.2 links ∥₁
   pub shows : (text : List ℕ) → f.told files gcode ≡ Some text →
-      ∥ Shows (MeetPremise m s text reported.runs.runs.0 reported.runs.runs.1 reported.runs.runs.2 reported.told.cause) m s text c reported.said ∥₁
-  pub moves : (text : List ℕ) → f.told files gcode ≡ Some text → AreOfMoves (sections_over m text) → (reported.told.cause ≡ cause.Memory → ⊥) →
+      ∥ Shows (MeetPremise m s text reported.runs.runs.0 reported.runs.runs.1 reported.runs.runs.2 reported.told.cause)
+      m s text c reported.said ∥₁
+  pub moves : (text : List ℕ) → f.told files gcode ≡ Some text → AreOfMoves (sections_over m text) →
+      (reported.told.cause ≡ cause.Memory → ⊥) →
       HoldsNothingLong m s text reported.runs.runs.0 (reported.runs.runs.1 ++ reported.runs.runs.2 ∷ []) → ∥ ShowsText m text c reported.said ∥₁
   pub begun : (text : List ℕ) → f.told files gcode ≡ Some text →
       ∥ ((begun : ShowsBegun m text c reported.said)

@@ -22,7 +22,7 @@ use Rattle.report_laws.specs.Read.{no_scene}
 use Rattle.report_laws.specs.Promises.{WritesText}
 use Rattle.host_cli.specs.Promises.{EndsAs}
 use Rattle.report_laws.specs.Linked.{IsLinkReport}
-use Rattle.report_laws.proofs.Linked.{planned}
+use Rattle.report_laws.proofs.Reported.{planned}
 use Rattle.host_cli.proofs.Whole.{end-shown, given-for}
 use Rattle.host_cli.specs.Counts.{summary}
 use Rattle.host_cli.specs.Loads.{AreCounts, IsLoadAnswer, ShowsLoad}

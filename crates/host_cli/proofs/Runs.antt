@@ -13,7 +13,7 @@ use Rattle.session_run.specs.Reported.{EndsOver, IsNotBegun}
 use Rattle.cause_runs.specs.Short.{HaveShortDictionaries}
 use Rattle.host_cli.specs.Promises.{EndsAlone}
 use Rattle.host_cli.specs.Scenes.{ShowsRun}
-use Rattle.report_laws.proofs.Linked.{planned}
+use Rattle.report_laws.proofs.Reported.{planned}
 
 -- none was begun
 not_begun : {F S : Type 0} (f : Files F) (o : Sink S) (m : Machine) (files files' : F) (out out' : S) (c : Cause) (shown : Report) → IsNotBegun f o m files files' out out' c shown → EndsAlone cause.Memory (o.written out) (o.written out') c shown

@@ -1,5 +1,5 @@
 -- The report of a run over links checks, whether its text has sections or none.
-use Rattle.std.proofs.Common.{◌≡◌, ◌∙◌, ℕ, List, [], ◌∷◌, ◌++◌, sym, refl, ap, Some}
+use Rattle.std.proofs.Common.{◌≡◌, ◌∙◌, ℕ, List, [], ◌∷◌, ◌++◌, sym, refl, ap, subst, Some}
 use Rattle.std.specs.Prelude.{Ok}
 use Rattle.cfg_text.specs.Reading.{reading}
 use Rattle.io_core.specs.declared.traits.Files.{Ghosts as Files}
@@ -20,6 +20,12 @@ use Rattle.report_laws.specs.Checks.{check_cause}
 use Rattle.report_laws.specs.Promises.{sections_over}
 use Rattle.report_laws.specs.Linked.{IsLinkReport}
 use Rattle.report_laws.specs.Read.{IsSceneFor}
+use Rattle.cause_runs.proofs.ShortNames.{short_dictionaries}
+use Rattle.plan_types.specs.Machines.{IsValidMachine}
+use Rattle.session_laws.proofs.home_headline.Shows.{run_shows}
+use Rattle.std.proofs.Math.Logic.{∥∥₁_elim}
+use Rattle.std.proofs.Props.{props}
+use Rattle.report_laws.proofs.Configured.{names-of-reading}
 use Rattle.report_laws.proofs.Homing.{home-links}
 use Rattle.report_laws.proofs.Linking.{link-checks, same-log, written-whole}
 use Rattle.report_laws.proofs.Scenes.{scene_under}
@@ -41,7 +47,14 @@ module _ {F S : Type 0} (f : Files F) (o : Sink S) (printer : List ℕ) (m : Mac
     where
       by : (sections : List Section) → sections_over m text ≡ sections → check_cause m text (report_text m (r.reported.said ++ report.End c ∷ [])) ≡ cause.Done
       by [] e = none-links f o printer m s gcode files files' out out' c lines counts links configured r text told e through
-      by (x ∷ sections) e = home-links f o printer m s gcode files files' out out' c lines counts links configured r text told little (scene_under m s scene) (λ none. (let g : x ∷ sections ≡ [] = sym e ∙ none in cc)) through
+      by (x ∷ sections) e =
+          let own = r.reported in
+          let not = written-whole c through in
+          let other = λ (g : own.told.cause ≡ cause.Memory). not.0 ((own.cause_is not.0 not.1).2 ∙ g) in
+          let valid : IsValidMachine m = subst (λ (x : Machine). IsValidMachine x) own.runs.printer own.runs.fresh.machine in
+          let short = short_dictionaries printer m configured in
+          ∥∥₁_elim (run_shows f o m s gcode files files' out own.behind own.kept own.kept' own.told own.runs valid short text told own.fresh.at) (hlevel props) (λ w.
+          home-links f o m s gcode files files' out out' c lines counts links valid short own text told other w.0 w.1 little (w.2 other little) (scene_under m s scene) (names-of-reading printer m configured) (λ none. (let g : x ∷ sections ≡ [] = sym e ∙ none in cc)) through)
 
   -- what is written is the report, where nothing was written before
   pub as-written : (log : List ℕ) → o.written out ≡ Some [] → o.written out' ≡ Some log → check_cause m text (report_text m (r.reported.said ++ report.End c ∷ [])) ≡ cause.Done → check_cause m text log ≡ cause.Done

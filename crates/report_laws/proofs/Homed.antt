@@ -1,7 +1,6 @@
 -- The report of a run in which axes home checks.
-use Rattle.std.proofs.Common.{◌≡◌, ◌≢◌, ◌∙◌, ◌⊎◌, inl, inr, ℕ, zero, suc, ◌+◌, ◌<◌, ◌≤◌, Bool, true, false, List, [], ◌∷◌, ◌++◌, length, map, drop, ap, sym, refl, subst, arith, Some, None, append_assoc, append-nil, length-append}
+use Rattle.std.proofs.Common.{Option, Ok, ◌≡◌, ◌≢◌, ◌∙◌, ◌⊎◌, inl, inr, ℕ, zero, suc, ◌+◌, ◌<◌, ◌≤◌, Bool, true, false, List, [], ◌∷◌, ◌++◌, length, map, drop, ap, sym, refl, subst, arith, Some, None, append_assoc, append-nil, length-append}
 use Rattle.std.specs.Prelude.{if◌then◌else◌, Ok}
-use Rattle.std.proofs.Math.Seq.{get_or-append_seam}
 use Rattle.std.proofs.lemmas.Bool.Decides.{eqb_tells}
 use Rattle.std.proofs.lemmas.Grind.{flat_map-append}
 use Rattle.std.proofs.lemmas.List.{length-map, take-append-drop}
@@ -26,17 +25,15 @@ use Rattle.report_text.specs.Text.{report_text}
 use Rattle.log_text.specs.declared.line.LogLine.{LogLine}
 use Rattle.log_text.specs.declared.line.LogLine.TheVariants as line
 use Rattle.log_check.specs.declared.further.Further.{Further}
-use Rattle.log_check.specs.Behind.{clocks, further_of, with_one}
+use Rattle.log_check.specs.Behind.{begun, clocks, further_of, with_one}
 use Rattle.log_check.specs.Faults.{is_home}
 use Rattle.log_check.specs.Points.{section_at}
 use Rattle.log_laws.specs.Follows.{all_said, further_among, in_order, ok_line}
-use Rattle.log_laws.proofs.Following.{listed, said-among, said-listed}
 use Rattle.log_laws.proofs.Standing.{onto}
 use Rattle.report_laws.specs.Further.{AllMayStand, further_told}
 use Rattle.report_laws.specs.Logged.{AreOfRun, IsCauseOn, IsKind, logged}
 use Rattle.report_laws.specs.Names.{HasNames}
 use Rattle.report_laws.specs.Retold.{PlansAlike, all_retold, retold}
-use Rattle.report_laws.specs.Spelled.{numbered}
 use Rattle.report_laws.specs.Through.{AreHeads}
 use Rattle.report_laws.specs.Within.{ready_behind}
 use Rattle.report_laws.proofs.Fewer.{fewer}
@@ -46,21 +43,22 @@ use Rattle.report_laws.proofs.Running.{map-append, onto-append, onto-in-order}
 use Rattle.report_laws.proofs.Shortening.{AreShownShort, short-lines}
 use Rattle.run_laws.proofs.Lists.{cuts}
 use Rattle.run_plans.specs.Lines.{head_in, heads_of, pulse_in, pulses_of}
+use Rattle.session_laws.specs.run_ends.Boards.{boards_of, lines_at}
 use Rattle.session_laws.specs.run_ends.Ends.{GoesThrough}
+use Rattle.board_asking.specs.Connecting.{turn_tick}
 use Rattle.session_laws.specs.run_headline.Told.{AreTold}
 use Rattle.session_laws.specs.run_lines.Due.{begun_lines}
 use Rattle.session_laws.specs.run_limits.Limits.{AreLow}
 use Rattle.session_laws.specs.home_headline.Cuts.{cuts_of}
 use Rattle.session_laws.proofs.home_wholes.Axes.{HasAxis, HaveAxes, have_axes}
 use Rattle.wire_scene.specs.declared.scene.Switch.{Switch}
-use Rattle.report_laws.specs.Body.{no_section}
 use Rattle.report_laws.specs.Checks.{check_cause}
 use Rattle.report_laws.specs.Cuts.{IsCutOf, cuts_in, lines_before, scene_line}
 use Rattle.report_laws.specs.Headline.{kind_of, moves_of, plan_by}
 use Rattle.report_laws.specs.Homes.{ShowsHomes}
 use Rattle.report_laws.specs.Promises.{FollowsPlanBy, IsCompleteOfMovesBy, sections_over}
 use Rattle.report_laws.specs.Shown.{begins, lines_behind, pulses_in, section_turn, sections_shown}
-use Rattle.report_laws.proofs.Inside.{turn_front}
+use Rattle.report_laws.proofs.Inside.{kind_at, section_here, turn_front}
 use Rattle.report_laws.specs.Stands.{IsPlannedAlike}
 use Rattle.report_laws.proofs.Bridging.{AreDue, IsCutOrNot, IsOneCut, fits-same, head-behind, head-pulses, head-shown, head-turn}
 use Rattle.report_laws.proofs.Checking.{cut-checks}
@@ -70,8 +68,10 @@ use Rattle.report_laws.proofs.Low.{AreNumbered, Facts, IsDue, keep_by, numbered_
 use Rattle.report_laws.proofs.Shorts.{told_timed}
 use Rattle.report_laws.proofs.Unbegun.{ShowsNone}
 use Rattle.report_laws.proofs.Standing.{AreAllKinds, apart_heads, are_behind, first_shown, of_run, shown_kinds, some_pulse, stands, told_behind, told_parts}
-use Rattle.report_laws.specs.page.Log.{Follows, SaysLog, TellsPulseOf}
-use Rattle.report_laws.proofs.page.Front.{AreFronted, all-follows, lines-follow}
+use Rattle.report_laws.specs.page.Clocks.{AreNearBoards}
+use Rattle.report_laws.specs.page.Log.{Follows, SaysLog, StartsOnTime, TellsPulseOf, board_turn, log_of}
+use Rattle.report_laws.proofs.page.Near.{near-boards}
+use Rattle.report_laws.proofs.page.Front.{in_order_append, in_order_twice, AreFronted, all-follows, all-start, lines-follow}
 use Rattle.report_laws.proofs.page.Going.{Ahead, AreOf, IsShown, goes-on}
 
 -- the sections of a text do what a log may tell
@@ -90,33 +90,6 @@ have_kinds (s ∷ sections) h = (has_kind s.kind h.0, have_kinds sections h.1)
 begun_kinds : (i : ℕ) (begun : List Started) → HaveKinds (map (λ s. s.section) begun) → AreAllKinds (begun_lines i begun)
 begun_kinds i [] kinds = tt
 begun_kinds i (s ∷ begun) kinds = (kinds.0, begun_kinds (i + 1) begun kinds.1)
-
--- the section of a number, of those that were begun
-record HasPlace (begun : List Started) (j : ℕ) : Type 0 where
-  past : List Started
-  s : Started
-  later : List Started
-  cut : begun ≡ past ++ s ∷ later
-  place : length past ≡ j
-
-place_of : (begun : List Started) (j : ℕ) → j < length begun → HasPlace begun j
-place_of [] j low = absurd (omega (arith, low))
-place_of (s ∷ begun) zero low = record { past = []; s = s; later = begun; cut = refl; place = refl }
-place_of (s ∷ begun) (suc j) low =
-    let h = place_of begun j (omega (arith, low)) in
-    record { past = s ∷ h.past; s = h.s; later = h.later; cut = ap (λ (z : List Started). s ∷ z) h.cut; place = ap suc h.place }
-
-map_cut : (past : List Started) (s : Started) (later : List Started) → map (λ x. x.section) (past ++ s ∷ later) ≡ map (λ x. x.section) past ++ s.section ∷ map (λ x. x.section) later
-map_cut [] s later = refl
-map_cut (y ∷ past) s later = ap (λ z. y.section ∷ z) (map_cut past s later)
-
-kind_at : (sections more : List Section) (begun : List Started) (j : ℕ) (h : HasPlace begun j) → sections ≡ map (λ x. x.section) begun ++ more → kind_of sections j ≡ h.s.section.kind
-kind_at sections more begun j h are =
-    let past = map (λ (x : Started). x.section) h.past in
-    let later = map (λ (x : Started). x.section) h.later in
-    let all : sections ≡ past ++ h.s.section ∷ (later ++ more) = are ∙ ap (λ (z : List Started). map (λ (x : Started). x.section) z ++ more) h.cut ∙ ap (λ (z : List Section). z ++ more) (map_cut h.past h.s h.later) ∙ append_assoc past (h.s.section ∷ later) more in
-    let place : j ≡ length past = sym h.place ∙ sym (length-map h.past (λ (x : Started). x.section)) in
-    ap (λ (ss : List Section). kind_of ss j) all ∙ ap (λ (n : ℕ). kind_of (past ++ h.s.section ∷ (later ++ more)) n) place ∙ ap (λ (x : Section). x.kind) (get_or-append_seam past h.s.section (later ++ more) no_section)
 
 -- whether a section of a text homes
 abbrev homes_at : List Section → ℕ → Bool
@@ -230,35 +203,34 @@ all_first [] ys h = tt
 all_first (report.Section i turn kind ∷ xs) ys h = (h.0, all_first xs ys h.1)
 all_first (x ∷ xs) ys h = all_first xs ys h
 
--- lines that are due are those of the text's sections
-pub due_of : (m : Machine) (clocks : List Clocks) (sections secs past more : List Section) (i soon : ℕ) (lines : List ReportLine) → sections ≡ past ++ (secs ++ more) → length past ≡ i → AreDue m clocks (homes_at sections) soon i secs lines → AreOf m sections clocks i soon lines
-due_of m clocks sections [] past more i soon [] are at due = tt
-due_of m clocks sections [] past more i soon (h ∷ hs) are at due = absurd due
-due_of m clocks sections (s ∷ secs) past more i soon [] are at due = absurd due
-due_of m clocks sections (s ∷ secs) past more i soon (h ∷ hs) are at due =
-    let turn = due.0 in
-    let here : section_at sections i ≡ s = ap (λ (z : List Section). section_at z i) are ∙ ap (λ (n : ℕ). section_at (past ++ s ∷ (secs ++ more)) n) (sym at) ∙ get_or-append_seam past s (secs ++ more) no_section in
+-- where it doesn't home, exactly
+next_is : (m : Machine) (clocks : List Clocks) (k : SectionKind) (s : Started) → IsPlanned k m clocks s → is_home k ≡ false → ready_behind (is_home k) s.start (section_end m clocks s.section.moves s.start) ≡ s.end + 260
+next_is m clocks Moves s planned moves = let end = planned.end in omega (arith, end)
+next_is m clocks (Home axis) s planned moves = absurd (let f : true ≡ false = moves in cc)
+
+-- the lines of sections that were begun are those of the text's sections
+begun_of : (m : Machine) (clocks : List Clocks) (all begun past : List Started) (sections more : List Section) (ready soon i : ℕ) (home : Bool) → all ≡ past ++ begun → length past ≡ i → sections ≡ map (λ x. x.section) all ++ more → soon ≤ ready → (home ≡ false → soon ≡ ready)
+    → AreStarted m clocks ready begun → AreOf m sections clocks i home soon (begun_lines i begun)
+begun_of m clocks all [] past sections more ready soon i home are at of low same started = tt
+begun_of m clocks all (s ∷ begun) past sections more ready soon i home are at of low same started =
+    let start = started.0.start in
+    let here = section_here sections more all i (record { past = past; s = s; later = begun; cut = are; place = at }) of in
+    let next = next_due m clocks s.section.kind s started.0.planned in
+    let exact = next_is m clocks s.section.kind s started.0.planned in
     let long = length-append past (s ∷ []) in
-    let size = ap length are ∙ length-append past (s ∷ (secs ++ more)) in
-    let later = due_of m clocks sections secs (past ++ s ∷ []) more (i + 1) (ready_behind (homes_at sections i) turn (section_end m clocks s.moves turn)) hs (are ∙ sym (append_assoc past (s ∷ []) (secs ++ more))) (omega (arith, at, long)) due.3 in
+    let size = ap length of ∙ length-append (map (λ (x : Started). x.section) all) more in
+    let many = length-map all (λ (x : Started). x.section) in
+    let count = ap length are ∙ length-append past (s ∷ begun) in
+    let later = begun_of m clocks all begun (past ++ s ∷ []) sections more (s.end + 260) (ready_behind (is_home s.section.kind) s.start (section_end m clocks s.section.moves s.start)) (i + 1) (is_home s.section.kind) (are ∙ sym (append_assoc past (s ∷ []) begun)) (omega (arith, long, at)) of next exact started.1 in
     let one : i + 1 ≡ suc i = omega arith in
-    let Next : ℕ → Type 0 = λ n. AreOf m sections clocks n (ready_behind (homes_at sections i) turn (section_end m clocks s.moves turn)) hs in
-    let Homes : Bool → Type 0 = λ b. AreOf m sections clocks (suc i) (ready_behind b turn (section_end m clocks s.moves turn)) hs in
-    let At : Section → Type 0 = λ x. (t : ℕ) × (h ≡ report.Section i t x.kind) × (i < length sections) × (soon + x.dwell ≤ t) × AreOf m sections clocks (suc i) (ready_behind (is_home x.kind) t (section_end m clocks x.moves t)) hs in
-    subst At (sym here) (turn, due.1, omega (arith, size, at), due.2, subst Homes (ap (λ (x : Section). is_home x.kind) here) (subst Next one later))
+    let Next : ℕ → Type 0 = λ n. AreOf m sections clocks n (is_home s.section.kind) (ready_behind (is_home s.section.kind) s.start (section_end m clocks s.section.moves s.start)) (begun_lines (i + 1) begun) in
+    let At : Section → Type 0 = λ x. (t : ℕ) × (report.Section i s.start s.section.kind ≡ report.Section i t x.kind) × (i < length sections) × (soon + x.dwell ≤ t) × (home ≡ false → soon + x.dwell ≡ t)
+    × AreOf m sections clocks (suc i) (is_home x.kind) (ready_behind (is_home x.kind) t (section_end m clocks x.moves t)) (begun_lines (i + 1) begun) in
+    subst At (sym here) (s.start, refl, omega (arith, size, many, count, at), omega (arith, start, low), λ h. (let e = same h in omega (arith, e, start)), subst Next one later)
 
-pub of_first : (m : Machine) (sections : List Section) (clocks : List Clocks) (k soon : ℕ) (xs ys : List ReportLine) → AreOf m sections clocks k soon (xs ++ ys) → AreOf m sections clocks k soon xs
-of_first m sections clocks k soon [] ys h = tt
-of_first m sections clocks k soon (x ∷ xs) ys h = (h.0, h.1, h.2, h.3, of_first m sections clocks (suc k) _ xs ys h.4)
-
--- lists from their end, twice
-in_order_append : {A : Type 0} (xs ys : List A) → in_order (xs ++ ys) ≡ in_order ys ++ in_order xs
-in_order_append [] ys = sym (append-nil (in_order ys))
-in_order_append (x ∷ xs) ys = ap (λ (z : List _). z ++ x ∷ []) (in_order_append xs ys) ∙ append_assoc (in_order ys) (in_order xs) (x ∷ [])
-
-in_order_twice : {A : Type 0} (xs : List A) → in_order (in_order xs) ≡ xs
-in_order_twice [] = refl
-in_order_twice (x ∷ xs) = in_order_append (in_order xs) (x ∷ []) ∙ ap (λ (z : List _). x ∷ z) (in_order_twice xs)
+of_first : (m : Machine) (sections : List Section) (clocks : List Clocks) (k : ℕ) (home : Bool) (soon : ℕ) (xs ys : List ReportLine) → AreOf m sections clocks k home soon (xs ++ ys) → AreOf m sections clocks k home soon xs
+of_first m sections clocks k home soon [] ys h = tt
+of_first m sections clocks k home soon (x ∷ xs) ys h = (h.0, h.1, h.2, h.3, h.4, of_first m sections clocks (suc k) _ _ xs ys h.5)
 
 -- a pulse that a log tells is one of its stepper, which is there
 is_pulse : (m : Machine) (x : ReportLine) (lines : List ReportLine) (s tick : ℕ) (up : Bool) → AreTold true m (x ∷ lines) → logged x ≡ line.Pulse s tick up → (s < length m.steppers) × (pulses_of s (x ∷ lines) ≢ [])
@@ -297,10 +269,6 @@ told_pulse m b lines told t =
     pulse_among m lines (in_order t.before) (in_order t.later) t.s t.tick t.up told
     (sym (in_order_twice (map logged lines)) ∙ ap in_order t.are ∙ in_order_append t.later (p ∷ t.before) ∙ append_assoc (in_order t.before) (p ∷ []) (in_order t.later))
 
-listed_told : (lines : List LogLine) → listed lines ≡ further_told lines
-listed_told [] = refl
-listed_told (l ∷ lines) = ap (with_one (further_of (Ok l))) (listed_told lines)
-
 stand_first : (m : Machine) (before xs ys : List LogLine) → AllMayStand m before (xs ++ ys) → AllMayStand m before xs × AllMayStand m (onto xs before) ys
 stand_first m before [] ys stand = (tt, stand)
 stand_first m before (x ∷ xs) ys stand = (let rest = stand_first m (x ∷ before) xs ys stand.1 in ((stand.0, rest.0), rest.1))
@@ -329,21 +297,102 @@ none_first m xs ys shows = record {
   heads = heads_first 0 xs ys shows.heads;
 }
 
--- lines of a run that follow the plan are read back as a log that does
-pub read-back : (through : Type 0) (m : Machine) (sections : List Section) (said : List ReportLine) → IsValidMachine m → HasNames m → AreOfRun m said → AreFronted through m sections (further_told (map logged said)) (onto (map logged said) [])
-    → (log : List LogLine) × SaysLog m (report_text m said) log × Follows through m sections log
-read-back through m sections said valid names of front =
+-- the lines of boards among some all tell a turn
+abbrev AllTell : ℕ → List ReportLine → Type 0
+AllTell turn [] = Unit {0}
+AllTell turn (report.Board board freq at tick ∷ lines) = (at ≡ turn) × AllTell turn lines
+AllTell turn (l ∷ lines) = AllTell turn lines
+
+tell-at : (turn b : ℕ) (clocks : List Clocks) → AllTell turn (lines_at turn b clocks)
+tell-at turn b [] = tt
+tell-at turn b (c ∷ clocks) = (refl, tell-at turn (b + 1) clocks)
+
+tell-all : (turn : ℕ) (lines : List ReportLine) → AllTell turn (boards_of lines) → AllTell turn lines
+tell-all turn [] h = tt
+tell-all turn (report.Board board freq at tick ∷ lines) h = (h.0, tell-all turn lines h.1)
+tell-all turn (report.Machine corexy boards steppers ∷ lines) h = tell-all turn lines h
+tell-all turn (report.Section i at kind ∷ lines) h = tell-all turn lines h
+tell-all turn (report.Pulse board stepper tick up ∷ lines) h = tell-all turn lines h
+tell-all turn (report.Cut i board pin tick from ∷ lines) h = tell-all turn lines h
+tell-all turn (report.Drift board sent clock from ∷ lines) h = tell-all turn lines h
+tell-all turn (report.Lines accepted passed ∷ lines) h = tell-all turn lines h
+tell-all turn (report.Out board pin tick on ∷ lines) h = tell-all turn lines h
+tell-all turn (report.Made seed many ∷ lines) h = tell-all turn lines h
+tell-all turn (report.Count stepper many ∷ lines) h = tell-all turn lines h
+tell-all turn (report.Fit section stepper many planned early late ∷ lines) h = tell-all turn lines h
+tell-all turn (report.End c ∷ lines) h = tell-all turn lines h
+
+all-turn : (turn : ℕ) (head : List ReportLine) (clocks : List Clocks) (b : ℕ) → boards_of head ≡ lines_at turn b clocks → AllTell turn head
+all-turn turn head clocks b e = tell-all turn head (subst (AllTell turn) (sym e) (tell-at turn b clocks))
+
+some_boards : (turn b : ℕ) (clocks : List Clocks) (head : List ReportLine) → boards_of head ≡ lines_at turn b clocks → 0 < length clocks → boards_of head ≢ []
+some_boards turn b [] head e some none = absurd (omega (arith, some))
+some_boards turn b (c ∷ clocks) head e some none = (let f : [] ≡ report.Board b c.first.freq turn (turn_tick c.first turn) ∷ lines_at turn (b + 1) clocks = sym none ∙ e in cc)
+
+-- so does their log
+heads-turn : (turn b : ℕ) (head : List ReportLine) (before : List LogLine) → AreHeads b head → AllTell turn head → (boards_of head ≢ []) ⊎ (board_turn before ≡ turn) → board_turn (onto (map logged head) before) ≡ turn
+heads-turn turn b [] before heads tell (inl some) = absurd (some refl)
+heads-turn turn b [] before heads tell (inr e) = e
+heads-turn turn b (report.Board board freq at tick ∷ head) before heads tell why = heads-turn turn (b + 1) head (line.Board board at tick ∷ before) heads.1 tell.1 (inr tell.0)
+heads-turn turn b (report.Machine corexy boards steppers ∷ head) before heads tell why = heads-turn turn b head (line.Note ∷ before) heads tell why
+heads-turn turn b (report.Drift board sent clock from ∷ head) before heads tell why = heads-turn turn b head (line.Line board sent clock from ∷ before) heads tell why
+heads-turn turn b (report.Lines accepted passed ∷ head) before heads tell why = heads-turn turn b head (line.Note ∷ before) heads tell why
+heads-turn turn b (x ∷ head) before heads tell why = absurd heads
+
+-- as many sections begin in the log of some lines as are shown
+begun-shown : (lines : List ReportLine) (before : List LogLine) → begun (onto (map logged lines) before) ≡ length (sections_shown lines) + begun before
+begun-shown [] before = omega arith
+begun-shown (report.Section i at kind ∷ lines) before = (let rest = begun-shown lines (line.Section i at kind ∷ before) in omega (arith, rest))
+begun-shown (report.Board board freq at tick ∷ lines) before = begun-shown lines (line.Board board at tick ∷ before)
+begun-shown (report.Machine corexy boards steppers ∷ lines) before = begun-shown lines (line.Note ∷ before)
+begun-shown (report.Pulse board stepper tick up ∷ lines) before = begun-shown lines (line.Pulse stepper tick up ∷ before)
+begun-shown (report.Cut i board pin tick from ∷ lines) before = begun-shown lines (line.Cut i ∷ before)
+begun-shown (report.Drift board sent clock from ∷ lines) before = begun-shown lines (line.Line board sent clock from ∷ before)
+begun-shown (report.Lines accepted passed ∷ lines) before = begun-shown lines (line.Note ∷ before)
+begun-shown (report.Out board pin tick on ∷ lines) before = begun-shown lines (line.Note ∷ before)
+begun-shown (report.Made seed many ∷ lines) before = begun-shown lines (line.Note ∷ before)
+begun-shown (report.Count stepper many ∷ lines) before = begun-shown lines (line.Note ∷ before)
+begun-shown (report.Fit section stepper many planned early late ∷ lines) before = begun-shown lines (line.Note ∷ before)
+begun-shown (report.End c ∷ lines) before = begun-shown lines (line.End ∷ before)
+
+-- the further clock lines that some lines tell, read from the end
+among-more : (l : LogLine) (xs : List LogLine) → further_among (xs ++ l ∷ []) ≡ with_one (further_of (Ok l)) (further_among xs)
+among-more l [] = refl
+among-more l (x ∷ xs) = ap (λ (z : List Further). z ++ with_one (further_of (Ok x)) []) (among-more l xs) ∙ by (further_of (Ok l))
+  where
+    by : (o : Option Further) → with_one o (further_among xs) ++ with_one (further_of (Ok x)) [] ≡ with_one o (further_among xs ++ with_one (further_of (Ok x)) [])
+    by None = refl
+    by (Some f) = refl
+
+among-told : (lines : List LogLine) → further_told lines ≡ further_among (in_order lines)
+among-told [] = refl
+among-told (l ∷ lines) = ap (with_one (further_of (Ok l))) (among-told lines) ∙ sym (among-more l (in_order lines))
+
+-- the log of lines that follow the plan does
+pub log-follows : (through : Type 0) (m : Machine) (sections : List Section) (said : List ReportLine) → AreFronted through m sections (further_told (map logged said)) (onto (map logged said) []) → (through → length (sections_shown said) ≡ length sections)
+    → Follows through m sections (log_of said) × StartsOnTime through m sections (log_of said)
+log-follows through m sections said front all =
     let logs = map logged said in
     let log = in_order logs in
-    let words = numbered m 1 said in
-    let own = words-said m said 1 valid names of in
-    let says : all_said m words ≡ map ok_line (in_order log) = own ∙ ap (map ok_line) (sym (in_order_twice logs)) in
-    let among : further_told logs ≡ further_among log = sym (said-listed m words logs own ∙ listed_told logs) ∙ said-among m words log says in
-    let on : onto logs [] ≡ log = onto-in-order logs [] ∙ append-nil log in (
-      log,
-      ap (all_said m) (lines-read m said 1 valid names of) ∙ says,
-      all-follows through m sections log (subst (λ (f : List Further). AreFronted through m sections f log) among (subst (λ (x : List LogLine). AreFronted through m sections (further_told logs) x) on front)),
-    )
+    let on : onto logs [] ≡ log = onto-in-order logs [] ∙ append-nil log in
+    let read = subst (λ (f : List Further). AreFronted through m sections f log) (among-told logs) (subst (λ (x : List LogLine). AreFronted through m sections (further_told logs) x) on front) in
+    let count = begun-shown said [] in
+    let same = ap begun on in
+    (all-follows through m sections log read, all-start through m sections log read (λ gone. (let e = all gone in omega (arith, count, same, e))))
+
+-- and lines of a run say it
+pub says-log : (m : Machine) (said : List ReportLine) → IsValidMachine m → AreOfRun m said → HasNames m → SaysLog m (report_text m said) (log_of said)
+says-log m said valid of names = ap (all_said m) (lines-read m said 1 valid names of) ∙ words-said m said 1 valid names of ∙ ap (map ok_line) (sym (in_order_twice (map logged said)))
+
+-- a run that went through shows as many sections as the text has
+pub shown-all : (m : Machine) (switches : List Switch) (text : List ℕ) (c : Cause) (said : List ReportLine) → ShowsHomes m switches text c said → GoesThrough c → length (sections_shown said) ≡ length (sections_over m text)
+shown-all m switches text c said shows gone =
+    let all = shows.all gone in
+    ap length all.1 ∙ many 0 shows.begun ∙ sym (length-map shows.begun (λ (x : Started). x.section)) ∙ ap length all.0
+  where
+    many : (i : ℕ) (ss : List Started) → length (begun_lines i ss) ≡ length ss
+    many i [] = refl
+    many i (s ∷ ss) = ap suc (many (i + 1) ss)
 
 -- A run that shows all its lines, and the line of a section among them.
 module _ (m : Machine) (switches : List Switch) (text : List ℕ) (c : Cause) (said : List ReportLine) (valid : IsValidMachine m) (some : sections_shown said ≢ []) (shows : ShowsHomes m switches text c said) (low : AreLow said) (told : AreTold true m said) (long : HaveLongCuts said) where
@@ -386,69 +435,45 @@ module _ (m : Machine) (switches : List Switch) (text : List ℕ) (c : Cause) (s
       let many = length-map shows.begun (λ (x : Started). x.section) in
       record { from = d.from; inside = omega (arith, inside, size, many); late = d.late }
 
-  place_at : (j turn : ℕ) → section_turn j said ≡ Some turn → HasPlace shows.begun j
-  place_at j turn e = let d = (due_in j turn e).inside in place_of shows.begun j (omega (arith, d))
-
-  kind_is : (j : ℕ) (p : HasPlace shows.begun j) → kind_of Text j ≡ p.s.section.kind
-  kind_is j p = kind_at Text More shows.begun j p of_text
-
   -- its cut lines: none in a section of moves, one at most in one that homes, and one there where the next section is shown or the run went through
   uncut_at : (j turn : ℕ) → section_turn j said ≡ Some turn → kind_of Text j ≡ Moves → cuts_in j said ≡ []
-  uncut_at j turn e is =
-      let p = place_at j turn e in
-      ap (λ (n : ℕ). cuts_in n said) (sym p.place) ∙ shows.cuts.moves p.past p.s p.later p.cut (sym (kind_is j p) ∙ is)
+  uncut_at j turn e is = shows.cuts.moves j is
 
-  one_cut : (j axis : ℕ) (p : HasPlace shows.begun j) → IsCutOf m switches (length p.past) axis (cuts_in (length p.past) said) → IsOneCut j (cuts_in j said)
-  one_cut j axis p one = (
-    (axis_at m axis).board,
-    (axis_at m axis).pin,
-    one.0,
-    scene_line m switches axis one.0,
-    ap (λ (n : ℕ). cuts_in n said) (sym p.place) ∙ one.1 ∙ ap (λ (n : ℕ). report.Cut n (axis_at m axis).board (axis_at m axis).pin one.0 (scene_line m switches axis one.0) ∷ []) p.place,
-  )
+  one_cut : (j axis : ℕ) → IsCutOf m switches j axis (cuts_in j said) → IsOneCut j (cuts_in j said)
+  one_cut j axis one = ((axis_at m axis).board, (axis_at m axis).pin, one.0, scene_line m switches axis one.0, one.1)
 
   one_at : (j turn : ℕ) → section_turn j said ≡ Some turn → (cuts_in j said ≡ []) ⊎ IsOneCut j (cuts_in j said)
-  one_at j turn e =
-      let p = place_at j turn e in
-      by p p.s.section.kind refl
+  one_at j turn e = by (kind_of Text j) refl
     where
-      by : (p : HasPlace shows.begun j) (k : SectionKind) → p.s.section.kind ≡ k → (cuts_in j said ≡ []) ⊎ IsOneCut j (cuts_in j said)
-      by p Moves is = inl (ap (λ (n : ℕ). cuts_in n said) (sym p.place) ∙ shows.cuts.moves p.past p.s p.later p.cut is)
-      by p (Home axis) is = elim (shows.cuts.homes p.past p.s p.later axis p.cut is) [ inl none ↦ inl (ap (λ (n : ℕ). cuts_in n said) (sym p.place) ∙ none) | inr one ↦ inr (one_cut j axis p one) ]
+      by : (k : SectionKind) → kind_of Text j ≡ k → (cuts_in j said ≡ []) ⊎ IsOneCut j (cuts_in j said)
+      by Moves is = inl (shows.cuts.moves j is)
+      by (Home axis) is = elim (shows.cuts.homes j axis is) [ inl none ↦ inl none | inr one ↦ inr (one_cut j axis one) ]
 
   ended_at : (j turn : ℕ) → section_turn j said ≡ Some turn → ((next : ℕ) × (section_turn (j + 1) said ≡ Some next)) ⊎ GoesThrough c → is_home (kind_of Text j) ≡ true → IsOneCut j (cuts_in j said)
-  ended_at j turn e why homes =
-      let p = place_at j turn e in
-      by p (kind_is j p) p.s.section.kind refl
+  ended_at j turn e why homes = by (kind_of Text j) refl
     where
-      behind : (p : HasPlace shows.begun j) → ((next : ℕ) × (section_turn (length p.past + 1) said ≡ Some next)) ⊎ GoesThrough c
-      behind p = subst (λ (n : ℕ). ((next : ℕ) × (section_turn (n + 1) said ≡ Some next)) ⊎ GoesThrough c) (sym p.place) why
-
-      by : (p : HasPlace shows.begun j) → kind_of Text j ≡ p.s.section.kind → (k : SectionKind) → p.s.section.kind ≡ k → IsOneCut j (cuts_in j said)
-      by p at Moves is = absurd (let f : false ≡ true = sym (ap is_home (at ∙ is)) ∙ homes in cc)
-      by p at (Home axis) is = one_cut j axis p (shows.cuts.ended p.past p.s p.later axis p.cut is (behind p))
+      by : (k : SectionKind) → kind_of Text j ≡ k → IsOneCut j (cuts_in j said)
+      by Moves is = absurd (let f : false ≡ true = sym (ap is_home is) ∙ homes in cc)
+      by (Home axis) is = one_cut j axis (shows.cuts.ended j axis is why)
 
   -- they are small
   cut_small : (j turn : ℕ) → section_turn j said ≡ Some turn → AreSmall m (cuts_in j said)
-  cut_small j turn e =
-      let p = place_at j turn e in
-      by p (kind_is j p) p.s.section.kind refl
+  cut_small j turn e = by (kind_of Text j) refl
     where
       kind_low : (ss : List Section) (i : ℕ) → HaveKinds ss → i < 0 + length ss → IsKind (kind_of ss i)
       kind_low [] i ks lt = absurd (omega (arith, lt))
       kind_low (s ∷ ss) zero ks lt = ks.0
       kind_low (s ∷ ss) (suc i) ks lt = kind_low ss i ks.1 (omega (arith, lt))
 
-      by : (p : HasPlace shows.begun j) → kind_of Text j ≡ p.s.section.kind → (k : SectionKind) → p.s.section.kind ≡ k → AreSmall m (cuts_in j said)
-      by p at Moves is = subst (λ (z : List ReportLine). AreSmall m z) (sym (ap (λ (n : ℕ). cuts_in n said) (sym p.place) ∙ shows.cuts.moves p.past p.s p.later p.cut is)) tt
-      by p at (Home axis) is = elim (shows.cuts.homes p.past p.s p.later axis p.cut is) [
-        | inl none ↦ subst (λ (z : List ReportLine). AreSmall m z) (sym (ap (λ (n : ℕ). cuts_in n said) (sym p.place) ∙ none)) tt
+      by : (k : SectionKind) → kind_of Text j ≡ k → AreSmall m (cuts_in j said)
+      by Moves is = subst (λ (z : List ReportLine). AreSmall m z) (sym (shows.cuts.moves j is)) tt
+      by (Home axis) is = elim (shows.cuts.homes j axis is) [
+        | inl none ↦ subst (λ (z : List ReportLine). AreSmall m z) (sym none) tt
         | inr one ↦
-            let here : cuts_in j said ≡ report.Cut j (axis_at m axis).board (axis_at m axis).pin one.0 (scene_line m switches axis one.0) ∷ [] =
-            ap (λ (n : ℕ). cuts_in n said) (sym p.place) ∙ one.1 ∙ ap (λ (n : ℕ). report.Cut n (axis_at m axis).board (axis_at m axis).pin one.0 (scene_line m switches axis one.0) ∷ []) p.place in
+            let here : cuts_in j said ≡ report.Cut j (axis_at m axis).board (axis_at m axis).pin one.0 (scene_line m switches axis one.0) ∷ [] = one.1 in
             let wide : HaveLongCuts (report.Cut j (axis_at m axis).board (axis_at m axis).pin one.0 (scene_line m switches axis one.0) ∷ []) =
             subst (λ (z : List ReportLine). HaveLongCuts z) here (long_cuts (lines_before (lines_behind j said)) (long_before (lines_behind j said) (long_behind j said long))) in
-            let kind : IsKind (Home axis) = subst (λ (k : SectionKind). IsKind k) (at ∙ is) (kind_low Text j kinds (due_at j turn e).inside) in
+            let kind : IsKind (Home axis) = subst (λ (k : SectionKind). IsKind k) is (kind_low Text j kinds (due_at j turn e).inside) in
             let a = axis_valid m axis valid kind in
             let few = number_low j turn said low e in
             let early = turn_low j turn said low e in
@@ -517,18 +542,18 @@ module _ (m : Machine) (switches : List Switch) (text : List ℕ) (c : Cause) (s
   turns : (i : ℕ) → section_turn i said ≡ section_turn i From
   turns i = ap (section_turn i) facts.apart.are ∙ head-turn 0 i facts.apart.head From facts.heads
 
-  ahead : Ahead (GoesThrough c) m Text shows.clocks Told_lines 0 shows.ready From
+  ahead : Ahead (GoesThrough c) m Text shows.clocks Told_lines 0 false shows.ready From
   unfolding facts short
   ahead =
       let pulses_are = λ (i s : ℕ). ap (pulses_in i s) facts.apart.are ∙ head-pulses 0 i s facts.apart.head From facts.heads in
       let cuts_are = λ (i : ℕ). ap (cuts_in i) facts.apart.are ∙ ap (λ (z : List ReportLine). cuts_of (lines_before z)) (head-behind 0 i facts.apart.head From facts.heads) in
-      let Of : List ReportLine → Type 0 = λ z. AreOf m Text shows.clocks 0 shows.ready z in
+      let Of : List ReportLine → Type 0 = λ z. AreOf m Text shows.clocks 0 false shows.ready z in
       let same = λ (j at : ℕ) (e : section_turn j From ≡ Some at). alike m short.short (moves_of Text j) shows.ready at valid short.have (due_at j at (turns j ∙ e)).late in
       let next = λ (j at : ℕ) (e : section_turn (suc j) From ≡ Some at). (let one : j + 1 ≡ suc j = omega arith in let f : section_turn (j + 1) said ≡ Some at = ap (λ (n : ℕ). section_turn n said) one ∙ turns (suc j) ∙ e in f) in
       let why_so = λ (j : ℕ) (why : GoesThrough c ⊎ IsShown (suc j) From). elim why as (λ _. ((after : ℕ) × (section_turn (j + 1) said ≡ Some after)) ⊎ GoesThrough c) [ inl g ↦ inr g | inr x ↦ inl (x.0, next j x.0 x.1) ] in
       record {
         shown = subst Of (ap sections_shown facts.apart.are ∙ head-shown 0 facts.apart.head From facts.heads)
-            (of_first m Text shows.clocks 0 shows.ready (sections_shown said) shows.sections.0 (subst Of shown (due_of m shows.clocks Text (map (λ x. x.section) shows.begun) [] More 0 shows.ready (begun_lines 0 shows.begun) of_text refl due)));
+            (of_first m Text shows.clocks 0 false shows.ready (sections_shown said) shows.sections.0 (subst Of shown (begun_of m shows.clocks shows.begun shows.begun [] Text More shows.ready shows.ready 0 false refl refl of_text (omega arith) (λ h. refl) shows.started)));
         fits = λ j at s late e inside.
             let a = same j at e in
             subst (λ (ps : List Pulse). Fits (clocks_at Told_lines (stepper_at m s).board).first.freq (base_tick m Told_lines at s) ps (stepper_plan m Told_lines (moves_of Text j) at s)) (pulses_are j s)
@@ -581,8 +606,11 @@ module _ (m : Machine) (switches : List Switch) (text : List ℕ) (c : Cause) (s
       let when : a.turn ≡ sh.0 = cc in
       let soon = sh.3 in
       let late = facts.sound.late in
-      let rest = lines-follow (GoesThrough c) m Text fs Told_lines a.head a.turn a.kind a.body stands.0 facts.heads told_is boards sh.2 kind (omega (arith, soon, when, late)) (λ s inside. ahead.fits 0 a.turn s (omega arith) refl inside)
-      (goes-on (GoesThrough c) m Text shows.clocks Told_lines a.turn shows.ready a.kind a.body behind ahead) stands.1.1 of.1 in
+      let at = heads-turn shows.ready 0 a.head [] facts.heads (all-turn shows.ready a.head shows.clocks 0 a.told) (inl (some_boards shows.ready 0 shows.clocks a.head a.told (let count = facts.sound.clocks_are.count in let boards = valid.boards_some in omega (arith, count, boards)))) in
+      let own = sh.4 refl in
+      let timely : a.turn ≡ board_turn (onto head []) + (section_at Text 0).dwell = omega (arith, own, when, at) in
+      let rest = lines-follow (GoesThrough c) m Text fs Told_lines a.head a.turn a.kind a.body stands.0 facts.heads told_is boards sh.2 kind (omega (arith, soon, when, late)) timely (λ s inside. ahead.fits 0 a.turn s (omega arith) refl inside)
+      (goes-on (GoesThrough c) m Text shows.clocks Told_lines a.turn false shows.ready a.kind a.body behind ahead) stands.1.1 of.1 in
       let whole : onto (map logged said) [] ≡ onto (map logged a.body) (line.Section 0 a.turn a.kind ∷ onto head []) = ap (λ (l : List LogLine). onto l []) parted ∙ onto-append head (map logged From) [] in
       subst (λ (l : List LogLine). AreFronted (GoesThrough c) m Text fs l) (sym whole) rest
 
@@ -612,8 +640,16 @@ module _ (m : Machine) (switches : List Switch) (text : List ℕ) (c : Cause) (s
           let at : heads_of xs ≡ heads_of head ++ (report.Section 0 facts.apart.turn facts.apart.kind ∷ heads_of more) = ap heads_of e ∙ flat_map-append head_in head (l ∷ more) ∙ ap (λ (x : ReportLine). heads_of head ++ (head_in x ++ heads_of more)) same in
           absurd (not_empty (heads_of head) (report.Section 0 facts.apart.turn facts.apart.kind) (heads_of more) (sym at ∙ none))
 
-  pub home-front : HasNames m → (log : List LogLine) × SaysLog m (report_text m said) log × Follows (GoesThrough c) m Text log
-  home-front names = read-back (GoesThrough c) m Text said valid names of_said front
+  pub home-front : Follows (GoesThrough c) m Text (log_of said) × StartsOnTime (GoesThrough c) m Text (log_of said)
+  home-front = log-follows (GoesThrough c) m Text said front (shown-all m switches text c said shows)
+
+  pub home-says : HasNames m → SaysLog m (report_text m said) (log_of said)
+  home-says = says-log m said valid of_said
+
+  -- and the clock lines that are told are near the boards' clocks
+  pub home-near : AreNearBoards m (log_of said)
+  unfolding facts
+  home-near = near-boards m shows.clocks shows.ready shows.last said facts.sound facts.boards low facts.further facts.names
 
   module _ (through : GoesThrough c) where
     begun_all : sections_shown said ≡ begun_lines 0 shows.begun

@@ -1,11 +1,9 @@
 -- The report of a run over links in which axes home checks.
 use Rattle.std.proofs.Common.{◌≡◌, ◌≢◌, ◌∙◌, ℕ, true, false, ◌+◌, ◌*◌, ◌<◌, ◌≤◌, ◌^◌, All, List, [], ◌∷◌, ◌++◌, length, Option, Some, None, ap, sym, refl, subst, arith, append-nil, inl, inr, length-append, map}
-use Rattle.std.proofs.Math.Logic.{∥∥₁_elim, ∥∥₁_map, ∥∥₁_prop}
+use Rattle.std.proofs.Math.Logic.{∥∥₁_elim}
 use Rattle.std.proofs.Props.{props}
 use Rattle.std.proofs.lemmas.Grind.{flat_map-append}
 use Rattle.std.proofs.lemmas.List.{length-map}
-use Rattle.std.specs.Prelude.{Ok}
-use Rattle.cfg_text.specs.Reading.{reading}
 use Rattle.io_core.specs.declared.traits.Files.{Ghosts as Files}
 use Rattle.io_core.specs.declared.traits.Sink.{Ghosts as Sink}
 use Rattle.plan_types.specs.declared.cause.Cause.{Cause}
@@ -18,10 +16,8 @@ use Rattle.plan_types.specs.Sections.{clocks_at}
 use Rattle.report_text.specs.declared.line.ReportLine.{ReportLine}
 use Rattle.report_text.specs.declared.line.ReportLine.TheVariants as report
 use Rattle.report_text.specs.Text.{report_text}
-use Rattle.log_text.specs.declared.line.LogLine.{LogLine}
 use Rattle.report_laws.specs.Further.{further_told}
 use Rattle.report_laws.specs.Logged.{logged}
-use Rattle.report_laws.proofs.Configured.{names-of-reading}
 use Rattle.host_reactor.specs.Reactor.{Run, reacts}
 use Rattle.host_reactor.specs.declared.ordered.Known.{Known}
 use Rattle.host_reactor.specs.Notes.{news_of, noted}
@@ -60,8 +56,6 @@ use Rattle.session_laws.specs.home_headline.Cuts.{cuts_of}
 use Rattle.session_laws.specs.home_headline.Follow.{AllShowHomes, ShowHomes}
 use Rattle.session_laws.specs.home_headline.Little.{AllHomeLittle}
 use Rattle.cause_runs.specs.Short.{HaveShortDictionaries}
-use Rattle.cause_runs.proofs.ShortNames.{short_dictionaries}
-use Rattle.session_laws.proofs.home_headline.Shows.{run_shows}
 use Rattle.session_laws.specs.run_limits.Limits.{AreLow, DriftsLow, greatest_tick, start_limit}
 use Rattle.session_laws.proofs.run_limits.Early.{heads_low, starts_early}
 use Rattle.session_laws.proofs.run_limits.Drifts.{drifts_low}
@@ -70,18 +64,20 @@ use Rattle.session_laws.proofs.run_limits.Ticks.{board_low, lines_low}
 use Rattle.report_laws.specs.Checks.{check_cause}
 use Rattle.report_laws.specs.Homes.{ShowsHomes}
 use Rattle.report_laws.specs.Promises.{sections_over}
-use Rattle.report_laws.specs.Linked.{IsLinkReport}
 use Rattle.report_laws.specs.Shown.{section_turn, sections_shown}
 use Rattle.report_laws.proofs.Inside.{some_behind}
-use Rattle.report_laws.specs.page.Log.{Follows, SaysLog}
+use Rattle.report_laws.specs.Names.{HasNames}
+use Rattle.session_laws.specs.run_headline.Made.{IsMade}
+use Rattle.report_laws.specs.page.Clocks.{AreNearBoards}
+use Rattle.report_laws.specs.page.Log.{Follows, SaysLog, StartsOnTime, log_of}
 use Rattle.report_laws.proofs.Faulted.{last_lines}
-use Rattle.report_laws.proofs.Homed.{home-checks, home-front, home-none, none_first, read-back}
+use Rattle.report_laws.proofs.Homed.{home-checks, home-front, home-near, home-none, home-says, log-follows, none_first, says-log, shown-all}
 use Rattle.report_laws.proofs.Unbegun.{ShowsNone, counts_low}
 use Rattle.report_laws.proofs.Unshown.{alone_own, alone_plain, both_none, shown_heads, shown_none, whole_before}
 use Rattle.report_laws.proofs.page.Front.{heads-follow}
-use Rattle.report_laws.proofs.Linking.{text-cause, written-whole}
+use Rattle.report_laws.proofs.Linking.{text-cause}
 use Rattle.report_laws.proofs.Low.{shown_turn}
-use Rattle.report_laws.proofs.Linked.{home_lines}
+use Rattle.report_laws.proofs.Linked.{home_lines, whole_of}
 use Rattle.report_laws.proofs.Standing.{first_shown, told_parts}
 use Rattle.report_laws.proofs.Wide.{long_uncut, turn_long, turns_long}
 use Rattle.report_laws.proofs.Limits.{HaveLongCuts}
@@ -187,17 +183,6 @@ module _ {F S : Type 0} (f : Files F) (o : Sink S) (m : Machine) (s : Scene) (na
       let ended = subst End (sym e) (run_ended f o m s name files files' out out' kept kept' t r other) in
       shown_none m v s r.runs.0 p r.runs.2 t.cause first rest ended.facts ended.end_is shows told uncut none
 
-  home_nones : IsValidMachine m → HaveShortDictionaries m → (text : List ℕ) → f.told files name ≡ Some text → kept.at ≡ 0 → AllHomeLittle m s text r.runs.0 (r.runs.1 ++ r.runs.2 ∷ []) → AreTold true m (gather (λ t. t.lines) (r.runs.1 ++ r.runs.2 ∷ []))
-      → cuts_of (gather (λ t. t.lines) (r.runs.1 ++ r.runs.2 ∷ [])) ≡ [] → heads_of (gather (λ t. t.lines) (r.runs.1 ++ r.runs.2 ∷ [])) ≡ [] → (t.cause ≡ cause.Memory → ⊥)
-      → ((board turn : ℕ) → t.cause ≡ cause.Connect board turn → r.runs.1 ≡ [] → ⊥) → ∥ ShowsNone m (gather (λ t. t.lines) (r.runs.1 ++ r.runs.2 ∷ [])) ∥₁
-  home_nones v short text told at little lines uncut none other answers =
-      ∥∥₁_map (run_shows f o m s name files files' out out' kept kept' t r v short text told at) (λ w. nones v r.runs.1 w.0.plans refl (w.2 other little) lines uncut none other answers)
-
-  home_limits : IsValidMachine m → HaveShortDictionaries m → (text : List ℕ) → f.told files name ≡ Some text → kept.at ≡ 0 → AllHomeLittle m s text r.runs.0 (r.runs.1 ++ r.runs.2 ∷ []) → heads_of (gather (λ t. t.lines) (r.runs.1 ++ r.runs.2 ∷ [])) ≢ []
-      → (t.cause ≡ cause.Memory → ⊥) → ∥ AreLow (gather (λ t. t.lines) (r.runs.1 ++ r.runs.2 ∷ [])) ∥₁
-  home_limits v short text told at little some other =
-      ∥∥₁_map (run_shows f o m s name files files' out out' kept kept' t r v short text told at) (λ w. limits v r.runs.1 w.0.plans refl (w.2 other little) some other)
-
   home_told : (t.cause ≡ cause.Memory → ⊥) → AreTold true m (gather (λ t. t.lines) (r.runs.1 ++ r.runs.2 ∷ []))
   home_told other =
       let x = facts f o m s name files files' out out' kept kept' t r other in
@@ -214,89 +199,90 @@ module _ {F S : Type 0} (f : Files F) (o : Sink S) (m : Machine) (s : Scene) (na
         | inr plain ↦ subst (λ (z : List ReportLine). HaveLongCuts z) (sym plain) (long_uncut m (first_lines m (noted m end.note x.known) (length before) (news_of end.note) end.states) (first_told false m (noted m end.note x.known) (length before) (news_of end.note) end.states))
       ])
 
-module _ {F S : Type 0} (f : Files F) (o : Sink S) (printer : List ℕ) (m : Machine) (s : Scene) (gcode : List ℕ) (files files' : F) (out out' : S) (c : Cause) (lines : List ReportLine) (counts : List ℕ) (links : List LinkLog) (configured : reading printer ≡ Ok m)
-    (r : IsLinkReport f o m s gcode files files' out out' c lines counts links) (text : List ℕ) (told : f.told files gcode ≡ Some text)
-    (little : AllHomeLittle m s text r.reported.runs.runs.0 (r.reported.runs.runs.1 ++ r.reported.runs.runs.2 ∷ [])) (scene : All (λ w. w.line < 2 ^ 64) s.switches) where
-  home_valid : IsValidMachine m
-  home_valid = subst (λ (x : Machine). IsValidMachine x) r.reported.runs.printer r.reported.runs.fresh.machine
+-- the log of what is printed of a run that met its premise
+pub record ShowsLog (m : Machine) (text : List ℕ) (c : Cause) (said : List ReportLine) : Type 0 where
+  pub follows : Follows (GoesThrough c) m (sections_over m text) (log_of said)
+  pub starts : StartsOnTime (GoesThrough c) m (sections_over m text) (log_of said)
+  pub says : HasNames m → SaysLog m (report_text m said) (log_of said)
+  pub clocks : sections_shown said ≢ [] → AreNearBoards m (log_of said)
 
-  -- what the lines of such a run show that were printed
-  record Showing : Type 0 where
-    shows : ShowsHomes m s.switches text c r.reported.said
-    told_all : AreTold true m r.reported.said
-    long : HaveLongCuts r.reported.said
-    low : heads_of r.reported.said ≢ [] → ∥ AreLow r.reported.said ∥₁
-    none : heads_of r.reported.said ≡ [] → ∥ ShowsNone m r.reported.said ∥₁
-
-  abbrev own : IsReported f o m s gcode files files' out out' c lines counts links
-  own = r.reported
-
+-- what a run shows, by what its planner made
+module _ {F S : Type 0} (f : Files F) (o : Sink S) (m : Machine) (s : Scene) (gcode : List ℕ) (files files' : F) (out out' : S) (c : Cause) (lines : List ReportLine) (counts : List ℕ) (links : List LinkLog) (valid : IsValidMachine m) (short : HaveShortDictionaries m)
+    (own : IsReported f o m s gcode files files' out out' c lines counts links) (text : List ℕ) (told : f.told files gcode ≡ Some text) (not : own.told.cause ≡ cause.Memory → ⊥) (made : IsMade m s own.runs.runs.0 own.runs.runs.1) (same : made.plans.seen.text ≡ text)
+    (little : AllHomeLittle m s text own.runs.runs.0 (own.runs.runs.1 ++ own.runs.runs.2 ∷ [])) (all : AllShowHomes m made.plans.seen (clocks_heard made.plans.seen.told) (ready_heard made.plans.seen.told) own.told.cause (own.runs.runs.1 ++ own.runs.runs.2 ∷ []))
+    (scene : All (λ w. w.line < 2 ^ 64) s.switches) where
   abbrev whole : List ReportLine
-  whole = gather (λ t. t.lines) (r.reported.runs.runs.1 ++ r.reported.runs.runs.2 ∷ [])
+  whole = gather (λ t. t.lines) (own.runs.runs.1 ++ own.runs.runs.2 ∷ [])
 
-  showing : (r.reported.told.cause ≡ cause.Memory → ⊥) → ∥ Showing ∥₁
-  showing not =
-      ∥∥₁_map (r.homes text told not little) (λ shows. record {
-        shows = shows;
-        told_all = (told_parts true m own.said own.rest (subst (AreTold true m) own.shown told_whole)).0;
-        long = long_first own.said own.rest (subst HaveLongCuts own.shown (home_long f o m s gcode files files' out own.behind own.kept own.kept' own.told own.runs scene not));
-        low = λ some. ∥∥₁_map (low_whole (λ none. some (both_none (heads_of own.said) (heads_of own.rest) (sym parts ∙ none)).0)) (λ low. low_first own.said own.rest (subst AreLow own.shown low));
-        none = λ none. ∥∥₁_elim (home_lines f o m s gcode files files' out out' c lines counts links home_valid short own text told not little whole [] own.told.cause (λ g. (refl, refl)) (sym (append-nil whole))) ∥∥₁_prop
-            (λ all. none_of all none (heads_of whole) refl);
-      })
+  parts : heads_of whole ≡ heads_of own.said ++ heads_of own.rest
+  parts = ap heads_of own.shown ∙ flat_map-append head_in own.said own.rest
+
+  pub shows : ShowsHomes m s.switches text c own.said
+  shows = home_lines f o m s gcode files files' out out' c lines counts links valid short own text made same not little own.said own.rest c (whole_of f o m s gcode files files' out out' c lines counts links valid short own) own.shown
+
+  all_shows : ShowsHomes m s.switches text own.told.cause whole
+  all_shows = home_lines f o m s gcode files files' out out' c lines counts links valid short own text made same not little whole [] own.told.cause (λ g. (refl, refl)) (sym (append-nil whole))
+
+  told_whole : AreTold true m whole
+  told_whole = home_told f o m s gcode files files' out own.behind own.kept own.kept' own.told own.runs not
+
+  told_all : AreTold true m own.said
+  told_all = (told_parts true m own.said own.rest (subst (AreTold true m) own.shown told_whole)).0
+
+  long_whole : HaveLongCuts whole
+  long_whole = home_long f o m s gcode files files' out own.behind own.kept own.kept' own.told own.runs scene not
+
+  long : HaveLongCuts own.said
+  long = long_first own.said own.rest (subst HaveLongCuts own.shown long_whole)
+
+  low_whole : heads_of whole ≢ [] → AreLow whole
+  low_whole some = limits f o m s gcode files files' out own.behind own.kept own.kept' own.told own.runs valid own.runs.runs.1 made.plans refl all some not
+
+  low : heads_of own.said ≢ [] → AreLow own.said
+  low some = low_first own.said own.rest (subst AreLow own.shown (low_whole (λ none. some (both_none (heads_of own.said) (heads_of own.rest) (sym parts ∙ none)).0)))
+
+  -- a run of one turn doesn't end for a board that gave no answer
+  unanswered : (board turn : ℕ) → own.told.cause ≡ cause.Connect board turn → own.runs.runs.1 ≡ [] → ⊥
+  unanswered board turn is alone =
+      let Gave : List ReactorTurn → Type 0 = λ z. GaveNoAnswer m s board turn own.runs.runs.0 z own.runs.runs.2 in
+      ∥∥₁_elim (run_silent f o m s gcode files files' out own.behind own.kept own.kept' own.told own.runs valid text told own.fresh.at board turn is) (hlevel props) (λ gave. subst Gave alone gave)
+
+  none : heads_of own.said ≡ [] → ShowsNone m own.said
+  none before = by (heads_of whole) refl
     where
-      short : HaveShortDictionaries m
-      short = short_dictionaries printer m configured
-
-      parts : heads_of whole ≡ heads_of own.said ++ heads_of own.rest
-      parts = ap heads_of own.shown ∙ flat_map-append head_in own.said own.rest
-
-      told_whole : AreTold true m whole
-      told_whole = home_told f o m s gcode files files' out own.behind own.kept own.kept' own.told own.runs not
-
-      low_whole : heads_of whole ≢ [] → ∥ AreLow whole ∥₁
-      low_whole some = home_limits f o m s gcode files files' out own.behind own.kept own.kept' own.told own.runs home_valid short text told own.fresh.at little some not
-
-      -- a run of one turn doesn't end for a board that gave no answer
-      unanswered : (board turn : ℕ) → own.told.cause ≡ cause.Connect board turn → own.runs.runs.1 ≡ [] → ⊥
-      unanswered board turn is alone =
-          let Gave : List ReactorTurn → Type 0 = λ z. GaveNoAnswer m s board turn own.runs.runs.0 z own.runs.runs.2 in
-          ∥∥₁_elim (run_silent f o m s gcode files files' out own.behind own.kept own.kept' own.told own.runs home_valid text told own.fresh.at board turn is) (hlevel props) (λ gave. subst Gave alone gave)
-
-      none_of : ShowsHomes m s.switches text own.told.cause whole → heads_of own.said ≡ [] → (heads : List ReportLine) → heads_of whole ≡ heads → ∥ ShowsNone m own.said ∥₁
-      none_of all none [] e =
-          let uncut : cuts_of whole ≡ [] = ap cuts_of (sym (whole_before whole e)) ∙ all.cuts.before in
-          ∥∥₁_map (home_nones f o m s gcode files files' out own.behind own.kept own.kept' own.told own.runs home_valid short text told own.fresh.at little told_whole uncut e not unanswered)
-          (λ shows. none_first m own.said own.rest (subst (ShowsNone m) own.shown shows))
-      none_of all none (h ∷ hs) e =
+      by : (heads : List ReportLine) → heads_of whole ≡ heads → ShowsNone m own.said
+      by [] e =
+          let uncut : cuts_of whole ≡ [] = ap cuts_of (sym (whole_before whole e)) ∙ all_shows.cuts.before in
+          none_first m own.said own.rest (subst (ShowsNone m) own.shown (nones f o m s gcode files files' out own.behind own.kept own.kept' own.told own.runs valid own.runs.runs.1 made.plans refl all told_whole uncut e not unanswered))
+      by (h ∷ hs) e =
           let some : heads_of whole ≢ [] = λ none. (let g : h ∷ hs ≡ [] = sym e ∙ none in cc) in
-          ∥∥₁_map (low_whole some) (λ low.
-          home-none m s.switches text own.told.cause whole home_valid (λ none. some (sym (shown_heads whole) ∙ none)) all low told_whole (home_long f o m s gcode files files' out own.behind own.kept own.kept' own.told own.runs scene not) own.said own.rest own.shown none)
+          home-none m s.switches text own.told.cause whole valid (λ none. some (sym (shown_heads whole) ∙ none)) all_shows (low_whole some) told_whole long_whole own.said own.rest own.shown before
 
   -- a section is shown
-  shown_some : (i turn : ℕ) → section_turn i r.reported.said ≡ Some turn → sections_shown r.reported.said ≢ []
-  shown_some i turn e none = (let f : None ≡ Some turn = sym (ap (section_turn i) none) ∙ shown_turn i r.reported.said ∙ e in cc)
+  some_shown : (i turn : ℕ) → section_turn i own.said ≡ Some turn → sections_shown own.said ≢ []
+  some_shown i turn e none = (let f : None ≡ Some turn = sym (ap (section_turn i) none) ∙ shown_turn i own.said ∙ e in cc)
 
-  pub home-links : sections_over m text ≢ [] → GoesThrough c → check_cause m text (report_text m (r.reported.said ++ report.End c ∷ [])) ≡ cause.Done
-  home-links some through =
-      let not = written-whole c through in
-      ∥∥₁_elim (showing (λ e. not.0 ((r.reported.cause_is not.0 not.1).2 ∙ e))) (hlevel props) (λ (z : Showing).
-      let first = begun_first z.shows.begun ((z.shows.all through).1) (λ none. some (sym (z.shows.all through).0 ∙ ap (map (λ (x : Started). x.section)) none)) in
-      ∥∥₁_elim (z.low (some_behind 0 first.0 r.reported.said first.1)) (hlevel props) (λ low.
-      home-checks m s.switches text c r.reported.said home_valid (shown_some 0 first.0 first.1) z.shows low z.told_all z.long through (names-of-reading printer m configured) (z.shows.whole through) (text-cause m text c (z.shows.cause through))))
+  pub home-links : HasNames m → sections_over m text ≢ [] → GoesThrough c → check_cause m text (report_text m (own.said ++ report.End c ∷ [])) ≡ cause.Done
+  home-links names some through =
+      let first = begun_first shows.begun ((shows.all through).1) (λ none. some (sym (shows.all through).0 ∙ ap (map (λ (x : Started). x.section)) none)) in
+      home-checks m s.switches text c own.said valid (some_shown 0 first.0 first.1) shows (low (some_behind 0 first.0 own.said first.1)) told_all long through names (shows.whole through) (text-cause m text c (shows.cause through))
     where
-      begun_first : (begun : List Started) → sections_shown r.reported.said ≡ begun_lines 0 begun → begun ≢ [] → (turn : ℕ) × (section_turn 0 r.reported.said ≡ Some turn)
+      begun_first : (begun : List Started) → sections_shown own.said ≡ begun_lines 0 begun → begun ≢ [] → (turn : ℕ) × (section_turn 0 own.said ≡ Some turn)
       begun_first [] e never = absurd (never refl)
-      begun_first (x ∷ begun) e never = (x.start, first_shown 0 x.start x.section.kind (begun_lines 1 begun) r.reported.said e)
+      begun_first (x ∷ begun) e never = (x.start, first_shown 0 x.start x.section.kind (begun_lines 1 begun) own.said e)
 
   -- what was printed before the end line follows the plan, as far as the run came
-  pub printed-front : (r.reported.told.cause ≡ cause.Memory → ⊥) → ∥ ((log : List LogLine) × SaysLog m (report_text m r.reported.said) log × Follows (GoesThrough c) m (sections_over m text) log) ∥₁
-  printed-front other = ∥∥₁_elim (showing other) ∥∥₁_prop (λ (z : Showing). by z (heads_of r.reported.said) refl)
+  pub home-prints : ShowsLog m text c own.said
+  home-prints = by (heads_of own.said) refl
     where
-      by : (z : Showing) (heads : List ReportLine) → heads_of r.reported.said ≡ heads → ∥ ((log : List LogLine) × SaysLog m (report_text m r.reported.said) log × Follows (GoesThrough c) m (sections_over m text) log) ∥₁
-      by z [] e = ∥∥₁_map (z.none e) (λ shows.
-          read-back (GoesThrough c) m (sections_over m text) r.reported.said home_valid (names-of-reading printer m configured) shows.of_run (heads-follow (GoesThrough c) m (sections_over m text) (further_told (map logged r.reported.said)) r.reported.said shows.may shows.heads))
-      by z (h ∷ hs) e =
-          let some : heads_of r.reported.said ≢ [] = λ none. (let g : h ∷ hs ≡ [] = sym e ∙ none in cc) in
-          ∥∥₁_map (z.low some) (λ low.
-          home-front m s.switches text c r.reported.said home_valid (λ none. some (sym (shown_heads r.reported.said) ∙ none)) z.shows low z.told_all z.long (names-of-reading printer m configured))
+      by : (heads : List ReportLine) → heads_of own.said ≡ heads → ShowsLog m text c own.said
+      by [] e =
+          let n = none e in
+          let Text = sections_over m text in
+          let log = log-follows (GoesThrough c) m Text own.said (heads-follow (GoesThrough c) m Text (further_told (map logged own.said)) own.said n.may n.heads) (shown-all m s.switches text c own.said shows) in
+          record { follows = log.0; starts = log.1; says = says-log m own.said valid n.of_run; clocks = λ some. absurd (some (shown_heads own.said ∙ e)) }
+      by (h ∷ hs) e =
+          let some : heads_of own.said ≢ [] = λ none. (let g : h ∷ hs ≡ [] = sym e ∙ none in cc) in
+          let shown : sections_shown own.said ≢ [] = λ none. some (sym (shown_heads own.said) ∙ none) in
+          let log = home-front m s.switches text c own.said valid shown shows (low some) told_all long in
+          record { follows = log.0; starts = log.1; says = home-says m s.switches text c own.said valid shown shows (low some) told_all long; clocks = λ shown. home-near m s.switches text c own.said valid shown shows (low some) told_all long }

@@ -1,11 +1,13 @@
 -- The cut lines of a run over links stand in the sections of which they tell.
-use Rattle.std.proofs.Common.{◌≡◌, ◌≢◌, ℕ, zero, suc, ◌+◌, ◌<◌, ◌≤◌, ◌⊎◌, Bool, true, false, Some, None, List, [], ◌∷◌, ◌++◌, map, take, drop, length, refl, ap, sym, ◌∙◌, subst, arith, inl, inr, append_assoc, append-nil}
+use Rattle.std.proofs.Common.{◌≡◌, ◌≢◌, ℕ, zero, suc, ◌+◌, ◌<◌, ◌≤◌, ◌⊎◌, Bool, true, false, Some, None, Option, List, [], ◌∷◌, ◌++◌, map, take, drop, length, refl, ap, sym, ◌∙◌, subst, arith, inl, inr, append_assoc, append-nil, length-append}
 use Rattle.std.specs.Prelude.{◌-◌, ◌==◌, if◌then◌else◌}
 use Rattle.std.proofs.lemmas.Bool.Decides.{eqb_tells, leb_tells}
 use Rattle.std.proofs.lemmas.Grind.{flat_map-append}
-use Rattle.std.proofs.lemmas.List.{length-drop, length-take-le}
+use Rattle.std.proofs.Math.Seq.{get_or-append_seam}
+use Rattle.std.proofs.lemmas.List.{length-drop, length-map, length-take-le}
 use Rattle.plan_types.specs.declared.cause.Cause.{Cause}
 use Rattle.plan_types.specs.declared.machine.Machine.{Machine}
+use Rattle.plan_types.specs.declared.plan.Section.{Section}
 use Rattle.plan_types.specs.declared.plan.SectionKind.{SectionKind}
 use Rattle.plan_types.specs.declared.plan.SectionKind.TheVariants.{Home, Moves}
 use Rattle.plan_types.specs.Machines.{axis_at}
@@ -28,7 +30,10 @@ use Rattle.homing_laws.proofs.home_parts.Told.{row_from}
 use Rattle.session_laws.specs.home_headline.Cuts.{EndsIn, TellEnds, TellsSwitch, cut_in, cuts_of}
 use Rattle.session_laws.proofs.home_headline.Ended.{cut_same}
 use Rattle.report_laws.specs.Cuts.{HaveCuts, IsCutOf, cuts_in, lines_before, scene_line}
+use Rattle.report_laws.specs.Body.{no_section}
+use Rattle.report_laws.specs.Headline.{kind_of}
 use Rattle.report_laws.specs.Shown.{begins, lines_behind, section_turn}
+use Rattle.log_check.specs.Points.{section_at}
 use Rattle.report_laws.proofs.Behind.{AreNumbered, behind_past, next_begun}
 use Rattle.report_laws.proofs.Followed.{NextAt, Starts, ahead, between_starts, lines_of, no_head, no_machine, none_starts, quiet, shown, starts_one}
 use Rattle.run_laws.proofs.Lists.{one_place}
@@ -495,35 +500,107 @@ pub numbered_begun : (k : ℕ) (ss : List Started) → AreNumbered k (begun_line
 numbered_begun k [] = tt
 numbered_begun k (s ∷ ss) = ((s.start, s.section.kind, refl), numbered_begun (k + 1) ss)
 
+-- the section of a number, of those that were begun
+pub record HasPlace (begun : List Started) (j : ℕ) : Type 0 where
+  pub past : List Started
+  pub s : Started
+  pub later : List Started
+  pub cut : begun ≡ past ++ s ∷ later
+  pub place : length past ≡ j
+
+pub place_of : (begun : List Started) (j : ℕ) → j < length begun → HasPlace begun j
+place_of [] j low = absurd (omega (arith, low))
+place_of (s ∷ begun) zero low = record { past = []; s = s; later = begun; cut = refl; place = refl }
+place_of (s ∷ begun) (suc j) low =
+    let h = place_of begun j (omega (arith, low)) in
+    record { past = s ∷ h.past; s = h.s; later = h.later; cut = ap (λ (z : List Started). s ∷ z) h.cut; place = ap suc h.place }
+
+map_cut : (past : List Started) (s : Started) (later : List Started) → map (λ x. x.section) (past ++ s ∷ later) ≡ map (λ x. x.section) past ++ s.section ∷ map (λ x. x.section) later
+map_cut [] s later = refl
+map_cut (y ∷ past) s later = ap (λ z. y.section ∷ z) (map_cut past s later)
+
+pub section_here : (sections more : List Section) (begun : List Started) (j : ℕ) (h : HasPlace begun j) → sections ≡ map (λ x. x.section) begun ++ more → section_at sections j ≡ h.s.section
+section_here sections more begun j h are =
+    let past = map (λ (x : Started). x.section) h.past in
+    let later = map (λ (x : Started). x.section) h.later in
+    let all : sections ≡ past ++ h.s.section ∷ (later ++ more) = are ∙ ap (λ (z : List Started). map (λ (x : Started). x.section) z ++ more) h.cut ∙ ap (λ (z : List Section). z ++ more) (map_cut h.past h.s h.later) ∙ append_assoc past (h.s.section ∷ later) more in
+    let place : j ≡ length past = sym h.place ∙ sym (length-map h.past (λ (x : Started). x.section)) in
+    ap (λ (ss : List Section). section_at ss j) all ∙ ap (λ (n : ℕ). section_at (past ++ h.s.section ∷ (later ++ more)) n) place ∙ get_or-append_seam past h.s.section (later ++ more) no_section
+
+pub kind_at : (sections more : List Section) (begun : List Started) (j : ℕ) (h : HasPlace begun j) → sections ≡ map (λ x. x.section) begun ++ more → kind_of sections j ≡ h.s.section.kind
+kind_at sections more begun j h are = ap (λ (x : Section). x.kind) (section_here sections more begun j h are)
+
+-- what has no line has no cuts behind it
+none_behind : (i : ℕ) (lines : List ReportLine) → section_turn i lines ≡ None → cuts_in i lines ≡ []
+none_behind i [] e = refl
+none_behind i (report.Section j turn kind ∷ lines) e = elim (eqb_tells j i) [
+  | inl p ↦ absurd (
+      let At : Bool → Type 0 = λ b. (if b then Some turn else section_turn i lines) ≡ None in
+      let f : Some turn ≡ None = subst At p.0 e in
+      cc)
+  | inr p ↦
+      let At : Bool → Type 0 = λ b. (if b then Some turn else section_turn i lines) ≡ None in
+      ap (λ (b : Bool). cuts_of (lines_before (if b then lines else lines_behind i lines))) p.0 ∙ none_behind i lines (subst At p.0 e)
+]
+none_behind i (report.Board board freq at tick ∷ lines) e = none_behind i lines e
+none_behind i (report.Machine corexy boards steppers ∷ lines) e = none_behind i lines e
+none_behind i (report.Pulse board stepper tick up ∷ lines) e = none_behind i lines e
+none_behind i (report.Cut section board pin tick from ∷ lines) e = none_behind i lines e
+none_behind i (report.Drift board sent clock from ∷ lines) e = none_behind i lines e
+none_behind i (report.Lines accepted passed ∷ lines) e = none_behind i lines e
+none_behind i (report.Out board pin tick on ∷ lines) e = none_behind i lines e
+none_behind i (report.Made seed many ∷ lines) e = none_behind i lines e
+none_behind i (report.Count stepper many ∷ lines) e = none_behind i lines e
+none_behind i (report.Fit section stepper many planned early late ∷ lines) e = none_behind i lines e
+none_behind i (report.End c ∷ lines) e = none_behind i lines e
+
+-- a section that homes is there
+home_inside : (sections : List Section) (i axis : ℕ) → kind_of sections i ≡ Home axis → i < length sections
+home_inside [] i axis e = absurd (let f : Moves ≡ Home axis = e in cc)
+home_inside (s ∷ sections) zero axis e = omega arith
+home_inside (s ∷ sections) (suc i) axis e = (let h = home_inside sections i axis e in omega (arith, h))
+
 -- so of the lines that were written
-module _ (m : Machine) (switches : List Switch) (begun : List Started) (spread : Spread 260 begun) (at : ℕ) (row : AreInARow at begun) (ts : List ReactorTurn) (tells : TellTurns m begun 0 ts) (ends : TellEnds m switches begun 0 ts) (c : Cause) (said rest : List ReportLine)
-    (are : lines_of ts ≡ said ++ rest) (numbered : AreNumbered 0 (heads_of said)) (through : GoesThrough c → (rest ≡ []) × ((past : List Started) (s : Started) (later : List Started) → begun ≡ past ++ s ∷ later → s.end < length ts)) where
-  pub have_cuts : HaveCuts m switches c begun said
+module _ (m : Machine) (switches : List Switch) (sections more : List Section) (begun : List Started) (of_text : sections ≡ map (λ x. x.section) begun ++ more) (spread : Spread 260 begun) (at : ℕ) (row : AreInARow at begun) (ts : List ReactorTurn) (tells : TellTurns m begun 0 ts)
+    (ends : TellEnds m switches begun 0 ts) (c : Cause) (said rest : List ReportLine) (are : lines_of ts ≡ said ++ rest) (numbered : AreNumbered 0 (heads_of said))
+    (through : GoesThrough c → (rest ≡ []) × (length sections ≡ length begun) × ((past : List Started) (s : Started) (later : List Started) → begun ≡ past ++ s ∷ later → s.end < length ts)) where
+  -- a section that has its line was begun
+  begun_at : (i turn : ℕ) → section_turn i said ≡ Some turn → i < length begun
+  begun_at i turn e =
+      let x = shown m begun spread 0 0 i turn ts tells (ap (section_turn i) are ∙ turn_front i turn said rest e) in
+      let count = ap length x.cut ∙ length-append x.past (x.s ∷ x.later) in
+      let place = x.place_is in
+      omega (arith, count, place)
+
+  either_at : (i : ℕ) (o : Option ℕ) → section_turn i said ≡ o → (cuts_in i said ≡ []) ⊎ HasPlace begun i
+  either_at i None e = inl (none_behind i said e)
+  either_at i (Some turn) e = inr (place_of begun i (begun_at i turn e))
+
+  own_kind : (i : ℕ) (k : SectionKind) (p : HasPlace begun i) → kind_of sections i ≡ k → p.s.section.kind ≡ k
+  own_kind i k p e = sym (kind_at sections more begun i p of_text) ∙ e
+
+  pub have_cuts : HaveCuts m switches c sections said
   have_cuts = record {
     before =
         let all = all_before m switches begun spread at row ts tells ends in
         let f = before_front said rest in
         first_none (cuts_of (lines_before said)) (cuts_of f.0) (sym (ap (λ z. cuts_of (lines_before z)) are ∙ ap cuts_of f.1 ∙ cuts_both (lines_before said) f.0) ∙ all);
-    moves = λ past s later cut kind. elim (cuts_front (length past) said rest) [
-      | inl e ↦ e
-      | inr f ↦ first_none (cuts_in (length past) said) f.0 (sym (ap (cuts_in (length past)) are ∙ f.1) ∙ all_moves m switches begun spread at row ts tells ends past s later cut kind)
+    moves = λ i kind. elim (either_at i (section_turn i said) refl) [ inl none ↦ none | inr p ↦ ap (λ (n : ℕ). cuts_in n said) (sym p.place) ∙ moves_at p.past p.s p.later p.cut (own_kind i Moves p kind) ];
+    homes = λ i axis kind. elim (either_at i (section_turn i said) refl) [
+      | inl none ↦ inl none
+      | inr p ↦
+          let Have : ℕ → Type 0 = λ n. (cuts_in n said ≡ []) ⊎ IsCutOf m switches n axis (cuts_in n said) in
+          subst Have p.place (homes_at p.past p.s p.later axis p.cut (own_kind i (Home axis) p kind))
     ];
-    homes = λ past s later axis cut home. elim (cuts_front (length past) said rest) [
-      | inl e ↦ inl e
-      | inr f ↦
-          let same = sym (ap (cuts_in (length past)) are ∙ f.1) in
-          elim (all_homes m switches begun spread at row ts tells ends past s later axis cut home) [
-            | inl e ↦ inl (first_none (cuts_in (length past) said) f.0 (same ∙ e))
-            | inr o ↦ elim (first_one (cuts_in (length past) said) f.0 (report.Cut (length past) (axis_at m axis).board (axis_at m axis).pin o.0 (scene_line m switches axis o.0)) (same ∙ o.1)) [ inl e ↦ inl e | inr e ↦ inr (o.0, e) ]
-          ]
-    ];
-    ended = λ past s later axis cut home why. elim why [
-      | inr g ↦
-          let one = all_one m switches begun spread at row ts tells ends past s later axis cut home ((through g).1 past s later cut) in
-          let whole : lines_of ts ≡ said = are ∙ ap (λ z. said ++ z) (through g).0 ∙ append-nil said in
-          (one.0, ap (cuts_in (length past)) (sym whole) ∙ one.1)
-      | inl next ↦ next_shown past s later axis next.0 cut home next.1
-    ];
+    ended = λ i axis kind why.
+        let Next : ℕ → Type 0 = λ n. ((turn : ℕ) × (section_turn (n + 1) said ≡ Some turn)) ⊎ GoesThrough c in
+        let Has : ℕ → Type 0 = λ n. IsCutOf m switches n axis (cuts_in n said) in
+        let low : i < length begun = elim why [
+          | inl next ↦ (let later = begun_at (i + 1) next.0 next.1 in omega (arith, later))
+          | inr g ↦ (let inside = home_inside sections i axis kind in let all = (through g).1 in omega (arith, inside, all))
+        ] in
+        let p = place_of begun i low in
+        subst Has p.place (ended_at p.past p.s p.later axis p.cut (own_kind i (Home axis) p kind) (subst Next (sym p.place) why));
   }
     where
       next_shown : (past : List Started) (s : Started) (later : List Started) (axis turn : ℕ) → begun ≡ past ++ s ∷ later → s.section.kind ≡ Home axis → section_turn (length past + 1) said ≡ Some turn → IsCutOf m switches (length past) axis (cuts_in (length past) said)
@@ -547,3 +624,29 @@ module _ (m : Machine) (switches : List Switch) (begun : List Started) (spread :
           let in_said : cuts_of (lines_before (lines_behind i said ++ rest)) ≡ cuts_in i said = ap cuts_of (before_stays (lines_behind i said) rest heads) in
           let Of : List ReportLine → Type 0 = λ z. IsCutOf m switches i axis z in
           subst Of in_said (subst Of in_split (subst Of in_all one))
+
+      moves_at : (past : List Started) (s : Started) (later : List Started) → begun ≡ past ++ s ∷ later → s.section.kind ≡ Moves → cuts_in (length past) said ≡ []
+      moves_at past s later cut kind = elim (cuts_front (length past) said rest) [
+        | inl e ↦ e
+        | inr f ↦ first_none (cuts_in (length past) said) f.0 (sym (ap (cuts_in (length past)) are ∙ f.1) ∙ all_moves m switches begun spread at row ts tells ends past s later cut kind)
+      ]
+
+      homes_at : (past : List Started) (s : Started) (later : List Started) (axis : ℕ) → begun ≡ past ++ s ∷ later → s.section.kind ≡ Home axis → (cuts_in (length past) said ≡ []) ⊎ IsCutOf m switches (length past) axis (cuts_in (length past) said)
+      homes_at past s later axis cut home = elim (cuts_front (length past) said rest) [
+        | inl e ↦ inl e
+        | inr f ↦
+            let same = sym (ap (cuts_in (length past)) are ∙ f.1) in
+            elim (all_homes m switches begun spread at row ts tells ends past s later axis cut home) [
+              | inl e ↦ inl (first_none (cuts_in (length past) said) f.0 (same ∙ e))
+              | inr o ↦ elim (first_one (cuts_in (length past) said) f.0 (report.Cut (length past) (axis_at m axis).board (axis_at m axis).pin o.0 (scene_line m switches axis o.0)) (same ∙ o.1)) [ inl e ↦ inl e | inr e ↦ inr (o.0, e) ]
+            ]
+      ]
+
+      ended_at : (past : List Started) (s : Started) (later : List Started) (axis : ℕ) → begun ≡ past ++ s ∷ later → s.section.kind ≡ Home axis → ((turn : ℕ) × (section_turn (length past + 1) said ≡ Some turn)) ⊎ GoesThrough c → IsCutOf m switches (length past) axis (cuts_in (length past) said)
+      ended_at past s later axis cut home why = elim why [
+        | inr g ↦
+            let one = all_one m switches begun spread at row ts tells ends past s later axis cut home ((through g).2 past s later cut) in
+            let whole : lines_of ts ≡ said = are ∙ ap (λ z. said ++ z) (through g).0 ∙ append-nil said in
+            (one.0, ap (cuts_in (length past)) (sym whole) ∙ one.1)
+        | inl next ↦ next_shown past s later axis next.0 cut home next.1
+      ]

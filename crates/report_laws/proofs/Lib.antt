@@ -39,3 +39,4 @@ pub mod WithoutSections
 pub mod Scenes
 pub mod Any
 pub mod Replaying
+pub mod Reported

@@ -1,5 +1,5 @@
 -- The report of a run over links follows the plans.
-use Rattle.std.proofs.Common.{◌≡◌, ◌≢◌, ℕ, zero, suc, ◌+◌, ◌<◌, ◌≤◌, ◌⊎◌, Bool, true, false, All, List, [], ◌∷◌, ◌++◌, get_or, map, take, drop, length, Some, None, refl, ap, sym, ◌∙◌, subst, arith, inl, inr, append_assoc, append-nil, length-append}
+use Rattle.std.proofs.Common.{take-append-drop, ◌≡◌, ◌≢◌, ℕ, zero, suc, ◌+◌, ◌<◌, ◌≤◌, ◌⊎◌, Bool, true, false, All, List, [], ◌∷◌, ◌++◌, get_or, map, take, drop, length, Some, None, refl, ap, sym, ◌∙◌, subst, arith, inl, inr, append_assoc, append-nil, length-append}
 use Rattle.std.proofs.Math.Logic.{∥∥₁_elim, ∥∥₁_map}
 use Rattle.std.proofs.Props.{props}
 use Rattle.std.specs.Prelude.{◌-◌, ◌==◌, if◌then◌else◌}
@@ -77,6 +77,7 @@ use Rattle.report_laws.specs.Headline.{kind_of, moves_of}
 use Rattle.homing_laws.proofs.home_plans.Noting.{begun_row}
 use Rattle.session_laws.specs.home_headline.Cuts.{TellEnds}
 use Rattle.session_laws.specs.home_headline.Follow.{AllShowBegun, AllShowHomes, HaveBegunLines, ShowHomes}
+use Rattle.session_laws.specs.run_headline.Made.{IsMade}
 use Rattle.session_laws.specs.home_headline.Little.{AllHomeLittle, ShownHoldLittle}
 use Rattle.session_laws.proofs.home_headline.Clear.{clear_little}
 use Rattle.session_laws.proofs.home_headline.Heads.{begun_heads, home_boards, homes_apart, homes_further, homes_sound, show_begun}
@@ -99,7 +100,8 @@ use Rattle.session_laws.proofs.clear_runs.Stopped.{run_is_for}
 use Rattle.session_laws.proofs.clear_runs.Through.{sends_hold}
 use Rattle.report_laws.specs.Promises.{FollowsPlanBy, IsCauseOf, IsCompleteBefore, IsCompleteBy, IsCompleteOfMovesBefore, IsCompleteOfMovesBy, lines_line, sections_over}
 use Rattle.report_laws.specs.Homes.{ShowsBegun, ShowsHomes}
-use Rattle.report_laws.specs.Linked.{IsLinkReport, ShowsText}
+use Rattle.report_laws.specs.Linked.{EndsFor, IsLinkReport, MeetPremise, ShowsText}
+use Rattle.report_laws.specs.page.Report.{Shows}
 use Rattle.report_laws.specs.Shown.{lines_behind, pulses_before, pulses_in, section_turn, sections_shown}
 use Rattle.report_laws.proofs.Behind.{AreNumbered, behind, behind_front, in_stays, next_begun, numbered_due, numbered_front}
 use Rattle.report_laws.proofs.Followed.{NextAt, shown}
@@ -621,8 +623,9 @@ module _ (m : Machine) (switches : List Switch) (seen : Seen) (clocks : List Clo
     all = λ g.
         let t = h.through (went g) in
         (t.all ∙ ap (program_sections m) same, same_heads said ∙ ap heads_of (sym (whole g)) ∙ whole_heads m seen clocks ready first later starts t.over);
-    cuts = have_cuts m switches seen.begun spread ready (begun_row m clocks ready seen.begun h.started) (first ∷ later) h.lines ends c said rest shown_all numbered (λ g. (
+    cuts = have_cuts m switches (sections_over m text) (drop (length seen.begun) (sections_over m text)) seen.begun of_sections spread ready (begun_row m clocks ready seen.begun h.started) (first ∷ later) h.lines ends c said rest shown_all numbered (λ g. (
       (through g).0,
+      sym (ap length ((h.through (went g)).all ∙ ap (program_sections m) same)) ∙ length-map seen.begun (λ (x : Started). x.section),
       λ past s more cut.
           let Over : List Started → Type 0 = λ z. All (λ (y : Started). y.end + 5 ≤ length later) z in
           let over = over_at (length later) past s more (subst Over cut (h.through (went g)).over) in
@@ -657,6 +660,9 @@ module _ (m : Machine) (switches : List Switch) (seen : Seen) (clocks : List Clo
         follow_front short m text said reached.more (subst Follows reached.upto (fits_follow m seen text first (take reached.n later) spread h.of_text upto_lines same short (fits short firsts)));
   }
     where
+      of_sections : sections_over m text ≡ map (λ x. x.section) seen.begun ++ drop (length seen.begun) (sections_over m text)
+      of_sections = sym (take-append-drop (length seen.begun) (sections_over m text)) ∙ ap (λ z. z ++ drop (length seen.begun) (sections_over m text)) (sym (h.of_text ∙ ap (λ z. take (length seen.begun) (program_sections m z)) same))
+
       -- the last turn of which lines were written
       reached : Reach (first ∷ later) said rest
       reached = reach first later said rest shown_all
@@ -808,7 +814,7 @@ memory_or c = elim (cause_either c) [
 
 module _ {F S : Type 0} (f : Files F) (o : Sink S) (m : Machine) (s : Scene) (gcode : List ℕ) (files files' : F) (out out' : S) (c : Cause) (lines : List ReportLine) (counts : List ℕ) (links : List LinkLog) (v : IsValidMachine m) (short : HaveShortDictionaries m) where
   -- a run that went through was written whole, and ends for its own cause
-  whole_of : (r : IsReported f o m s gcode files files' out out' c lines counts links) → GoesThrough c → (r.rest ≡ []) × (c ≡ r.told.cause)
+  pub whole_of : (r : IsReported f o m s gcode files files' out out' c lines counts links) → GoesThrough c → (r.rest ≡ []) × (c ≡ r.told.cause)
   whole_of r g =
       let not = through_whole c g in
       let w = r.cause_is not.0 not.1 in
@@ -890,31 +896,30 @@ module _ {F S : Type 0} (f : Files F) (o : Sink S) (m : Machine) (s : Scene) (gc
       })
 
   -- and of any text, all lines or the first ones
-  pub home_lines : (r : IsReported f o m s gcode files files' out out' c lines counts links) (text : List ℕ) → f.told files gcode ≡ Some text → (r.told.cause ≡ cause.Memory → ⊥)
+  pub home_lines : (r : IsReported f o m s gcode files files' out out' c lines counts links) (text : List ℕ) (made : IsMade m s r.runs.runs.0 r.runs.runs.1) → made.plans.seen.text ≡ text → (r.told.cause ≡ cause.Memory → ⊥)
       → AllHomeLittle m s text r.runs.runs.0 (r.runs.runs.1 ++ r.runs.runs.2 ∷ []) → (said rest : List ReportLine) (d : Cause) → (GoesThrough d → (rest ≡ []) × (d ≡ r.told.cause))
-      → gather (λ t. t.lines) (r.runs.runs.1 ++ r.runs.runs.2 ∷ []) ≡ said ++ rest → ∥ ShowsHomes m s.switches text d said ∥₁
-  home_lines r text told other little said rest d through shown =
-      ∥∥₁_map (run_made f o m s gcode files files' out r.behind r.kept r.kept' r.told r.runs text told r.fresh.at) (λ w.
-      let made = w.0 in
+      → gather (λ t. t.lines) (r.runs.runs.1 ++ r.runs.runs.2 ∷ []) ≡ said ++ rest → ShowsHomes m s.switches text d said
+  home_lines r text made same other little said rest d through shown =
       let seen = made.plans.seen in
       let turns = r.runs.runs.1 ++ r.runs.runs.2 ∷ [] in
       let Little : List ℕ → Type 0 = λ z. AllHomeLittle m s z r.runs.runs.0 turns in
-      let held = subst Little (sym w.1) little in
+      let held = subst Little (sym same) little in
       let all = facts f o m s gcode files files' out r.behind r.kept r.kept' r.told r.runs other in
-      homes_shown m s.switches seen (clocks_heard seen.told) (ready_heard seen.told) r.told.cause d text said rest (plans_spread m (length m.boards) r.runs.runs.0 made.plans) w.1 through turns (some_turns r.runs.runs.1 r.runs.runs.2)
+      homes_shown m s.switches seen (clocks_heard seen.told) (ready_heard seen.told) r.told.cause d text said rest (plans_spread m (length m.boards) r.runs.runs.0 made.plans) same through turns (some_turns r.runs.runs.1 r.runs.runs.2)
       (all_shows m v s r.runs.runs.0 made.plans r.runs.runs.2 r.told.cause r.runs.runs.1 all short held)
       (all_ends m v s r.runs.runs.0 made.plans r.runs.runs.2 r.told.cause r.runs.runs.1 (run_ended f o m s gcode files files' out r.behind r.kept r.kept' r.told r.runs other))
-      (all_wholes m v s r.runs.runs.0 made.plans r.runs.runs.2 r.told.cause r.runs.runs.1 all short held) shown)
+      (all_wholes m v s r.runs.runs.0 made.plans r.runs.runs.2 r.told.cause r.runs.runs.1 all short held) shown
 
   home_texts : (r : IsReported f o m s gcode files files' out out' c lines counts links) (text : List ℕ) → f.told files gcode ≡ Some text → (r.told.cause ≡ cause.Memory → ⊥)
       → AllHomeLittle m s text r.runs.runs.0 (r.runs.runs.1 ++ r.runs.runs.2 ∷ []) → ∥ ShowsHomes m s.switches text c r.said ∥₁
-  home_texts r text told other little = home_lines r text told other little r.said r.rest c (whole_of r) r.shown
+  home_texts r text told other little =
+      ∥∥₁_map (run_made f o m s gcode files files' out r.behind r.kept r.kept' r.told r.runs text told r.fresh.at) (λ w. home_lines r text w.0 w.1 other little r.said r.rest c (whole_of r) r.shown)
 
   -- whatever its links hold, and whatever ended it
   abbrev HoldLittle : IsReported f o m s gcode files files' out out' c lines counts links → List ℕ → Type 0
   HoldLittle r text = ShownHoldLittle m s text r.runs.runs.0 r.runs.runs.1 r.runs.runs.2 r.told.cause
 
-  begun_texts : (r : IsReported f o m s gcode files files' out out' c lines counts links) (text : List ℕ) → f.told files gcode ≡ Some text → ∥ ((begun : ShowsBegun m text c r.said) × (HoldLittle r text → FollowsPlanBy begun.clocks m (sections_over m text) r.said)) ∥₁
+  pub begun_texts : (r : IsReported f o m s gcode files files' out out' c lines counts links) (text : List ℕ) → f.told files gcode ≡ Some text → ∥ ((begun : ShowsBegun m text c r.said) × (HoldLittle r text → FollowsPlanBy begun.clocks m (sections_over m text) r.said)) ∥₁
   begun_texts r text told = elim (memory_or r.told.cause) [
     | inr other ↦ ∥∥₁_map (run_made f o m s gcode files files' out r.behind r.kept r.kept' r.told r.runs text told r.fresh.at) (λ w.
         let made = w.0 in
@@ -951,26 +956,6 @@ module _ {F S : Type 0} (f : Files F) (o : Sink S) (m : Machine) (s : Scene) (gc
           let silent = run_silent f o m s gcode files files' out r.behind r.kept r.kept' r.told r.runs memory in
           gather_on (λ (t : ReactorTurn). t.lines) r.runs.runs.1 r.runs.runs.2 ∙ ap (λ z. gather (λ (t : ReactorTurn). t.lines) r.runs.runs.1 ++ z) silent ∙ append-nil (gather (λ (t : ReactorTurn). t.lines) r.runs.runs.1)
 
-  -- in a scene without entries it goes through
-  completes : (r : IsReported f o m s gcode files files' out out' c lines counts links) (text : List ℕ) → f.told files gcode ≡ Some text → AreOfMoves (sections_over m text) → ((line : ℕ) → (program_end m text).stop ≡ read.Stop line → ⊥)
-      → s.entries ≡ [] → SendsAllSoon m text r.runs.runs.0 → IsCauseOf (cause_of (program_end m text).stop) c
-  completes r text told moves goes clear sends = elim (cause_either c) [
-    | inl e ↦ elim e [ inl x ↦ inr (inl x) | inr x ↦ inr (inr (inr x)) ]
-    | inr not ↦
-        let w = r.cause_is not.0 not.1 in
-        elim (run_is_for f o m s gcode files files' out r.behind r.kept r.kept' r.told r.runs) [
-          | inl e ↦ inr (inl (w.2 ∙ e))
-          | inr (inl e) ↦ inr (inr (inr (w.2 ∙ e)))
-          | inr (inr (inl x)) ↦ inr (read_causes x.0 c (w.2 ∙ x.1))
-          | inr (inr (inr own)) ↦
-              let other = λ (e : r.told.cause ≡ cause.Memory). not.0 (w.2 ∙ e) in
-              let through = run_through f o m s gcode files files' out r.behind r.kept r.kept' r.told r.runs v short text told r.fresh.at clear own other moves goes sends in
-              let Through : Cause → Type 0 = λ z. GoesThrough z in
-              let holds = sends_hold m s text r.runs.runs.0 clear (r.runs.runs.1 ++ r.runs.runs.2 ∷ []) in
-              inl (∥∥₁_elim (texts r text told moves other holds) (hlevel props) (λ z. z.cause (subst Through (sym w.2) through)))
-        ]
-  ]
-
   -- and so does one of any text, or a switch never closed
   homes_complete : (r : IsReported f o m s gcode files files' out out' c lines counts links) (text : List ℕ) → f.told files gcode ≡ Some text → ((line : ℕ) → (program_end m text).stop ≡ read.Stop line → ⊥)
       → s.entries ≡ [] → SendsAllSoon m text r.runs.runs.0 → IsCauseOf (cause_of (program_end m text).stop) c ⊎ ((section : ℕ) × (c ≡ cause.NoSwitch section))
@@ -1006,21 +991,37 @@ module _ {F S : Type 0} (f : Files F) (o : Sink S) (m : Machine) (s : Scene) (gc
       let late = cause.Late board first arrival spoiled spill in
       of_run r late (λ g. let h : late ≡ cause.Memory = g in cc) (λ g. let h : late ≡ cause.WriteFault = g in cc) e
 
-  -- and so does one of any text whose switches close in time
-  switches_complete : (r : IsReported f o m s gcode files files' out out' c lines counts links) (text : List ℕ) → f.told files gcode ≡ Some text → ((line : ℕ) → (program_end m text).stop ≡ read.Stop line → ⊥)
-      → s.entries ≡ [] → SendsAllSoon m text r.runs.runs.0 → AllClose m s text r.runs.runs.0 → IsCauseOf (cause_of (program_end m text).stop) c
-  switches_complete r text told goes clear sends closes = elim (homes_complete r text told goes clear sends) [
-    | inl x ↦ x
-    | inr e ↦
-        let is = of_no_switch r e.0 e.1 in
-        let Own : Cause → Type 0 = λ z. IsOwn z in
-        let Through : Cause → Type 0 = λ z. GoesThrough z in
-        let other = λ (g : r.told.cause ≡ cause.Memory). (let h : cause.NoSwitch e.0 ≡ cause.Memory = sym is ∙ g in let none : ⊥ = cc in none) in
-        absurd (subst Through is (homed.run_closes f o m s gcode files files' out r.behind r.kept r.kept' r.told r.runs v short text told r.fresh.at clear (subst Own (sym is) tt) other goes sends closes))
+  -- what its cause says
+  cause_ends : (r : IsReported f o m s gcode files files' out out' c lines counts links) (d : Cause) → c ≡ d → EndsFor m s (f.told files gcode) r.runs.runs.0 r.runs.runs.1 r.runs.runs.2 d
+  cause_ends r (cause.Connect board turn) e = λ text told. answering.run_silent f o m s gcode files files' out r.behind r.kept r.kept' r.told r.runs v text told r.fresh.at board turn
+      (of_run r (cause.Connect board turn) (λ g. let h : cause.Connect board turn ≡ cause.Memory = g in cc) (λ g. let h : cause.Connect board turn ≡ cause.WriteFault = g in cc) e)
+  cause_ends r (cause.Stale board turn) e = answering.run_stale f o m s gcode files files' out r.behind r.kept r.kept' r.told r.runs v board turn
+      (of_run r (cause.Stale board turn) (λ g. let h : cause.Stale board turn ≡ cause.Memory = g in cc) (λ g. let h : cause.Stale board turn ≡ cause.WriteFault = g in cc) e)
+  cause_ends r (cause.Late board first arrival spoiled spill) e =
+      let is = of_late r board first arrival spoiled spill e in (
+        run_late f o m s gcode files files' out r.behind r.kept r.kept' r.told r.runs v board first arrival spoiled spill is,
+        λ text told little sends. ∥∥₁_map (run_home_units f o m s gcode files files' out r.behind r.kept r.kept' r.told r.runs v short board first arrival spoiled spill text told r.fresh.at is little sends)
+            (λ w. record { made = w.0; of_text = w.1; late = w.2; heard = w.3.0; known = w.3.1; unit = w.3.2 }),
+      )
+  cause_ends r (cause.Expired board turn) e = run_first f o m s gcode files files' out r.behind r.kept r.kept' r.told r.runs board turn
+      (of_run r (cause.Expired board turn) (λ g. let h : cause.Expired board turn ≡ cause.Memory = g in cc) (λ g. let h : cause.Expired board turn ≡ cause.WriteFault = g in cc) e)
+  cause_ends r (cause.NoSwitch section) e = run_unswitched f o m s gcode files files' out r.behind r.kept r.kept' r.told r.runs section (of_no_switch r section e)
+  cause_ends r _ e = tt
+
+  -- it ends as its text is read; or as no switch closed, and none did in time
+  ends_as_read : (r : IsReported f o m s gcode files files' out out' c lines counts links) → (text : List ℕ) → f.told files gcode ≡ Some text → ((line : ℕ) → (program_end m text).stop ≡ read.Stop line → ⊥) → s.entries ≡ [] → SendsAllSoon m text r.runs.runs.0
+      → ∥ IsCauseOf (cause_of (program_end m text).stop) c ⊎ EndsUnswitched m s text r.runs.runs.0 r.runs.runs.1 c ∥₁
+  ends_as_read r text told goes clear sends = elim (homes_complete r text told goes clear sends) as (λ _. ∥ IsCauseOf (cause_of (program_end m text).stop) c ⊎ EndsUnswitched m s text r.runs.runs.0 r.runs.runs.1 c ∥₁) [
+    | inl is ↦ ∣ inl is ∣₁
+    | inr x ↦ ∥∥₁_map (homed.run_misses f o m s gcode files files' out r.behind r.kept r.kept' r.told r.runs v short text told r.fresh.at clear goes sends) (λ w.
+        inr (record { made = w.0; of_text = w.1; section = x.0; cause_is = x.1; misses = w.2 x.0 (of_no_switch r x.0 x.1) }))
   ]
 
-  pub planned : IsReported f o m s gcode files files' out out' c lines counts links → IsLinkReport f o m s gcode files files' out out' c lines counts links
-  planned r = record {
+  -- with what its lines show
+  pub planned : (r : IsReported f o m s gcode files files' out out' c lines counts links)
+      → ((text : List ℕ) → f.told files gcode ≡ Some text → ∥ Shows (MeetPremise m s text r.runs.runs.0 r.runs.runs.1 r.runs.runs.2 r.told.cause) m s text c r.said ∥₁)
+      → IsLinkReport f o m s gcode files files' out out' c lines counts links
+  planned r shown = record {
     reported = r;
     names = λ own other.
         let w = r.cause_is other (λ e. subst IsOwn e own) in
@@ -1032,27 +1033,14 @@ module _ {F S : Type 0} (f : Files F) (o : Sink S) (m : Machine) (s : Scene) (gc
     readings = run_reads f o m s gcode files files' out r.behind r.kept r.kept' r.told r.runs;
     boards = λ text told. subst (λ z. ∥ AreLinksIn m s text r.told.cause r.runs.runs.0 r.runs.runs.1 r.runs.runs.2 z ∥₁) (sym r.links_are)
         (run_links f o m s gcode files files' out r.behind r.kept r.kept' r.told r.runs text told r.fresh.at);
-    shows = texts r;
+    shows = shown;
+    moves = texts r;
     begun = begun_texts r;
-    homes = home_texts r;
-    own = λ text told other reads. run_own f o m s gcode files files' out r.behind r.kept r.kept' r.told r.runs v short text told r.fresh.at other reads;
-    complete = completes r;
-    complete_homes = homes_complete r;
-    complete_switches = switches_complete r;
+    triggers = λ text told other reads. run_own f o m s gcode files files' out r.behind r.kept r.kept' r.told r.runs v short text told r.fresh.at other reads;
+    complete = ends_as_read r;
     first_ticks = λ text told goes clear own other sends soon. homed.run_firsts f o m s gcode files files' out r.behind r.kept r.kept' r.told r.runs v short text told r.fresh.at clear own other goes sends soon;
-    no_switch = λ text told goes clear sends. ∥∥₁_map (homed.run_misses f o m s gcode files files' out r.behind r.kept r.kept' r.told r.runs v short text told r.fresh.at clear goes sends) (λ w.
-        (w.0, w.1, λ section e. w.2 section (of_no_switch r section e)));
     last_cut = λ text told. run_last f o m s gcode files files' out r.behind r.kept r.kept' r.told r.runs v text told r.fresh.at;
-    connect = λ text told board turn e. answering.run_silent f o m s gcode files files' out r.behind r.kept r.kept' r.told r.runs v text told r.fresh.at board turn
-        (of_run r (cause.Connect board turn) (λ g. let h : cause.Connect board turn ≡ cause.Memory = g in cc) (λ g. let h : cause.Connect board turn ≡ cause.WriteFault = g in cc) e);
-    stale = λ board turn e. answering.run_stale f o m s gcode files files' out r.behind r.kept r.kept' r.told r.runs v board turn
-        (of_run r (cause.Stale board turn) (λ g. let h : cause.Stale board turn ≡ cause.Memory = g in cc) (λ g. let h : cause.Stale board turn ≡ cause.WriteFault = g in cc) e);
-    expired = λ board turn e. run_first f o m s gcode files files' out r.behind r.kept r.kept' r.told r.runs board turn
-        (of_run r (cause.Expired board turn) (λ g. let h : cause.Expired board turn ≡ cause.Memory = g in cc) (λ g. let h : cause.Expired board turn ≡ cause.WriteFault = g in cc) e);
-    switch_told = λ section e. run_unswitched f o m s gcode files files' out r.behind r.kept r.kept' r.told r.runs section (of_no_switch r section e);
-    late = λ board first arrival spoiled spill e. run_late f o m s gcode files files' out r.behind r.kept r.kept' r.told r.runs v board first arrival spoiled spill (of_late r board first arrival spoiled spill e);
-    late_unit = λ text told board first arrival spoiled spill e little sends.
-        run_home_units f o m s gcode files files' out r.behind r.kept r.kept' r.told r.runs v short board first arrival spoiled spill text told r.fresh.at (of_late r board first arrival spoiled spill e) little sends;
+    ends = cause_ends r c refl;
     shutdowns = λ text told other near. elim near [
       | inl little ↦ run_home_tells f o m s gcode files files' out r.behind r.kept r.kept' r.told r.runs v short text told r.fresh.at other little
       | inr x ↦ run_near_tells f o m s gcode files files' out r.behind r.kept r.kept' r.told r.runs v short text told r.fresh.at other x.0 x.1

@@ -77,5 +77,5 @@ module _ {F S : Type 0} (f : Files F) (o : Sink S) (printer : List ℕ) (m : Mac
       let said : gather (λ (t : ReactorTurn). t.lines) (own.runs.runs.1 ++ own.runs.runs.2 ∷ []) ≡ own.said = own.shown ∙ ap (λ (z : List ReportLine). own.said ++ z) w.0 ∙ append-nil own.said in
       let Through : Cause → Type 0 = λ z. GoesThrough z in
       let kept = run_limits f o m s gcode files files' out own.behind own.kept own.kept' own.told own.runs valid (short_dictionaries printer m configured) text told own.fresh.at moves some holds (subst Through w.2 through) in
-      ∥∥₁_elim (r.shows text told moves (λ e. not.0 (w.2 ∙ e)) holds) (hlevel props)
+      ∥∥₁_elim (r.moves text told moves (λ e. not.0 (w.2 ∙ e)) holds) (hlevel props)
       (λ (shows : ShowsText m text c own.said). ∥∥₁_elim kept (hlevel props) (λ low. text-checks m text c own.said (names-of-reading printer m configured) valid moves some shows through (subst AreLow said low)))

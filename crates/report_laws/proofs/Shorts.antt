@@ -173,7 +173,7 @@ abbrev pub AreEarly : Line → List Held → Type 0
 AreEarly first [] = Unit {0}
 AreEarly first (h ∷ held) = (h.from < 2 ^ 44 * turn_ns) × IsFit first h.line h.from × (h.line.clock < 2 ^ 64) × AreEarly first held
 
-early_from : (c : Clocks) (done rest : List Held) → IsLasting c → AreKept c → c.held ≡ done ++ rest → AreEarly c.first rest
+pub early_from : (c : Clocks) (done rest : List Held) → IsLasting c → AreKept c → c.held ≡ done ++ rest → AreEarly c.first rest
 early_from c done [] lasting kept e = tt
 early_from c done (h ∷ rest) lasting kept e =
     let are : AreHeld c.first c.first 0 0 (done ++ h ∷ rest) = subst (λ (x : List Held). AreHeld c.first c.first 0 0 x) e kept.held in
@@ -186,11 +186,11 @@ early_from c done (h ∷ rest) lasting kept e =
     let start = k.start in
     (early, k.fit, omega (arith, small, start), early_from c (done ++ h ∷ []) rest lasting kept (e ∙ sym (append_assoc done (h ∷ []) rest)))
 
-early_first : (first : Line) (told rest : List Held) → AreEarly first (told ++ rest) → AreEarly first told
+pub early_first : (first : Line) (told rest : List Held) → AreEarly first (told ++ rest) → AreEarly first told
 early_first first [] rest early = tt
 early_first first (h ∷ told) rest early = (early.0, early.1, early.2, early_first first told rest early.3)
 
-early_turns : (first : Line) (held : List Held) → AreEarly first held → HaveTurns held
+pub early_turns : (first : Line) (held : List Held) → AreEarly first held → HaveTurns held
 early_turns first [] early = tt
 early_turns first (h ∷ held) early =
     let soon = early.0 in

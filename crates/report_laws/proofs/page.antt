@@ -1,3 +1,3 @@
-pub mod Through
 pub mod Front
 pub mod Going
+pub mod Near

@@ -1,16 +1,17 @@
 -- The lines of a report that tell of switches, section by section.
-use Rattle.std.specs.Prelude.{◌≡◌, ◌⊎◌, ℕ, ◌+◌, List, [], ◌∷◌, ◌++◌, length, Some}
+use Rattle.std.specs.Prelude.{◌≡◌, ◌⊎◌, ℕ, ◌+◌, List, [], ◌∷◌, Some}
 use Rattle.plan_types.specs.declared.cause.Cause.{Cause}
 use Rattle.plan_types.specs.declared.machine.Machine.{Machine}
+use Rattle.plan_types.specs.declared.plan.Section.{Section}
 use Rattle.plan_types.specs.declared.plan.SectionKind.TheVariants.{Home, Moves}
 use Rattle.plan_types.specs.Machines.{axis_at}
 use Rattle.wire_scene.specs.declared.scene.Switch.{Switch}
 use Rattle.wire_scene.specs.Scenes.{last_switch, line_of}
 use Rattle.report_text.specs.declared.line.ReportLine.{ReportLine}
 use Rattle.report_text.specs.declared.line.ReportLine.TheVariants as report
-use Rattle.motion_work.specs.Seen.{Started}
 use Rattle.session_laws.specs.run_ends.Ends.{GoesThrough}
 use Rattle.session_laws.specs.home_headline.Cuts.{cuts_of}
+use Rattle.report_laws.specs.Headline.{kind_of}
 use Rattle.report_laws.specs.Shown.{lines_behind, section_turn}
 
 -- the lines up to the next section line, or to the end
@@ -32,13 +33,16 @@ abbrev pub IsCutOf : Machine → List Switch → ℕ → ℕ → List ReportLine
 IsCutOf m switches i axis lines =
     (tick : ℕ) × (lines ≡ report.Cut i (axis_at m axis).board (axis_at m axis).pin tick (scene_line m switches axis tick) ∷ [])
 
--- The cut lines of a report, of which these sections were begun: there are none before the line of the first section, nor in sections
--- of moves; and in one that homes there is at most one, of its number and its axis's endstop, with a tick and the scene's line that
--- closed the switch by then. Where the next section has its line, or the run went through, there is one.
-pub record HaveCuts (m : Machine) (switches : List Switch) (c : Cause) (begun : List Started) (said : List ReportLine) : Type 0 where
+-- The cut lines of a report of the sections of a text: there are none before the line of the first section, nor in
+-- sections of moves; and in one that homes there is at most one, of its number and its axis's endstop, with a tick and
+-- the scene's line that closed the switch by then. Where the next section has its line, or the run went through, there
+-- is one.
+pub record HaveCuts (m : Machine) (switches : List Switch) (c : Cause) (sections : List Section)
+    (said : List ReportLine) : Type 0 where
   pub before : cuts_of (lines_before said) ≡ []
-  pub moves : (past : List Started) (s : Started) (later : List Started) → begun ≡ past ++ s ∷ later → s.section.kind ≡ Moves → cuts_in (length past) said ≡ []
-  pub homes : (past : List Started) (s : Started) (later : List Started) (axis : ℕ) → begun ≡ past ++ s ∷ later → s.section.kind ≡ Home axis →
-      (cuts_in (length past) said ≡ []) ⊎ IsCutOf m switches (length past) axis (cuts_in (length past) said)
-  pub ended : (past : List Started) (s : Started) (later : List Started) (axis : ℕ) → begun ≡ past ++ s ∷ later → s.section.kind ≡ Home axis →
-      ((turn : ℕ) × (section_turn (length past + 1) said ≡ Some turn)) ⊎ GoesThrough c → IsCutOf m switches (length past) axis (cuts_in (length past) said)
+  pub moves : (i : ℕ) → kind_of sections i ≡ Moves → cuts_in i said ≡ []
+  pub homes : (i axis : ℕ) → kind_of sections i ≡ Home axis →
+      (cuts_in i said ≡ []) ⊎ IsCutOf m switches i axis (cuts_in i said)
+  pub ended : (i axis : ℕ) → kind_of sections i ≡ Home axis →
+      ((turn : ℕ) × (section_turn (i + 1) said ≡ Some turn)) ⊎ GoesThrough c →
+      IsCutOf m switches i axis (cuts_in i said)

@@ -42,7 +42,7 @@ pub record ShowsHomes (m : Machine) (switches : List Switch) (text : List ℕ) (
   pub all : GoesThrough c → (map (λ s. s.section) begun ≡ sections_over m text) × (sections_shown said ≡ begun_lines 0 begun)
   -- Cuts: in a section that homes there is one line of its axis's endstop, with the scene's line that closed its switch, where the next section has its line or the run went through,
   -- and at most one otherwise; and there are none elsewhere
-  pub cuts : HaveCuts m switches c begun said
+  pub cuts : HaveCuts m switches c (sections_over m text) said
   -- Boards: where a section has its line, the boards have theirs, of these clock lines and this turn
   pub boards : (i turn : ℕ) → section_turn i said ≡ Some turn → BoardsHave clocks ready said
   -- Counts: a run that went through shows how many lines were accepted and how many commands were passed

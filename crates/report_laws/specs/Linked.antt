@@ -1,5 +1,5 @@
 -- What a run over links shows.
-use Rattle.std.specs.Prelude.{◌≡◌, ◌⊎◌, ℕ, ◌<◌, false, List, [], ◌∷◌, ◌++◌, length, Some}
+use Rattle.std.specs.Prelude.{◌≡◌, ◌≢◌, ◌⊎◌, ℕ, ◌<◌, false, List, [], ◌∷◌, ◌++◌, length, Option, Some}
 use Rattle.io_core.specs.declared.traits.Files.{Ghosts as Files}
 use Rattle.io_core.specs.declared.traits.Sink.{Ghosts as Sink}
 use Rattle.plan_types.specs.declared.cause.Cause.{Cause}
@@ -37,7 +37,11 @@ use Rattle.session_laws.specs.run_causes.Unanswered.{GaveNoAnswer, IsStaleSince}
 use Rattle.session_laws.specs.clear_runs.Clear.{SendsAllSoon}
 use Rattle.report_laws.specs.Body.{cause_of}
 use Rattle.report_laws.specs.Headline.{moves_of}
-use Rattle.report_laws.specs.Homes.{ShowsBegun, ShowsHomes}
+use Rattle.report_laws.specs.Homes.{ShowsBegun}
+use Rattle.report_laws.specs.Read.{IsSceneFor}
+use Rattle.report_laws.specs.page.Report.{Shows}
+use Rattle.session_work.specs.declared.table.MotionTurn.{MotionTurn}
+use Rattle.session_work.specs.declared.table.ReactorTurn.{ReactorTurn}
 use Rattle.report_laws.specs.Promises.{FollowsPlanBy, IsCauseOf, IsCompleteBefore, IsCompleteBy, lines_line, sections_by, sections_over}
 use Rattle.report_laws.specs.Shown.{section_turn, sections_shown}
 use Rattle.report_laws.specs.Times.{AreTimed}
@@ -82,84 +86,116 @@ pub record ShowsText (m : Machine) (text : List ℕ) (c : Cause) (said : List Re
   -- of what was read, and pulses of steppers that are there, on their own boards
   pub own : GoesThrough c → AreTold false m said
 
--- The report of a run over links. Its cause, where it is one of the run's own, is so in the reactor's last turn, and
--- the first one that is; and in no earlier turn was any. Whatever ended it, each turn before the last tells of a switch
--- exactly where the group of the homing section that is known then answers that it closed, at the tick of the answer;
--- and whatever tells that readings triggered a board's trigger tells of a tick at which its readings of the endstop of
--- an axis that homes were complete. Whatever ended it, each board's lists in `links` hold the units of the text's
--- sections, each in its turn, in order and with longest triples, the controls that the reactor orders, and the states
--- of the board's turns, whose pulses its lines show (`AreLinksIn`). Its lines, as they were written, with those of
--- pulses, show the sections that were begun, whatever ended it and whatever its links hold (`ShowsBegun`). They show
--- Prefix too where no line holds a command for half a round of the 32-bit clock and each board takes the set-up of a
--- homing section in time or its reports are read true. And they show the file's text; of a run of moves that does not
--- end for want of memory, where no line holds a command for half a round of the 32-bit clock; and of one of any text,
--- where besides each board takes the set-up of a homing section in time or its reports are read true. Where moreover
--- the set-up is taken in time, and what a board's trigger does in a homing section is heard of within half a round
--- (`AllHearSoon`), the tick that a turn tells of a switch is one at which this very section's readings are complete
--- (`TellOwn`). What suffices for these premises in a scene without entries is said by laws
--- (`clear_links_hold_nothing_long`, `clear_scenes_hold_little`). Completeness: in a scene without entries, and where no
--- line asks for a stop, a run of moves whose units are all sent soon (`SendsAllSoon`) ends as the reading of its text
--- does, but for want of memory and for faults of files and output; and so does one of any text whose units are sent so,
--- or a switch never closed; where each section's switch closes in time (`AllClose`) there is no such exception, each
--- line of a switch is of the first tick at which it closes (`TellFirst`), and where a run ends since no switch closed,
--- none did in time (`MissesSwitch`). Causes: a run ends for a board that gives no answer, or whose clock line is too
--- old, only where its askings in a row were hindered on its link (`GaveNoAnswer`, `IsStaleSince`), and for a board that
--- expired only where, by what the members of the homing section's group told, it is the first of them
--- (`IsFirstExpired`); as no switch closed only where, by what these told, none expired in time and the endstop's board read
--- no switch (`IsUnswitched`). It ends for steps that came too late only where the board took them so in its link's last turn
--- (`ComesLateIn`), and they are a unit's of its plan, with its spoiled turns and its spill (`HasLateUnitIn`); no state
--- tells of any other shutdown but the order to stop (`AllMayTell`). Sections start and end in their turns (`AreTimed`),
--- and the `board` lines are of clock lines that follow the boards' clocks (`TellKnownLines`). The turn that ends a run
--- tells of no switch.
-pub record IsLinkReport {F S : Type 0} (f : Files F) (o : Sink S) (m : Machine) (s : Scene) (gcode : List ℕ) (files files' : F) (out out' : S) (c : Cause) (lines : List ReportLine) (counts : List ℕ) (links : List LinkLog) : Type 0 where
+-- The premise of what a run of a text shows: its scene is none, or one that was read; it did not end for want of
+-- memory; and each board holds nothing long, in all turns, of which `end` is the last.
+abbrev pub MeetPremise : Machine → Scene → List ℕ → List MotionTurn → List ReactorTurn → ReactorTurn → Cause → Type 0
+MeetPremise m s text planned turns end c =
+    IsSceneFor m s × (c ≢ cause.Memory) × AllHomeLittle m s text planned (turns ++ end ∷ [])
+
+-- Steps that came too late are those of a unit of the plan of a text, with its spoiled turns and its spill.
+pub record AreOfUnit (m : Machine) (s : Scene) (text : List ℕ) (board first arrival spoiled spill : ℕ)
+    (planned : List MotionTurn) (turns : List ReactorTurn) (end : ReactorTurn) : Type 0 where
+  pub made : IsMade m s planned turns
+  pub of_text : made.plans.seen.text ≡ text
+  pub late : ComesLateIn m s board first arrival spoiled spill planned turns end
+  pub heard : Heard
+  pub known : made.plans.seen.told ≡ Some heard
+  pub unit :
+      HasLateUnitIn m s board first arrival spoiled spill planned turns end heard.clocks made.plans.seen.begun late
+
+-- What the cause of a run says, by the text of its file and its turns, of which `end` is the last. It ends for a board
+-- that gives no answer, or whose clock line is too old, only where its askings in a row were hindered on its link; and
+-- for steps that came too late only where the board took them so in its link's last turn, and they are a unit's of its
+-- plan where each board holds nothing long, and units of moves are sent by four turns behind their section's end. It
+-- ends for a board that expired only where, by what the members of the homing section's group told, it is the first of
+-- them; and as no switch closed only where, by what these told, none expired in time and the endstop's board read no
+-- switch.
+abbrev pub EndsFor :
+    Machine → Scene → Option (List ℕ) → List MotionTurn → List ReactorTurn → ReactorTurn → Cause → Type 0
+EndsFor m s told planned turns end (cause.Connect board turn) =
+    (text : List ℕ) → told ≡ Some text → ∥ GaveNoAnswer m s board turn planned turns end ∥₁
+EndsFor m s told planned turns end (cause.Stale board turn) = IsStaleSince m s board turn planned turns end
+EndsFor m s told planned turns end (cause.Late board first arrival spoiled spill) =
+    ComesLateIn m s board first arrival spoiled spill planned turns end
+    × ((text : List ℕ) → told ≡ Some text → AllHomeLittle m s text planned (turns ++ end ∷ []) → SendsOut m text planned →
+    ∥ AreOfUnit m s text board first arrival spoiled spill planned turns end ∥₁)
+EndsFor m s told planned turns end (cause.Expired board turn) = IsFirstExpired m s.switches board turn turns end
+EndsFor m s told planned turns end (cause.NoSwitch section) = IsUnswitched m s.switches section turns end
+EndsFor m s told planned turns end _ = Unit {0}
+
+-- A run ends as no switch closed in a section, which homes, and whose switch closes too late.
+pub record EndsUnswitched (m : Machine) (s : Scene) (text : List ℕ) (planned : List MotionTurn)
+    (turns : List ReactorTurn) (c : Cause) : Type 0 where
+  pub made : IsMade m s planned turns
+  pub of_text : made.plans.seen.text ≡ text
+  pub section : ℕ
+  pub cause_is : c ≡ cause.NoSwitch section
+  pub misses : MissesSwitch m s made.plans.seen section
+
+-- The report of a run over links: of a planner, a link for each board and the reactor, which made the turns that
+-- `reported` has, over a file of G-code and a scene, and of what was written. All else that can be said of it follows
+-- from that. This is said:
+pub record IsLinkReport {F S : Type 0} (f : Files F) (o : Sink S) (m : Machine) (s : Scene) (gcode : List ℕ) (files files' : F)
+    (out out' : S) (c : Cause) (lines : List ReportLine) (counts : List ℕ) (links : List LinkLog) : Type 0 where
+  -- Links, Bytes, End line, Pulses: it is that of such turns; its lines were written, and its counts are of its pulses
   pub reported : IsReported f o m s gcode files files' out out' c lines counts links
-  pub names : IsOwn c → (c ≡ cause.Memory → ⊥) → IsNamed m s reported.runs.runs.1 reported.runs.runs.2 c
-  pub earlier : NoneSo m s reported.runs.runs.1
-  pub answers : TellAnswers m s.switches [] reported.runs.runs.1
-  pub readings : TellOfReadings m s.switches (came_from [] reported.runs.runs.1)
-  pub boards : (text : List ℕ) → f.told files gcode ≡ Some text → ∥ AreLinksIn m s text reported.told.cause reported.runs.runs.0 reported.runs.runs.1 reported.runs.runs.2 links ∥₁
-  pub shows : (text : List ℕ) → f.told files gcode ≡ Some text → AreOfMoves (sections_over m text) → (reported.told.cause ≡ cause.Memory → ⊥) →
-      HoldsNothingLong m s text reported.runs.runs.0 (reported.runs.runs.1 ++ reported.runs.runs.2 ∷ []) → ∥ ShowsText m text c reported.said ∥₁
+  -- Prefix, Whole, Sections, Cuts, Clock lines, Counts: its printed lines show the file's text, as far as the run came,
+  -- of moves or homing, whatever ended it
+  pub shows : (text : List ℕ) → f.told files gcode ≡ Some text →
+      ∥ Shows (MeetPremise m s text reported.runs.runs.0 reported.runs.runs.1 reported.runs.runs.2 reported.told.cause)
+      m s text c reported.said ∥₁
+  -- Begun sections: whatever its links hold, and also for want of memory, they show the sections that were begun, by the
+  -- clock lines that the planner heard, and Prefix by these
   pub begun : (text : List ℕ) → f.told files gcode ≡ Some text →
       ∥ ((begun : ShowsBegun m text c reported.said)
       × (ShownHoldLittle m s text reported.runs.runs.0 reported.runs.runs.1 reported.runs.runs.2 reported.told.cause →
       FollowsPlanBy begun.clocks m (sections_over m text) reported.said)) ∥₁
-  pub homes : (text : List ℕ) → f.told files gcode ≡ Some text → (reported.told.cause ≡ cause.Memory → ⊥) →
-      AllHomeLittle m s text reported.runs.runs.0 (reported.runs.runs.1 ++ reported.runs.runs.2 ∷ []) → ∥ ShowsHomes m s.switches text c reported.said ∥₁
-  pub own : (text : List ℕ) → f.told files gcode ≡ Some text → (reported.told.cause ≡ cause.Memory → ⊥) →
-      AllSwitchesReadTrue m s reported.runs.runs.0 (reported.runs.runs.1 ++ reported.runs.runs.2 ∷ []) →
-      ∥ TellTriggers m s reported.runs.runs.0 reported.runs.runs.1 reported.runs.runs.2 ∥₁
-  pub complete : (text : List ℕ) → f.told files gcode ≡ Some text → AreOfMoves (sections_over m text) → ((line : ℕ) → (program_end m text).stop ≡ read.Stop line → ⊥) → s.entries ≡ [] →
-      SendsAllSoon m text reported.runs.runs.0 → IsCauseOf (cause_of (program_end m text).stop) c
-  pub complete_homes : (text : List ℕ) → f.told files gcode ≡ Some text → ((line : ℕ) → (program_end m text).stop ≡ read.Stop line → ⊥) → s.entries ≡ [] → SendsAllSoon m text reported.runs.runs.0 →
-      IsCauseOf (cause_of (program_end m text).stop) c ⊎ ((section : ℕ) × (c ≡ cause.NoSwitch section))
-  pub complete_switches : (text : List ℕ) → f.told files gcode ≡ Some text → ((line : ℕ) → (program_end m text).stop ≡ read.Stop line → ⊥) → s.entries ≡ [] → SendsAllSoon m text reported.runs.runs.0 → AllClose m s text reported.runs.runs.0 →
-      IsCauseOf (cause_of (program_end m text).stop) c
-  pub first_ticks : (text : List ℕ) → f.told files gcode ≡ Some text → ((line : ℕ) → (program_end m text).stop ≡ read.Stop line → ⊥) → s.entries ≡ [] → IsOwn reported.told.cause → (reported.told.cause ≡ cause.Memory → ⊥) →
-      SendsAllSoon m text reported.runs.runs.0 → AllSwitchesReadTrue m s reported.runs.runs.0 (reported.runs.runs.1 ++ reported.runs.runs.2 ∷ []) →
-      ∥ ((made : IsMade m s reported.runs.runs.0 reported.runs.runs.1) × (made.plans.seen.text ≡ text) × TellFirst m s made.plans.seen [] reported.runs.runs.1) ∥₁
-  pub no_switch : (text : List ℕ) → f.told files gcode ≡ Some text → ((line : ℕ) → (program_end m text).stop ≡ read.Stop line → ⊥) → s.entries ≡ [] → SendsAllSoon m text reported.runs.runs.0 →
-      ∥ ((made : IsMade m s reported.runs.runs.0 reported.runs.runs.1) × (made.plans.seen.text ≡ text) × ((section : ℕ) → c ≡ cause.NoSwitch section → MissesSwitch m s made.plans.seen section)) ∥₁
-  pub last_cut : (text : List ℕ) → f.told files gcode ≡ Some text → cuts_of reported.runs.runs.2.lines ≡ []
-  pub connect : (text : List ℕ) → f.told files gcode ≡ Some text → (board turn : ℕ) → c ≡ cause.Connect board turn → ∥ GaveNoAnswer m s board turn reported.runs.runs.0 reported.runs.runs.1 reported.runs.runs.2 ∥₁
-  pub stale : (board turn : ℕ) → c ≡ cause.Stale board turn → IsStaleSince m s board turn reported.runs.runs.0 reported.runs.runs.1 reported.runs.runs.2
-  pub expired : (board turn : ℕ) → c ≡ cause.Expired board turn → IsFirstExpired m s.switches board turn reported.runs.runs.1 reported.runs.runs.2
-  pub switch_told : (section : ℕ) → c ≡ cause.NoSwitch section →
-      IsUnswitched m s.switches section reported.runs.runs.1 reported.runs.runs.2
-  pub late : (board first arrival spoiled spill : ℕ) → c ≡ cause.Late board first arrival spoiled spill →
-      ComesLateIn m s board first arrival spoiled spill reported.runs.runs.0 reported.runs.runs.1 reported.runs.runs.2
-  pub late_unit : (text : List ℕ) → f.told files gcode ≡ Some text → (board first arrival spoiled spill : ℕ) → c ≡ cause.Late board first arrival spoiled spill →
-      AllHomeLittle m s text reported.runs.runs.0 (reported.runs.runs.1 ++ reported.runs.runs.2 ∷ []) → SendsOut m text reported.runs.runs.0 →
-      ∥ ((made : IsMade m s reported.runs.runs.0 reported.runs.runs.1) × (made.plans.seen.text ≡ text)
-      × (x : ComesLateIn m s board first arrival spoiled spill reported.runs.runs.0 reported.runs.runs.1 reported.runs.runs.2)
-      × ((heard : Heard) × (made.plans.seen.told ≡ Some heard)
-      × HasLateUnitIn m s board first arrival spoiled spill reported.runs.runs.0 reported.runs.runs.1 reported.runs.runs.2 heard.clocks made.plans.seen.begun x)) ∥₁
-  pub shutdowns : (text : List ℕ) → f.told files gcode ≡ Some text → (reported.told.cause ≡ cause.Memory → ⊥) →
-      AllHomeLittle m s text reported.runs.runs.0 (reported.runs.runs.1 ++ reported.runs.runs.2 ∷ [])
-      ⊎ (AreOfMoves (sections_over m text) × AllTakeNear m s text reported.runs.runs.0 (reported.runs.runs.1 ++ reported.runs.runs.2 ∷ [])) →
-      ∥ AllMayTell (reported.runs.runs.1 ++ reported.runs.runs.2 ∷ []) ∥₁
+  -- Boards: each board's lists in `links` hold the units of the text's sections, each in its turn, in order and with
+  -- longest triples, the controls that the reactor orders, and the states of the board's turns, whose pulses its lines show
+  pub boards : (text : List ℕ) → f.told files gcode ≡ Some text →
+      ∥ AreLinksIn m s text reported.told.cause reported.runs.runs.0 reported.runs.runs.1 reported.runs.runs.2 links ∥₁
+  -- Sections start and end in their turns, and the `board` lines are of clock lines that follow the boards' clocks
   pub times : (text : List ℕ) → f.told files gcode ≡ Some text →
       ∥ ((made : IsMade m s reported.runs.runs.0 reported.runs.runs.1) × (made.plans.seen.text ≡ text)
       × AreTimed m s reported.told.cause reported.runs.runs.0 reported.runs.runs.1 reported.runs.runs.2 made.plans.seen) ∥₁
-  pub board_lines : (reported.told.cause ≡ cause.Memory → ⊥) → (boards_of (lines_of (reported.runs.runs.1 ++ reported.runs.runs.2 ∷ [])) ≡ [])
+  pub board_lines : (reported.told.cause ≡ cause.Memory → ⊥) →
+      (boards_of (lines_of (reported.runs.runs.1 ++ reported.runs.runs.2 ∷ [])) ≡ [])
       ⊎ TellKnownLines m s.switches reported.runs.runs.1 (lines_of (reported.runs.runs.1 ++ reported.runs.runs.2 ∷ []))
+  -- Causes: a cause of the run's own is so in the reactor's last turn, the first one that is, and in no earlier turn was
+  -- any; and what each says of links, boards and switches
+  pub names : IsOwn c → (c ≡ cause.Memory → ⊥) → IsNamed m s reported.runs.runs.1 reported.runs.runs.2 c
+  pub earlier : NoneSo m s reported.runs.runs.1
+  pub ends : EndsFor m s (f.told files gcode) reported.runs.runs.0 reported.runs.runs.1 reported.runs.runs.2 c
+  -- Shutdowns: no state tells of any other but of steps that came too late and the order to stop
+  pub shutdowns : (text : List ℕ) → f.told files gcode ≡ Some text → (reported.told.cause ≡ cause.Memory → ⊥) →
+      AllHomeLittle m s text reported.runs.runs.0 (reported.runs.runs.1 ++ reported.runs.runs.2 ∷ [])
+      ⊎ (AreOfMoves (sections_over m text)
+      × AllTakeNear m s text reported.runs.runs.0 (reported.runs.runs.1 ++ reported.runs.runs.2 ∷ [])) →
+      ∥ AllMayTell (reported.runs.runs.1 ++ reported.runs.runs.2 ∷ []) ∥₁
+  -- Answers: a turn tells of a switch exactly where the group of the homing section that is known answers that it closed,
+  -- at the tick of the answer, and not the last turn; whatever tells of readings tells of complete ones; and that tick is
+  -- the section's trigger tick where the reports of readings are read true
+  pub answers : TellAnswers m s.switches [] reported.runs.runs.1
+  pub last_cut : (text : List ℕ) → f.told files gcode ≡ Some text → cuts_of reported.runs.runs.2.lines ≡ []
+  pub readings : TellOfReadings m s.switches (came_from [] reported.runs.runs.1)
+  pub triggers : (text : List ℕ) → f.told files gcode ≡ Some text → (reported.told.cause ≡ cause.Memory → ⊥) →
+      AllSwitchesReadTrue m s reported.runs.runs.0 (reported.runs.runs.1 ++ reported.runs.runs.2 ∷ []) →
+      ∥ TellTriggers m s reported.runs.runs.0 reported.runs.runs.1 reported.runs.runs.2 ∥₁
+  -- Completeness: in a scene without entries a text without a line that asks for a stop, whose units are sent soon, is run
+  -- as it reads, but for want of memory and faults of files and output; unless a switch closes too late
+  pub complete : (text : List ℕ) → f.told files gcode ≡ Some text →
+      ((line : ℕ) → (program_end m text).stop ≡ read.Stop line → ⊥) → s.entries ≡ [] → SendsAllSoon m text reported.runs.runs.0 →
+      ∥ IsCauseOf (cause_of (program_end m text).stop) c
+      ⊎ EndsUnswitched m s text reported.runs.runs.0 reported.runs.runs.1 c ∥₁
+  -- First ticks: and there each line of a switch is of the first tick at which it closes
+  pub first_ticks : (text : List ℕ) → f.told files gcode ≡ Some text →
+      ((line : ℕ) → (program_end m text).stop ≡ read.Stop line → ⊥) → s.entries ≡ [] → IsOwn reported.told.cause →
+      (reported.told.cause ≡ cause.Memory → ⊥) → SendsAllSoon m text reported.runs.runs.0 →
+      AllSwitchesReadTrue m s reported.runs.runs.0 (reported.runs.runs.1 ++ reported.runs.runs.2 ∷ []) →
+      ∥ ((made : IsMade m s reported.runs.runs.0 reported.runs.runs.1) × (made.plans.seen.text ≡ text)
+      × TellFirst m s made.plans.seen [] reported.runs.runs.1) ∥₁
+  -- Moves: a run of moves shows its text where no line holds a command for half a round of the 32-bit clock
+  pub moves : (text : List ℕ) → f.told files gcode ≡ Some text → AreOfMoves (sections_over m text) →
+      (reported.told.cause ≡ cause.Memory → ⊥) →
+      HoldsNothingLong m s text reported.runs.runs.0 (reported.runs.runs.1 ++ reported.runs.runs.2 ∷ []) →
+      ∥ ShowsText m text c reported.said ∥₁

@@ -11,7 +11,7 @@ pub use law::{
     report_lines_are_read_back, reports_that_go_through_check,
     reports_with_cuts_that_go_through_check,
 };
-pub use page::{printed_lines_follow_the_plan, runs_that_went_through_follow_the_plan};
+pub use page::printed_lines_follow_the_plan;
 pub use replays::replayed_pulses_are_meant;
 pub use runs::{
     homing_runs_check, reports_that_follow_the_plan_check, runs_over_links_check,

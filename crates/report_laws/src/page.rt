@@ -1,19 +1,14 @@
 //! The law of what a run over links shows.
 
-ghost use Rattle.std.specs.Prelude.{◌≡◌, ◌≢◌, ◌∷◌, ◌++◌, [], ℕ, List, Ok, Some};
+ghost use Rattle.std.specs.Prelude.{◌≡◌, ◌≢◌, ◌++◌, ◌∷◌, [], ℕ, List, Ok, Some};
 ghost use Rattle.cfg_text.specs.Reading.{reading};
-ghost use Rattle.gcode_program.specs.Programs.{program_end};
-ghost use Rattle.report_laws.specs.Promises.{lines_line, sections_over};
+ghost use Rattle.report_laws.specs.Promises.{sections_over};
 ghost use Rattle.report_laws.specs.Linked.{IsLinkReport};
-ghost use Rattle.log_text.specs.declared.line.LogLine.{LogLine};
 ghost use Rattle.plan_types.specs.declared.machine.Machine.{Machine};
 ghost use Rattle.report_text.specs.declared.line.ReportLine.{ReportLine};
-ghost use Rattle.report_text.specs.declared.line.ReportLine.TheVariants as report;
 ghost use Rattle.report_text.specs.Text.{report_text};
 ghost use Rattle.report_laws.specs.Read.{IsSceneFor};
-ghost use Rattle.report_laws.specs.page.Causes.{EndsSo};
-ghost use Rattle.report_laws.specs.page.Log.{Follows, SaysLog};
-ghost use Rattle.report_laws.specs.page.Report.{IsPrinted};
+ghost use Rattle.report_laws.specs.page.Log.{Follows, SaysLog, StartsOnTime, log_of};
 ghost use Rattle.session_laws.specs.run_ends.Ends.{GoesThrough};
 ghost use Rattle.session_laws.specs.home_headline.Little.{AllHomeLittle};
 ghost use Rattle.session_lanes.specs.declared.near.LinkLog.{LinkLog};
@@ -22,32 +17,17 @@ ghost use Rattle.wire_scene.specs.declared.scene.Scene.{Scene};
 use io_core::{Files, Sink};
 use plan_types::Cause;
 
-/// The law of whole runs: what a run over links printed that went through, of moves or homing, says a log that follows the plan of its text.
-/// Its line of what was read has the text's two numbers, and its cause is how the reading stopped. And whatever ended a run, what is printed are its lines
-/// and the end line of its cause.
-pub fn runs_that_went_through_follow_the_plan<F: Files, S: Sink>()
-    ensures follows { (printer : List ℕ) (m : Machine) (s : Scene) (gcode : List ℕ) (files files' : F) (out out' : S) (c : Cause) (lines : List ReportLine) (counts : List ℕ) (links : List LinkLog) →
-        reading printer ≡ Ok m → (r : IsLinkReport F.Files S.Sink m s gcode files files' out out' c lines counts links) → (text : List ℕ) → F.told files gcode ≡ Some text →
-        AllHomeLittle m s text r.reported.runs.runs.0 (r.reported.runs.runs.1 ++ r.reported.runs.runs.2 ∷ []) → IsSceneFor m s → GoesThrough c →
-        (log : List LogLine) × SaysLog m (report_text m (r.reported.said ++ report.End c ∷ [])) log × Follows (GoesThrough c) m (sections_over m text) log }
-    ensures read { (m : Machine) (s : Scene) (gcode : List ℕ) (files files' : F) (out out' : S) (c : Cause) (lines : List ReportLine) (counts : List ℕ) (links : List LinkLog) →
-        (r : IsLinkReport F.Files S.Sink m s gcode files files' out out' c lines counts links) → (text : List ℕ) → F.told files gcode ≡ Some text → GoesThrough c →
-        lines_line r.reported.said ≡ Some ((program_end m text).lines, (program_end m text).passed) }
-    ensures ends { (m : Machine) (s : Scene) (gcode : List ℕ) (files files' : F) (out out' : S) (c : Cause) (lines : List ReportLine) (counts : List ℕ) (links : List LinkLog) →
-        (r : IsLinkReport F.Files S.Sink m s gcode files files' out out' c lines counts links) → (text : List ℕ) → F.told files gcode ≡ Some text → GoesThrough c → (log : List LogLine) → EndsSo m text links log c }
-    ensures printed { (m : Machine) (s : Scene) (gcode : List ℕ) (files files' : F) (out out' : S) (c : Cause) (lines : List ReportLine) (counts : List ℕ) (links : List LinkLog) →
-        (r : IsLinkReport F.Files S.Sink m s gcode files files' out out' c lines counts links) → IsPrinted m (S.written out) (S.written out') c r.reported.own r.reported.said lines counts }
-{}
-
 /// The law of printed lines: whatever ended a run over links, of moves or homing, but want of memory, the lines that
 /// were printed before the end line say a log that follows the plan of its text as far as the run came. By the clock
 /// lines that it tells the pulses of every stepper in each section fit the first of its planned steps; a section that
 /// was not cut, and behind whose next one's line a pulse of the same board stands, has them all; and where the run went
-/// through so has every section that was not cut.
+/// through so has every section that was not cut. Each section behind one that was not cut starts exactly in its turn,
+/// and where the run went through all sections have their line.
 pub fn printed_lines_follow_the_plan<F: Files, S: Sink>()
     ensures { (printer : List ℕ) (m : Machine) (s : Scene) (gcode : List ℕ) (files files' : F) (out out' : S) (c : Cause) (lines : List ReportLine) (counts : List ℕ) (links : List LinkLog) →
         reading printer ≡ Ok m → (r : IsLinkReport F.Files S.Sink m s gcode files files' out out' c lines counts links) → (text : List ℕ) → F.told files gcode ≡ Some text →
         AllHomeLittle m s text r.reported.runs.runs.0 (r.reported.runs.runs.1 ++ r.reported.runs.runs.2 ∷ []) →
         IsSceneFor m s → r.reported.told.cause ≢ Cause.Memory →
-        ∥ ((log : List LogLine) × SaysLog m (report_text m r.reported.said) log × Follows (GoesThrough c) m (sections_over m text) log) ∥₁ }
+        ∥ (SaysLog m (report_text m r.reported.said) (log_of r.reported.said) × Follows (GoesThrough c) m (sections_over m text) (log_of r.reported.said)
+        × StartsOnTime (GoesThrough c) m (sections_over m text) (log_of r.reported.said)) ∥₁ }
 {}

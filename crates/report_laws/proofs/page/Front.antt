@@ -28,8 +28,17 @@ use Rattle.report_laws.specs.Logged.{AreOfRun, logged}
 use Rattle.report_laws.specs.Through.{AreHeads}
 use Rattle.report_laws.specs.Within.{ready_behind}
 use Rattle.report_laws.specs.Shown.{pulses_before}
-use Rattle.report_laws.specs.page.Log.{Follows, FollowsFront, StandsBehind, TellsPulseOf}
+use Rattle.report_laws.specs.page.Log.{Follows, FollowsFront, StandsBehind, StartsOnTime, TellsPulseOf, board_turn, next_turn}
 use Rattle.report_laws.proofs.Bridging.{fits-same}
+
+-- lists from their end, twice
+pub in_order_append : {A : Type 0} (xs ys : List A) → in_order (xs ++ ys) ≡ in_order ys ++ in_order xs
+in_order_append [] ys = sym (append-nil (in_order ys))
+in_order_append (x ∷ xs) ys = ap (λ (z : List _). z ++ x ∷ []) (in_order_append xs ys) ∙ append_assoc (in_order ys) (in_order xs) (x ∷ [])
+
+pub in_order_twice : {A : Type 0} (xs : List A) → in_order (in_order xs) ≡ xs
+in_order_twice [] = refl
+in_order_twice (x ∷ xs) = in_order_append (in_order xs) (x ∷ []) ∙ ap (λ (z : List _). x ∷ z) (in_order_twice xs)
 
 -- Each line stands as it may behind those before it, and with it the pulses of every stepper in the open section fit its plan.
 abbrev pub Fronted : Machine → List Section → List Further → List LogLine → Type 0
@@ -50,9 +59,12 @@ front-follows m sections log f = record {
   order = λ later lines l is. (let h = fronted-behind m sections (further_among log) later (l ∷ lines) (subst (λ (x : List LogLine). Fronted m sections (further_among log) x) is f) in (h.0, h.1));
 }
 
--- Behind the line of a section the one before is whole, where it was not cut, and the run went through or a pulse of the board stands among later lines.
+-- Where the section before was not cut, the line of a section tells the turn in which it starts; and the one before is whole, where the run went through or a pulse of the board
+-- stands among later lines.
 abbrev WholeBefore : Type 0 → Machine → List Section → List Further → List LogLine → List LogLine → LogLine → Type 0
-WholeBefore through m sections fs later before (line.Section i turn kind) = is_cut before ≡ false → (s : ℕ) → s < length m.steppers → through ⊎ TellsPulseOf m (stepper_at m s).board later → IsWholeHere m sections fs before s
+WholeBefore through m sections fs later before (line.Section i turn kind) =
+    is_cut before ≡ false → (turn ≡ next_turn m sections fs before (begun before) + (section_at sections i).dwell)
+    × ((s : ℕ) → s < length m.steppers → through ⊎ TellsPulseOf m (stepper_at m s).board later → IsWholeHere m sections fs before s)
 WholeBefore through m sections fs later before _ = Unit {0}
 
 -- so behind each of some lines, which others follow
@@ -74,12 +86,20 @@ pub record AreFronted (through : Type 0) (m : Machine) (sections : List Section)
   pub wholed : Wholed through m sections fs [] log
   pub lasted : Lasted through m sections fs log
 
+-- what the line of a section behind one that was not cut says
+uncut-at : (through : Type 0) (m : Machine) (sections : List Section) (log : List LogLine) → AreFronted through m sections (further_among log) log → (later lines : List LogLine) (i turn : ℕ) (kind : SectionKind) → log ≡ later ++ line.Section i turn kind ∷ lines → WholeBefore through m sections (further_among log) later lines (line.Section i turn kind)
+uncut-at through m sections log f later lines i turn kind is = wholed-at through m sections (further_among log) [] later lines (line.Section i turn kind) (subst (λ (x : List LogLine). Wholed through m sections (further_among log) [] x) is f.wholed)
+
 pub all-follows : (through : Type 0) (m : Machine) (sections : List Section) (log : List LogLine) → AreFronted through m sections (further_among log) log → Follows through m sections log
 all-follows through m sections log f = record {
   front = front-follows m sections log f.fronted;
-  whole = λ later lines i turn kind is. wholed-at through m sections (further_among log) [] later lines (line.Section i turn kind) (subst (λ (x : List LogLine). Wholed through m sections (further_among log) [] x) is f.wholed);
+  whole = λ later lines i turn kind is uncut. (uncut-at through m sections log f later lines i turn kind is uncut).1;
   last = f.lasted;
 }
+
+-- and their sections start in their turns
+pub all-start : (through : Type 0) (m : Machine) (sections : List Section) (log : List LogLine) → AreFronted through m sections (further_among log) log → (through → begun log ≡ length sections) → StartsOnTime through m sections log
+all-start through m sections log f all = record { due = λ later lines i turn kind is uncut. (uncut-at through m sections log f later lines i turn kind is uncut).0; all = all }
 
 -- the first ones of pulses that fit
 fits-first : (freq base : ℕ) (ps qs : List Pulse) (plan : List Planned) → Fits freq base (ps ++ qs) plan → Fits freq base ps plan
@@ -108,6 +128,11 @@ ready-is : (cut : Bool) (i begin end : ℕ) → ready cut (suc i) begin end ≡ 
 ready-is true i begin end = refl
 ready-is false i begin end = refl
 
+-- A section starts in a turn behind one whose plan ends in another, and which was cut or not: no sooner than it may; and where it was not cut as many turns later as the dwells
+-- before it have milliseconds.
+abbrev pub StartsBehind : Bool → ℕ → ℕ → ℕ → ℕ → Type 0
+StartsBehind cut turn end dwell at = (ready_behind cut turn end + dwell ≤ at) × (cut ≡ false → end + 260 + dwell ≡ at)
+
 ready-first : (cut : Bool) (begin end : ℕ) → ready cut 0 begin end ≡ first_turn
 ready-first true begin end = refl
 ready-first false begin end = refl
@@ -126,7 +151,7 @@ module _ (through : Type 0) (m : Machine) (sections : List Section) (lines : Lis
   abbrev pub Goes : ℕ → ℕ → Bool → (ℕ → ℕ) → List ReportLine → Type 0
   Goes i turn cut total [] = IsWholeIf i turn cut total (λ b. through)
   Goes i turn cut total (report.Section j at kind ∷ rest) =
-      (j ≡ suc i) × (suc i < length sections) × (kind ≡ (section_at sections (suc i)).kind) × (ready_behind cut turn (section_end m lines (section_at sections i).moves turn) + (section_at sections (suc i)).dwell ≤ at)
+      (j ≡ suc i) × (suc i < length sections) × (kind ≡ (section_at sections (suc i)).kind) × StartsBehind cut turn (section_end m lines (section_at sections i).moves turn) (section_at sections (suc i)).dwell at
       × FitWith (suc i) at (λ s. pulses_before s rest) × IsWholeIf i turn cut total (λ b. through ⊎ TellsPulseOf m b (in_order (map logged rest))) × Goes (suc i) at false (λ s. length (pulses_before s rest)) rest
   Goes i turn cut total (report.Pulse board stepper tick up ∷ rest) = Goes i turn cut total rest
   Goes i turn cut total (report.Cut j board pin tick from ∷ rest) = (j ≡ i) × (is_home (section_at sections i).kind ≡ true) × Goes i turn true total rest
@@ -193,6 +218,17 @@ module _ (through : Type 0) (m : Machine) (sections : List Section) (lines : Lis
         let next : Next j = subst Next (sym number) (record { number = sym h.begun_is; there = there; same = same; due = omega (arith, from, due) }) in
         record { fronted = (h.going, (next, ap length h.lines_are ∙ boards), λ s inside. tt, h.fronted); going = h.going; begun_is = ap suc h.begun_is; start_is = refl; lines_are = h.lines_are; cut_is = refl }
 
+    -- where this was not cut, in its turn
+    timely-on : (i turn : ℕ) (cut : Bool) (before : List LogLine) (j at : ℕ) → j ≡ suc i → (cut ≡ false → section_end m lines (section_at sections i).moves turn + 260 + (section_at sections (suc i)).dwell ≡ at) → IsOpen i turn cut before → is_cut before ≡ false
+        → at ≡ next_turn m sections fs before (begun before) + (section_at sections j).dwell
+    timely-on i turn cut before j at number due h uncut =
+        let moves = (section_at sections i).moves in
+        let end : section_end m (clocks m fs before) moves (start before) ≡ section_end m lines moves turn = ap (λ (z : List Clocks). section_end m z moves (start before)) h.lines_are ∙ ap (λ (n : ℕ). section_end m lines moves n) h.start_is in
+        let from : next_turn m sections fs before (begun before) ≡ section_end m lines moves turn + 260 = ap (λ (n : ℕ). next_turn m sections fs before n) h.begun_is ∙ ap (λ (n : ℕ). n + 260) end in
+        let dwell = ap (λ (n : ℕ). (section_at sections n).dwell) number in
+        let is = due (sym h.cut_is ∙ uncut) in
+        omega (arith, from, dwell, is)
+
     -- as many pulses as planned make it whole
     whole-here : (i turn : ℕ) (cut : Bool) (total : ℕ → ℕ) (more : ℕ → Type 0) (before : List LogLine) → ((s : ℕ) → length (pulses s before) + 0 ≡ total s) → IsWholeIf i turn cut total more → IsOpen i turn cut before
         → is_cut before ≡ false → (s : ℕ) → s < length m.steppers → more (stepper_at m s).board → IsWholeHere m sections fs before s
@@ -214,8 +250,8 @@ module _ (through : Type 0) (m : Machine) (sections : List Section) (lines : Lis
       lasted = λ gone uncut s inside. whole-here i turn cut total (λ b. through) before count goes h uncut s inside gone;
     }
     go i turn cut total (report.Section j at kind ∷ rest) before fits count goes stand of h w =
-        go (suc i) at false (λ s. length (pulses_before s rest)) rest (line.Section j at kind ∷ before) goes.4 (λ s. omega arith) goes.6 stand.1 of.1 (section-on i turn cut before j at kind goes.0 goes.1 goes.2 goes.3 h)
-        (whole-here i turn cut total (λ b. through ⊎ TellsPulseOf m b (in_order (map logged rest))) before count goes.5 h, w)
+        go (suc i) at false (λ s. length (pulses_before s rest)) rest (line.Section j at kind ∷ before) goes.4 (λ s. omega arith) goes.6 stand.1 of.1 (section-on i turn cut before j at kind goes.0 goes.1 goes.2 goes.3.0 h)
+        (λ uncut. (timely-on i turn cut before j at goes.0 goes.3.1 h uncut, whole-here i turn cut total (λ b. through ⊎ TellsPulseOf m b (in_order (map logged rest))) before count goes.5 h uncut), w)
     go i turn cut total (report.Pulse board stepper tick up ∷ rest) before fits count goes stand of h w =
         let p : Pulse = record { tick = tick; stepper = stepper; up = up } in
         let Of : ℕ → List Pulse → Type 0 = λ s ps. Fits (clocks_at lines (stepper_at m s).board).first.freq (base_tick m lines turn s) ps (stepper_plan m lines (section_at sections i).moves turn s) in
@@ -283,10 +319,10 @@ heads-follow through m sections fs head stand heads =
 
 -- So do lines behind those of the boards that go through the first sections.
 pub lines-follow : (through : Type 0) (m : Machine) (sections : List Section) (fs : List Further) (lines : List Clocks) (head : List ReportLine) (at : ℕ) (kind : SectionKind) (rest : List ReportLine) → AllMayStand m [] (map logged head) → AreHeads 0 head
-    → clocks m fs (onto (map logged head) []) ≡ lines → length lines ≡ length m.boards → 0 < length sections → kind ≡ (section_at sections 0).kind → first_turn + (section_at sections 0).dwell ≤ at → FitWith through m sections lines 0 at (λ s. pulses_before s rest)
+    → clocks m fs (onto (map logged head) []) ≡ lines → length lines ≡ length m.boards → 0 < length sections → kind ≡ (section_at sections 0).kind → first_turn + (section_at sections 0).dwell ≤ at → at ≡ board_turn (onto (map logged head) []) + (section_at sections 0).dwell → FitWith through m sections lines 0 at (λ s. pulses_before s rest)
     → Goes through m sections lines 0 at false (λ s. length (pulses_before s rest)) rest → AllMayStand m (line.Section 0 at kind ∷ onto (map logged head) []) (map logged rest) → AreOfRun m rest
     → AreFronted through m sections fs (onto (map logged rest) (line.Section 0 at kind ∷ onto (map logged head) []))
-lines-follow through m sections fs lines head at kind rest stand heads told boards some same due fits goes stands of =
+lines-follow through m sections fs lines head at kind rest stand heads told boards some same due timely fits goes stands of =
     let empty : IsBefore m sections fs 0 [] = record { fronted = tt; going = refl; none = refl; boards = refl; silent = λ s. refl } in
     let x = heads-before through m sections fs 0 head (report.Section 0 at kind ∷ rest) [] stand heads empty tt in
     let h = x.0.1 in
@@ -296,4 +332,4 @@ lines-follow through m sections fs lines head at kind rest stand heads told boar
     let next : IsNext m sections fs before 0 at kind = record { number = sym h.none; there = some; same = same; due = omega (arith, from, due) } in
     go through m sections lines fs boards 0 at false (λ s. length (pulses_before s rest)) rest (line.Section 0 at kind ∷ before) fits (λ s. omega arith) goes stands of
     (record { fronted = (h.going, (next, ap length told ∙ boards), λ s inside. tt, h.fronted); going = h.going; begun_is = ap suc h.none; start_is = refl; lines_are = told; cut_is = refl })
-    (λ uncut s inside why. ap length (h.silent s) ∙ sym (ap length (no-plan m sections fs before s h.none)), x.1)
+    (λ uncut. (timely ∙ ap (λ (n : ℕ). next_turn m sections fs before n + (section_at sections 0).dwell) (sym h.none), λ s inside why. ap length (h.silent s) ∙ sym (ap length (no-plan m sections fs before s h.none))), x.1)

@@ -23,15 +23,16 @@ use Rattle.report_laws.specs.Shown.{lines_behind, pulses_before, pulses_in, sect
 use Rattle.report_laws.specs.Stands.{AreBehind}
 use Rattle.report_laws.specs.page.Log.{TellsPulseOf}
 use Rattle.report_laws.proofs.Bridging.{IsOneCut, is-first, is-here, is-later}
-use Rattle.report_laws.proofs.page.Front.{Goes}
+use Rattle.report_laws.proofs.page.Front.{Goes, StartsBehind}
 
--- Lines of sections of a text, from one of a number on, which may start in a turn or later: each is the next one, in its turn, behind the start of the
--- one before where that homes, and else behind its end.
-abbrev pub AreOf : Machine → List Section → List Clocks → ℕ → ℕ → List ReportLine → Type 0
-AreOf m sections clocks k soon [] = Unit {0}
-AreOf m sections clocks k soon (l ∷ lines) =
+-- Lines of sections of a text, from one of a number on, which may start in a turn or later: each is the next one, behind the start of the one before where that homes; and
+-- else in its turn behind its end.
+abbrev pub AreOf : Machine → List Section → List Clocks → ℕ → Bool → ℕ → List ReportLine → Type 0
+AreOf m sections clocks k home soon [] = Unit {0}
+AreOf m sections clocks k home soon (l ∷ lines) =
     let s = section_at sections k in
-    (turn : ℕ) × (l ≡ report.Section k turn s.kind) × (k < length sections) × (soon + s.dwell ≤ turn) × AreOf m sections clocks (suc k) (ready_behind (is_home s.kind) turn (section_end m clocks s.moves turn)) lines
+    (turn : ℕ) × (l ≡ report.Section k turn s.kind) × (k < length sections) × (soon + s.dwell ≤ turn) × (home ≡ false → soon + s.dwell ≡ turn)
+    × AreOf m sections clocks (suc k) (is_home s.kind) (ready_behind (is_home s.kind) turn (section_end m clocks s.moves turn)) lines
 
 -- a section has its line
 abbrev pub IsShown : ℕ → List ReportLine → Type 0
@@ -40,8 +41,8 @@ IsShown j lines = (turn : ℕ) × (section_turn j lines ≡ Some turn)
 -- What is known of the sections from a number on whose lines are to come: their pulses fit by the lines that are told, and their cut lines are
 -- theirs. Where the next one is shown too, one of moves ends by these lines as it does; then, or where the run went through, one that homes has a cut line;
 -- and one of moves is whole where the run went through, or behind the next one's line a pulse of the board is told.
-pub record Ahead (through : Type 0) (m : Machine) (sections : List Section) (clocks lines : List Clocks) (n soon : ℕ) (rest : List ReportLine) : Type 0 where
-  pub shown : AreOf m sections clocks n soon (sections_shown rest)
+pub record Ahead (through : Type 0) (m : Machine) (sections : List Section) (clocks lines : List Clocks) (n : ℕ) (home : Bool) (soon : ℕ) (rest : List ReportLine) : Type 0 where
+  pub shown : AreOf m sections clocks n home soon (sections_shown rest)
   pub fits : (j at s : ℕ) → n ≤ j → section_turn j rest ≡ Some at → s < length m.steppers →
       Fits (clocks_at lines (stepper_at m s).board).first.freq (base_tick m lines at s) (pulses_in j s rest) (stepper_plan m lines (section_at sections j).moves at s)
   pub ends : (j at next : ℕ) → n ≤ j → section_turn j rest ≡ Some at → section_turn (suc j) rest ≡ Some next → is_home (section_at sections j).kind ≡ false →
@@ -68,11 +69,11 @@ at-it : (n k : ℕ) → n ≡ k → (n == k) ≡ true
 at-it n k same = grind (arith, nat_tests)
 
 -- when the next section may start
-due-behind : (home cut : Bool) (turn end other dwell at : ℕ) → (home ≡ false → cut ≡ false) → (home ≡ true → cut ≡ true) → (home ≡ false → end ≡ other) → ready_behind home turn other + dwell ≤ at → ready_behind cut turn end + dwell ≤ at
-due-behind true true turn end other dwell at moved stopped ends due = due
-due-behind true false turn end other dwell at moved stopped ends due = (let e : false ≡ true = stopped refl in cc)
-due-behind false true turn end other dwell at moved stopped ends due = (let e : true ≡ false = moved refl in cc)
-due-behind false false turn end other dwell at moved stopped ends due = (let e = ends refl in omega (arith, e, due))
+due-behind : (home cut : Bool) (turn end other dwell at : ℕ) → (home ≡ false → cut ≡ false) → (home ≡ true → cut ≡ true) → (home ≡ false → end ≡ other) → ready_behind home turn other + dwell ≤ at → (home ≡ false → ready_behind home turn other + dwell ≡ at) → StartsBehind cut turn end dwell at
+due-behind true true turn end other dwell at moved stopped ends due same = (due, λ uncut. absurd (let f : true ≡ false = uncut in cc))
+due-behind true false turn end other dwell at moved stopped ends due same = absurd (let e : false ≡ true = stopped refl in cc)
+due-behind false true turn end other dwell at moved stopped ends due same = absurd (let e : true ≡ false = moved refl in cc)
+due-behind false false turn end other dwell at moved stopped ends due same = (let e = ends refl in let f = same refl in (omega (arith, e, due), λ uncut. omega (arith, e, f)))
 
 either-cut : (cut : Bool) (none : List ReportLine) → none ≡ [] → (cut ≡ true) ⊎ (none ≢ []) → cut ≡ true
 either-cut cut none e (inl f) = f
@@ -92,8 +93,8 @@ module _ (through : Type 0) (m : Machine) (sections : List Section) (clocks line
   moving i cut uncut stopped = elim (home-or (is_home (section_at sections i).kind)) [ inl h ↦ absurd (let e : false ≡ true = sym uncut ∙ stopped h in cc) | inr h ↦ h ]
 
   -- behind the line of a section it is the one that is open
-  begun : (i j at soon : ℕ) (kind : SectionKind) (rest : List ReportLine) → Ahead through m sections clocks lines i soon (report.Section j at kind ∷ rest) → j ≡ i → (Ahead through m sections clocks lines (suc i) (Soon i at) rest → Now through m sections clocks lines i at false (λ s. length (pulses_before s rest)) rest → Goes through m sections lines i at false (λ s. length (pulses_before s rest)) rest) → Goes through m sections lines i at false (λ s. length (pulses_before s rest)) rest
-  begun i j at soon kind rest ahead number onward =
+  begun : (i j at : ℕ) (home : Bool) (soon : ℕ) (kind : SectionKind) (rest : List ReportLine) → Ahead through m sections clocks lines i home soon (report.Section j at kind ∷ rest) → j ≡ i → (Ahead through m sections clocks lines (suc i) (is_home (section_at sections i).kind) (Soon i at) rest → Now through m sections clocks lines i at false (λ s. length (pulses_before s rest)) rest → Goes through m sections lines i at false (λ s. length (pulses_before s rest)) rest) → Goes through m sections lines i at false (λ s. length (pulses_before s rest)) rest
+  begun i j at home soon kind rest ahead number onward =
       let here = report.Section j at kind ∷ rest in
       let self = at-it j i number in
       let not : (k : ℕ) → suc i ≤ k → (j == k) ≡ false = λ k late. not-at j k (omega (arith, late, number)) in
@@ -111,7 +112,7 @@ module _ (through : Type 0) (m : Machine) (sections : List Section) (clocks line
       let now : section_turn i here ≡ Some at = is-first (j == i) at (section_turn i rest) self in
       let cut_here : cuts_in i here ≡ cuts_of (lines_before rest) = ap (λ (z : List ReportLine). cuts_of (lines_before z)) (is-here (j == i) rest (lines_behind i rest) self) in
       onward (record {
-        shown = subst (λ (n : ℕ). AreOf m sections clocks (suc i) (Soon i n) (sections_shown rest)) when ahead.shown.4;
+        shown = subst (λ (n : ℕ). AreOf m sections clocks (suc i) (is_home (section_at sections i).kind) (Soon i n) (sections_shown rest)) when ahead.shown.5;
         fits = λ k t s late e inside. subst (λ (ps : List Pulse). Fits (clocks_at lines (stepper_at m s).board).first.freq (base_tick m lines t s) ps (stepper_plan m lines (section_at sections k).moves t s)) (pulses_are k s late)
             (ahead.fits k t s (omega (arith, late)) (turns k late ∙ e) inside);
         ends = λ k t next late e f. ahead.ends k t next (omega (arith, late)) (turns k late ∙ e) (turns (suc k) (omega (arith, late)) ∙ f);
@@ -127,7 +128,7 @@ module _ (through : Type 0) (m : Machine) (sections : List Section) (clocks line
         whole = λ s h inside why. sym (ap length (is-here (j == i) (pulses_before s rest) (pulses_in i s rest) self)) ∙ ahead.whole i at s (omega arith) now h inside (told_so i s (omega arith) why);
       })
 
-  goes : (i turn : ℕ) (cut : Bool) (total : ℕ → ℕ) (rest : List ReportLine) → AreBehind true rest → Ahead through m sections clocks lines (suc i) (Soon i turn) rest → Now through m sections clocks lines i turn cut total rest → Goes through m sections lines i turn cut total rest
+  goes : (i turn : ℕ) (cut : Bool) (total : ℕ → ℕ) (rest : List ReportLine) → AreBehind true rest → Ahead through m sections clocks lines (suc i) (is_home (section_at sections i).kind) (Soon i turn) rest → Now through m sections clocks lines i turn cut total rest → Goes through m sections lines i turn cut total rest
   goes i turn cut total [] behind ahead now = λ uncut s inside gone. now.whole s (moving i cut uncut (λ h. either-cut cut [] refl (now.ended (inl gone) h))) inside (inl gone)
   goes i turn cut total (report.Section j at kind ∷ rest) behind ahead now =
       let e : report.Section j at kind ≡ report.Section (suc i) ahead.shown.0 (section_at sections (suc i)).kind = ahead.shown.1 in
@@ -137,8 +138,9 @@ module _ (through : Type 0) (m : Machine) (sections : List Section) (clocks line
       let here : section_turn (suc i) (report.Section j at kind ∷ rest) ≡ Some at = is-first (j == suc i) at (section_turn (suc i) rest) (at-it j (suc i) number) in
       let home = is_home (section_at sections i).kind in
       let soon : Soon i turn + (section_at sections (suc i)).dwell ≤ at = subst (λ (n : ℕ). Soon i turn + (section_at sections (suc i)).dwell ≤ n) when ahead.shown.3 in
+      let timely : home ≡ false → Soon i turn + (section_at sections (suc i)).dwell ≡ at = λ h. ahead.shown.4 h ∙ when in
       let due = due-behind home cut turn (section_end m lines (section_at sections i).moves turn) (section_end m clocks (section_at sections i).moves turn) (section_at sections (suc i)).dwell at
-      (λ h. (now.uncut h).0) (λ h. either-cut cut [] refl (now.ended (inr (at, here)) h)) (now.end at here) soon in
+      (λ h. (now.uncut h).0) (λ h. either-cut cut [] refl (now.ended (inr (at, here)) h)) (now.end at here) soon timely in
       let fits = λ (s : ℕ) (inside : s < length m.steppers). subst (λ (ps : List Pulse). Fits (clocks_at lines (stepper_at m s).board).first.freq (base_tick m lines at s) ps (stepper_plan m lines (section_at sections (suc i)).moves at s))
       (is-here (j == suc i) (pulses_before s rest) (pulses_in (suc i) s rest) (at-it j (suc i) number)) (ahead.fits (suc i) at s (omega arith) here inside) in
       let behind_it = is-here (j == suc i) rest (lines_behind (suc i) rest) (at-it j (suc i) number) in
@@ -148,7 +150,7 @@ module _ (through : Type 0) (m : Machine) (sections : List Section) (clocks line
         | inl gone ↦ inl gone
         | inr x ↦ inr ((at, here), subst (Tells (stepper_at m s).board) (sym behind_it) x)
       ]) in
-      (number, ahead.shown.2, same, due, fits, whole, begun (suc i) j at (Soon i turn) kind rest ahead number (λ a n. goes (suc i) at false (λ s. length (pulses_before s rest)) rest behind a n))
+      (number, ahead.shown.2, same, due, fits, whole, begun (suc i) j at home (Soon i turn) kind rest ahead number (λ a n. goes (suc i) at false (λ s. length (pulses_before s rest)) rest behind a n))
   goes i turn cut total (report.Pulse board stepper tick up ∷ rest) behind ahead now =
       goes i turn cut total rest behind (record { shown = ahead.shown; fits = ahead.fits; ends = ahead.ends; uncut = ahead.uncut; one = ahead.one; ended = ahead.ended; whole = ahead.whole })
       (record { end = now.end; uncut = now.uncut; one = now.one; ended = now.ended; whole = now.whole })
@@ -185,5 +187,5 @@ module _ (through : Type 0) (m : Machine) (sections : List Section) (clocks line
   goes i turn cut total (report.End c ∷ rest) behind ahead now = absurd behind
 
   -- the lines behind that of the first section
-  pub goes-on : (at soon : ℕ) (kind : SectionKind) (rest : List ReportLine) → AreBehind true rest → Ahead through m sections clocks lines 0 soon (report.Section 0 at kind ∷ rest) → Goes through m sections lines 0 at false (λ s. length (pulses_before s rest)) rest
-  goes-on at soon kind rest behind ahead = begun 0 0 at soon kind rest ahead refl (λ a n. goes 0 at false (λ s. length (pulses_before s rest)) rest behind a n)
+  pub goes-on : (at : ℕ) (home : Bool) (soon : ℕ) (kind : SectionKind) (rest : List ReportLine) → AreBehind true rest → Ahead through m sections clocks lines 0 home soon (report.Section 0 at kind ∷ rest) → Goes through m sections lines 0 at false (λ s. length (pulses_before s rest)) rest
+  goes-on at home soon kind rest behind ahead = begun 0 0 at home soon kind rest ahead refl (λ a n. goes 0 at false (λ s. length (pulses_before s rest)) rest behind a n)

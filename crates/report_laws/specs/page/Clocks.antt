@@ -21,7 +21,13 @@ pub record IsNearBoard (clock : BoardClock) (l : Line) (from : ℕ) : Type 0 whe
   pub near : (k : ℕ) → from ≤ k → AreWithin (line_reach clock.start clock.freq clock.drift sent got k) (tick l (k * turn_ns)) (board_tick clock k)
   pub exact : clock.drift ≡ pos 0 → (k : ℕ) → from ≤ k → (board_tick clock k ≤ tick l (k * turn_ns)) × (tick l (k * turn_ns) ≤ board_tick clock (k + (got - sent)))
 
--- each clock line that a log tells is near its board
+-- a tick is a board's own, as a turn begins from one on, and three turns later at most
+abbrev pub IsOwnTick : BoardClock → ℕ → ℕ → Type 0
+IsOwnTick clock from at = (k : ℕ) × (from ≤ k) × (k ≤ from + 3) × (at ≡ board_tick clock k)
+
+-- each clock line that a log tells is near its board; a further one tells a tick of the board's own
 pub record AreNearBoards (m : Machine) (log : List LogLine) : Type 0 where
-  pub boards : (later lines : List LogLine) (b turn at : ℕ) → log ≡ later ++ line.Board b turn at ∷ lines → IsNearBoard (clock_of (board_at m b)) (told_line m b turn at) turn
-  pub further : (later lines : List LogLine) (b turn at from : ℕ) → log ≡ later ++ line.Line b turn at from ∷ lines → IsNearBoard (clock_of (board_at m b)) (told_line m b turn at) turn
+  pub boards : (later lines : List LogLine) (b turn at : ℕ) → log ≡ later ++ line.Board b turn at ∷ lines →
+      IsNearBoard (clock_of (board_at m b)) (told_line m b turn at) turn
+  pub further : (later lines : List LogLine) (b turn at from : ℕ) → log ≡ later ++ line.Line b turn at from ∷ lines →
+      IsNearBoard (clock_of (board_at m b)) (told_line m b turn at) turn × IsOwnTick (clock_of (board_at m b)) turn at

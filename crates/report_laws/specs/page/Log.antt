@@ -11,12 +11,18 @@ use Rattle.plan_types.specs.declared.machine.Machine.{Machine}
 use Rattle.plan_types.specs.declared.plan.Section.{Section}
 use Rattle.plan_types.specs.declared.plan.SectionKind.{SectionKind}
 use Rattle.plan_types.specs.Machines.{stepper_at}
+use Rattle.report_laws.specs.Logged.{logged}
+use Rattle.report_text.specs.declared.line.ReportLine.{ReportLine}
 use Rattle.text_core.specs.Lines.{lines_of}
 use Rattle.text_core.specs.Words.{worded_lines}
 
 -- a text's lines say a log, of which the last line stands first
 abbrev pub SaysLog : Machine → List ℕ → List LogLine → Type 0
 SaysLog m text log = all_said m (worded_lines 35 1 (lines_of text)) ≡ map ok_line (in_order log)
+
+-- the log that some lines of a report say: the last line stands first
+abbrev pub log_of : List ReportLine → List LogLine
+log_of said = in_order (map logged said)
 
 -- the turn that the boards' lines tell, from which on the first section may start
 abbrev pub board_turn : List LogLine → ℕ
@@ -26,9 +32,9 @@ board_turn (_ ∷ lines) = board_turn lines
 
 -- The turn from which on the next section may start, where no cut stands in the one before: the turn that the boards' lines tell; or 260
 -- turns behind that in which the plan of the one before ends.
-abbrev pub next_turn : Machine → List Section → List LogLine → List LogLine → ℕ → ℕ
-next_turn m sections log lines zero = board_turn lines
-next_turn m sections log lines (suc i) = end_by m sections (clocks m (further_among log) lines) (suc i) (start lines) + 260
+abbrev pub next_turn : Machine → List Section → List Further → List LogLine → ℕ → ℕ
+next_turn m sections further lines zero = board_turn lines
+next_turn m sections further lines (suc i) = end_by m sections (clocks m further lines) (suc i) (start lines) + 260
 
 -- A line stands behind others in a log as it may, by the further clock lines of the log: a board's line before the first section, in the order of
 -- the boards; a further clock line behind those of its board; a section, the next one of the text, not before its turn (`IsNext`), behind the lines
@@ -73,5 +79,5 @@ pub record Follows (through : Type 0) (m : Machine) (sections : List Section) (l
 -- before; and where the run went through each section of the text has its line.
 pub record StartsOnTime (through : Type 0) (m : Machine) (sections : List Section) (log : List LogLine) : Type 0 where
   pub due : (later lines : List LogLine) (i turn : ℕ) (kind : SectionKind) → log ≡ later ++ line.Section i turn kind ∷ lines → is_cut lines ≡ false →
-      turn ≡ next_turn m sections log lines (begun lines) + (section_at sections i).dwell
+      turn ≡ next_turn m sections (further_among log) lines (begun lines) + (section_at sections i).dwell
   pub all : through → begun log ≡ length sections

@@ -1,0 +1,78 @@
+-- The report of a run over links, with what its lines show.
+use Rattle.std.proofs.Common.{◌≡◌, ◌∙◌, ℕ, suc, ◌+◌, List, [], ◌∷◌, ◌++◌, length, map, take, ap, sym, refl, Some}
+use Rattle.std.proofs.Math.Logic.{∥∥₁_elim, ∥∥₁_map, ∥∥₁_prop}
+use Rattle.std.proofs.lemmas.List.{length-map}
+use Rattle.cause_runs.specs.Short.{HaveShortDictionaries}
+use Rattle.io_core.specs.declared.traits.Files.{Ghosts as Files}
+use Rattle.io_core.specs.declared.traits.Sink.{Ghosts as Sink}
+use Rattle.motion_work.specs.Seen.{Started}
+use Rattle.plan_types.specs.declared.cause.Cause.{Cause}
+use Rattle.plan_types.specs.declared.machine.Machine.{Machine}
+use Rattle.plan_types.specs.declared.plan.Section.{Section}
+use Rattle.plan_types.specs.Machines.{IsValidMachine}
+use Rattle.report_text.specs.declared.line.ReportLine.{ReportLine}
+use Rattle.report_text.specs.declared.line.ReportLine.TheVariants as report
+use Rattle.session_lanes.specs.declared.near.LinkLog.{LinkLog}
+use Rattle.session_laws.specs.run_ends.Ends.{GoesThrough}
+use Rattle.session_laws.specs.run_lines.Due.{begun_lines}
+use Rattle.session_laws.proofs.home_headline.Shows.{run_shows}
+use Rattle.session_run.specs.Reported.{IsReported}
+use Rattle.wire_scene.specs.declared.scene.Scene.{Scene}
+use Rattle.report_laws.specs.Body.{section_lines}
+use Rattle.report_laws.specs.Homes.{ShowsBegun}
+use Rattle.report_laws.specs.Linked.{IsLinkReport, MeetPremise}
+use Rattle.report_laws.specs.Promises.{sections_over}
+use Rattle.report_laws.specs.Shown.{sections_shown}
+use Rattle.report_laws.specs.page.Report.{Shows}
+use Rattle.report_laws.proofs.Homing.{home-prints, shows}
+use Rattle.report_laws.proofs.Linked.{begun_texts}
+use Rattle.report_laws.proofs.Linked as linked
+use Rattle.report_laws.proofs.Scenes.{scene_under}
+
+-- the lines of sections that were begun, the first ones of a text, are those of the first sections
+first-lines : (i : ℕ) (begun : List Started) (sections : List Section) (xs rest : List ReportLine) → map (λ s. s.section) begun ≡ take (length begun) sections → begun_lines i begun ≡ xs ++ rest → (starts : List ℕ) × (xs ≡ section_lines i starts sections)
+first-lines i begun sections [] rest of are = ([], refl)
+first-lines i [] sections (x ∷ xs) rest of are = absurd (let e : [] ≡ x ∷ (xs ++ rest) = are in cc)
+first-lines i (s ∷ begun) [] (x ∷ xs) rest of are = absurd (let e : s.section ∷ map (λ (y : Started). y.section) begun ≡ [] = of in cc)
+first-lines i (s ∷ begun) (z ∷ sections) (x ∷ xs) rest of are =
+    let e : s.section ∷ map (λ (y : Started). y.section) begun ≡ z ∷ take (length begun) sections = of in
+    let same : s.section ≡ z = cc in
+    let f : report.Section i s.start s.section.kind ∷ begun_lines (i + 1) begun ≡ x ∷ (xs ++ rest) = are in
+    let own : x ≡ report.Section i s.start s.section.kind = cc in
+    let next : map (λ (y : Started). y.section) begun ≡ take (length begun) sections = cc in
+    let behind : begun_lines (i + 1) begun ≡ xs ++ rest = cc in
+    let later = first-lines (i + 1) begun sections xs rest next behind in
+    (s.start ∷ later.0, ap (λ (l : ReportLine). l ∷ xs) (own ∙ ap (λ (y : Section). report.Section i s.start y.kind) same) ∙ ap (λ (ls : List ReportLine). report.Section i s.start z.kind ∷ ls) later.1)
+
+many : (i : ℕ) (ss : List Started) → length (begun_lines i ss) ≡ length ss
+many i [] = refl
+many i (s ∷ ss) = ap suc (many (i + 1) ss)
+
+all-shown : (m : Machine) (text : List ℕ) (c : Cause) (said : List ReportLine) → ShowsBegun m text c said → GoesThrough c → length (sections_shown said) ≡ length (sections_over m text)
+all-shown m text c said begun gone =
+    let all = begun.all gone in
+    ap length all.1 ∙ many 0 begun.begun ∙ sym (length-map begun.begun (λ (x : Started). x.section)) ∙ ap length all.0
+
+module _ {F S : Type 0} (f : Files F) (o : Sink S) (m : Machine) (s : Scene) (gcode : List ℕ) (files files' : F) (out out' : S) (c : Cause) (lines : List ReportLine) (counts : List ℕ) (links : List LinkLog) (valid : IsValidMachine m) (short : HaveShortDictionaries m) where
+  shown : (r : IsReported f o m s gcode files files' out out' c lines counts links) (text : List ℕ) → f.told files gcode ≡ Some text
+      → ∥ Shows (MeetPremise m s text r.runs.runs.0 r.runs.runs.1 r.runs.runs.2 r.told.cause) m s text c r.said ∥₁
+  shown r text told =
+      ∥∥₁_elim (begun_texts f o m s gcode files files' out out' c lines counts links valid short r text told) ∥∥₁_prop (λ begun.
+      ∥∥₁_map (run_shows f o m s gcode files files' out r.behind r.kept r.kept' r.told r.runs valid short text told r.fresh.at) (λ w.
+      let prints = λ (p : MeetPremise m s text r.runs.runs.0 r.runs.runs.1 r.runs.runs.2 r.told.cause).
+      home-prints f o m s gcode files files' out out' c lines counts links valid short r text told p.1 w.0 w.1 p.2 (w.2 p.1 p.2) (scene_under m s p.0) in
+      let b = begun.0 in
+      record {
+        follows = λ p. (prints p).follows;
+        starts = λ p. (prints p).starts;
+        cuts = λ p. (shows f o m s gcode files files' out out' c lines counts links valid short r text told p.1 w.0 w.1 p.2 (w.2 p.1 p.2) (scene_under m s p.0)).cuts;
+        clocks = λ p. (prints p).clocks;
+        says = λ p. (prints p).says;
+        sections = first-lines 0 b.begun (sections_over m text) (sections_shown r.said) b.sections.0 b.of_text b.sections.1;
+        all = all-shown m text c r.said b;
+        counts = b.counts;
+        cause = b.cause;
+      }))
+
+  pub planned : IsReported f o m s gcode files files' out out' c lines counts links → IsLinkReport f o m s gcode files files' out out' c lines counts links
+  planned r = linked.planned f o m s gcode files files' out out' c lines counts links valid short r (shown r)

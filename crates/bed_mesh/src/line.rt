@@ -48,7 +48,7 @@ fn change_of(from: &[i64; 4], place: &[i64; 4]) -> i64
 }
 
 /// Adds the line of a move.
-#[tactic(auto, unfolding(crate::specs::Lines::move_line))]
+#[tactic(auto, unfolding(crate::specs::BentLines::move_line))]
 fn put_move(
     text: &mut Vec<u8>,
     mesh: &Mesh,

@@ -39,7 +39,7 @@ impl LoadFiles {
         LoadFiles {
             seed,
             moves,
-            line: generated_load::first_line(),
+            line: crate::first_line(),
             at: 0,
             left: moves,
             state: seed,
@@ -57,8 +57,8 @@ impl LoadFiles {
     {
         self.at += self.line.len() as u64;
         self.left -= 1;
-        self.state = generated_load::next(self.state);
-        self.line = generated_load::move_line(generated_load::upper(self.state));
+        self.state = crate::next(self.state);
+        self.line = crate::move_line(crate::upper(self.state));
     }
 
     /// Goes to the line in which a place of the text is, or to the last line where the text has no such place.

@@ -34,7 +34,8 @@ use Rattle.clock_runs.proofs.Turning.{goes}
 use Rattle.homing_laws.specs.clear_boards.Hearing.{TellAble}
 use Rattle.homing_laws.specs.clear_groups.Early.{HeardUntil}
 use Rattle.homing_laws.specs.home_runs.Sections.{HomesFrom, IsOf}
-use Rattle.homing_laws.specs.home_runs.Timeouts.{BeginsBy, CouldUpTo, IsBoundIn, StopsAt, TakesSent, known_in}
+use Rattle.homing_laws.specs.home_runs.SetUps.{IsBoundIn, StopsAt}
+use Rattle.homing_laws.specs.home_runs.Timeouts.{BeginsBy, CouldUpTo, TakesSent, known_in}
 use Rattle.homing_laws.specs.home_runs.Told.{IsMember}
 use Rattle.homing_laws.proofs.clear_groups.Noticing.{AllAbleBy, hears_until}
 use Rattle.homing_laws.proofs.home_runs.Grouped.{members_states}

@@ -53,7 +53,8 @@ use Rattle.clock_runs.proofs.Lines.{as_long, noted_phase, run_before, turn_of}
 use Rattle.clock_runs.proofs.Turning.{Asks, BoardTurned, Ends, Runs}
 use Rattle.homing_laws.proofs.clear_boards.Clocking.{lines_up}
 use Rattle.homing_laws.specs.home_runs.Sections.{HomesFrom, queued_by}
-use Rattle.homing_laws.specs.home_runs.Timeouts.{BeginsBy, EndsWith, IsBoundIn, SendsTimeout, StopsAt, TakesInTime, TakesSent, known_in}
+use Rattle.homing_laws.specs.home_runs.SetUps.{IsBoundIn, StopsAt}
+use Rattle.homing_laws.specs.home_runs.Timeouts.{BeginsBy, EndsWith, SendsTimeout, TakesInTime, TakesSent, known_in}
 use Rattle.homing_laws.proofs.clear_boards.Keeping.{hears_keep}
 use Rattle.homing_laws.proofs.home_runs.Controlling.{connecting_not}
 use Rattle.homing_laws.proofs.home_runs.Joining.{all_queued}
@@ -399,8 +400,7 @@ stops_under m switches pins entries b s came later t between early from start tu
     (subst In (sym same) soon) in
     let read = reads m switches pins entries b from own most start ms came (later ++ t ∷ between) early
     (subst (IsInRun m switches pins entries b came) (sym same) x.run_is) x.homes x.long (sent_by m switches pins entries b from turn most came within begins) late in
-    run_limits m switches pins entries b s came later t between early from start ms x.front x.set x.middle x.bind x.behind x.clock most v x.run_is x.homes
-    x.begun x.moves x.there x.on x.sets_none x.sends_none x.long x.took x.set_is x.bind_is x.in_turn (subst (ReadsAtMost own (trigger_of m b) most n first) same read)
+    run_limits m switches pins entries b s came later t between early from start ms v x most (subst (ReadsAtMost own (trigger_of m b) most n first) same read)
 
 pub stops_by_end : (m : Machine) (switches : List Switch) (pins : List (List Level)) (entries : List Entry) (b s : ℕ) (came : List Came)
     (later : List BoardTurn) (t : BoardTurn) (between early : List BoardTurn) (from start last most : ℕ) (ms : List Member) → IsValidMachine m

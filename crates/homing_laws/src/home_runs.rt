@@ -28,8 +28,8 @@ ghost use Rattle.plan_types.specs.declared.plan.BoardState.TheVariants.{Running}
 ghost use Rattle.plan_types.specs.Machines.{IsValidMachine, board_at};
 ghost use Rattle.plan_types.specs.Machines as machine;
 ghost use Rattle.homing_laws.specs.home_runs.Sections.{HomesFrom, IsAnswered, IsMoved, Moves, RestsInTime, SpoilsFew, TakesSetUp, queued_by};
-ghost use Rattle.homing_laws.specs.home_runs.SetUps.{AreInOrder, TookInTurn};
-ghost use Rattle.homing_laws.specs.home_runs.Timeouts.{BeginsBy, CouldUpTo, EndsWith, IsBoundIn, StopsAt, TakesSent};
+ghost use Rattle.homing_laws.specs.home_runs.SetUps.{AreInOrder, IsBoundIn, StopsAt};
+ghost use Rattle.homing_laws.specs.home_runs.Timeouts.{BeginsBy, CouldUpTo, EndsWith, TakesSent};
 ghost use Rattle.section_units.specs.Sections.{BoardSection};
 ghost use Rattle.trigger_group.specs.declared.order.Member.{Member};
 ghost use Rattle.link_work.specs.Limits.{AllKeepLimits};
@@ -194,22 +194,16 @@ pub fn set_ups_are_taken_in_order()
 /// homing section to the board's trigger, the stepper makes no pulse at or after the tick at which the trigger triggered, up to any turn at
 /// whose end this can't trigger, whatever happens on the lines, and none at all where the trigger couldn't trigger as it was bound.
 pub fn moving_steppers_stop_with_their_trigger()
-    ensures { (m : Machine) (switches : List Switch) (pins : List (List Level)) (entries : List Entry) (b stepper : ℕ) (came : List Came) (later : List BoardTurn) (t : BoardTurn) (between early : List BoardTurn) (from start : ℕ) (members : List Member)
-        (front : List Meant) (bind : Meant) (behind : List Meant) (slot : Slot) →
-        IsValidMachine m → IsInRun m switches pins entries b came (later ++ t ∷ (between ++ early)) → HomesFrom m switches from start members came → from + 254 ≡ start → Moves b stepper members →
-        stepper < length m.steppers → (machine.stepper_at m stepper).board ≡ b →
-        SetNoClockFrom from (later ++ t ∷ (between ++ early)) → SendNoneIn from (from + 4) (later ++ t ∷ (between ++ early)) → length early ≡ from →
-        (stands_after (first_state (board_at m b) pins b entries) (later ++ t ∷ (between ++ early))).core.taken ≡ queued_by early ++ (front ++ bind ∷ behind) →
-        bind.command ≡ StepperStopOnTrigger (machine.stepper_at m stepper).oid (trigger_of m b) → TookInTurn (first_state (board_at m b) pins b entries) (queued_by early ++ front) t (between ++ early) →
-        slot_at (stands_after (first_state (board_at m b) pins b entries) (later ++ t ∷ (between ++ early))).core.board (trigger_of m b) ≡ Some slot → slot.trigger.can ≡ false →
-        (pulses : List Pulse) × ((stands_after (first_state (board_at m b) pins b entries) (between ++ early)).core.made ++ pulses ≡
-        (stands_after (first_state (board_at m b) pins b entries) (later ++ t ∷ (between ++ early))).core.made) × AllBefore (machine.stepper_at m stepper).oid slot.trigger.tick pulses }
+    ensures { (m : Machine) (switches : List Switch) (pins : List (List Level)) (entries : List Entry) (b stepper : ℕ) (came : List Came) (later : List BoardTurn) (t : BoardTurn) (between early : List BoardTurn)
+        (from start : ℕ) (members : List Member) → IsValidMachine m → IsBoundIn m switches pins entries b stepper came later t between early from start members →
+        (slot : Slot) → slot_at (stands_after (first_state (board_at m b) pins b entries) (later ++ t ∷ (between ++ early))).core.board (trigger_of m b) ≡ Some slot → slot.trigger.can ≡ false →
+        StopsAt m pins entries b stepper slot.trigger.tick (later ++ t ∷ (between ++ early)) (between ++ early) }
 {}
 
 /// The law of groups, of homing sections: from the turn on in which a board took the command that binds a stepper that moves in a homing
-/// section to the board's trigger, behind a timeout of the section, the stepper makes no pulse at or after the tick of the turn behind the
-/// section's last one; and where no report of some member that counts says that it could trigger in a turn behind `u`, none at or after the
-/// tick of the turn 25 behind `u`. So it is whatever happens on the lines, where no timeout is taken half a round of the clock after its tick.
+/// section to the board's trigger, the stepper makes no pulse at or after the tick of the turn behind the section's last one; and where no
+/// report that counts says of some member that it could trigger in a turn behind `u`, none at or after the tick of the turn 25 behind `u`.
+/// So it is whatever happens on the lines, where no timeout is taken half a round of the 32-bit clock after its tick.
 pub fn members_stop_in_time()
     ensures end { (m : Machine) (switches : List Switch) (pins : List (List Level)) (entries : List Entry) (b stepper : ℕ) (came : List Came) (later : List BoardTurn) (t : BoardTurn) (between early : List BoardTurn)
         (from start last most : ℕ) (members : List Member) → IsValidMachine m → IsBoundIn m switches pins entries b stepper came later t between early from start members →

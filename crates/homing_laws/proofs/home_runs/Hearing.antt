@@ -1,6 +1,5 @@
 -- What a homing group hears of a member that could trigger, over a run.
-use Rattle.std.proofs.Common.{◌≡◌, ℕ, ◌+◌, ◌++◌, ◌≤◌, inl, inr, Bool, true, false, cond, List, [], ◌∷◌, length, map, Option, Some, None, refl, ap, sym, ◌∙◌, subst, arith}
-
+use Rattle.std.proofs.Common.{◌≡◌, ℕ, ◌+◌, ◌++◌, ◌≤◌, inl, inr, Bool, true, false, cond, List, [], ◌∷◌, length, map, Option, Some, None, sym, ◌∙◌, subst, arith}
 use Rattle.plan_types.specs.declared.levels.Level.{Level}
 use Rattle.plan_types.specs.declared.machine.Machine.{Machine}
 use Rattle.plan_types.specs.declared.plan.SectionKind.{SectionKind}
@@ -19,7 +18,6 @@ use Rattle.trigger_group.specs.declared.order.Member.{Member}
 use Rattle.trigger_group.specs.declared.seen.Seen.{Seen}
 use Rattle.trigger_group.specs.Group.{new_group, unseen}
 use Rattle.trigger_group.specs.Kept.{may_be}
-use Rattle.trigger_group.specs.Runs.{all_sent}
 use Rattle.trigger_group.proofs.Answering.{none_there}
 use Rattle.trigger_group.proofs.Bounds.{UpTo, by_heard}
 use Rattle.trigger_group.proofs.Knows.{after_members}
@@ -36,7 +34,8 @@ use Rattle.clock_runs.proofs.Turning.{goes}
 use Rattle.homing_laws.specs.clear_boards.Hearing.{TellAble}
 use Rattle.homing_laws.specs.clear_groups.Early.{HeardUntil}
 use Rattle.homing_laws.specs.home_runs.Sections.{HomesFrom, IsOf}
-use Rattle.homing_laws.specs.home_runs.Timeouts.{BeginsBy, CouldUpTo, IsBoundIn, StopsAt, TakesSent, known_in}
+use Rattle.homing_laws.specs.home_runs.SetUps.{IsBoundIn, StopsAt}
+use Rattle.homing_laws.specs.home_runs.Timeouts.{BeginsBy, CouldUpTo, TakesSent, known_in}
 use Rattle.homing_laws.specs.home_runs.Told.{IsMember}
 use Rattle.homing_laws.proofs.clear_groups.Noticing.{AllAbleBy, hears_until}
 use Rattle.homing_laws.proofs.home_runs.Grouped.{members_states}
@@ -125,15 +124,15 @@ module _ (m : Machine) (switches : List Switch) (b start u : ℕ) (late : start 
   heard_within from ms [] g homes member could = tt
   heard_within from ms (c ∷ before) g homes member could = (
     λ since h is. (
-    let n = known_in m switches c before in
-    let now = hears_all n.clocks c.states h in
-    let of : IsOf start ms (Some h) = subst (IsOf start ms) is (homes.0 since).1 in
-    let was : HeardSo (Some h) = subst HeardSo is (noted_so c.note (known_by m switches before) (known_so before g.1 could.1)) in
-    let begins : now.group.start ≡ start = states_start n.clocks 0 h.start c.states h.group ∙ of.1 in
-    let members : members_of now.group ≡ ms = members_states n.clocks 0 h.start c.states h.group ∙ of.2 in
-    let heard = up_to b start u now.group.members (heard_so c before h could was of.0) (subst (IsMember b) (sym members) member) in
-    by_heard ([] ∷ []) (length before) b u now.group (omega (arith, begins, late)) (λ q there. absurd (none_there q there))
-    (subst (λ (s : ℕ). UpTo b s u now.group.members) (sym begins) heard)),
+        let n = known_in m switches c before in
+        let now = hears_all n.clocks c.states h in
+        let of : IsOf start ms (Some h) = subst (IsOf start ms) is (homes.0 since).1 in
+        let was : HeardSo (Some h) = subst HeardSo is (noted_so c.note (known_by m switches before) (known_so before g.1 could.1)) in
+        let begins : now.group.start ≡ start = states_start n.clocks 0 h.start c.states h.group ∙ of.1 in
+        let members : members_of now.group ≡ ms = members_states n.clocks 0 h.start c.states h.group ∙ of.2 in
+        let heard = up_to b start u now.group.members (heard_so c before h could was of.0) (subst (IsMember b) (sym members) member) in
+        by_heard ([] ∷ []) (length before) b u now.group (omega (arith, begins, late)) (λ q there. absurd (none_there q there))
+        (subst (λ (s : ℕ). UpTo b s u now.group.members) (sym begins) heard)),
     heard_within from ms before g.1 homes.1 member could.1,
   )
 

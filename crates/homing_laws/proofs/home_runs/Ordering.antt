@@ -80,7 +80,7 @@ order_both : (i j far : ℕ) (xs ys : List Cmd) → AreInOrder i j far xs → Ar
 order_both i j far [] ys a b = b
 order_both i j far (x ∷ xs) ys a b = (a.0, order_both i j (far_by i j far x) xs ys a.1 b)
 
-order_front : (i j far : ℕ) (xs ys : List Cmd) → AreInOrder i j far (xs ++ ys) → AreInOrder i j far xs
+pub order_front : (i j far : ℕ) (xs ys : List Cmd) → AreInOrder i j far (xs ++ ys) → AreInOrder i j far xs
 order_front i j far [] ys a = tt
 order_front i j far (x ∷ xs) ys a = (a.0, order_front i j (far_by i j far x) xs ys a.1)
 

@@ -1,11 +1,11 @@
 -- A stepper that moves in a homing section stops with its board's trigger.
-use Rattle.std.proofs.Common.{◌≡◌, ℕ, ◌+◌, ◌<◌, ◌≤◌, ◌==◌, ◌&&◌, Bool, true, false, false, cond, List, [], ◌∷◌, ◌++◌, length, Some, refl, ap, sym, ◌∙◌, subst, arith, append_assoc, length-append, drop}
+use Rattle.std.proofs.Common.{◌≡◌, ◌⊎◌, inl, inr, ℕ, ◌+◌, ◌<◌, ◌≤◌, ◌==◌, ◌&&◌, Bool, true, false, false, cond, List, [], ◌∷◌, ◌++◌, length, Some, refl, ap, sym, ◌∙◌, subst, arith, append_assoc, length-append, drop}
 use Rattle.std.specs.Prelude.{max}
 use Rattle.std.proofs.lemmas.Bool.{eq-eqb}
+use Rattle.std.proofs.lemmas.Bool.Decides.{eqb_tells}
 use Rattle.std.proofs.lemmas.List.{take-append-drop}
 use Rattle.plan_types.specs.declared.levels.Level.{Level}
 use Rattle.plan_types.specs.declared.machine.Machine.{Machine}
-use Rattle.plan_types.specs.declared.plan.Pulse.{Pulse}
 use Rattle.plan_types.specs.declared.clock.BoardClock.{BoardClock}
 use Rattle.plan_types.specs.Clock.{board_tick, clock_of}
 use Rattle.plan_types.specs.Machines.{IsValidMachine, board_at, stepper_at}
@@ -15,7 +15,7 @@ use Rattle.msg_code.specs.declared.cmd.Cmd.{Cmd}
 use Rattle.msg_code.specs.declared.cmd.Cmd.TheVariants as cmd
 use Rattle.board_sim.specs.Fair.{Meant, commands_of}
 use Rattle.board_sim.specs.Rig.{Rig, Slot, slot_at, takes, takes_all}
-use Rattle.board_sim.specs.RigRuns.{AllBefore, AllSound, IsBehind}
+use Rattle.board_sim.specs.RigRuns.{AllSound, IsBehind}
 use Rattle.board_sim.proofs.Sound.{takes_sound}
 use Rattle.link_work.specs.Stands.{first_state}
 use Rattle.link_work.specs.Turn.{LinkState}
@@ -26,22 +26,26 @@ use Rattle.board_runs.specs.Turns.{AreBoardTurns, BoardTurn, stands_after}
 use Rattle.clock_runs.specs.Runs.{IsInRun}
 use Rattle.clock_runs.proofs.Lines.{as_long, run_before}
 use Rattle.run_parts.proofs.Controlled.{few_on}
-use Rattle.homing_laws.specs.home_runs.Sections.{HomesFrom, Moves, queued_by}
+use Rattle.homing_laws.specs.home_runs.Sections.{HomesFrom, queued_by}
 use Rattle.homing_laws.specs.home_runs.Settled.{SendNoneIn, SetNoClockFrom}
-use Rattle.homing_laws.specs.home_runs.SetUps.{AreInOrder, IsInOrder, TookInTurn, far_by}
+use Rattle.homing_laws.specs.home_runs.SetUps.{AreInOrder, IsBoundIn, IsInOrder, StopsAt, TookInTurn, far_by}
 use Rattle.homing_laws.specs.home_runs.Stages.{no_stage, stage_from}
 use Rattle.homing_laws.proofs.clear_boards.Standing.{sound_at}
 use Rattle.homing_laws.proofs.home_runs.Joining.{all_queued, small_by}
-use Rattle.homing_laws.proofs.home_runs.Ordering.{far_all, no_match, order_rest, taken_in_order}
+use Rattle.homing_laws.proofs.home_runs.Ordering.{far_all, no_match, order_front, order_rest, taken_in_order}
 use Rattle.homing_laws.proofs.home_runs.Staging.{commands_both, stage_append, staged_after, took_in}
 use Rattle.homing_laws.proofs.home_runs.Stopping.{EachBehind, HasWhereRuns, behind_parts, stops_in_turns}
-use Rattle.homing_laws.proofs.home_runs.Timing.{HasThen, ReadsAtMost, commands_in, limits_in_turns, sound_along, staged_along_rig}
+use Rattle.homing_laws.proofs.home_runs.Timing.{HasThen, ReadsAtMost, limits_in_turns, sound_along, staged_along_rig}
 use Rattle.homing_laws.proofs.home_runs.Whole.{Only, Ready, only_parts, queue_only, ready_on, run_only, run_ready}
 use Rattle.homing_laws.proofs.home_runs.Windows.{ordered_after}
 
 -- once the trigger is started nothing sets the clock of the stepper or starts it
 max_late : (far : ℕ) → 2 ≤ max far 3
 max_late far = grind arith
+
+either_low : (t : Bool) (m n : ℕ) → m ≤ 2 → n ≤ 2 → cond t m n ≤ 2
+either_low true m n x y = x
+either_low false m n x y = y
 
 either_late : (t : Bool) (m n : ℕ) → 2 ≤ m → 2 ≤ n → 2 ≤ cond t m n
 either_late true m n x y = x
@@ -116,89 +120,117 @@ told_front m switches pins entries b s came window early from start ms front beh
     let only_own : Only j (commands_of front ++ commands_of behind) = subst (Only j) (commands_both front behind) (only_parts j (commands_of (queued_by early)) (commands_of own) only_took).1 in
     ready_on i j (stage_from i j no_stage (commands_of (queued_by early))) (commands_of front) (only_parts j (commands_of front) (commands_of behind) only_own).0 ready
 
-pub run_stops : (m : Machine) (switches : List Switch) (pins : List (List Level)) (entries : List Entry) (b s : ℕ) (came : List Came) (later : List BoardTurn) (t : BoardTurn) (between early : List BoardTurn) (from start : ℕ) (ms : List Member)
-    (front : List Meant) (bind : Meant) (behind : List Meant) (slot : Slot) → IsValidMachine m → IsInRun m switches pins entries b came (later ++ t ∷ (between ++ early)) → HomesFrom m switches from start ms came → from + 254 ≡ start → Moves b s ms
-    → s < length m.steppers → (stepper_at m s).board ≡ b → SetNoClockFrom from (later ++ t ∷ (between ++ early)) → SendNoneIn from (from + 4) (later ++ t ∷ (between ++ early)) → length early ≡ from
-    → (stands_after (first_state (board_at m b) pins b entries) (later ++ t ∷ (between ++ early))).core.taken ≡ queued_by early ++ (front ++ bind ∷ behind)
-    → bind.command ≡ cmd.StepperStopOnTrigger (stepper_at m s).oid (trigger_of m b) → TookInTurn (first_state (board_at m b) pins b entries) (queued_by early ++ front) t (between ++ early)
-    → slot_at (stands_after (first_state (board_at m b) pins b entries) (later ++ t ∷ (between ++ early))).core.board (trigger_of m b) ≡ Some slot → slot.trigger.can ≡ false
-    → (pulses : List Pulse) × ((stands_after (first_state (board_at m b) pins b entries) (between ++ early)).core.made ++ pulses
-    ≡ (stands_after (first_state (board_at m b) pins b entries) (later ++ t ∷ (between ++ early))).core.made) × AllBefore (stepper_at m s).oid slot.trigger.tick pulses
-run_stops m switches pins entries b s came later t between early from start ms front bind behind slot v r homes at moves small on sets sends long took is here there fired =
-    let i = (stepper_at m s).oid in
-    let j = trigger_of m b in
-    let d = board_at m b in
-    let first = first_state d pins b entries in
-    let past = between ++ early in
-    let own = front ++ bind ∷ behind in
-    let window = later ++ t ∷ between in
-    let turns : List BoardTurn = later ++ t ∷ past in
-    let same : window ++ early ≡ turns = append_assoc later (t ∷ between) early in
-    let run : IsInRun m switches pins entries b came (window ++ early) = subst (IsInRun m switches pins entries b came) (sym same) r in
-    let order = taken_in_order m switches pins entries b s came window early from start ms own run homes at moves (subst (SetNoClockFrom from) (sym same) sets) (subst (SendNoneIn from (from + 4)) (sym same) sends) long
-    (ap (λ (x : List BoardTurn). (stands_after first x).core.taken) same ∙ took) in
-    let apart = behind_bind i j front bind behind is order in
-    let some : 0 < length window = omega (arith, length-append later (t ∷ between)) in
-    let whole = told_front m switches pins entries b s came window early from start ms front (bind ∷ behind) v run homes long some small on (ap (λ (x : List BoardTurn). (stands_after first x).core.taken) same ∙ took) in
-    let lengths = length-append window early in
-    let oid_few = small_by m switches pins entries b came (window ++ early) s from start ms v run homes (omega (arith, lengths, some, long)) small on in
-    let few : j < 256 = let q = v.steppers_few in omega (arith, few_on b m.steppers, q) in
-    let before = turns_before (clock_of d) first later t past r.turns_are in
-    let core = (stands_after first past).core in
-    let has : (f : List Meant) → queued_by early ++ front ≡ core.taken ++ f → HasWhereRuns i j (takes_all core.board (commands_of f)).rig =
-    λ f e runs.
-    let staged = (took_in i j core f oid_few few (staged_after d pins b entries past i j oid_few few before)).staged runs in
-    let stage : stage_from i j no_stage (commands_of (core.taken ++ f)) ≡ stage_from i j (stage_from i j no_stage (commands_of (queued_by early))) (commands_of front) =
-    ap (λ (x : List Meant). stage_from i j no_stage (commands_of x)) (sym e) ∙ ap (stage_from i j no_stage) (commands_both (queued_by early) front) ∙ stage_append i j no_stage (commands_of (queued_by early)) (commands_of front) in
-    let now = subst Ready (sym stage) whole in
-    let slot_now = staged.there now.there in
-    record { sound = all_sound core.board (commands_of f) (sound_at d pins b entries past before); there = staged.made now.made; slot = slot_now.slot; is = slot_now.is } in
-    stops_in_turns (clock_of d) first later t past i j (queued_by early ++ front) bind behind slot r.turns_are
-    (took ∙ sym (append_assoc (queued_by early) front (bind ∷ behind))) is here apart has there fired
+-- the first command that brings a stepper so far sets a timeout
+one_timed : (i j far : ℕ) (c : Cmd) → far ≤ 2 → IsInOrder i j far c → (far_by i j far c ≤ 2) ⊎ ((clock : ℕ) × (c ≡ cmd.TrsyncSetTimeout j clock))
+one_timed i j far (cmd.ResetStepClock oid clock) low o = inl (either_low (oid == i) 1 far (omega arith) low)
+one_timed i j far (cmd.TrsyncStart oid clock every reason) low o = inl (either_low (oid == j) 2 far (omega arith) low)
+one_timed i j far (cmd.TrsyncSetTimeout oid clock) low o = elim (eqb_tells oid j) [
+  | inl p ↦ inr (clock, ap (λ (n : ℕ). cmd.TrsyncSetTimeout n clock) p.1)
+  | inr p ↦ inl (subst (λ (t : Bool). cond t (max far 3) far ≤ 2) (sym p.0) low)
+]
+one_timed i j far (cmd.StepperStopOnTrigger oid other) low o = elim (eqb_tells oid i) [
+  | inl p ↦ absurd (let l = o p.1 in omega (arith, l, low))
+  | inr p ↦ inl (subst (λ (t : Bool). cond (t && (other == j)) 4 far ≤ 2) (sym p.0) low)
+]
+one_timed i j far c low o = inl low
 
-pub run_limits : (m : Machine) (switches : List Switch) (pins : List (List Level)) (entries : List Entry) (b s : ℕ) (came : List Came) (later : List BoardTurn) (t : BoardTurn) (between early : List BoardTurn) (from start : ℕ) (ms : List Member)
-    (front : List Meant) (set : Meant) (middle : List Meant) (bind : Meant) (behind : List Meant) (c most : ℕ) → IsValidMachine m → IsInRun m switches pins entries b came (later ++ t ∷ (between ++ early)) → HomesFrom m switches from start ms came
-    → from + 254 ≡ start → Moves b s ms → s < length m.steppers → (stepper_at m s).board ≡ b → SetNoClockFrom from (later ++ t ∷ (between ++ early)) → SendNoneIn from (from + 4) (later ++ t ∷ (between ++ early)) → length early ≡ from
-    → (stands_after (first_state (board_at m b) pins b entries) (later ++ t ∷ (between ++ early))).core.taken ≡ queued_by early ++ ((front ++ set ∷ middle) ++ bind ∷ behind)
-    → set.command ≡ cmd.TrsyncSetTimeout (trigger_of m b) c → bind.command ≡ cmd.StepperStopOnTrigger (stepper_at m s).oid (trigger_of m b)
-    → TookInTurn (first_state (board_at m b) pins b entries) (queued_by early ++ (front ++ set ∷ middle)) t (between ++ early)
-    → ReadsAtMost (board_tick (clock_of (board_at m b))) (trigger_of m b) most (length (queued_by early)) (first_state (board_at m b) pins b entries) (later ++ t ∷ (between ++ early))
-    → (pulses : List Pulse) × ((stands_after (first_state (board_at m b) pins b entries) (between ++ early)).core.made ++ pulses
-    ≡ (stands_after (first_state (board_at m b) pins b entries) (later ++ t ∷ (between ++ early))).core.made) × AllBefore (stepper_at m s).oid most pulses
-run_limits m switches pins entries b s came later t between early from start ms front set middle bind behind c most v r homes at moves small on sets sends long took set_is is here reads =
-    let i = (stepper_at m s).oid in
-    let j = trigger_of m b in
-    let d = board_at m b in
-    let first = first_state d pins b entries in
-    let past = between ++ early in
-    let up_to = front ++ set ∷ middle in
-    let own = up_to ++ bind ∷ behind in
-    let window = later ++ t ∷ between in
-    let turns : List BoardTurn = later ++ t ∷ past in
-    let same : window ++ early ≡ turns = append_assoc later (t ∷ between) early in
-    let run : IsInRun m switches pins entries b came (window ++ early) = subst (IsInRun m switches pins entries b came) (sym same) r in
-    let took_run : (stands_after first (window ++ early)).core.taken ≡ queued_by early ++ own = ap (λ (x : List BoardTurn). (stands_after first x).core.taken) same ∙ took in
-    let order = taken_in_order m switches pins entries b s came window early from start ms own run homes at moves (subst (SetNoClockFrom from) (sym same) sets) (subst (SendNoneIn from (from + 4)) (sym same) sends) long took_run in
-    let rest = middle ++ bind ∷ behind in
-    let parts : own ≡ front ++ set ∷ rest = append_assoc front (set ∷ middle) (bind ∷ behind) in
-    let far = far_all i j 0 (commands_of front) in
-    let tail = order_rest i j 0 (commands_of front) (commands_of (set ∷ rest)) (subst (AreInOrder i j 0) (commands_both front (set ∷ rest)) (subst (λ (x : List Meant). AreInOrder i j 0 (commands_of x)) parts order)) in
-    let set_now : IsInOrder i j far (cmd.TrsyncSetTimeout j c) = subst (IsInOrder i j far) set_is tail.0 in
-    let late = order_stays i j far set.command (set_now refl) tail.0 in
-    let apart = behind_parts i j middle (bind ∷ behind) (order_behind i j (far_by i j far set.command) rest late.1 tail.1) in
-    let some : 0 < length window = omega (arith, length-append later (t ∷ between)) in
-    let whole = told_front m switches pins entries b s came window early from start ms front (set ∷ rest) v run homes long some small on (took_run ∙ ap (λ (x : List Meant). queued_by early ++ x) parts) in
-    let lengths = length-append window early in
-    let oid_few = small_by m switches pins entries b came (window ++ early) s from start ms v run homes (omega (arith, lengths, some, long)) small on in
-    let few : j < 256 = let q = v.steppers_few in omega (arith, few_on b m.steppers, q) in
-    let has : HasThen i j (queued_by early ++ front) first =
-    λ ss w e runs.
-    let staged = (staged_along_rig i j ss first.core.board [] oid_few few w (staged_after d pins b entries [] i j oid_few few tt)).staged runs in
-    let stage : stage_from i j no_stage (commands_in ss) ≡ stage_from i j (stage_from i j no_stage (commands_of (queued_by early))) (commands_of front) =
-    ap (stage_from i j no_stage) (e ∙ commands_both (queued_by early) front) ∙ stage_append i j no_stage (commands_of (queued_by early)) (commands_of front) in
-    let now = subst Ready (sym stage) whole in
-    let slot_now = staged.there now.there in
-    record { sound = sound_along ss first.core.board w (sound_at d pins b entries [] tt); there = staged.made now.made; slot = slot_now.slot; is = slot_now.is } in
-    let to_set : queued_by early ++ up_to ≡ (queued_by early ++ front) ++ set ∷ middle = sym (append_assoc (queued_by early) front (set ∷ middle)) in
-    limits_in_turns d pins b entries later t past i j most (length (queued_by early)) c (queued_by early ++ front) set middle bind behind r.turns_are
-    (took ∙ sym (append_assoc (queued_by early) up_to (bind ∷ behind)) ∙ ap (λ (x : List Meant). x ++ bind ∷ behind) to_set) set_is is (subst (λ (x : List Meant). TookInTurn first x t past) to_set here) apart.0 apart.1.1 reads (let l = length-append (queued_by early) front in omega (arith, l)) has
+record TimedFront (j : ℕ) (ms : List Meant) : Type 0 where
+  front : List Meant
+  set : Meant
+  middle : List Meant
+  clock : ℕ
+  are : ms ≡ front ++ set ∷ middle
+  is : set.command ≡ cmd.TrsyncSetTimeout j clock
+
+timed_front : (i j far : ℕ) (ms : List Meant) → far ≤ 2 → AreInOrder i j far (commands_of ms) → 3 ≤ far_all i j far (commands_of ms) → TimedFront j ms
+timed_front i j far [] low o so = absurd (omega (arith, low, so))
+timed_front i j far (m ∷ ms) low o so = elim (one_timed i j far m.command low o.0) [
+  | inl still ↦
+      let rest = timed_front i j (far_by i j far m.command) ms still o.1 so in
+      record { front = m ∷ rest.front; set = rest.set; middle = rest.middle; clock = rest.clock; are = ap (λ (l : List Meant). m ∷ l) rest.are; is = rest.is }
+  | inr now ↦ record { front = []; set = m; middle = ms; clock = now.0; are = refl; is = now.1 }
+]
+
+-- a stepper that is bound in a section
+module _ (m : Machine) (switches : List Switch) (pins : List (List Level)) (entries : List Entry) (b s : ℕ) (came : List Came) (later : List BoardTurn) (t : BoardTurn) (between early : List BoardTurn) (from start : ℕ) (ms : List Member)
+    (v : IsValidMachine m) (x : IsBoundIn m switches pins entries b s came later t between early from start ms) where
+  abbrev I : ℕ
+  I = (stepper_at m s).oid
+
+  abbrev J : ℕ
+  J = trigger_of m b
+
+  abbrev First : LinkState
+  First = first_state (board_at m b) pins b entries
+
+  abbrev Past : List BoardTurn
+  Past = between ++ early
+
+  abbrev Window : List BoardTurn
+  Window = later ++ t ∷ between
+
+  same : Window ++ early ≡ later ++ t ∷ Past
+  same = append_assoc later (t ∷ between) early
+
+  run : IsInRun m switches pins entries b came (Window ++ early)
+  run = subst (IsInRun m switches pins entries b came) (sym same) x.run_is
+
+  took_run : (stands_after First (Window ++ early)).core.taken ≡ queued_by early ++ (x.front ++ x.bind ∷ x.behind)
+  took_run = ap (λ (l : List BoardTurn). (stands_after First l).core.taken) same ∙ x.took
+
+  order : AreInOrder I J 0 (commands_of (x.front ++ x.bind ∷ x.behind))
+  order =
+      taken_in_order m switches pins entries b s came Window early from start ms (x.front ++ x.bind ∷ x.behind) run x.homes x.begun x.moves
+      (subst (SetNoClockFrom from) (sym same) x.sets_none) (subst (SendNoneIn from (from + 4)) (sym same) x.sends_none) x.long took_run
+
+  some : 0 < length Window
+  some = omega (arith, length-append later (t ∷ between))
+
+  oid_few : I < 256
+  oid_few = let lengths = length-append Window early in let l = some in small_by m switches pins entries b came (Window ++ early) s from start ms v run x.homes (omega (arith, lengths, l, x.long)) x.there x.on
+
+  few : J < 256
+  few = let q = v.steppers_few in omega (arith, few_on b m.steppers, q)
+
+  ready_at : (front behind : List Meant) → x.front ++ x.bind ∷ x.behind ≡ front ++ behind → Ready (stage_from I J no_stage (commands_of (queued_by early ++ front)))
+  ready_at front behind e =
+      subst Ready (sym (ap (stage_from I J no_stage) (commands_both (queued_by early) front) ∙ stage_append I J no_stage (commands_of (queued_by early)) (commands_of front)))
+      (told_front m switches pins entries b s came Window early from start ms front behind v run x.homes x.long some x.there x.on (took_run ∙ ap (λ (l : List Meant). queued_by early ++ l) e))
+
+  pub run_stops : (slot : Slot) → slot_at (stands_after First (later ++ t ∷ Past)).core.board J ≡ Some slot → slot.trigger.can ≡ false → StopsAt m pins entries b s slot.trigger.tick (later ++ t ∷ Past) Past
+  run_stops slot there fired =
+      let d = board_at m b in
+      let before = turns_before (clock_of d) First later t Past x.run_is.turns_are in
+      let core = (stands_after First Past).core in
+      let has : (f : List Meant) → queued_by early ++ x.front ≡ core.taken ++ f → HasWhereRuns I J (takes_all core.board (commands_of f)).rig =
+      λ f e runs.
+      let staged = (took_in I J core f oid_few few (staged_after d pins b entries Past I J oid_few few before)).staged runs in
+      let now = subst (λ (l : List Meant). Ready (stage_from I J no_stage (commands_of l))) e (ready_at x.front (x.bind ∷ x.behind) refl) in
+      let slot_now = staged.there now.there in
+      record { sound = all_sound core.board (commands_of f) (sound_at d pins b entries Past before); there = staged.made now.made; slot = slot_now.slot; is = slot_now.is } in
+      stops_in_turns (clock_of d) First later t Past I J (queued_by early ++ x.front) x.bind x.behind slot x.run_is.turns_are
+      (x.took ∙ sym (append_assoc (queued_by early) x.front (x.bind ∷ x.behind))) x.is x.in_turn (behind_bind I J x.front x.bind x.behind x.is order) has there fired
+
+  pub run_limits : (most : ℕ) → ReadsAtMost (board_tick (clock_of (board_at m b))) J most (length (queued_by early)) First (later ++ t ∷ Past) → StopsAt m pins entries b s most (later ++ t ∷ Past) Past
+  run_limits most reads =
+      let d = board_at m b in
+      let whole = subst (AreInOrder I J 0) (commands_both x.front (x.bind ∷ x.behind)) order in
+      let at_bind = subst (IsInOrder I J (far_all I J 0 (commands_of x.front))) x.is (order_rest I J 0 (commands_of x.front) (commands_of (x.bind ∷ x.behind)) whole).0 in
+      let f = timed_front I J 0 x.front (omega arith) (order_front I J 0 (commands_of x.front) (commands_of (x.bind ∷ x.behind)) whole) (at_bind refl) in
+      let rest = f.middle ++ x.bind ∷ x.behind in
+      let parts : x.front ++ x.bind ∷ x.behind ≡ f.front ++ f.set ∷ rest = ap (λ (l : List Meant). l ++ x.bind ∷ x.behind) f.are ∙ append_assoc f.front (f.set ∷ f.middle) (x.bind ∷ x.behind) in
+      let far = far_all I J 0 (commands_of f.front) in
+      let tail = order_rest I J 0 (commands_of f.front) (commands_of (f.set ∷ rest)) (subst (AreInOrder I J 0) (commands_both f.front (f.set ∷ rest)) (subst (λ (l : List Meant). AreInOrder I J 0 (commands_of l)) parts order)) in
+      let set_now : IsInOrder I J far (cmd.TrsyncSetTimeout J f.clock) = subst (IsInOrder I J far) f.is tail.0 in
+      let late = order_stays I J far f.set.command (set_now refl) tail.0 in
+      let apart = behind_parts I J f.middle (x.bind ∷ x.behind) (order_behind I J (far_by I J far f.set.command) rest late.1 tail.1) in
+      let has : HasThen I J (queued_by early ++ f.front) First =
+      λ ss w e runs.
+      let staged = (staged_along_rig I J ss First.core.board [] oid_few few w (staged_after d pins b entries [] I J oid_few few tt)).staged runs in
+      let now = subst (λ (l : List Cmd). Ready (stage_from I J no_stage l)) (sym e) (ready_at f.front (f.set ∷ rest) parts) in
+      let slot_now = staged.there now.there in
+      record { sound = sound_along ss First.core.board w (sound_at d pins b entries [] tt); there = staged.made now.made; slot = slot_now.slot; is = slot_now.is } in
+      let to_set : queued_by early ++ x.front ≡ (queued_by early ++ f.front) ++ f.set ∷ f.middle = ap (λ (l : List Meant). queued_by early ++ l) f.are ∙ sym (append_assoc (queued_by early) f.front (f.set ∷ f.middle)) in
+      limits_in_turns d pins b entries later t Past I J most (length (queued_by early)) f.clock (queued_by early ++ f.front) f.set f.middle x.bind x.behind x.run_is.turns_are
+      (x.took ∙ sym (append_assoc (queued_by early) x.front (x.bind ∷ x.behind)) ∙ ap (λ (l : List Meant). l ++ x.bind ∷ x.behind) to_set) f.is x.is
+      (subst (λ (l : List Meant). TookInTurn First l t Past) to_set x.in_turn) apart.0 apart.1.1 reads (let l = length-append (queued_by early) f.front in omega (arith, l)) has

@@ -1,18 +1,16 @@
 -- The timeouts that a board takes are those that the section's group sends.
-use Rattle.std.proofs.Common.{◌≡◌, ℕ, suc, ◌+◌, ◌%◌, ◌^◌, ◌<◌, ◌≤◌, ◌==◌, ◌⊎◌, inl, inr, Bool, true, false, cond, List, [], ◌∷◌, ◌++◌, length, map, drop, Option, Some, None, refl, ap, sym, ◌∙◌, subst, arith, append_assoc, append-nil, length-append}
+use Rattle.std.proofs.Common.{◌≡◌, ℕ, suc, ◌+◌, ◌%◌, ◌^◌, ◌<◌, ◌≤◌, ◌==◌, inl, inr, Bool, true, false, cond, List, [], ◌∷◌, ◌++◌, length, map, drop, Option, Some, None, refl, ap, sym, ◌∙◌, subst, arith, append_assoc, append-nil, length-append}
 use Rattle.std.specs.Prelude.{◌-◌, nat_le, if◌then◌else◌}
 use Rattle.std.proofs.lemmas.Bool.{eqb-true}
 use Rattle.std.proofs.lemmas.Bool.Decides.{leb_tells}
 use Rattle.std.proofs.lemmas.List.{take-append-drop}
 use Rattle.plan_types.specs.declared.levels.Level.{Level}
 use Rattle.plan_types.specs.declared.machine.AxisDef.{AxisDef}
-use Rattle.plan_types.specs.declared.machine.BoardDef.{BoardDef}
 use Rattle.plan_types.specs.declared.machine.Machine.{Machine}
 use Rattle.plan_types.specs.Board.{ahead, nearest}
-use Rattle.plan_types.specs.declared.plan.Pulse.{Pulse}
 use Rattle.plan_types.specs.Clock.{board_tick, clock_of}
 use Rattle.plan_types.specs.Lines.{Clocks}
-use Rattle.plan_types.specs.Machines.{IsValidMachine, axis_at, board_at, stepper_at}
+use Rattle.plan_types.specs.Machines.{IsValidMachine, axis_at, board_at}
 use Rattle.plan_types.specs.Sections.{clocks_at}
 use Rattle.clock_line.specs.Early.{turn_tick}
 use Rattle.msg_code.specs.declared.cmd.Cmd.{Cmd}
@@ -24,7 +22,7 @@ use Rattle.msg_code.specs.Units.{dir_commands, reset_commands, step_command}
 use Rattle.wire_scene.specs.declared.scene.Entry.{Entry}
 use Rattle.wire_scene.specs.declared.scene.Switch.{Switch}
 use Rattle.board_sim.specs.Fair.{Meant, commands_of}
-use Rattle.board_sim.specs.RigRuns.{AllBefore, IsTimely}
+use Rattle.board_sim.specs.RigRuns.{IsTimely}
 use Rattle.board_world.specs.Orders.{plain, unit_orders, unit_ticks, units_orders}
 use Rattle.link_work.specs.Answers.{IsAmong}
 use Rattle.link_work.specs.Runs.{queued_in}
@@ -54,10 +52,9 @@ use Rattle.clock_runs.proofs.Clocked.{own_clocks}
 use Rattle.clock_runs.proofs.Lines.{as_long, noted_phase, run_before, turn_of}
 use Rattle.clock_runs.proofs.Turning.{Asks, BoardTurned, Ends, Runs}
 use Rattle.homing_laws.proofs.clear_boards.Clocking.{lines_up}
-use Rattle.homing_laws.specs.home_runs.Sections.{HomesFrom, Moves, queued_by}
-use Rattle.homing_laws.specs.home_runs.Settled.{SendNoneIn, SetNoClockFrom}
-use Rattle.homing_laws.specs.home_runs.SetUps.{TookInTurn}
-use Rattle.homing_laws.specs.home_runs.Timeouts.{BeginsBy, EndsWith, IsBoundIn, IsTimeout, SendsTimeout, StopsAt, TakesInTime, TakesSent, known_in, tick_in}
+use Rattle.homing_laws.specs.home_runs.Sections.{HomesFrom, queued_by}
+use Rattle.homing_laws.specs.home_runs.SetUps.{IsBoundIn, StopsAt}
+use Rattle.homing_laws.specs.home_runs.Timeouts.{BeginsBy, EndsWith, SendsTimeout, TakesInTime, TakesSent, known_in}
 use Rattle.homing_laws.proofs.clear_boards.Keeping.{hears_keep}
 use Rattle.homing_laws.proofs.home_runs.Controlling.{connecting_not}
 use Rattle.homing_laws.proofs.home_runs.Joining.{all_queued}
@@ -116,7 +113,7 @@ reads_low : (now j most : ℕ) (P : ℕ → Type 0) (c : Cmd) → IsSent j P c �
 reads_low now j most P (cmd.TrsyncSetTimeout oid clock) sent low soon = λ e.
     let x = sent e in
     let is : cmd.TrsyncSetTimeout oid clock ≡ cmd.TrsyncSetTimeout j (x.0 % 2 ^ 32) =
-        ap (λ (n : ℕ). cmd.TrsyncSetTimeout n clock) e ∙ ap (λ (n : ℕ). cmd.TrsyncSetTimeout j n) x.2 in
+    ap (λ (n : ℕ). cmd.TrsyncSetTimeout n clock) e ∙ ap (λ (n : ℕ). cmd.TrsyncSetTimeout j n) x.2 in
     let near = nearest_low now x.0 (soon x.0 is x.1) in
     let bound = low x.0 x.1 in
     subst (λ (n : ℕ). nearest now n ≤ most) (sym x.2) (omega (arith, near, bound))
@@ -214,14 +211,17 @@ module _ (m : Machine) (switches : List Switch) (pins : List (List Level)) (entr
       let waits = waits_in (drifts (board_at m b).drift) k a in
       let commands = homing_commands m turn g.own b in
       let own : g.own ≡ clocks_at (known_in m switches c before).clocks b =
-          own_clocks b r.clocks g.own _ g.own_is ∙ ap (λ (y : Known). clocks_at y.clocks b) same in
+      own_clocks b r.clocks g.own _ g.own_is ∙ ap (λ (y : Known). clocks_at y.clocks b) same in
       let Ctls : Known → List Ctl = λ y. (homing_turn y.clocks k c.states y.homing).ctls.items in
       let home = ctls_sent m g.own b turn.start (axis_at m turn.axis) turn.ctls.items (Sent (c ∷ before))
-          (λ timeout among. inl (late, record {
-            turn = timeout;
-            sent = subst (λ (y : Known). IsAmong (timeout_to b timeout) (Ctls y)) same among;
-            at = ap (λ (y : Clocks). turn_tick y timeout) own;
-          })) in
+      (λ timeout among. inl (
+        late,
+        record {
+          turn = timeout;
+          sent = subst (λ (y : Known). IsAmong (timeout_to b timeout) (Ctls y)) same among;
+          at = ap (λ (y : Clocks). turn_tick y timeout) own;
+        },
+      )) in
       subst (λ (y : Control). AreSent j (Sent (c ∷ before)) y.commands) (sym g.control_is)
       (sent_both j (Sent (c ∷ before)) commands (clock_question commands waits ++ stop_command (stops g.stop)) home
       (question_sent j (Sent (c ∷ before)) commands waits (stops g.stop)))
@@ -236,7 +236,7 @@ module _ (m : Machine) (switches : List Switch) (pins : List (List Level)) (entr
       let known = known_by m switches before in
       let now = known_in m switches c before in
       let control = control_sent c before now x.a (last_turn m switches c before) t refl late
-          (connecting_not now known (noted_phase m c.note known) n) x.turned in
+      (connecting_not now known (noted_phase m c.note known) n) x.turned in
       subst (λ (l : List Cmd). AreSent j (Sent (c ∷ before)) l) (sym (turn_commands t))
       (sent_both j (Sent (c ∷ before)) t.control.commands (commands_of (units_orders t.batch.units)) control
       (units_sent j (Sent (c ∷ before)) t.batch.units))
@@ -289,15 +289,14 @@ module _ (m : Machine) (switches : List Switch) (pins : List (List Level)) (entr
       let whole = ap length x.1 in
       let parts = length-append t.after.core.taken x.0 in (
         λ front one behind e low far.
-        let size = ap length e in
-        let sum = length-append front (one ∷ behind) in
-        absurd (too_many (length front) (length behind) (length t.after.core.taken) (length x.0) n (length (queued_by (t ∷ before))) size sum parts whole few far),
+            let size = ap length e in
+            let sum = length-append front (one ∷ behind) in
+            absurd (too_many (length front) (length behind) (length t.after.core.taken) (length x.0) n (length (queued_by (t ∷ before))) size sum parts whole few far),
         reads_early own j most n before are.1 (omega (arith, few, more)),
       )
     where
       too_many : (f k taken left n queued : ℕ) {sum all : ℕ} → taken ≡ sum → sum ≡ f + suc k → all ≡ taken + left → all ≡ queued → queued ≤ n → n ≤ f → ⊥
       too_many f k taken left n queued a p q e l o = omega arith
-
 
   pub reads : (own : ℕ → ℕ) (most start : ℕ) (ms : List Member) (came : List Came) (later early : List BoardTurn)
       → IsInRun m switches pins entries b came (later ++ early) → HomesFrom m switches from start ms came → length early ≡ from
@@ -312,15 +311,15 @@ module _ (m : Machine) (switches : List Switch) (pins : List (List Level)) (entr
       let q = queued_sent start ms (c ∷ before) (t ∷ later) early r homes long in
       let x = taken_of (t ∷ turns) r.turns_are in (
         λ front one behind e some far.
-        let all : queued_by early ++ q.new ≡ front ++ one ∷ (behind ++ x.0) =
+            let all : queued_by early ++ q.new ≡ front ++ one ∷ (behind ++ x.0) =
             sym q.is ∙ sym x.1 ∙ ap (λ (l : List Meant). l ++ x.0) e ∙ append_assoc front (one ∷ behind) x.0 in
-        let f = fits (queued_by early) q.new front (one ∷ (behind ++ x.0)) all far in
-        let here = subst (λ (l : List Meant). AreSent j (Sent (c ∷ before)) (commands_of l)) f.2 q.sent in
-        reads_low (own (length turns)) j most (Sent (c ∷ before)) one.command
-        (sent_at j (Sent (c ∷ before)) f.0 one (behind ++ x.0) here) low
-        (λ tick is sent. soon.0 front one behind tick e some far is sent),
+            let f = fits (queued_by early) q.new front (one ∷ (behind ++ x.0)) all far in
+            let here = subst (λ (l : List Meant). AreSent j (Sent (c ∷ before)) (commands_of l)) f.2 q.sent in
+            reads_low (own (length turns)) j most (Sent (c ∷ before)) one.command
+            (sent_at j (Sent (c ∷ before)) f.0 one (behind ++ x.0) here) low
+            (λ tick is sent. soon.0 front one behind tick e some far is sent),
         reads own most start ms before later early (run_before m switches pins entries b c before t turns r) homes.1 long
-        (λ tick sent. low tick (inr sent)) (weaker own (length (queued_by early)) turns (Sent before) (Sent (c ∷ before)) (λ tick sent. inr sent) soon.1),
+            (λ tick sent. low tick (inr sent)) (weaker own (length (queued_by early)) turns (Sent before) (Sent (c ∷ before)) (λ tick sent. inr sent) soon.1),
       )
     where
       weaker : (own : ℕ → ℕ) (n : ℕ) (turns : List BoardTurn) (P Q : ℕ → Type 0) → ((tick : ℕ) → P tick → Q tick)
@@ -376,10 +375,10 @@ module _ (m : Machine) (switches : List Switch) (pins : List (List Level)) (entr
   ends_within last [] ends = tt
   ends_within last (c ∷ before) ends = (
     λ late h is. (
-    let clocks = (known_in m switches c before).clocks in
-    let g = (hears_all clocks c.states h).group in
-    let same : g.last ≡ last = (hears_keep clocks c.states h).last ∙ ends.0 late h is in
-    subst (λ (n : ℕ). AllWithin (n + 1) (all_sent (length before) ([] ∷ []) g)) same (by_end ([] ∷ []) (length before) g)),
+        let clocks = (known_in m switches c before).clocks in
+        let g = (hears_all clocks c.states h).group in
+        let same : g.last ≡ last = (hears_keep clocks c.states h).last ∙ ends.0 late h is in
+        subst (λ (n : ℕ). AllWithin (n + 1) (all_sent (length before) ([] ∷ []) g)) same (by_end ([] ∷ []) (length before) g)),
     ends_within last before ends.1,
   )
 
@@ -397,12 +396,11 @@ stops_under m switches pins entries b s came later t between early from start tu
     let same : (later ++ t ∷ between) ++ early ≡ later ++ t ∷ (between ++ early) = append_assoc later (t ∷ between) early in
     let In : List BoardTurn → Type 0 = λ l. TakesInTime own (trigger_of m b) n (λ tick. SendsTimeout m switches b (length early) tick came) first l in
     let late : TakesInTime own (trigger_of m b) n (λ tick. SendsTimeout m switches b from tick came) first ((later ++ t ∷ between) ++ early) =
-        subst (λ (f : ℕ). TakesInTime own (trigger_of m b) n (λ tick. SendsTimeout m switches b f tick came) first ((later ++ t ∷ between) ++ early)) x.long
-        (subst In (sym same) soon) in
+    subst (λ (f : ℕ). TakesInTime own (trigger_of m b) n (λ tick. SendsTimeout m switches b f tick came) first ((later ++ t ∷ between) ++ early)) x.long
+    (subst In (sym same) soon) in
     let read = reads m switches pins entries b from own most start ms came (later ++ t ∷ between) early
-        (subst (IsInRun m switches pins entries b came) (sym same) x.run_is) x.homes x.long (sent_by m switches pins entries b from turn most came within begins) late in
-    run_limits m switches pins entries b s came later t between early from start ms x.front x.set x.middle x.bind x.behind x.clock most v x.run_is x.homes
-    x.begun x.moves x.there x.on x.sets_none x.sends_none x.long x.took x.set_is x.bind_is x.in_turn (subst (ReadsAtMost own (trigger_of m b) most n first) same read)
+    (subst (IsInRun m switches pins entries b came) (sym same) x.run_is) x.homes x.long (sent_by m switches pins entries b from turn most came within begins) late in
+    run_limits m switches pins entries b s came later t between early from start ms v x most (subst (ReadsAtMost own (trigger_of m b) most n first) same read)
 
 pub stops_by_end : (m : Machine) (switches : List Switch) (pins : List (List Level)) (entries : List Entry) (b s : ℕ) (came : List Came)
     (later : List BoardTurn) (t : BoardTurn) (between early : List BoardTurn) (from start last most : ℕ) (ms : List Member) → IsValidMachine m

@@ -183,7 +183,7 @@ takes_late all done (m ∷ ms) low n r now j most e reads is far =
     let next : length (done ++ m ∷ []) ≡ length done + 1 = omega (arith, long) in (
       λ l. subst (λ (k : ℕ). IsTimely k j most m.command) (sym e) (reads done m ms is far l),
       subst (λ (k : ℕ). AreLate n k j most (takes r m.command).rig (map Takes (commands_of ms))) next
-      (takes_late all (done ++ m ∷ []) ms low n (takes r m.command).rig now j most (all_tick r (m.command ∷ []) ∙ e) reads (is ∙ sym (append_assoc done (m ∷ []) ms)) (omega (arith, next, far))),
+          (takes_late all (done ++ m ∷ []) ms low n (takes r m.command).rig now j most (all_tick r (m.command ∷ []) ∙ e) reads (is ∙ sym (append_assoc done (m ∷ []) ms)) (omega (arith, next, far))),
     )
 
 time_late : (b : Bool) (u t n place j most : ℕ) (r : Rig) → AreLate n place j most r (cond b (Passes u t ∷ []) [])

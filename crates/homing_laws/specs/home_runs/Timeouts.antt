@@ -2,21 +2,18 @@
 use Rattle.std.specs.Prelude.{◌≡◌, ◌⊎◌, ◌<◌, ◌≤◌, ◌+◌, ◌%◌, ◌^◌, ℕ, List, [], ◌∷◌, ◌++◌, Some, length}
 use Rattle.plan_types.specs.declared.machine.Machine.{Machine}
 use Rattle.plan_types.specs.declared.levels.Level.{Level}
-use Rattle.plan_types.specs.declared.plan.Pulse.{Pulse}
 use Rattle.plan_types.specs.Clock.{board_tick, clock_of}
-use Rattle.plan_types.specs.Machines.{board_at, stepper_at}
+use Rattle.plan_types.specs.Machines.{board_at}
 use Rattle.plan_types.specs.Sections.{clocks_at}
 use Rattle.clock_line.specs.Early.{turn_tick}
-use Rattle.msg_code.specs.declared.cmd.Cmd.TheVariants.{StepperStopOnTrigger, TrsyncSetTimeout}
+use Rattle.msg_code.specs.declared.cmd.Cmd.TheVariants.{TrsyncSetTimeout}
 use Rattle.msg_code.specs.declared.talk.State.{State}
 use Rattle.wire_scene.specs.declared.scene.Entry.{Entry}
 use Rattle.wire_scene.specs.declared.scene.Switch.{Switch}
 use Rattle.board_sim.specs.Fair.{Meant}
-use Rattle.board_sim.specs.RigRuns.{AllBefore}
 use Rattle.link_work.specs.Answers.{IsAmong}
 use Rattle.link_work.specs.Stands.{first_state}
 use Rattle.link_work.specs.Turn.{LinkState}
-use Rattle.trigger_group.specs.declared.order.Member.{Member}
 use Rattle.trigger_group.specs.declared.order.Order.TheVariants.{Timeout}
 use Rattle.axis_homing.specs.declared.homing.Homing.{Homing}
 use Rattle.axis_homing.specs.Homing.{homing_turn}
@@ -25,11 +22,8 @@ use Rattle.host_reactor.specs.declared.ordered.Known.{Known}
 use Rattle.host_reactor.specs.Notes.{noted}
 use Rattle.host_reactor.specs.Runs.{Came, known_by, state_at}
 use Rattle.board_runs.specs.Turns.{BoardTurn, stands_after}
-use Rattle.clock_runs.specs.Runs.{IsInRun}
 use Rattle.homing_laws.specs.clear_boards.Hearing.{TellAble}
-use Rattle.homing_laws.specs.home_runs.Sections.{HomesFrom, Moves, queued_by}
-use Rattle.homing_laws.specs.home_runs.Settled.{SendNoneIn, SetNoClockFrom}
-use Rattle.homing_laws.specs.home_runs.SetUps.{TookInTurn}
+use Rattle.homing_laws.specs.home_runs.Sections.{queued_by}
 
 -- what the reactor knows in a turn, behind the note that came in it
 abbrev pub known_in : Machine → List Switch → Came → List Came → Known
@@ -90,38 +84,3 @@ CouldUpTo m switches b start turn (c ∷ before) =
     ((s : State) (when : ℕ) → state_at b c.states ≡ s ∷ [] → start ≤ s.turn + 1
     → TellAble (clocks_at (known_in m switches c before).clocks b) s.turn when s.news → when ≤ turn)
     × CouldUpTo m switches b start turn before
-
--- In a turn of a run a board took the command that binds a stepper to its trigger, behind a timeout of a homing section
--- with these members in which the stepper moves; the section was known, and no unit set a clock, from 254 turns before
--- its start on, and none was sent in the four turns of the set-up.
-pub record IsBoundIn (m : Machine) (switches : List Switch) (pins : List (List Level)) (entries : List Entry) (b stepper : ℕ)
-    (came : List Came) (later : List BoardTurn) (t : BoardTurn) (between early : List BoardTurn) (from start : ℕ)
-    (members : List Member) : Type 0 where
-  pub run_is : IsInRun m switches pins entries b came (later ++ t ∷ (between ++ early))
-  pub homes : HomesFrom m switches from start members came
-  pub begun : from + 254 ≡ start
-  pub long : length early ≡ from
-  pub moves : Moves b stepper members
-  pub there : stepper < length m.steppers
-  pub on : (stepper_at m stepper).board ≡ b
-  pub sets_none : SetNoClockFrom from (later ++ t ∷ (between ++ early))
-  pub sends_none : SendNoneIn from (from + 4) (later ++ t ∷ (between ++ early))
-  pub front : List Meant
-  pub set : Meant
-  pub middle : List Meant
-  pub bind : Meant
-  pub behind : List Meant
-  pub clock : ℕ
-  pub took : (stands_after (first_state (board_at m b) pins b entries) (later ++ t ∷ (between ++ early))).core.taken
-      ≡ queued_by early ++ ((front ++ set ∷ middle) ++ bind ∷ behind)
-  pub set_is : set.command ≡ TrsyncSetTimeout (trigger_of m b) clock
-  pub bind_is : bind.command ≡ StepperStopOnTrigger (stepper_at m stepper).oid (trigger_of m b)
-  pub in_turn : TookInTurn (first_state (board_at m b) pins b entries) (queued_by early ++ (front ++ set ∷ middle)) t
-      (between ++ early)
-
--- the pulses of a stepper that its board makes in some turns, but for those of the first ones, are before a tick
-abbrev pub StopsAt : Machine → List (List Level) → List Entry → ℕ → ℕ → ℕ → List BoardTurn → List BoardTurn → Type 0
-StopsAt m pins entries b stepper most turns first =
-    (pulses : List Pulse) × ((stands_after (first_state (board_at m b) pins b entries) first).core.made ++ pulses
-    ≡ (stands_after (first_state (board_at m b) pins b entries) turns).core.made)
-    × AllBefore (stepper_at m stepper).oid most pulses

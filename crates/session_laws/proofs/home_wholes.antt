@@ -17,4 +17,5 @@ pub mod Lost
 pub mod Axes
 pub mod Lines
 pub mod Shows
+pub mod Near
 pub mod Own

@@ -98,5 +98,6 @@ pub fn homing_runs_are_whole<F: Files, S: Sink>()
 pub fn homing_runs_are_cut_at_trigger_ticks<F: Files, S: Sink>()
     ensures { (m : Machine) (s : Scene) (name : List ℕ) (files files' : F) (out out' : S) (kept kept' : Kept) (t : Told Run) →
         (r : RunsOver F.Files S.Sink m s name files out kept t files' out' kept') → IsValidMachine m → HaveShortDictionaries m → (text : List ℕ) → F.told files name ≡ Some text → kept.at ≡ 0 →
-        (t.cause ≡ Cause.Memory → ⊥) → AllSwitchesReadTrue m s r.runs.0 (r.runs.1 ++ r.runs.2 ∷ []) → ∥ TellTriggers m s r.runs.0 r.runs.1 r.runs.2 ∥₁ }
+        (t.cause ≡ Cause.Memory → ⊥) → AllSwitchesReadTrue m s r.runs.0 (r.runs.1 ++ r.runs.2 ∷ []) →
+        ∥ ((made : IsMade m s r.runs.0 r.runs.1) × (made.plans.seen.text ≡ text) × TellTriggers m s made.plans.seen r.runs.0 r.runs.1 r.runs.2) ∥₁ }
 {}

@@ -124,7 +124,7 @@ module _ (m : Machine) (v : IsValidMachine m) (s : Scene) (ts : List MotionTurn)
   sound : AreSound m t.clocks t.first
   sound = sound_of m v s ts p t first rest end told turn whole
 
-  range : (b : ℕ) → b < length m.boards → StartInRange (clocks_at t.clocks b) p.seen.begun
+  pub range : (b : ℕ) → b < length m.boards → StartInRange (clocks_at t.clocks b) p.seen.begun
   range b h =
       let l = lines b h in
       let early = turn.early in

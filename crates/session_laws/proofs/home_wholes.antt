@@ -19,3 +19,4 @@ pub mod Lines
 pub mod Shows
 pub mod Near
 pub mod Own
+pub mod First

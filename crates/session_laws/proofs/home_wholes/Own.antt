@@ -256,14 +256,17 @@ module _ (m : Machine) (v : IsValidMachine m) (s : Scene) (ts : List MotionTurn)
 no_line : (m : Machine) (switches : List Switch) (i : ℕ) (a : AxisDef) (tick : ℕ) → [] ≡ cut_line m switches i a (Some tick) → ⊥
 no_line m switches i a tick e = cc
 
+pub none_ends : (m : Machine) (s : Scene) (seen : Seen) (k : ℕ) (before : List Came) (r : ReactorTurn) (rs : List ReactorTurn) → seen.begun ≡ [] → TellEnds m s.switches seen.begun k (r ∷ rs) → TellsAnswer m s.switches (came_in r) before r.lines → ⊥
+none_ends m s seen k before r rs none ends x = elim ends.0 [
+  | inl w ↦ (let e = w.ended in in_none e.past e.s e.later seen.begun none e.cut)
+  | inr n ↦ no_line m s.switches x.homing.section (axis_at m x.homing.axis) x.tick (sym n.lines_are ∙ x.lines_are)
+]
+
 none_own : (m : Machine) (s : Scene) (ts : List MotionTurn) (first : ReactorTurn) (rest : List ReactorTurn) (seen : Seen) (k : ℕ) (before : List Came) (rs last : List ReactorTurn) → seen.begun ≡ [] → TellEnds m s.switches seen.begun k (rs ++ last)
     → TellTriggersBehind m s seen ts first rest before rs
 none_own m s ts first rest seen k before [] last none ends = tt
 none_own m s ts first rest seen k before (r ∷ rs) last none ends = (
-  λ x. elim ends.0 [
-    | inl w ↦ let e = w.ended in absurd (in_none e.past e.s e.later seen.begun none e.cut)
-    | inr n ↦ absurd (no_line m s.switches x.homing.section (axis_at m x.homing.axis) x.tick (sym n.lines_are ∙ x.lines_are))
-  ],
+  λ x. absurd (none_ends m s seen k before r (rs ++ last) none ends x),
   none_own m s ts first rest seen (k + 1) (came_in r ∷ before) rs last none ends.1,
 )
 

@@ -1,5 +1,5 @@
 -- The answer of a homing section is its trigger tick, in a whole run in which axes home.
-use Rattle.std.specs.Prelude.{◌≡◌, ◌⊎◌, ◌<◌, ℕ, List, [], ◌∷◌, ◌++◌, Some, length}
+use Rattle.std.specs.Prelude.{◌≡◌, ◌<◌, ℕ, List, [], ◌∷◌, ◌++◌, Some, length}
 use Rattle.plan_types.specs.declared.machine.Machine.{Machine}
 use Rattle.plan_types.specs.declared.plan.SectionKind.TheVariants.{Home}
 use Rattle.plan_types.specs.Clock.{clock_of}
@@ -13,17 +13,15 @@ use Rattle.motion_work.specs.Told.{Told}
 use Rattle.session_work.specs.declared.table.MotionTurn.{MotionTurn}
 use Rattle.session_work.specs.declared.table.ReactorTurn.{ReactorTurn}
 use Rattle.session_run.specs.Boards.{came_in}
-use Rattle.run_laws.specs.Homes.{AreOut}
-use Rattle.run_plans.specs.Homed.{runs_on}
 use Rattle.run_plans.specs.Planned.{Plans, Seen}
 use Rattle.run_boards.specs.Boards.{IsInWhole, behind}
 use Rattle.run_boards.specs.Turns.{came_before}
 use Rattle.session_laws.specs.run_headline.Timely.{link_of}
 use Rattle.homing_laws.specs.fired_runs.Since.{AllRead, ReadsSwitchTrue}
 use Rattle.homing_laws.specs.switch_runs.Taken.{IsTriggerOf}
-use Rattle.homing_laws.specs.home_parts.Answers.{TakeSetUps}
 use Rattle.session_laws.specs.clear_homes.Closes.{ClosesFirst}
 use Rattle.session_laws.specs.home_headline.Cuts.{TellsAnswer}
+use Rattle.session_laws.specs.home_headline.Little.{TakesInTime}
 
 -- Of each board of a whole run, of which the planner made some turns and the reactor these, each report that readings
 -- triggered its trigger, which counts for a homing section with its endstop, is read true: as a tick since which the
@@ -73,12 +71,10 @@ abbrev pub TellTriggers : Machine → Scene → Seen → List MotionTurn → Lis
 TellTriggers m s seen planned [] last = Unit {0}
 TellTriggers m s seen planned (first ∷ rest) last = TellTriggersBehind m s seen planned first (rest ++ last ∷ []) [] (first ∷ rest)
 
--- Each board of a whole run of a text takes the set-up of each homing section in time; as it does in a scene without entries, where
--- those units of a section of moves that are sent behind the turn in which they are due are sent by four turns behind its end.
+-- Each board of a whole run of a text takes the set-up of each homing section in time.
 abbrev pub AllTakeInTime : Machine → Scene → List ℕ → List MotionTurn → List ReactorTurn → Type 0
 AllTakeInTime m s text planned [] = Unit {0}
 AllTakeInTime m s text planned (first ∷ rest) =
     (p : Plans m (length m.boards) planned) (t : Told) (b : ℕ) → p.seen.text ≡ text → p.seen.told ≡ Some t → b < length m.boards →
     (w : IsInWhole m s.switches b (clock_of (board_at m b)) (link_of m s b) planned first rest) →
-    ((s.entries ≡ []) × AreOut (length p.made) (runs_on m t.clocks p.seen.begun b))
-    ⊎ TakeSetUps m (pins_of (board_at m b) b s.switches) s.entries b p.seen.begun (behind [] w.made)
+    TakesInTime m s b planned first rest (length p.made) t p.seen.begun w

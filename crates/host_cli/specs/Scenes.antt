@@ -33,7 +33,7 @@ use Rattle.session_laws.specs.run_headline.Further.{AreNamed, BoardsFirst, Tells
 use Rattle.session_laws.specs.run_headline.Timely.{AllTakeNear, AreOfMoves, AreSound, HoldsNothingLong}
 use Rattle.session_laws.specs.run_lines.Due.{BoardsHave, StandApart}
 use Rattle.session_laws.specs.home_headline.Little.{AllHomeLittle, ShownHoldLittle, SendsOut}
-use Rattle.session_laws.specs.home_wholes.Own.{AllSwitchesReadTrue, TellTriggers}
+use Rattle.session_laws.specs.home_wholes.Own.{AllSwitchesReadTrue, AllTakeInTime, TellTriggers}
 use Rattle.session_laws.specs.clear_homes.Closes.{AllClose, MissesSwitch, TellFirst}
 use Rattle.session_laws.specs.clear_homes.First.{IsFirstExpired, IsUnswitched}
 use Rattle.session_laws.specs.run_causes.Unanswered.{GaveNoAnswer, IsStaleSince}
@@ -94,12 +94,13 @@ pub record ShowsText (m : Machine) (text : List ℕ) (c : Cause) (said : List Re
 -- command for half a round of the 32-bit clock; and of one of any text, where besides each board takes the set-up of a homing section in time or its
 -- reports are read true. Where the reports that readings triggered a board's trigger are read true (`AllSwitchesReadTrue`),
 -- whatever else happens on the links, the tick that a turn tells of a switch is the section's trigger tick (`TellTriggers`);
--- and where the board took the section's command before the start, the first tick from there on at which the switch closes.
+-- and where the boards take the set-ups of homing sections in time (`AllTakeInTime`), as they do in a scene without entries, the
+-- first tick, from the section's start on, at which its switch closes (`TellFirst`).
 -- What suffices for these
 -- premises in a scene without entries is said by laws (`clear_links_hold_nothing_long`, `clear_scenes_hold_little`). Completeness: in a scene without entries, and where no line asks for a stop, a run of moves whose units are all sent soon (`SendsAllSoon`) ends as the reading
 -- of its text does, but for want of memory and for faults of files and output; and so does one of any text whose units are sent so, or a switch
--- never closed; where each section's switch closes in time (`AllClose`) there is no such exception, each line of a switch is of the first tick at which
--- it closes (`TellFirst`), and where a run ends since no switch closed, none did in time (`MissesSwitch`). Causes: a run ends for a board that gives no
+-- never closed; where each section's switch closes in time (`AllClose`) there is no such exception, and where a run ends since
+-- no switch closed, none did in time (`MissesSwitch`). Causes: a run ends for a board that gives no
 -- answer, or whose clock line is too old, only where its askings in a row were hindered on its link (`GaveNoAnswer`, `IsStaleSince`), and for a board
 -- that expired only where, by what the members of the homing section's group told, it is the first of them (`IsFirstExpired`); as
 -- no switch closed only where, by what these told, none expired in time and the endstop's board read no switch
@@ -133,8 +134,9 @@ pub record IsLinkReport {F S : Type 0} (f : Files F) (o : Sink S) (m : Machine) 
       IsCauseOf (cause_of (program_end m text).stop) c ⊎ ((section : ℕ) × (c ≡ cause.NoSwitch section))
   pub complete_switches : (text : List ℕ) → f.told files gcode ≡ Some text → ((line : ℕ) → (program_end m text).stop ≡ read.Stop line → ⊥) → s.entries ≡ [] → SendsAllSoon m text reported.runs.runs.0 → AllClose m s text reported.runs.runs.0 →
       IsCauseOf (cause_of (program_end m text).stop) c
-  pub first_ticks : (text : List ℕ) → f.told files gcode ≡ Some text → ((line : ℕ) → (program_end m text).stop ≡ read.Stop line → ⊥) → s.entries ≡ [] → IsOwn reported.told.cause → (reported.told.cause ≡ cause.Memory → ⊥) →
-      SendsAllSoon m text reported.runs.runs.0 → AllSwitchesReadTrue m s reported.runs.runs.0 (reported.runs.runs.1 ++ reported.runs.runs.2 ∷ []) →
+  pub first_ticks : (text : List ℕ) → f.told files gcode ≡ Some text → (reported.told.cause ≡ cause.Memory → ⊥) →
+      AllSwitchesReadTrue m s reported.runs.runs.0 (reported.runs.runs.1 ++ reported.runs.runs.2 ∷ []) →
+      AllTakeInTime m s text reported.runs.runs.0 (reported.runs.runs.1 ++ reported.runs.runs.2 ∷ []) →
       ∥ ((made : IsMade m s reported.runs.runs.0 reported.runs.runs.1) × (made.plans.seen.text ≡ text) × TellFirst m s made.plans.seen [] reported.runs.runs.1) ∥₁
   pub no_switch : (text : List ℕ) → f.told files gcode ≡ Some text → ((line : ℕ) → (program_end m text).stop ≡ read.Stop line → ⊥) → s.entries ≡ [] → SendsAllSoon m text reported.runs.runs.0 →
       ∥ ((made : IsMade m s reported.runs.runs.0 reported.runs.runs.1) × (made.plans.seen.text ≡ text) × ((section : ℕ) → c ≡ cause.NoSwitch section → MissesSwitch m s made.plans.seen section)) ∥₁

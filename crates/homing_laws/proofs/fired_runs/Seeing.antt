@@ -44,7 +44,7 @@ use Rattle.homing_laws.proofs.home_runs.Staying.{taken_later}
 use Rattle.homing_laws.specs.switch_runs.Reading.{AreFit, BringFit}
 use Rattle.homing_laws.specs.switch_runs.Reports.{WasReported}
 use Rattle.homing_laws.specs.switch_runs.Runs.{IsEndstop, IsReadAt}
-use Rattle.homing_laws.specs.switch_runs.Taken.{AreBlind, IsBlind, IsTriggerOf, TookHome}
+use Rattle.homing_laws.specs.switch_runs.Taken.{AreBlind, IsBlind, IsTriggerOf}
 use Rattle.homing_laws.proofs.clear_boards.Standing.{tick_is}
 use Rattle.homing_laws.proofs.switch_runs.Firing.{AllTrue}
 use Rattle.homing_laws.proofs.switch_runs.Ordering.{Reads, bring_fit, control_fit, fit_both, plain_fit, units_fit}

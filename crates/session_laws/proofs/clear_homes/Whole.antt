@@ -8,7 +8,7 @@ use Rattle.plan_types.specs.declared.machine.Machine.{Machine}
 use Rattle.plan_types.specs.declared.plan.SectionKind.TheVariants.{Home}
 use Rattle.plan_types.specs.Clock.{board_tick, clock_of, turn_ns}
 use Rattle.plan_types.specs.Lines.{Clocks, lines_tick}
-use Rattle.plan_types.specs.Machines.{IsValidAxis, IsValidMachine, axis_at, board_at}
+use Rattle.plan_types.specs.Machines.{IsValidMachine, axis_at, board_at}
 use Rattle.plan_types.specs.Sections.{clocks_at}
 use Rattle.msg_code.specs.declared.talk.ShutNews.{ShutNews}
 use Rattle.msg_code.specs.declared.talk.State.{State}
@@ -54,9 +54,7 @@ use Rattle.homing_laws.proofs.clear_groups.Begun.{run_answers, run_cut}
 use Rattle.homing_laws.proofs.home_plans.Knowing.{now_was}
 use Rattle.homing_laws.specs.missed_groups.Known.{AxesLow}
 use Rattle.homing_laws.specs.missed_groups.Ticks.{IsSwitchTick}
-use Rattle.homing_laws.proofs.missed_groups.Running.{run_misses, run_switches}
-use Rattle.homing_laws.specs.fired_runs.Since.{AreBehind, AreRead, ReadsSwitchTrue}
-use Rattle.session_laws.proofs.home_headline.Ended.{notes_behind}
+use Rattle.homing_laws.proofs.missed_groups.Running.{run_misses}
 use Rattle.wire_scene.specs.declared.scene.Entry.{Entry}
 use Rattle.wire_scene.specs.declared.scene.Switch.{Switch}
 use Rattle.session_laws.proofs.home_wholes.Axes.{axis_low}
@@ -271,32 +269,3 @@ module _ (m : Machine) (v : IsValidMachine m) (s : Scene) (ts : List MotionTurn)
       let all = join n (length Came_all) d (λ i. turns_by i n Turns (is_low i n)) (λ i low. ap length (turns_same i n Turns (is_low i n) low) ∙ count i low ∙ sym size) in
       let r = is_clear all.0 all.1 (λ i low. all.2 i low ∙ turns_same i n Turns (is_low i n) low) in
       run_misses m v s.switches Pins s.entries clear Lines (From + 1) Till (came_in end) Came_all all.0 r reach (axes_known (came_in end) Came_all r.goes_on given) h is answers tick hit
-
-  -- one of an earlier turn answers that a switch closed, at the first tick at which its readings are complete
-  pub closes_first : (ahead : List Came) (y : Came) (before : List Came) → came_in end ∷ Came_all ≡ ahead ++ y ∷ before → (h : Homing) → (noted m y.note (known_by m s.switches before)).homing ≡ Some h
-      → ((low : (axis_at m h.axis).board < length m.boards) (later turns : List BoardTurn) → behind [] (Whole (axis_at m h.axis).board low).made ≡ later ++ turns → length turns ≡ length before → AreRead (ReadsSwitchTrue m s.switches (axis_at m h.axis).board) (y ∷ before) turns × AreBehind m s.switches (axis_at m h.axis).board (y ∷ before))
-      → (tick : ℕ) → answer_in (length before) h.start (hears_all (noted m y.note (known_by m s.switches before)).clocks y.states h).group ≡ Some (end_of.Endstop tick)
-      → IsSwitchTick m (Pins (axis_at m h.axis).board) (axis_at m h.axis).board (axis_at m h.axis) (lines_tick (Lines h.start (axis_at m h.axis).board) (h.start * turn_ns)) tick
-  closes_first ahead y before are h is reads tick answers =
-      let n = length m.boards in
-      let size = many in
-      let some = v.boards_some in
-      let own = count 0 some in
-      let more = length-append rest (end ∷ []) in
-      let d = some_turn (Turns 0 some) (omega (arith, own, more)) in
-      let all = join n (length Came_all) d (λ i. turns_by i n Turns (is_low i n)) (λ i low. ap length (turns_same i n Turns (is_low i n) low) ∙ count i low ∙ sym size) in
-      let r = is_clear all.0 all.1 (λ i low. all.2 i low ∙ turns_same i n Turns (is_low i n) low) in
-      let cut = cut_to m v s.switches Pins s.entries clear Lines (From + 1) Till y before ahead (came_in end) Came_all all.0 r are in
-      let front = ap length are in
-      let parts = length-append ahead (y ∷ before) in
-      let soon = reach in
-      let near_end : length before + 276 ≤ Till = omega (arith, front, parts, soon) in
-      let Notes : List Came → Type 0 = λ z. CameNotes p.seen.begun z in
-      let notes_so = notes_behind p.seen.begun ahead (y ∷ before) (subst Notes are given) in
-      let b = (axis_at m h.axis).board in
-      let low = axis_known y before cut.run.goes_on notes_so h is in
-      let valid : IsValidAxis m (axis_at m h.axis) = v.axes h.axis _ low in
-      let there : b < length m.boards = valid.board in
-      let turns_are : Turns b there ≡ turns_of b cut.later ++ turns_of b cut.made = sym (all.2 b there ∙ turns_same b n Turns (is_low b n) there) ∙ ap (turns_of b) cut.are ∙ turns_append b cut.later cut.made in
-      let so = reads there (turns_of b cut.later) (turns_of b cut.made) turns_are (turns_long b cut.made ∙ cut.run.long) in
-      run_switches m v s.switches Pins s.entries clear Lines (From + 1) Till y before cut.made cut.run near_end (axes_known y before cut.run.goes_on notes_so) h is so.0 so.1 tick answers

@@ -32,7 +32,7 @@ use Rattle.homing_laws.proofs.home_parts.Told.{take_at}
 use Rattle.homing_laws.proofs.home_runs.Windows.{begun}
 use Rattle.homing_laws.proofs.switch_runs.Exact.{took_early}
 use Rattle.session_laws.specs.clear_homes.Closes.{TellFirst}
-use Rattle.session_laws.specs.home_headline.Cuts.{EndsIn, TellEnds, TellsAnswer}
+use Rattle.session_laws.specs.home_headline.Cuts.{EndsIn, TellEnds}
 use Rattle.session_laws.specs.home_wholes.Own.{AllSwitchesReadTrue, AllTakeInTime, IsTriggerIn, TellTriggersBehind}
 use Rattle.session_laws.specs.run_headline.Made.{IsMade}
 use Rattle.session_laws.specs.run_headline.Timely.{link_of}

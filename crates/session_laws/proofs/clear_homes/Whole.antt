@@ -50,13 +50,11 @@ use Rattle.std.proofs.lemmas.List.{length-map}
 use Rattle.session_laws.proofs.clear_runs.Bare.{latest_behind}
 use Rattle.homing_laws.specs.clear_groups.Runs.{IsClearRun, IsTracked}
 use Rattle.homing_laws.specs.clear_groups.Sections.{IsPlain, turns_of}
-use Rattle.homing_laws.proofs.clear_groups.Begun.{run_answers, run_cut}
+use Rattle.homing_laws.proofs.clear_groups.Begun.{run_answers}
 use Rattle.homing_laws.proofs.home_plans.Knowing.{now_was}
 use Rattle.homing_laws.specs.missed_groups.Known.{AxesLow}
 use Rattle.homing_laws.specs.missed_groups.Ticks.{IsSwitchTick}
 use Rattle.homing_laws.proofs.missed_groups.Running.{run_misses}
-use Rattle.wire_scene.specs.declared.scene.Entry.{Entry}
-use Rattle.wire_scene.specs.declared.scene.Switch.{Switch}
 use Rattle.session_laws.proofs.home_wholes.Axes.{axis_low}
 use Rattle.session_laws.proofs.run_headline.Joining.{of_sections}
 use Rattle.gcode_program.specs.Programs.{outcome_of}
@@ -85,38 +83,6 @@ turns_same b n f (inr p) low = absurd (omega (arith, p, low))
 some_turn : (turns : List BoardTurn) → 0 < length turns → BoardTurn
 some_turn [] some = absurd (omega (arith, some))
 some_turn (t ∷ turns) some = t
-
--- a run up to an earlier turn
-turns_append : (b : ℕ) (xs ys : List (ℕ → BoardTurn)) → turns_of b (xs ++ ys) ≡ turns_of b xs ++ turns_of b ys
-turns_append b [] ys = refl
-turns_append b (x ∷ xs) ys = ap (λ (z : List BoardTurn). x b ∷ z) (turns_append b xs ys)
-
-turns_long : (b : ℕ) (xs : List (ℕ → BoardTurn)) → length (turns_of b xs) ≡ length xs
-turns_long b [] = refl
-turns_long b (x ∷ xs) = let rest = turns_long b xs in omega (arith, rest)
-
-one_came : (c y : Came) (past before : List Came) → c ∷ past ≡ y ∷ before → (c ≡ y) × (past ≡ before)
-one_came c y past before e = (cc, cc)
-
-module _ (m : Machine) (v : IsValidMachine m) (switches : List Switch) (pins : ℕ → List (List Level)) (entries : List Entry) (none : entries ≡ []) (lines : ℕ → ℕ → Clocks) (ready till : ℕ) (y : Came) (before : List Came) where
-  record CutTo (all : List (ℕ → BoardTurn)) : Type 0 where
-    later : List (ℕ → BoardTurn)
-    made : List (ℕ → BoardTurn)
-    are : all ≡ later ++ made
-    run : IsClearRun m switches pins entries lines ready till y before made
-
-  cut_to : (ahead : List Came) (c : Came) (past : List Came) (all : List (ℕ → BoardTurn)) → IsClearRun m switches pins entries lines ready till c past all → c ∷ past ≡ ahead ++ y ∷ before → CutTo all
-  cut_to [] c past all r e =
-      let same = one_came c y past before e in
-      record { later = []; made = all; are = refl; run = subst (λ (z : Came). IsClearRun m switches pins entries lines ready till z before all) same.0 (subst (λ (z : List Came). IsClearRun m switches pins entries lines ready till c z all) same.1 r) }
-  cut_to (a ∷ ahead) c [] all r e =
-      let size = ap length (one_came c a [] (ahead ++ y ∷ before) e).1 in
-      let more = length-append ahead (y ∷ before) in
-      absurd (omega (arith, size, more))
-  cut_to (a ∷ ahead) c (d ∷ past) [] r e = absurd (let size = r.long in omega (arith, size))
-  cut_to (a ∷ ahead) c (d ∷ past) (j ∷ js) r e =
-      let x = cut_to ahead d past js (run_cut m v switches pins entries none lines ready till c d past j js r) (one_came c a (d ∷ past) (ahead ++ y ∷ before) e).1 in
-      record { later = j ∷ x.later; made = x.made; are = ap (λ (z : List (ℕ → BoardTurn)). j ∷ z) x.are; run = x.run }
 
 module _ (m : Machine) (v : IsValidMachine m) (s : Scene) (ts : List MotionTurn) (p : Plans m (length m.boards) ts) (t : Told) (first : ReactorTurn) (rest : List ReactorTurn) (end : ReactorTurn) (c : Cause) (told : p.seen.told ≡ Some t) (f : Facts m s ts (first ∷ rest) end c)
     (long : length (rest ++ end ∷ []) ≤ length p.made) (short : HaveShortDictionaries m)

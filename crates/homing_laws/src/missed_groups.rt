@@ -16,16 +16,12 @@ ghost use Rattle.host_reactor.specs.Notes.{noted};
 ghost use Rattle.host_reactor.specs.Runs.{Came, known_by};
 ghost use Rattle.board_runs.specs.Turns.{BoardTurn};
 ghost use Rattle.homing_laws.specs.clear_groups.Runs.{IsClearRun};
-ghost use Rattle.homing_laws.specs.clear_groups.Sections.{turns_of};
 ghost use Rattle.homing_laws.specs.missed_groups.Known.{AxesLow};
 ghost use Rattle.homing_laws.specs.missed_groups.Ticks.{IsSwitchTick};
-ghost use Rattle.homing_laws.specs.fired_runs.Since.{AreBehind, AreRead, ReadsSwitchTrue};
 
 /// The law of missed switches: in a clear run of all boards, whose clock lines track them until 276 turns ahead, a homing group answers that no switch closed only where the tick at which its axis's
 /// switch triggers, by the levels of the pin and the section's readings from its start on, isn't before the tick of the turn behind the section's last one, or there is none.
 /// And where it is before that tick, the group answers that the switch closed, once it answers.
-/// And where a group answers that the switch closed, it does so with that tick and no other, where what the axis's board
-/// tells of its trigger is read true, and the board is no more than a turn ahead of its lines as sections start.
 pub fn groups_miss_no_switch()
     ensures late { (m : Machine) (switches : List Switch) (pins : ℕ → List (List Level)) (entries : List Entry) (lines : ℕ → ℕ → Clocks) (ready until : ℕ) → IsValidMachine m → entries ≡ [] → (c : Came) (before : List Came) (all : List (ℕ → BoardTurn)) →
         IsClearRun m switches pins entries lines ready until c before all → length before + 276 ≤ until → AxesLow m switches (c ∷ before) → (h : Homing) → (noted m c.note (known_by m switches before)).homing ≡ Some h →
@@ -37,9 +33,4 @@ pub fn groups_miss_no_switch()
         (tick : ℕ) → IsSwitchTick m (pins (axis_at m h.axis).board) (axis_at m h.axis).board (axis_at m h.axis) (lines_tick (lines h.start (axis_at m h.axis).board) (h.start * turn_ns)) tick →
         tick < lines_tick (lines h.start (axis_at m h.axis).board) ((h.group.last + 1) * turn_ns) → (x : End) →
         answer_in (length before) h.start (hears_all (noted m c.note (known_by m switches before)).clocks c.states h).group ≡ Some x → (at : ℕ) × (x ≡ Endstop at) }
-    ensures first { (m : Machine) (switches : List Switch) (pins : ℕ → List (List Level)) (entries : List Entry) (lines : ℕ → ℕ → Clocks) (ready until : ℕ) → IsValidMachine m → entries ≡ [] → (c : Came) (before : List Came) (all : List (ℕ → BoardTurn)) →
-        IsClearRun m switches pins entries lines ready until c before all → length before + 276 ≤ until → AxesLow m switches (c ∷ before) → (h : Homing) → (noted m c.note (known_by m switches before)).homing ≡ Some h →
-        AreRead (ReadsSwitchTrue m switches (axis_at m h.axis).board) (c ∷ before) (turns_of (axis_at m h.axis).board all) → AreBehind m switches (axis_at m h.axis).board (c ∷ before) →
-        (tick : ℕ) → answer_in (length before) h.start (hears_all (noted m c.note (known_by m switches before)).clocks c.states h).group ≡ Some (Endstop tick) →
-        IsSwitchTick m (pins (axis_at m h.axis).board) (axis_at m h.axis).board (axis_at m h.axis) (lines_tick (lines h.start (axis_at m h.axis).board) (h.start * turn_ns)) tick }
 {}

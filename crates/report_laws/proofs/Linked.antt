@@ -86,6 +86,7 @@ use Rattle.session_laws.proofs.home_headline.Sections.{all_begun}
 use Rattle.session_laws.proofs.home_headline.Shows.{all_shows}
 use Rattle.session_laws.proofs.home_headline.Switches.{all_ends, run_last}
 use Rattle.session_laws.specs.home_wholes.Whole.{AllWholeHomes}
+use Rattle.session_laws.proofs.home_wholes.First as firsts
 use Rattle.session_laws.proofs.home_wholes.Own.{run_own}
 use Rattle.session_laws.proofs.home_wholes.Shows.{all_wholes}
 use Rattle.session_laws.specs.clear_homes.Closes.{AllClose}
@@ -1038,7 +1039,7 @@ module _ {F S : Type 0} (f : Files F) (o : Sink S) (m : Machine) (s : Scene) (gc
     begun = begun_texts r;
     triggers = λ text told other reads. run_own f o m s gcode files files' out r.behind r.kept r.kept' r.told r.runs v short text told r.fresh.at other reads;
     complete = ends_as_read r;
-    first_ticks = λ text told goes clear own other sends soon. homed.run_firsts f o m s gcode files files' out r.behind r.kept r.kept' r.told r.runs v short text told r.fresh.at clear own other goes sends soon;
+    first_ticks = λ text told other reads takes. firsts.run_first f o m s gcode files files' out r.behind r.kept r.kept' r.told r.runs v short text told r.fresh.at other reads takes;
     last_cut = λ text told. run_last f o m s gcode files files' out r.behind r.kept r.kept' r.told r.runs v text told r.fresh.at;
     ends = cause_ends r c refl;
     shutdowns = λ text told other near. elim near [

@@ -30,7 +30,7 @@ use Rattle.session_laws.specs.run_headline.Further.{AreNamed, BoardsFirst, Tells
 use Rattle.session_laws.specs.run_headline.Timely.{AllTakeNear, AreOfMoves, AreSound, HoldsNothingLong}
 use Rattle.session_laws.specs.run_lines.Due.{BoardsHave, StandApart}
 use Rattle.session_laws.specs.home_headline.Little.{AllHomeLittle, SendsOut, ShownHoldLittle}
-use Rattle.session_laws.specs.home_wholes.Own.{AllSwitchesReadTrue, TellTriggers}
+use Rattle.session_laws.specs.home_wholes.Own.{AllSwitchesReadTrue, AllTakeInTime, TellTriggers}
 use Rattle.session_laws.specs.clear_homes.Closes.{AllClose, MissesSwitch, TellFirst}
 use Rattle.session_laws.specs.clear_homes.First.{IsFirstExpired, IsUnswitched}
 use Rattle.session_laws.specs.run_causes.Unanswered.{GaveNoAnswer, IsStaleSince}
@@ -180,20 +180,21 @@ pub record IsLinkReport {F S : Type 0} (f : Files F) (o : Sink S) (m : Machine) 
   pub readings : TellOfReadings m s.switches (came_from [] reported.runs.runs.1)
   pub triggers : (text : List ℕ) → f.told files gcode ≡ Some text → (reported.told.cause ≡ cause.Memory → ⊥) →
       AllSwitchesReadTrue m s reported.runs.runs.0 (reported.runs.runs.1 ++ reported.runs.runs.2 ∷ []) →
-      ∥ TellTriggers m s reported.runs.runs.0 reported.runs.runs.1 reported.runs.runs.2 ∥₁
+      ∥ ((made : IsMade m s reported.runs.runs.0 reported.runs.runs.1) × (made.plans.seen.text ≡ text)
+      × TellTriggers m s made.plans.seen reported.runs.runs.0 reported.runs.runs.1 reported.runs.runs.2) ∥₁
+  -- First ticks: where besides the boards take the set-ups of homing sections in time, as in a scene without entries, it
+  -- is the first tick, from the section's start on, at which the switch closes
+  pub first_ticks : (text : List ℕ) → f.told files gcode ≡ Some text → (reported.told.cause ≡ cause.Memory → ⊥) →
+      AllSwitchesReadTrue m s reported.runs.runs.0 (reported.runs.runs.1 ++ reported.runs.runs.2 ∷ []) →
+      AllTakeInTime m s text reported.runs.runs.0 (reported.runs.runs.1 ++ reported.runs.runs.2 ∷ []) →
+      ∥ ((made : IsMade m s reported.runs.runs.0 reported.runs.runs.1) × (made.plans.seen.text ≡ text)
+      × TellFirst m s made.plans.seen [] reported.runs.runs.1) ∥₁
   -- Completeness: in a scene without entries a text without a line that asks for a stop, whose units are sent soon, is run
   -- as it reads, but for want of memory and faults of files and output; unless a switch closes too late
   pub complete : (text : List ℕ) → f.told files gcode ≡ Some text →
       ((line : ℕ) → (program_end m text).stop ≡ read.Stop line → ⊥) → s.entries ≡ [] → SendsAllSoon m text reported.runs.runs.0 →
       ∥ IsCauseOf (cause_of (program_end m text).stop) c
       ⊎ EndsUnswitched m s text reported.runs.runs.0 reported.runs.runs.1 c ∥₁
-  -- First ticks: and there each line of a switch is of the first tick at which it closes
-  pub first_ticks : (text : List ℕ) → f.told files gcode ≡ Some text →
-      ((line : ℕ) → (program_end m text).stop ≡ read.Stop line → ⊥) → s.entries ≡ [] → IsOwn reported.told.cause →
-      (reported.told.cause ≡ cause.Memory → ⊥) → SendsAllSoon m text reported.runs.runs.0 →
-      AllSwitchesReadTrue m s reported.runs.runs.0 (reported.runs.runs.1 ++ reported.runs.runs.2 ∷ []) →
-      ∥ ((made : IsMade m s reported.runs.runs.0 reported.runs.runs.1) × (made.plans.seen.text ≡ text)
-      × TellFirst m s made.plans.seen [] reported.runs.runs.1) ∥₁
   -- Moves: a run of moves shows its text where no line holds a command for half a round of the 32-bit clock
   pub moves : (text : List ℕ) → f.told files gcode ≡ Some text → AreOfMoves (sections_over m text) →
       (reported.told.cause ≡ cause.Memory → ⊥) →

@@ -17,4 +17,6 @@ pub mod Lost
 pub mod Axes
 pub mod Lines
 pub mod Shows
+pub mod Near
 pub mod Own
+pub mod First

@@ -16,8 +16,7 @@ ghost use Rattle.session_run.specs.Runs.{RunsOver};
 ghost use Rattle.session_laws.specs.run_ends.Ends.{GoesThrough};
 ghost use Rattle.session_laws.specs.home_headline.Little.{SendsAllInTime};
 ghost use Rattle.session_laws.specs.run_headline.Made.{IsMade};
-ghost use Rattle.session_laws.specs.home_wholes.Own.{AllSwitchesReadTrue};
-ghost use Rattle.session_laws.specs.clear_homes.Closes.{AllClose, MissesSwitch, TellFirst};
+ghost use Rattle.session_laws.specs.clear_homes.Closes.{AllClose, MissesSwitch};
 ghost use Rattle.session_laws.specs.clear_homes.Expiry.{IsExpired};
 ghost use Rattle.session_laws.specs.clear_homes.First.{IsFirstExpired, IsUnswitched};
 ghost use Rattle.session_laws.specs.clear_runs.Clear.{SendsAllSoon};
@@ -60,17 +59,6 @@ pub fn clear_runs_with_switches_go_through<F: Files, S: Sink>()
         (r : RunsOver F.Files S.Sink m s name files out kept t files' out' kept') → IsValidMachine m → HaveShortDictionaries m → (text : List ℕ) → F.told files name ≡ Some text → kept.at ≡ 0 →
         s.entries ≡ [] → IsOwn t.cause → (t.cause ≡ Cause.Memory → ⊥) → ((line : ℕ) → (program_end m text).stop ≡ Stop line → ⊥) → SendsAllSoon m text r.runs.0 → AllClose m s text r.runs.0 →
         GoesThrough t.cause }
-{}
-
-/// The law of first ticks: of such a run, of any cause of its own other than want of memory, each turn before the last one that tells that the switch
-/// of a homing section closed tells of the tick at which it closes: the first one, from the section's start on, at which four readings in a row show
-/// it pressed (`TellFirst`), where reports that readings triggered a trigger are read true (`AllSwitchesReadTrue`).
-pub fn clear_runs_are_cut_at_first_ticks<F: Files, S: Sink>()
-    ensures { (m : Machine) (s : Scene) (name : List ℕ) (files files' : F) (out out' : S) (kept kept' : Kept) (t : Told Run) →
-        (r : RunsOver F.Files S.Sink m s name files out kept t files' out' kept') → IsValidMachine m → HaveShortDictionaries m → (text : List ℕ) → F.told files name ≡ Some text → kept.at ≡ 0 →
-        s.entries ≡ [] → IsOwn t.cause → (t.cause ≡ Cause.Memory → ⊥) → ((line : ℕ) → (program_end m text).stop ≡ Stop line → ⊥) → SendsAllSoon m text r.runs.0 →
-        AllSwitchesReadTrue m s r.runs.0 (r.runs.1 ++ r.runs.2 ∷ []) →
-        ∥ ((made : IsMade m s r.runs.0 r.runs.1) × (made.plans.seen.text ≡ text) × TellFirst m s made.plans.seen [] r.runs.1) ∥₁ }
 {}
 
 /// The law of expired boards: in whatever threads a run went that ends as a board expired in a turn, the board told so: in one of the

@@ -34,10 +34,11 @@ ghost use Rattle.session_run.specs.declared.tell.Kept.{Kept};
 ghost use Rattle.session_run.specs.Runs.{RunsOver};
 ghost use Rattle.session_laws.specs.run_headline.Made.{IsMade};
 ghost use Rattle.session_laws.specs.run_headline.Timely.{clocks_heard, ready_heard};
+ghost use Rattle.session_laws.specs.clear_homes.Closes.{TellFirst};
 ghost use Rattle.session_laws.specs.home_headline.Cuts.{TellEnds};
 ghost use Rattle.session_laws.specs.home_headline.Follow.{AllShowHomes};
 ghost use Rattle.session_laws.specs.home_headline.Little.{AllHomeLittle};
-ghost use Rattle.session_laws.specs.home_wholes.Own.{AllSwitchesReadTrue, TellTriggers};
+ghost use Rattle.session_laws.specs.home_wholes.Own.{AllSwitchesReadTrue, AllTakeInTime, TellTriggers};
 ghost use Rattle.session_laws.specs.home_wholes.Still.{IsStillIn};
 ghost use Rattle.session_laws.specs.home_wholes.Whole.{AllWholeHomes};
 
@@ -98,5 +99,17 @@ pub fn homing_runs_are_whole<F: Files, S: Sink>()
 pub fn homing_runs_are_cut_at_trigger_ticks<F: Files, S: Sink>()
     ensures { (m : Machine) (s : Scene) (name : List ℕ) (files files' : F) (out out' : S) (kept kept' : Kept) (t : Told Run) →
         (r : RunsOver F.Files S.Sink m s name files out kept t files' out' kept') → IsValidMachine m → HaveShortDictionaries m → (text : List ℕ) → F.told files name ≡ Some text → kept.at ≡ 0 →
-        (t.cause ≡ Cause.Memory → ⊥) → AllSwitchesReadTrue m s r.runs.0 (r.runs.1 ++ r.runs.2 ∷ []) → ∥ TellTriggers m s r.runs.0 r.runs.1 r.runs.2 ∥₁ }
+        (t.cause ≡ Cause.Memory → ⊥) → AllSwitchesReadTrue m s r.runs.0 (r.runs.1 ++ r.runs.2 ∷ []) →
+        ∥ ((made : IsMade m s r.runs.0 r.runs.1) × (made.plans.seen.text ≡ text) × TellTriggers m s made.plans.seen r.runs.0 r.runs.1 r.runs.2) ∥₁ }
+{}
+
+/// The law of first ticks: where moreover each board takes the set-up of each homing section in time (`AllTakeInTime`), as it
+/// does in a scene without entries, each of those turns tells of the first tick, from the section's start on by the clock lines
+/// that the planner was told, at which four readings in a row show its switch pressed (`TellFirst`).
+pub fn homing_runs_are_cut_at_first_ticks<F: Files, S: Sink>()
+    ensures { (m : Machine) (s : Scene) (name : List ℕ) (files files' : F) (out out' : S) (kept kept' : Kept) (t : Told Run) →
+        (r : RunsOver F.Files S.Sink m s name files out kept t files' out' kept') → IsValidMachine m → HaveShortDictionaries m → (text : List ℕ) → F.told files name ≡ Some text → kept.at ≡ 0 →
+        (t.cause ≡ Cause.Memory → ⊥) → AllSwitchesReadTrue m s r.runs.0 (r.runs.1 ++ r.runs.2 ∷ []) →
+        AllTakeInTime m s text r.runs.0 (r.runs.1 ++ r.runs.2 ∷ []) →
+        ∥ ((made : IsMade m s r.runs.0 r.runs.1) × (made.plans.seen.text ≡ text) × TellFirst m s made.plans.seen [] r.runs.1) ∥₁ }
 {}

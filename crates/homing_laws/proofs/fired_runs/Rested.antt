@@ -1,5 +1,5 @@
 -- Between a board's homing sections its trigger is at rest; and in the turn in which a group answers it has triggered since the section's start.
-use Rattle.std.proofs.Common.{◌≡◌, ℕ, ◌+◌, ◌-◌, ◌*◌, ◌<◌, ◌≤◌, ◌⊎◌, inl, inr, false, List, [], ◌∷◌, ◌++◌, length, drop, map, Option, Some, None, refl, ap, sym, ◌∙◌, subst, arith, append_assoc, append-nil, length-append}
+use Rattle.std.proofs.Common.{◌≡◌, ℕ, ◌+◌, ◌-◌, ◌*◌, ◌<◌, ◌≤◌, ◌⊎◌, inl, inr, false, List, [], ◌∷◌, ◌++◌, length, drop, map, Option, Some, None, refl, ap, sym, ◌∙◌, subst, arith, append_assoc, append-nil}
 use Rattle.std.proofs.lemmas.Bool.Decides.{eqb_tells, leb_tells}
 use Rattle.std.proofs.lemmas.List.{append_cancel_left, take-append-drop}
 use Rattle.plan_types.specs.declared.levels.Level.{Level}
@@ -174,18 +174,6 @@ module _ (m : Machine) (v : IsValidMachine m) (switches : List Switch) (pins : L
   rises within k =
       let valid = v.boards b _ within in
       board_rises (clock_of (board_at m b)) k valid.freq (drift_small (board_at m b).drift valid.drift_low valid.drift_high)
-
-  -- what had fired did so by the tick of its last turn
-  pub was_under : (before : List Came) (turns : List BoardTurn) (reason tick : ℕ) → Run before turns → WasFiredAt Oid reason tick turns → tick ≤ Own (length turns)
-  was_under before turns reason tick r was =
-      let x = was_at First Oid reason tick turns was in
-      let run = run_at m switches pins entries b before x.0 x.1 (subst (Run before) x.2 r) in
-      let low = under_after m switches pins entries b run.0 x.1 run.1 Oid x.3.slot x.3.is in
-      let size = ap (λ (l : List BoardTurn). length l) x.2 in
-      let long = length-append x.0 x.1 in
-      let on = grows (length x.1) (length turns) (omega (arith, size, long)) in
-      let at = x.3.at in
-      omega (arith, low, on, at)
 
   -- what is left of the queue
   pub left_of : (turns : List BoardTurn) → Turns turns → (left : List Meant) × (Taken turns ++ left ≡ queued_by turns)

@@ -1,5 +1,5 @@
 -- Between a board's homing sections its trigger reads nothing; and where a group answers that the switch of its section closed, the section's own readings triggered it.
-use Rattle.std.proofs.Common.{◌≡◌, ℕ, ◌+◌, ◌-◌, ◌<◌, ◌≤◌, ◌⊎◌, inl, inr, List, [], ◌∷◌, ◌++◌, length, map, Option, Some, None, refl, ap, sym, ◌∙◌, subst, arith, append_assoc, length-append}
+use Rattle.std.proofs.Common.{◌≡◌, ℕ, ◌+◌, ◌-◌, ◌<◌, ◌≤◌, ◌⊎◌, inl, inr, List, [], ◌∷◌, ◌++◌, length, map, Option, Some, None, refl, ap, sym, ◌∙◌, subst, arith, append_assoc, append-nil, length-append}
 use Rattle.std.proofs.lemmas.Bool.Decides.{eqb_tells}
 use Rattle.std.proofs.lemmas.List.{append_cancel_left}
 use Rattle.plan_types.specs.declared.levels.Level.{Level}
@@ -44,7 +44,7 @@ use Rattle.homing_laws.proofs.home_runs.Staying.{taken_later}
 use Rattle.homing_laws.specs.switch_runs.Reading.{AreFit, BringFit}
 use Rattle.homing_laws.specs.switch_runs.Reports.{WasReported}
 use Rattle.homing_laws.specs.switch_runs.Runs.{IsEndstop, IsReadAt}
-use Rattle.homing_laws.specs.switch_runs.Taken.{AreBlind, IsBlind, IsTriggerOf, TookHome}
+use Rattle.homing_laws.specs.switch_runs.Taken.{AreBlind, IsBlind, IsTriggerOf}
 use Rattle.homing_laws.proofs.clear_boards.Standing.{tick_is}
 use Rattle.homing_laws.proofs.switch_runs.Firing.{AllTrue}
 use Rattle.homing_laws.proofs.switch_runs.Ordering.{Reads, bring_fit, control_fit, fit_both, plain_fit, units_fit}
@@ -118,6 +118,11 @@ sole_once [] h ys reads (inl blind) = (tt, blind)
 sole_once [] h ys reads (inr k) = absurd (reads k.0)
 sole_once (x ∷ xs) h ys reads (inl blind) = absurd (reads (blind_parts xs (h ∷ ys) blind).1.0)
 sole_once (x ∷ xs) h ys reads (inr k) = let more = sole_once xs h ys reads k.1 in ((k.0, more.0), more.1)
+
+in_front : (new others q : List Meant) (h : Meant) (rest : List Meant) → AreBlind others → (IsBlind h.command → ⊥) → new ++ others ≡ q ++ h ∷ rest → length q < length new
+in_front [] others q h rest blind reads e = absurd (reads (blind_parts q (h ∷ rest) (subst AreBlind e blind)).1.0)
+in_front (n ∷ new) others [] h rest blind reads e = omega arith
+in_front (n ∷ new) others (x ∷ q) h rest blind reads e = let more = in_front new others q h rest blind reads (cons_same n x (new ++ others) (q ++ h ∷ rest) e).1 in omega (arith, more)
 
 -- what comes to a board in a turn in which a section is known is fit for the section's readings
 turn_fit : (m : Machine) (switches : List Switch) (pins : List (List Level)) (entries : List Entry) (b : ℕ) (c : Came) (before : List Came) (t : BoardTurn) (turns : List BoardTurn) (h : Homing) → IsInRun m switches pins entries b (c ∷ before) (t ∷ turns)
@@ -243,8 +248,14 @@ module _ (m : Machine) (v : IsValidMachine m) (switches : List Switch) (pins : L
     are : turns ≡ later ++ early
     at : length early + 250 ≡ homing.start
     unread : Unread early
+    up : List BoardTurn
+    order : BoardTurn
+    later_is : later ≡ up ++ order ∷ []
     queue : List Meant
     queue_is : queued_by turns ≡ queued_by early ++ queue
+    others : List Meant
+    others_are : queue ≡ queued_in (orders order.control order.batch) ++ others
+    blind : AreBlind others
     once : ReadOnce queue
     fit : AreFit E (G homing.start homing.axis before) pins queue
     since : HomesFrom m switches (length early) homing.start (members_of homing.group) before
@@ -341,22 +352,29 @@ module _ (m : Machine) (v : IsValidMachine m) (switches : List Switch) (pins : L
             let n_front = sym (length-append front k.front) ∙ ap length q.1 ∙ length-append u.unread.left q.0 in
             let n_queue = length-append (queued_by u.early) q.0 in
             let n_early = ap length (sym u.unread.rest) ∙ length-append (Taken u.early) u.unread.left in
+            let new = queued_in (orders u.order.control u.order.batch) in
+            let n_new_front = in_front new u.others q.0 k.home rest u.blind k.reads (sym u.others_are ∙ q.2) in
+            let n_ordered = length-append (queued_by u.early) new in
             inr (λ y read. record {
               turn = length past;
               took = record {
-                later = l ++ l2;
-                took = t;
-                since = e;
+                up = u.up;
+                order = u.order;
                 early = u.early;
-                are = same ∙ ap (λ (z : List BoardTurn). l ++ z) (x_is ∙ ap (λ (z : List BoardTurn). z ++ u.early) cut ∙ append_assoc l2 (t ∷ e) u.early) ∙ sym (append_assoc l l2 (t ∷ past));
-                at = refl;
+                ordered_in = u.are ∙ ap (λ (z : List BoardTurn). z ++ u.early) u.later_is ∙ append_assoc u.up (u.order ∷ []) u.early;
                 set_up = u.at;
                 front = q.0;
                 home = k.home;
                 rest = rest;
                 queue = u.queue_is ∙ ap (λ (z : List Meant). queued_by u.early ++ z) q.2;
+                ordered = omega (arith, n_new_front, n_ordered, n_queue);
                 reads = k.reads;
                 sole = sole;
+                later = l ++ l2;
+                took = t;
+                since = e;
+                taken_in = same ∙ ap (λ (z : List BoardTurn). l ++ z) (x_is ∙ ap (λ (z : List BoardTurn). z ++ u.early) cut ∙ append_assoc l2 (t ∷ e) u.early) ∙ sym (append_assoc l l2 (t ∷ past));
+                at = refl;
                 not_yet = omega (arith, n_old, n_front, n_queue, n_early);
                 taken = omega (arith, n_old, n_new, n_took, n_front, n_queue, n_early);
               };
@@ -448,9 +466,10 @@ module _ (m : Machine) (v : IsValidMachine m) (switches : List Switch) (pins : L
 
     -- under way, where it is known and doesn't answer
     goes_way : (h : Homing) → (noted m d.note (known_by m switches past)).homing ≡ Some h → ((noted m d.note (known_by m switches past)).phase ≡ Connecting → ⊥) → h.group.start ≡ h.start → h.start ≤ K + 250 → IsReader b (members_of h.group)
-        → (later early : List BoardTurn) → t ∷ turns ≡ later ++ early → length early + 250 ≡ h.start → Unread early → (q : List Meant) → queued_by (t ∷ turns) ≡ queued_by early ++ q → ReadOnce q → AreFit E (G h.start h.axis (d ∷ past)) pins q
+        → (later early : List BoardTurn) → t ∷ turns ≡ later ++ early → length early + 250 ≡ h.start → Unread early → (up : List BoardTurn) (order : BoardTurn) → later ≡ up ++ order ∷ []
+        → (q : List Meant) → queued_by (t ∷ turns) ≡ queued_by early ++ q → (others : List Meant) → q ≡ queued_in (orders order.control order.batch) ++ others → AreBlind others → ReadOnce q → AreFit E (G h.start h.axis (d ∷ past)) pins q
         → HomesFrom m switches (length early) h.start (members_of h.group) past → answer_in K h.start (Hears h).group ≡ None → Way (d ∷ past) (t ∷ turns)
-    goes_way h is open_it together soon reads later early are at unread q queue once fit since none =
+    goes_way h is open_it together soon reads later early are at unread up order later_is q queue others others_are blind once fit since none =
         let n = noted m d.note (known_by m switches past) in
         let ms = members_of h.group in
         let members = same_members m v switches pins entries b d past t turns now apart h in
@@ -470,8 +489,14 @@ module _ (m : Machine) (v : IsValidMachine m) (switches : List Switch) (pins : L
             are = are;
             at = at;
             unread = unread;
+            up = up;
+            order = order;
+            later_is = later_is;
             queue = q;
             queue_is = queue;
+            others = others;
+            others_are = others_are;
+            blind = blind;
             once = once;
             fit = fit;
             since = subst (λ (l : List Member). HomesFrom m switches (length early) h.start l (d ∷ past)) (sym members) homes;
@@ -522,7 +547,7 @@ module _ (m : Machine) (v : IsValidMachine m) (switches : List Switch) (pins : L
         let size = long in
         let once : ReadOnce New = elim (reads_either m switches pins entries b d past t turns now) [ inl blind ↦ blind_once New blind | inr x ↦ x.0 ] in
         let fit = turn_fit m switches pins entries b d past t turns h now is at in
-        goes_way h is open_it together (omega (arith, at)) reads (t ∷ []) turns refl (omega (arith, at, size)) rest New refl once fit (homes_none past (omega (arith, size))) (not_yet K h.start (Hears h).group (omega (arith, at)))
+        goes_way h is open_it together (omega (arith, at)) reads (t ∷ []) turns refl (omega (arith, at, size)) rest [] t refl New refl [] (sym (append-nil New)) tt once fit (homes_none past (omega (arith, size))) (not_yet K h.start (Hears h).group (omega (arith, at)))
       where
         homes_none : (came : List Came) → length came ≤ length turns → HomesFrom m switches (length turns) h.start (members_of h.group) came
         homes_none [] l = tt
@@ -565,8 +590,9 @@ module _ (m : Machine) (v : IsValidMachine m) (switches : List Switch) (pins : L
             let soon = u.soon in
             let h = u.homing in
             let fresh = blind_fits E Any (G h.start h.axis (d ∷ past)) pins New blind (bring (d ∷ past) (t ∷ turns) now).0 in
-            goes_way h still open_it u.together (omega (arith, soon)) u.reads (t ∷ u.later) u.early (ap (λ (z : List BoardTurn). t ∷ z) u.are) u.at u.unread (u.queue ++ New)
-            (ap (λ (z : List Meant). z ++ New) u.queue_is ∙ append_assoc (queued_by u.early) u.queue New) (read_front u.queue New u.once blind)
+            goes_way h still open_it u.together (omega (arith, soon)) u.reads (t ∷ u.later) u.early (ap (λ (z : List BoardTurn). t ∷ z) u.are) u.at u.unread (t ∷ u.up) u.order (ap (λ (z : List BoardTurn). t ∷ z) u.later_is) (u.queue ++ New)
+            (ap (λ (z : List Meant). z ++ New) u.queue_is ∙ append_assoc (queued_by u.early) u.queue New) (u.others ++ New)
+            (ap (λ (z : List Meant). z ++ New) u.others_are ∙ append_assoc (queued_in (orders u.order.control u.order.batch)) u.others New) (blind_both u.others New u.blind blind) (read_front u.queue New u.once blind)
             (fit_both E (G h.start h.axis (d ∷ past)) pins u.queue New (fits_more E (G h.start h.axis past) (G h.start h.axis (d ∷ past)) pins (grown h.start h.axis) u.queue u.fit) fresh) u.since e
         by blind still open_it (Some e) ends =
             let known = known_by m switches past in

@@ -21,8 +21,6 @@ use Rattle.axis_homing.specs.Homing.{answer_in, hears_all}
 use Rattle.axis_homing.specs.Rising.{members_of}
 use Rattle.host_reactor.specs.Notes.{noted}
 use Rattle.host_reactor.specs.Runs.{Came, known_by}
-use Rattle.trigger_group.specs.declared.seen.Fired.{Fired}
-use Rattle.clock_runs.proofs.Lines.{as_long, run_before}
 use Rattle.homing_laws.specs.home_runs.Told.{IsMember}
 use Rattle.homing_laws.proofs.home_runs.Grouped.{members_states}
 use Rattle.homing_laws.specs.clear_boards.Firing.{AllSmall}
@@ -36,16 +34,12 @@ use Rattle.homing_laws.specs.clear_groups.Sections.{IsClearSection, IsFollowed, 
 use Rattle.homing_laws.specs.clear_groups.SetUp.{HoldsOf, IsPrepared}
 use Rattle.homing_laws.proofs.clear_groups.Beginning as beginning
 use Rattle.homing_laws.proofs.clear_groups.Begun as begun
-use Rattle.homing_laws.proofs.clear_groups.Known.{answered_late, behind_turn, homing_next, of_known, some_known}
+use Rattle.homing_laws.proofs.clear_groups.Known.{answered_late, behind_turn, of_known, some_known}
 use Rattle.homing_laws.proofs.clear_groups.Owning.{one_trigger}
 use Rattle.homing_laws.proofs.clear_groups.Plain.{turn_before}
 use Rattle.homing_laws.proofs.clear_groups.Resting.{board_runs, off_at}
 use Rattle.homing_laws.proofs.clear_groups.Runs.{earlier, prepared_all, quiet_all, rises}
 use Rattle.homing_laws.proofs.clear_groups.Sections.{cut, stays_safe}
-use Rattle.homing_laws.specs.switch_runs.Reports.{WasReported}
-use Rattle.homing_laws.specs.fired_runs.Since.{AreBehind, AreRead, ReadsSwitchTrue, WasFiredAt}
-use Rattle.homing_laws.proofs.fired_runs.Reported.{answer_told}
-use Rattle.homing_laws.proofs.fired_runs.Rested.{grows, rises as own_rises, switch_read, was_under}
 use Rattle.homing_laws.specs.missed_groups.Known.{AxesLow}
 use Rattle.homing_laws.specs.missed_groups.Ticks.{IsReader, IsSwitchTick}
 use Rattle.homing_laws.proofs.missed_groups.Answering.{Missed, known_read, missed, reader_fired}
@@ -56,11 +50,6 @@ use Rattle.homing_laws.proofs.missed_groups.Stepping.{IsMindful, Stood, step_kno
 
 some_same : {A : Type 0} → (x y : A) → Some x ≡ Some y → x ≡ y
 some_same x y e = cc
-
-reader_member : (b : ℕ) (ms : List Member) → IsReader b ms → IsMember b ms
-reader_member b [] k = absurd k
-reader_member b (x ∷ ms) (inl k) = inl k.0
-reader_member b (x ∷ ms) (inr k) = inr (reader_member b ms k)
 
 -- the group of the homing section that is known in a turn, and its boards; and so as the turn with this number began
 abbrev MindsIn : (m : Machine) (switches : List Switch) (pins : ℕ → List (List Level)) (entries : List Entry) (lines : ℕ → Clocks) (start last : ℕ) (members : List Member) → Came → List Came → List (ℕ → BoardTurn) → Type 0
@@ -124,6 +113,11 @@ module _ (m : Machine) (v : IsValidMachine m) (switches : List Switch) (pins : �
       by (inr (inl k)) = absurd (never g.sent (k b on).0)
       by (inr (inr k)) = absurd (never g.sent (k.2 b on).0)
 
+  reader_member : (b : ℕ) (ms : List Member) → IsReader b ms → IsMember b ms
+  reader_member b [] k = absurd k
+  reader_member b (x ∷ ms) (inl k) = inl k.0
+  reader_member b (x ∷ ms) (inr k) = inr (reader_member b ms k)
+
   -- what its group answers
   pub answers_late : (c : Came) (before : List Came) (all : List (ℕ → BoardTurn)) → IsClearSection m switches pins entries lines from start members c before all → length before + 276 ≤ till → at ≤ length before
       → IsSafeAt m switches pins entries lines start last members at (c ∷ before) all → MindsAt m switches pins entries lines start last members at (c ∷ before) all → (h : Homing) → (noted m c.note (known_by m switches before)).homing ≡ Some h
@@ -178,81 +172,6 @@ module _ (m : Machine) (v : IsValidMachine m) (switches : List Switch) (pins : �
               ])
         ]
       ]
-
-  -- where readings had triggered the trigger of the board with the endstop, since a tick of the section, this is its switch's tick
-  fired_reads : at + 1 ≤ start → (c : Came) (before : List Came) (all : List (ℕ → BoardTurn)) → IsClearSection m switches pins entries lines from start members c before all → length before + 276 ≤ till
-      → IsSafeAt m switches pins entries lines start last members at (c ∷ before) all → MindsAt m switches pins entries lines start last members at (c ∷ before) all → (h : Homing) → (noted m c.note (known_by m switches before)).homing ≡ Some h
-      → (b : ℕ) → IsMember b members → (tick : ℕ) → board_tick (clock_of (board_at m b)) (start - 1) ≤ tick → WasFiredAt (trigger_of m b) 1 tick (turns_of b all)
-      → IsSwitchTick m (pins b) b (axis_at m h.axis) (lines_tick (lines b) (start * turn_ns)) tick
-  fired_reads ahead c [] all s r safe mind h is b on tick late was = absurd (let size = s.long in none_was all was (omega (arith, size)))
-    where
-      none_was : (all : List (ℕ → BoardTurn)) → WasFiredAt (trigger_of m b) 1 tick (turns_of b all) → length all ≤ 0 → ⊥
-      none_was [] was l = was
-      none_was (j ∷ js) was l = omega (arith, l)
-  fired_reads ahead c (d ∷ past) [] s r safe mind h is b on tick late was = absurd was
-  fired_reads ahead c (d ∷ past) (j ∷ js) s r safe mind h is b on tick late was = elim (leb_tells at (length (d ∷ past))) [
-    | inr p ↦
-        let run = (s.plain b on).run in
-        let long = as_long m switches b (d ∷ past) (turns_of b (j ∷ js)) run.both in
-        let low = was_under m v switches (pins b) entries b (d ∷ past) (turns_of b (j ∷ js)) 1 tick run was in
-        let below = p.1 in
-        let up = own_rises m v switches (pins b) entries b run.board (length (turns_of b (j ∷ js))) in
-        let on_to = grows m v switches (pins b) entries b (length (turns_of b (j ∷ js)) + 1) (start - 1) (omega (arith, below, long, ahead)) in
-        absurd (omega (arith, low, up, on_to, late))
-    | inl p ↦ by (λ before_it o known was_so. fired_reads ahead d past js before_it (omega (arith, r)) safe.1 mind.1 o known b on tick late was_so) p.1 was
-  ]
-    where
-      by : ((x : IsClearSection m switches pins entries lines from start members d past js) (o : Homing) → (noted m d.note (known_by m switches past)).homing ≡ Some o → WasFiredAt (trigger_of m b) 1 tick (turns_of b js)
-          → IsSwitchTick m (pins b) b (axis_at m o.axis) (lines_tick (lines b) (start * turn_ns)) tick)
-          → at ≤ length (d ∷ past) → WasFiredAt (trigger_of m b) 1 tick (turns_of b (j ∷ js)) → IsSwitchTick m (pins b) b (axis_at m h.axis) (lines_tick (lines b) (start * turn_ns)) tick
-      by again l (inl now) =
-          let y = goes_minding c (d ∷ past) (j ∷ js) s r l safe mind in
-          let same : y.0 ≡ h = some_same y.0 h (sym y.1 ∙ is) in
-          let rigs = rig_at m pins entries (j ∷ js) in
-          let Mind : Homing → Type 0 = λ z. IsMindful m pins lines start last members z.axis (axis_at m z.axis).board (length (d ∷ past)) (hears_all (noted m c.note (known_by m switches (d ∷ past))).clocks c.states z).group rigs in
-          let mind_now : Mind h = subst Mind same y.2 in
-          let mine = mind_now.minded b on in
-          let slots : mine.slot ≡ now.slot = one_slot (slot_at (rigs b) (trigger_of m b)) mine.slot now.slot mine.is now.is in
-          let off : mine.slot.trigger.can ≡ false = ap (λ (z : Slot). z.trigger.can) slots ∙ now.fired in
-          let reason : mine.slot.trigger.reason ≡ 1 = ap (λ (z : Slot). z.trigger.reason) slots ∙ now.why in
-          let ticks : mine.slot.trigger.tick ≡ tick = ap (λ (z : Slot). z.trigger.tick) slots ∙ now.at in
-          elim (mine.minds.fired off) [
-            | inl one ↦ subst (IsSwitchTick m (pins b) b (axis_at m h.axis) (lines_tick (lines b) (start * turn_ns))) ticks one.1.1
-            | inr other ↦ absurd (elim other.0 [ inl two ↦ omega (arith, two, reason) | inr three ↦ (let t = three.0 in omega (arith, t, reason)) ])
-          ]
-      by again l (inr old) = elim (leb_tells at (length past)) [
-        | inl q ↦
-            let reached = q.1 in
-            let before = cut m switches pins entries none lines ready from start last till at members followed early low_so far c d past j js s in
-            let y = goes_minding d past js before (omega (arith, r)) reached safe.1 mind.1 in
-            let next = homing_next m switches from start members c d past y.0 s.homes s.begins.0 s.goes_on (omega (arith, early, reached)) y.1 in
-            let axis : y.0.axis ≡ h.axis = ap (λ (z : Homing). z.axis) (some_same (behind_turn (hears_all (noted m d.note (known_by m switches past)).clocks d.states y.0) (length past)) h (sym next.0 ∙ is)) in
-            subst (λ (i : ℕ). IsSwitchTick m (pins b) b (axis_at m i) (lines_tick (lines b) (start * turn_ns)) tick) axis (again before y.0 y.1 old)
-        | inr q ↦
-            let run = (s.plain b on).run in
-            let was_run = run_before m switches (pins b) entries b d past (j b) (turns_of b js) run in
-            let long = as_long m switches b past (turns_of b js) was_run.both in
-            let low = was_under m v switches (pins b) entries b past (turns_of b js) 1 tick was_run old in
-            let below = q.1 in
-            let up = own_rises m v switches (pins b) entries b run.board (length (turns_of b js)) in
-            let on_to = grows m v switches (pins b) entries b (length (turns_of b js) + 1) (start - 1) (omega (arith, below, long, ahead)) in
-            absurd (omega (arith, low, up, on_to, late))
-      ]
-
-  -- and where it answers that the switch closed, that is the tick
-  pub answers_first : at + 1 ≤ start → from < start → (c : Came) (before : List Came) (all : List (ℕ → BoardTurn)) → IsClearSection m switches pins entries lines from start members c before all → length before + 276 ≤ till
-      → IsSafeAt m switches pins entries lines start last members at (c ∷ before) all → MindsAt m switches pins entries lines start last members at (c ∷ before) all → (h : Homing) → (noted m c.note (known_by m switches before)).homing ≡ Some h → h.start ≡ start
-      → IsReader (axis_at m h.axis).board members → AreRead (ReadsSwitchTrue m switches (axis_at m h.axis).board) (c ∷ before) (turns_of (axis_at m h.axis).board all) → AreBehind m switches (axis_at m h.axis).board (c ∷ before)
-      → (tick : ℕ) → answer_in (length before) h.start (hears_all (noted m c.note (known_by m switches before)).clocks c.states h).group ≡ Some (end.Endstop tick)
-      → IsSwitchTick m (pins (axis_at m h.axis).board) (axis_at m h.axis).board (axis_at m h.axis) (lines_tick (lines (axis_at m h.axis).board) (start * turn_ns)) tick
-  answers_first ahead some c before all s r safe_at mind_at h is begins reader reads behind tick answers =
-      let b = (axis_at m h.axis).board in
-      let on : IsMember b members = reader_member b members reader in
-      let run = (s.plain b on).run in
-      let told = answer_told m switches c before h tick run.goes_on is answers in
-      let f : Fired = record { reason = 1; tick = tick; turn = told.0 } in
-      let read = switch_read m switches (pins b) entries b from start members f c before (turns_of b all) run (s.states b on) s.homes some reader refl reads behind (subst (λ (n : ℕ). WasReported m switches b n f (c ∷ before)) begins told.1) in
-      fired_reads ahead c before all s r safe_at mind_at h is b on tick read.late read.was
 
 -- over the turns of a run
 module _ (m : Machine) (v : IsValidMachine m) (switches : List Switch) (pins : ℕ → List (List Level)) (entries : List Entry) (none : entries ≡ []) (lines : ℕ → ℕ → Clocks) (ready till : ℕ) where
@@ -344,7 +263,7 @@ module _ (m : Machine) (v : IsValidMachine m) (switches : List Switch) (pins : �
       | inr p ↦ let below = p.1 in here c d e past i j js s alone set_up low reach (omega (arith, l, below))
     ]
 
-  -- it answers that no switch closed only where its readings are complete at no tick before that behind its last turn
+  -- a group answers that no switch closed only where its readings are complete at no tick before that behind its last turn
   pub run_misses : (c : Came) (before : List Came) (all : List (ℕ → BoardTurn)) → IsClearRun m switches pins entries lines ready till c before all → length before + 276 ≤ till → AxesLow m switches (c ∷ before) → (h : Homing) → (noted m c.note (known_by m switches before)).homing ≡ Some h
       → answer_in (length before) h.start (hears_all (noted m c.note (known_by m switches before)).clocks c.states h).group ≡ Some end.NoSwitch
       → (tick : ℕ) → IsSwitchTick m (pins (axis_at m h.axis).board) (axis_at m h.axis).board (axis_at m h.axis) (lines_tick (lines h.start (axis_at m h.axis).board) (h.start * turn_ns)) tick
@@ -378,24 +297,3 @@ module _ (m : Machine) (v : IsValidMachine m) (switches : List Switch) (pins : �
   run_closes c before all r reach low h is tick hit early (end.Endstop at) answers = (at, refl)
   run_closes c before all r reach low h is tick hit early end.NoSwitch answers = absurd (let late = run_misses c before all r reach low h is answers tick hit in omega (arith, late, early))
   run_closes c before all r reach low h is tick hit early (end.Expired b turn) answers = absurd (begun.run_answers m v switches pins entries none lines ready till c before all r reach h is b turn answers)
-
-  -- and that is at the tick at which its switch closes, where what its board tells is read true
-  pub run_switches : (c : Came) (before : List Came) (all : List (ℕ → BoardTurn)) → IsClearRun m switches pins entries lines ready till c before all → length before + 276 ≤ till → AxesLow m switches (c ∷ before) → (h : Homing) → (noted m c.note (known_by m switches before)).homing ≡ Some h
-      → AreRead (ReadsSwitchTrue m switches (axis_at m h.axis).board) (c ∷ before) (turns_of (axis_at m h.axis).board all) → AreBehind m switches (axis_at m h.axis).board (c ∷ before)
-      → (tick : ℕ) → answer_in (length before) h.start (hears_all (noted m c.note (known_by m switches before)).clocks c.states h).group ≡ Some (end.Endstop tick)
-      → IsSwitchTick m (pins (axis_at m h.axis).board) (axis_at m h.axis).board (axis_at m h.axis) (lines_tick (lines h.start (axis_at m h.axis).board) (h.start * turn_ns)) tick
-  run_switches c before all r reach low h is read behind tick answers =
-      let y = begun.began_in m v switches pins entries none lines ready till c before all r h is in
-      let s = begun.section_in m v switches pins entries none lines ready till c before all r h y in
-      let soon = y.soon in
-      let from = y.from in
-      let start = h.start in
-      let members = members_of h.group in
-      let own = (axis_at m h.axis).board in
-      let late = answered_late (length before) h.start (hears_all (noted m c.note (known_by m switches before)).clocks c.states h).group (end.Endstop tick) answers in
-      let x = find from start members soon c before all s (begun.well_alone m switches lines ready till before r.begins.1) (begun.set_up_all m v switches pins entries none lines ready till c before all r) low reach (omega (arith, late)) in
-      let low_so = x.low_so in
-      let of = of_axis m switches c before r.goes_on h is in
-      let valid : IsValidAxis m (axis_at m h.axis) = v.axes h.axis _ (low.0 h is) in
-      answers_first m v switches pins entries none (lines start) ready from start x.last till (start - 249) members x.followed (omega (arith, soon)) (omega (arith, low_so)) (omega arith) (omega (arith, soon)) (omega (arith, soon))
-      c before all s reach x.safe x.minds h is refl (of.1 valid.board) read behind tick answers

@@ -19,7 +19,6 @@ use Rattle.link_work.specs.Runs.{queued_in}
 use Rattle.link_work.specs.Stands.{orders}
 use Rattle.board_asking.specs.declared.setup.Setup.TheVariants.{Finish, Trsync}
 use Rattle.board_asking.specs.Machine.{configuration, endstop_pins, is_among, pins_of, setup_command, setup_endstops, setup_stepper, trigger_of}
-use Rattle.trigger_group.specs.Group.{phase, steppers}
 use Rattle.axis_homing.specs.Homing.{place_from}
 use Rattle.host_reactor.specs.declared.ordered.Phase.TheVariants.{Connecting}
 use Rattle.host_reactor.specs.Runs.{Came, known_by}
@@ -30,7 +29,6 @@ use Rattle.clock_runs.specs.Samples.{IsAmong}
 use Rattle.clock_runs.proofs.Configured.{all_configured, pins_few}
 use Rattle.run_parts.proofs.Controlled.{few_on}
 use Rattle.homing_laws.specs.home_runs.Sections.{queued_by}
-use Rattle.homing_laws.proofs.home_runs.Setting.{commands_both}
 use Rattle.homing_laws.proofs.home_runs.Staging as staging
 use Rattle.homing_laws.proofs.home_runs.Whole.{turn_commands}
 use Rattle.homing_laws.specs.switch_runs.Made.{MakesEndstop}

@@ -25,25 +25,30 @@ abbrev pub AreBlind : List Meant → Type 0
 AreBlind [] = Unit {0}
 AreBlind (m ∷ ms) = IsBlind m.command × AreBlind ms
 
--- In the turn with this number a board took the command that begins the readings of a homing section with this start: the only
--- one that begins any of all that was queued from the turn 250 turns in front of the start on. It was one of those turns, as it
--- began the command wasn't taken yet, and as it ended it was.
+-- In the turn with this number a board took the command that begins the readings of a homing section with this start. It was
+-- queued in the turn 250 turns in front of the start, and is the only one that begins any of all that was queued from that turn on.
+-- As the turn with this number began, that one or a later one, it wasn't taken yet, and as it ended it was.
 pub record TookHome (first : LinkState) (start : ℕ) (turns : List BoardTurn) (turn : ℕ) : Type 0 where
-  -- the turns behind that one, it, those before it from 250 turns in front of the start on, and those before them
-  pub later : List BoardTurn
-  pub took : BoardTurn
-  pub since : List BoardTurn
+  -- the turn in which it was queued, those before it and those behind it
+  pub up : List BoardTurn
+  pub order : BoardTurn
   pub early : List BoardTurn
-  pub are : turns ≡ later ++ took ∷ (since ++ early)
-  pub at : length (since ++ early) ≡ turn
+  pub ordered_in : turns ≡ up ++ order ∷ early
   pub set_up : length early + 250 ≡ start
-  -- what was queued from there on
+  -- what was queued from that turn on
   pub front : List Meant
   pub home : Meant
   pub rest : List Meant
   pub queue : queued_by turns ≡ queued_by early ++ (front ++ home ∷ rest)
+  pub ordered : length (queued_by early ++ front) < length (queued_by (order ∷ early))
   pub reads : IsBlind home.command → ⊥
   pub sole : AreBlind front × AreBlind rest
+  -- the turn in which it was taken, and those behind it
+  pub later : List BoardTurn
+  pub took : BoardTurn
+  pub since : List BoardTurn
+  pub taken_in : turns ≡ later ++ took ∷ (since ++ early)
+  pub at : length (since ++ early) ≡ turn
   pub not_yet : length (stands_after first (since ++ early)).core.taken ≤ length (queued_by early ++ front)
   pub taken : length (queued_by early ++ front) < length took.after.core.taken
 

@@ -1,5 +1,5 @@
 -- A whole run in which axes home, in a scene without entries, whatever threads it went in.
-use Rattle.std.proofs.Common.{◌≡◌, ◌⊎◌, ℕ, ◌+◌, List, [], ◌∷◌, ◌++◌, Some, refl, sym, ◌∙◌, arith, subst, inl, inr}
+use Rattle.std.proofs.Common.{◌≡◌, ◌⊎◌, ℕ, List, [], ◌∷◌, Some, refl, sym, ◌∙◌, arith, subst, inl, inr}
 use Rattle.std.proofs.Math.Logic.{∥∥₁_elim, ∥∥₁_map}
 use Rattle.gcode_program.specs.Programs.{program_end}
 use Rattle.plan_types.specs.declared.cause.Cause.{Cause}
@@ -23,15 +23,8 @@ use Rattle.session_laws.proofs.run_headline.Runs.{facts}
 use Rattle.session_laws.proofs.run_headline.Showing.{Facts}
 use Rattle.cause_runs.specs.Short.{HaveShortDictionaries}
 use Rattle.session_laws.specs.clear_runs.Clear.{SendsAllSoon}
-use Rattle.session_laws.specs.home_wholes.Own.{AllSwitchesReadTrue}
-use Rattle.session_laws.specs.clear_homes.Closes.{AllClose, MissesSwitch, TellFirst}
-use Rattle.session_laws.specs.home_headline.Cuts.{TellEnds}
-use Rattle.session_laws.proofs.home_headline.Switches.{all_ends}
-use Rattle.session_laws.proofs.run_headline.Showing.{Ended}
-use Rattle.session_laws.proofs.run_headline.Runs.{run_ended}
-use Rattle.wire_scene.specs.declared.scene.Switch.{Switch}
-use Rattle.motion_work.specs.Seen.{Started}
-use Rattle.session_laws.proofs.clear_homes.Through.{GoesOr, first_all, missed_all, through_all, through_alone}
+use Rattle.session_laws.specs.clear_homes.Closes.{AllClose, MissesSwitch}
+use Rattle.session_laws.proofs.clear_homes.Through.{GoesOr, missed_all, through_all, through_alone}
 use Rattle.session_laws.proofs.clear_runs.Clear.{goes_prop}
 
 -- a switch never closed
@@ -50,10 +43,6 @@ went c none g = elim g [ inl x ↦ x | inr x ↦ absurd (none (subst IsUnclosed 
 tells : (c : Cause) → IsUnclosed c ⊎ (IsUnclosed c → ⊥)
 tells (cause.NoSwitch section) = inl tt
 tells c = inr (λ i. i)
-
-ends_front : (m : Machine) (switches : List Switch) (begun : List Started) (k : ℕ) (xs ys : List ReactorTurn) → TellEnds m switches begun k (xs ++ ys) → TellEnds m switches begun k xs
-ends_front m switches begun k [] ys ends = tt
-ends_front m switches begun k (x ∷ xs) ys ends = (ends.0, ends_front m switches begun (k + 1) xs ys ends.1)
 
 module _ {F S : Type 0} (f : Files F) (o : Sink S) (m : Machine) (s : Scene) (name : List ℕ) (files files' : F) (out out' : S) (kept kept' : Kept) (t : Told Run) (r : RunsOver f o m s name files out kept t files' out' kept') (v : IsValidMachine m) (short : HaveShortDictionaries m) where
   pub run_through : (text : List ℕ) → f.told files name ≡ Some text → kept.at ≡ 0 → s.entries ≡ [] → IsOwn t.cause → (t.cause ≡ cause.Memory → ⊥)
@@ -109,22 +98,3 @@ module _ {F S : Type 0} (f : Files F) (o : Sink S) (m : Machine) (s : Scene) (na
     where
       bottom : IsProp ⊥
       bottom x y = absurd x
-
-  firsts : (made : IsMade m s r.runs.0 r.runs.1) → s.entries ≡ [] → IsOwn t.cause → ((line : ℕ) → (program_end m made.plans.seen.text).stop ≡ read.Stop line → ⊥) → SendsAllSoon m made.plans.seen.text r.runs.0 → (rs : List ReactorTurn)
-      → Ended m s r.runs.0 rs r.runs.2 t.cause → AllSwitchesReadTrue m s r.runs.0 (rs ++ r.runs.2 ∷ []) → TellFirst m s made.plans.seen [] rs
-  firsts made clear own on sends [] x reads = tt
-  firsts made clear own on sends (first ∷ rest) x reads =
-      first_all m v short s r.runs.0 made.plans r.runs.2 t.cause clear on sends first rest x.facts own reads
-      (ends_front m s.switches made.plans.seen.begun 0 (first ∷ rest) (r.runs.2 ∷ []) (all_ends m v s r.runs.0 made.plans r.runs.2 t.cause (first ∷ rest) x))
-
-  -- each tick that it tells of is the first one
-  pub run_firsts : (text : List ℕ) → f.told files name ≡ Some text → kept.at ≡ 0 → s.entries ≡ [] → IsOwn t.cause → (t.cause ≡ cause.Memory → ⊥) → ((line : ℕ) → (program_end m text).stop ≡ read.Stop line → ⊥) → SendsAllSoon m text r.runs.0
-      → AllSwitchesReadTrue m s r.runs.0 (r.runs.1 ++ r.runs.2 ∷ []) → ∥ ((made : IsMade m s r.runs.0 r.runs.1) × (made.plans.seen.text ≡ text) × TellFirst m s made.plans.seen [] r.runs.1) ∥₁
-  run_firsts text told at clear own other goes sends reads =
-      ∥∥₁_map (run_made f o m s name files files' out out' kept kept' t r text told at) (λ w.
-      let Goes : List ℕ → Type 0 = λ z. (line : ℕ) → (program_end m z).stop ≡ read.Stop line → ⊥ in
-      let Sends : List ℕ → Type 0 = λ z. SendsAllSoon m z r.runs.0 in (
-        w.0,
-        w.1,
-        firsts w.0 clear own (subst Goes (sym w.1) goes) (subst Sends (sym w.1) sends) r.runs.1 (run_ended f o m s name files files' out out' kept kept' t r other) reads,
-      ))

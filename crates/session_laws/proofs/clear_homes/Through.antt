@@ -33,8 +33,6 @@ use Rattle.host_reactor.specs.Reactor.{reacts}
 use Rattle.host_reactor.specs.Rows.{IsOwn}
 use Rattle.host_reactor.specs.Running.{first_cause, late, stop_of}
 use Rattle.host_reactor.specs.Runs.{Came, HaveStates, known_by, state_at, told_by}
-use Rattle.report_text.specs.declared.line.ReportLine.{ReportLine}
-use Rattle.wire_scene.specs.declared.scene.Switch.{Switch}
 use Rattle.host_reactor.proofs.Connects.{silent-eight}
 use Rattle.host_reactor.proofs.Rowing.{stays-whole}
 use Rattle.board_runs.specs.Turns.{BoardTurn, latest_state, stands_after}
@@ -98,18 +96,8 @@ use Rattle.session_laws.proofs.clear_homes.Boards.{on}
 use Rattle.session_laws.proofs.clear_homes.Boards as boards
 use Rattle.session_laws.proofs.clear_homes.Expired.{expired_of, missed_of}
 use Rattle.session_laws.proofs.clear_homes.Punctual.{RunsLed, cuts_led, soon_not_late}
-use Rattle.session_laws.proofs.clear_homes.Whole.{closes_first, never_expired, never_missed}
-use Rattle.session_laws.specs.clear_homes.Closes.{ClosesFirst, MissesSwitch, TellFirst}
-use Rattle.session_laws.specs.home_headline.Cuts.{EndsIn, TellEnds, TellsAnswer}
-use Rattle.session_laws.proofs.home_headline.Ended.{goes_behind, notes_behind}
-use Rattle.session_laws.proofs.home_headline.Switches.{came_ahead}
-use Rattle.homing_laws.specs.fired_runs.Since.{AreBehind, AreRead, ReadsSwitchTrue}
-use Rattle.session_laws.specs.home_wholes.Own.{AllSwitchesReadTrue}
-use Rattle.session_laws.proofs.home_wholes.Own.{all_so, read_to}
-use Rattle.host_reactor.specs.Reactor.{cut_line}
-use Rattle.host_reactor.specs.Runs.{GoesOn}
-use Rattle.plan_types.specs.declared.machine.AxisDef.{AxisDef}
-use Rattle.run_laws.proofs.Lists.{one_place}
+use Rattle.session_laws.proofs.clear_homes.Whole.{never_expired, never_missed}
+use Rattle.session_laws.specs.clear_homes.Closes.{MissesSwitch}
 use Rattle.trigger_group.specs.declared.order.End.TheVariants as end_of
 use Rattle.homing_laws.specs.missed_groups.Ticks.{IsSwitchTick}
 use Rattle.session_laws.proofs.clear_runs.Through.{first_none, spilled}
@@ -126,13 +114,6 @@ soon_all m text ts sends = λ p t b same told low.
 -- where all clocks are exact, units that are sent in time are sent soon
 pub exact_all : (m : Machine) (text : List ℕ) (ts : List MotionTurn) → ((b : ℕ) → b < length m.boards → (board_at m b).drift ≡ pos 0) → SendsAllInTime m text ts → SendsAllSoon m text ts
 exact_all m text ts exact sends = λ p t b same told low. inl (exact b low, sends p t b same told low)
-
--- a line that tells of a switch has one section
-one_line : (m : Machine) (switches : List Switch) (i j : ℕ) (a b : AxisDef) (tick at : ℕ) → cut_line m switches i a (Some tick) ≡ cut_line m switches j b (Some at) → i ≡ j
-one_line m switches i j a b tick at e = cc
-
-no_line : (m : Machine) (switches : List Switch) (i : ℕ) (a : AxisDef) (tick : ℕ) → [] ≡ cut_line m switches i a (Some tick) → ⊥
-no_line m switches i a tick e = cc
 
 -- how such a run ends: it went through, or a switch never closed
 abbrev pub GoesOr : Cause → Type 0
@@ -491,59 +472,3 @@ module _ (m : Machine) (v : IsValidMachine m) (short : HaveShortDictionaries m) 
         let so : EndsSo m Now (length All_came) end.states c = subst Ends (f.own own).0 (ends_so m s.switches f.known (length All_came) end.states end.note c (f.own own).1 f.other (sym (ends_own m s ts (first ∷ rest) end c f own))) in
         let By : Cause → Type 0 = λ d. EndsSo m Now (length All_came) end.states d in
         missed_so section (subst By e so).1
-
-    -- each turn that tells that a switch closed tells of the first tick at which it did
-    module _ (t : Told) (told : p.seen.told ≡ Some t) (reads : AllSwitchesReadTrue m s ts (first ∷ (rest ++ end ∷ []))) where
-      first_at : (ahead : List Came) (y : Came) (before : List Came) (lines : List ReportLine) (x : TellsAnswer m s.switches y before lines) → All_came ≡ ahead ++ y ∷ before → (number axis : ℕ) → EndsIn p.seen.begun (length before) number axis → number ≡ x.homing.section
-          → ClosesFirst m s p.seen x.homing.section x.tick
-      unfolding w
-      first_at ahead y before lines x are number axis e same_number =
-          let Goes : List Came → Type 0 = λ z. GoesOn m s.switches z in
-          let Notes : List Came → Type 0 = λ z. CameNotes p.seen.begun z in
-          let goes_so = goes_behind m s.switches ahead (y ∷ before) (subst Goes are (run 0 v.boards_some).goes_on) in
-          let notes_so = notes_behind p.seen.begun ahead (y ∷ before) (subst Notes are notes_came.1) in
-          let h = x.homing in
-          let was : WasBegun p.seen.begun (Some h) = subst (λ (o : Option Homing). WasBegun p.seen.begun o) x.known (now_was m s.switches p.seen.begun y before goes_so.1 notes_so) in
-          let same : was.1 ≡ e.s = one_place was.0 was.1 was.2 e.past e.s e.later (sym was.4 ∙ e.cut) (sym was.8 ∙ sym same_number ∙ e.number_is) in
-          let ends : was.1.end ≡ length before = ap (λ (z : Started). z.end) same ∙ e.end in
-          let at_end : came_in end ∷ All_came ≡ (came_in end ∷ ahead) ++ y ∷ before = ap (λ (z : List Came). came_in end ∷ z) are in
-          let b = (axis_at m h.axis).board in
-          let reads_so : (low : b < length m.boards) (later turns : List BoardTurn) → behind [] (f.boards b first rest low refl).made ≡ later ++ turns → length turns ≡ length before
-          → AreRead (ReadsSwitchTrue m s.switches b) (y ∷ before) turns × AreBehind m s.switches b (y ∷ before) = λ low later turns made long_so.
-          read_to m s.switches (pins_of (board_at m b) b s.switches) s.entries b All_came (behind [] (f.boards b first rest low refl).made) (run b low) (all_so m v s ts p t first rest end c told f short reads b low) ahead y before are later turns made long_so in
-          let closes = closes_first m v s ts p t first rest end c told f long short (little t told) clear not_stopping (have 0 v.boards_some) (λ b low. in_time b low) notes (outs t told) (came_in end ∷ ahead) y before at_end h x.known reads_so x.tick x.answer in
-          let At : ℕ → ℕ → Type 0 = λ axis start. IsSwitchTick m (pins_of (board_at m (axis_at m axis).board) (axis_at m axis).board s.switches) (axis_at m axis).board (axis_at m axis)
-          (lines_tick (clocks_at t.clocks (axis_at m axis).board) (start * turn_ns)) x.tick in
-          let at_start : At h.axis was.1.start = subst (λ (n : ℕ). At h.axis n) was.6 closes in
-          let at_axis : At was.3 was.1.start = subst (λ (n : ℕ). At n was.1.start) was.9 at_start in
-          record { told = t; told_is = told; past = was.0; x = was.1; later = was.2; axis = was.3; cut = was.4; number = was.8; home = was.5; closes = at_axis }
-
-      first_turns : (before : List Came) (rs : List ReactorTurn) → All_came ≡ came_from before rs → TellEnds m s.switches p.seen.begun (length before) rs → TellFirst m s p.seen before rs
-      first_turns before [] are ends = tt
-      first_turns before (r ∷ rs) are ends =
-          let a = came_ahead (came_in r ∷ before) rs in
-          let next : length before + 1 ≡ length (came_in r ∷ before) = omega arith in
-          let At : ℕ → Type 0 = λ i. TellEnds m s.switches p.seen.begun i rs in (
-            λ x. elim ends.0 [
-              | inl w ↦ first_at a.0 (came_in r) before r.lines x (are ∙ a.1) w.number w.axis w.ended (one_line m s.switches w.number x.homing.section (axis_at m w.axis) (axis_at m x.homing.axis) w.tick x.tick (sym w.lines_are ∙ x.lines_are))
-              | inr none ↦ absurd (no_line m s.switches x.homing.section (axis_at m x.homing.axis) x.tick (sym none.lines_are ∙ x.lines_are))
-            ],
-            first_turns (came_in r ∷ before) rs are (subst At next ends.1),
-          )
-
-    none_first : p.seen.begun ≡ [] → (k : ℕ) (before : List Came) (rs : List ReactorTurn) → TellEnds m s.switches p.seen.begun k rs → TellFirst m s p.seen before rs
-    none_first none k before [] ends = tt
-    none_first none k before (r ∷ rs) ends = (
-      λ x. elim ends.0 [
-        | inl w ↦ let e = w.ended in absurd (in_none e.past e.s e.later p.seen.begun none e.cut)
-        | inr n ↦ absurd (no_line m s.switches x.homing.section (axis_at m x.homing.axis) x.tick (sym n.lines_are ∙ x.lines_are))
-      ],
-      none_first none (k + 1) (came_in r ∷ before) rs ends.1,
-    )
-
-    pub first_all : AllSwitchesReadTrue m s ts (first ∷ (rest ++ end ∷ [])) → TellEnds m s.switches p.seen.begun 0 (first ∷ rest) → TellFirst m s p.seen [] (first ∷ rest)
-    first_all reads ends = by p.seen.told refl
-      where
-        by : (o : Option Told) → p.seen.told ≡ o → TellFirst m s p.seen [] (first ∷ rest)
-        by None e = none_first (not_told m v s ts p end c e) 0 [] (first ∷ rest) ends
-        by (Some t) e = first_turns t e reads [] (first ∷ rest) refl ends

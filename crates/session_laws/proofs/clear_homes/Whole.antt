@@ -8,7 +8,7 @@ use Rattle.plan_types.specs.declared.machine.Machine.{Machine}
 use Rattle.plan_types.specs.declared.plan.SectionKind.TheVariants.{Home}
 use Rattle.plan_types.specs.Clock.{board_tick, clock_of, turn_ns}
 use Rattle.plan_types.specs.Lines.{Clocks, lines_tick}
-use Rattle.plan_types.specs.Machines.{IsValidAxis, IsValidMachine, axis_at, board_at}
+use Rattle.plan_types.specs.Machines.{IsValidMachine, axis_at, board_at}
 use Rattle.plan_types.specs.Sections.{clocks_at}
 use Rattle.msg_code.specs.declared.talk.ShutNews.{ShutNews}
 use Rattle.msg_code.specs.declared.talk.State.{State}
@@ -50,15 +50,11 @@ use Rattle.std.proofs.lemmas.List.{length-map}
 use Rattle.session_laws.proofs.clear_runs.Bare.{latest_behind}
 use Rattle.homing_laws.specs.clear_groups.Runs.{IsClearRun, IsTracked}
 use Rattle.homing_laws.specs.clear_groups.Sections.{IsPlain, turns_of}
-use Rattle.homing_laws.proofs.clear_groups.Begun.{run_answers, run_cut}
+use Rattle.homing_laws.proofs.clear_groups.Begun.{run_answers}
 use Rattle.homing_laws.proofs.home_plans.Knowing.{now_was}
 use Rattle.homing_laws.specs.missed_groups.Known.{AxesLow}
 use Rattle.homing_laws.specs.missed_groups.Ticks.{IsSwitchTick}
-use Rattle.homing_laws.proofs.missed_groups.Running.{run_misses, run_switches}
-use Rattle.homing_laws.specs.fired_runs.Since.{AreBehind, AreRead, ReadsSwitchTrue}
-use Rattle.session_laws.proofs.home_headline.Ended.{notes_behind}
-use Rattle.wire_scene.specs.declared.scene.Entry.{Entry}
-use Rattle.wire_scene.specs.declared.scene.Switch.{Switch}
+use Rattle.homing_laws.proofs.missed_groups.Running.{run_misses}
 use Rattle.session_laws.proofs.home_wholes.Axes.{axis_low}
 use Rattle.session_laws.proofs.run_headline.Joining.{of_sections}
 use Rattle.gcode_program.specs.Programs.{outcome_of}
@@ -87,38 +83,6 @@ turns_same b n f (inr p) low = absurd (omega (arith, p, low))
 some_turn : (turns : List BoardTurn) → 0 < length turns → BoardTurn
 some_turn [] some = absurd (omega (arith, some))
 some_turn (t ∷ turns) some = t
-
--- a run up to an earlier turn
-turns_append : (b : ℕ) (xs ys : List (ℕ → BoardTurn)) → turns_of b (xs ++ ys) ≡ turns_of b xs ++ turns_of b ys
-turns_append b [] ys = refl
-turns_append b (x ∷ xs) ys = ap (λ (z : List BoardTurn). x b ∷ z) (turns_append b xs ys)
-
-turns_long : (b : ℕ) (xs : List (ℕ → BoardTurn)) → length (turns_of b xs) ≡ length xs
-turns_long b [] = refl
-turns_long b (x ∷ xs) = let rest = turns_long b xs in omega (arith, rest)
-
-one_came : (c y : Came) (past before : List Came) → c ∷ past ≡ y ∷ before → (c ≡ y) × (past ≡ before)
-one_came c y past before e = (cc, cc)
-
-module _ (m : Machine) (v : IsValidMachine m) (switches : List Switch) (pins : ℕ → List (List Level)) (entries : List Entry) (none : entries ≡ []) (lines : ℕ → ℕ → Clocks) (ready till : ℕ) (y : Came) (before : List Came) where
-  record CutTo (all : List (ℕ → BoardTurn)) : Type 0 where
-    later : List (ℕ → BoardTurn)
-    made : List (ℕ → BoardTurn)
-    are : all ≡ later ++ made
-    run : IsClearRun m switches pins entries lines ready till y before made
-
-  cut_to : (ahead : List Came) (c : Came) (past : List Came) (all : List (ℕ → BoardTurn)) → IsClearRun m switches pins entries lines ready till c past all → c ∷ past ≡ ahead ++ y ∷ before → CutTo all
-  cut_to [] c past all r e =
-      let same = one_came c y past before e in
-      record { later = []; made = all; are = refl; run = subst (λ (z : Came). IsClearRun m switches pins entries lines ready till z before all) same.0 (subst (λ (z : List Came). IsClearRun m switches pins entries lines ready till c z all) same.1 r) }
-  cut_to (a ∷ ahead) c [] all r e =
-      let size = ap length (one_came c a [] (ahead ++ y ∷ before) e).1 in
-      let more = length-append ahead (y ∷ before) in
-      absurd (omega (arith, size, more))
-  cut_to (a ∷ ahead) c (d ∷ past) [] r e = absurd (let size = r.long in omega (arith, size))
-  cut_to (a ∷ ahead) c (d ∷ past) (j ∷ js) r e =
-      let x = cut_to ahead d past js (run_cut m v switches pins entries none lines ready till c d past j js r) (one_came c a (d ∷ past) (ahead ++ y ∷ before) e).1 in
-      record { later = j ∷ x.later; made = x.made; are = ap (λ (z : List (ℕ → BoardTurn)). j ∷ z) x.are; run = x.run }
 
 module _ (m : Machine) (v : IsValidMachine m) (s : Scene) (ts : List MotionTurn) (p : Plans m (length m.boards) ts) (t : Told) (first : ReactorTurn) (rest : List ReactorTurn) (end : ReactorTurn) (c : Cause) (told : p.seen.told ≡ Some t) (f : Facts m s ts (first ∷ rest) end c)
     (long : length (rest ++ end ∷ []) ≤ length p.made) (short : HaveShortDictionaries m)
@@ -271,32 +235,3 @@ module _ (m : Machine) (v : IsValidMachine m) (s : Scene) (ts : List MotionTurn)
       let all = join n (length Came_all) d (λ i. turns_by i n Turns (is_low i n)) (λ i low. ap length (turns_same i n Turns (is_low i n) low) ∙ count i low ∙ sym size) in
       let r = is_clear all.0 all.1 (λ i low. all.2 i low ∙ turns_same i n Turns (is_low i n) low) in
       run_misses m v s.switches Pins s.entries clear Lines (From + 1) Till (came_in end) Came_all all.0 r reach (axes_known (came_in end) Came_all r.goes_on given) h is answers tick hit
-
-  -- one of an earlier turn answers that a switch closed, at the first tick at which its readings are complete
-  pub closes_first : (ahead : List Came) (y : Came) (before : List Came) → came_in end ∷ Came_all ≡ ahead ++ y ∷ before → (h : Homing) → (noted m y.note (known_by m s.switches before)).homing ≡ Some h
-      → ((low : (axis_at m h.axis).board < length m.boards) (later turns : List BoardTurn) → behind [] (Whole (axis_at m h.axis).board low).made ≡ later ++ turns → length turns ≡ length before → AreRead (ReadsSwitchTrue m s.switches (axis_at m h.axis).board) (y ∷ before) turns × AreBehind m s.switches (axis_at m h.axis).board (y ∷ before))
-      → (tick : ℕ) → answer_in (length before) h.start (hears_all (noted m y.note (known_by m s.switches before)).clocks y.states h).group ≡ Some (end_of.Endstop tick)
-      → IsSwitchTick m (Pins (axis_at m h.axis).board) (axis_at m h.axis).board (axis_at m h.axis) (lines_tick (Lines h.start (axis_at m h.axis).board) (h.start * turn_ns)) tick
-  closes_first ahead y before are h is reads tick answers =
-      let n = length m.boards in
-      let size = many in
-      let some = v.boards_some in
-      let own = count 0 some in
-      let more = length-append rest (end ∷ []) in
-      let d = some_turn (Turns 0 some) (omega (arith, own, more)) in
-      let all = join n (length Came_all) d (λ i. turns_by i n Turns (is_low i n)) (λ i low. ap length (turns_same i n Turns (is_low i n) low) ∙ count i low ∙ sym size) in
-      let r = is_clear all.0 all.1 (λ i low. all.2 i low ∙ turns_same i n Turns (is_low i n) low) in
-      let cut = cut_to m v s.switches Pins s.entries clear Lines (From + 1) Till y before ahead (came_in end) Came_all all.0 r are in
-      let front = ap length are in
-      let parts = length-append ahead (y ∷ before) in
-      let soon = reach in
-      let near_end : length before + 276 ≤ Till = omega (arith, front, parts, soon) in
-      let Notes : List Came → Type 0 = λ z. CameNotes p.seen.begun z in
-      let notes_so = notes_behind p.seen.begun ahead (y ∷ before) (subst Notes are given) in
-      let b = (axis_at m h.axis).board in
-      let low = axis_known y before cut.run.goes_on notes_so h is in
-      let valid : IsValidAxis m (axis_at m h.axis) = v.axes h.axis _ low in
-      let there : b < length m.boards = valid.board in
-      let turns_are : Turns b there ≡ turns_of b cut.later ++ turns_of b cut.made = sym (all.2 b there ∙ turns_same b n Turns (is_low b n) there) ∙ ap (turns_of b) cut.are ∙ turns_append b cut.later cut.made in
-      let so = reads there (turns_of b cut.later) (turns_of b cut.made) turns_are (turns_long b cut.made ∙ cut.run.long) in
-      run_switches m v s.switches Pins s.entries clear Lines (From + 1) Till y before cut.made cut.run near_end (axes_known y before cut.run.goes_on notes_so) h is so.0 so.1 tick answers

@@ -70,7 +70,7 @@ use Rattle.homing_laws.proofs.home_parts.Apart.{so_begun}
 use Rattle.homing_laws.proofs.home_parts.Told.{all_told, row_from}
 use Rattle.session_laws.specs.clock_ages.Renewed.{StayYoung}
 use Rattle.session_laws.proofs.clock_ages.Own.{AreRenewed, Own, follow_on}
-use Rattle.session_laws.specs.home_headline.Little.{HomesLittle}
+use Rattle.session_laws.specs.home_headline.Little.{HomesLittle, SetsUp}
 use Rattle.session_laws.proofs.home_headline.Clear.{clear_set_ups}
 use Rattle.session_laws.proofs.home_headline.Clocks.{run_knows}
 use Rattle.session_laws.proofs.home_headline.Made.{IsOwn, set_own, units_own}
@@ -237,11 +237,11 @@ module _ (m : Machine) (v : IsValidMachine m) (s : Scene) (ts : List MotionTurn)
   -- a turn up to which the planner made all turns of the run, and behind it none
   module _ (until n b : ℕ) (left : List WordMsg) (w : IsInWhole m s.switches b (clock_of (board_at m b)) (link_of m s b) ts first (rest ++ end ∷ [])) (r : Ready m v s ts p t first rest end told) (h : b < length m.boards) (turns_are : AreReactorTurns m s.switches [] (first ∷ rest))
       (words : gather (λ x. x.word ∷ []) (first ∷ rest) ++ last_words (length (first ∷ rest)) n ≡ gather (λ x. x.words) ts ++ left) (notes : TookNotes (map (λ d. d.note) p.made) (first ∷ rest)) (low : until ≤ length p.made)
-      (far : (length (rest ++ end ∷ []) ≤ until) ⊎ (length p.made ≤ until)) (few : length (rest ++ end ∷ []) ≤ length p.made + 1) (little : HomesLittle m s b ts first (rest ++ end ∷ []) (length p.made) t p.seen.begun w)
+      (far : (length (rest ++ end ∷ []) ≤ until) ⊎ (length p.made ≤ until)) (few : length (rest ++ end ∷ []) ≤ length p.made + 1) (up : SetsUp m s b ts first (rest ++ end ∷ []) (length p.made) t p.seen.begun w)
       (lines : Followed m b (length rest) t.clocks (length (came_from [] r.past)) p.seen.begun) (sound : AreSound m t.clocks t.first) (formed : MayHome m p.seen.begun) (range : StartInRange (clocks_at t.clocks b) p.seen.begun) where
     -- what the board was sent
-    pub homing_by : Homing until b r (behind [] w.made)
-    homing_by =
+    pub homing_so : Homing until b r (behind [] w.made)
+    homing_so =
         let pins = pins_of (board_at m b) b s.switches in
         let turns = behind [] w.made in
         let valid = valid_at m.boards b h v.boards in
@@ -289,9 +289,20 @@ module _ (m : Machine) (v : IsValidMachine m) (s : Scene) (ts : List MotionTurn)
         let limits : Out → Limits = λ out. limited m v s.switches pins s.entries b whole turns run (fits out) in
         let Reads : List Came → Type 0 = λ z. TakeSetUps m pins s.entries b p.seen.begun turns ⊎ AllReadTrue m s.switches b z turns in
         let Ups : Type 0 = ((s.entries ≡ []) × Limits) ⊎ Reads whole in
-        let ups : Ups = elim little.sets_up [ inl x ↦ inl (x.0, limits x.1) | inr x ↦ inr (subst Reads (came_cut [] first rest end) x) ] in
+        let ups : Ups = elim up [
+          | inl x ↦ elim x [ inl clear ↦ inl (clear.0, limits clear.1) | inr takes ↦ inr (inl takes) ]
+          | inr reads ↦ inr (subst Reads (came_cut [] first rest end) (inr reads))
+        ] in
         let set_ups = told_by m v s ts p t b (length rest) (length before) whole turns h lines r.early row by known.0 known.1 (let d = came_long [] (first ∷ rest) in omega (arith, d)) w.turns_are ups in
         record { by = by; known = known; run = run; count = count; home = home; split = split; controls = controls_limited m v s.switches pins s.entries b whole turns run; soon = soon; fits = fits; limits = limits; set_ups = set_ups }
+
+  -- where the board holds nothing long
+  module _ (until n b : ℕ) (left : List WordMsg) (w : IsInWhole m s.switches b (clock_of (board_at m b)) (link_of m s b) ts first (rest ++ end ∷ [])) (r : Ready m v s ts p t first rest end told) (h : b < length m.boards) (turns_are : AreReactorTurns m s.switches [] (first ∷ rest))
+      (words : gather (λ x. x.word ∷ []) (first ∷ rest) ++ last_words (length (first ∷ rest)) n ≡ gather (λ x. x.words) ts ++ left) (notes : TookNotes (map (λ d. d.note) p.made) (first ∷ rest)) (low : until ≤ length p.made)
+      (far : (length (rest ++ end ∷ []) ≤ until) ⊎ (length p.made ≤ until)) (few : length (rest ++ end ∷ []) ≤ length p.made + 1) (little : HomesLittle m s b ts first (rest ++ end ∷ []) (length p.made) t p.seen.begun w)
+      (lines : Followed m b (length rest) t.clocks (length (came_from [] r.past)) p.seen.begun) (sound : AreSound m t.clocks t.first) (formed : MayHome m p.seen.begun) (range : StartInRange (clocks_at t.clocks b) p.seen.begun) where
+    pub homing_by : Homing until b r (behind [] w.made)
+    homing_by = homing_so until n b left w r h turns_are words notes low far few little.sets_up lines sound formed range
 
     -- so it is a board of such a run
     pub boarded_until : (k : IsHomeBoard b s.entries (length (came_from [] r.past)) (length (rest ++ end ∷ [])) (cuts_on m t.clocks until p.seen.begun b) (here_by until b w)) × (k.split.tail ≡ homing_by.split.tail)

@@ -97,7 +97,7 @@ time_out m text planned sends = λ p t b same told low.
 pub out_little : (m : Machine) (s : Scene) (text : List ℕ) (planned : List MotionTurn) (turns : List ReactorTurn) → s.entries ≡ [] → SendsAllOut m text planned → AllHomeLittle m s text planned turns
 out_little m s text planned [] e sends = tt
 out_little m s text planned (first ∷ rest) e sends = λ p t b same told low w.
-    (let x = sends p t b same told low in record { timely = inl (10_700, omega arith, x.1, inl e); sets_up = inl (e, x.0) })
+    (let x = sends p t b same told low in record { timely = inl (10_700, omega arith, x.1, inl e); sets_up = inl (inl (e, x.0)) })
 
 pub clear_little : (m : Machine) (s : Scene) (text : List ℕ) (planned : List MotionTurn) (turns : List ReactorTurn) → s.entries ≡ [] → SendsAllInTime m text planned → AllHomeLittle m s text planned turns
 clear_little m s text planned turns e sends = out_little m s text planned turns e (time_out m text planned sends)

@@ -55,8 +55,9 @@ use Rattle.homing_laws.proofs.home_parts.Told.{all_told, row_from}
 use Rattle.cause_runs.specs.Short.{HaveShortDictionaries}
 use Rattle.session_laws.proofs.clock_ages.Own.{Own}
 use Rattle.session_laws.proofs.clock_ages.Renews.{renews}
-use Rattle.session_laws.specs.home_headline.Little.{HomesLittle}
-use Rattle.session_laws.proofs.home_headline.Board.{Followed, Homing, boarded_until, end_at, here_by, homing_by, lines_of}
+use Rattle.session_laws.specs.home_headline.Little.{HomesLittle, TakesInTime}
+use Rattle.session_laws.proofs.home_headline.Clear.{clear_set_ups}
+use Rattle.session_laws.proofs.home_headline.Board.{Followed, Homing, boarded_until, end_at, here_by, homing_by, homing_so, lines_of}
 use Rattle.session_laws.proofs.home_headline.Clocks.{run_knows}
 use Rattle.session_laws.proofs.home_headline.Planned.{planned_by}
 use Rattle.session_laws.proofs.home_headline.Ranges.{may_all, on_small, range_all, starts_soon}
@@ -124,7 +125,7 @@ module _ (m : Machine) (v : IsValidMachine m) (s : Scene) (ts : List MotionTurn)
   sound : AreSound m t.clocks t.first
   sound = sound_of m v s ts p t first rest end told turn whole
 
-  range : (b : ℕ) → b < length m.boards → StartInRange (clocks_at t.clocks b) p.seen.begun
+  pub range : (b : ℕ) → b < length m.boards → StartInRange (clocks_at t.clocks b) p.seen.begun
   range b h =
       let l = lines b h in
       let early = turn.early in
@@ -152,6 +153,15 @@ module _ (m : Machine) (v : IsValidMachine m) (s : Scene) (ts : List MotionTurn)
 
   pub took_states : (b : ℕ) (h : b < length m.boards) → TookStates b (rest ++ end ∷ []) (Here b h).states
   took_states b h = took b (rest ++ end ∷ []) (Here b h).states (whole b h).states
+
+  -- where the scene has no entries a board takes the set-ups in time, and else where it does so
+  pub in_time : (b : ℕ) → b < length m.boards → (w : IsInWhole m s.switches b (clock_of (board_at m b)) (link_of m s b) ts first (rest ++ end ∷ [])) → TakesInTime m s b ts first (rest ++ end ∷ []) (length p.made) t p.seen.begun w
+      → TakeSetUps m (pins_of (board_at m b) b s.switches) s.entries b p.seen.begun (behind [] w.made)
+  in_time b h w (inr takes) = takes
+  in_time b h w (inl clear) =
+      let g = homing_so m v s ts p t first rest end told Made f.ahead b f.words_left w turn h f.turns f.words notes (omega arith) (inr (omega arith)) most (inl (inl clear)) (lines b h) sound formed (range b h) in
+      let early = turn.early in
+      clear_set_ups m (pins_of (board_at m b) b s.switches) s.entries b (behind [] w.made) clear.0 w.turns_are (g.limits clear.1) t.first p.seen.begun (omega (arith, early)) row
 
   -- where each board holds nothing long
   module _ (little : (b : ℕ) → b < length m.boards → (w : IsInWhole m s.switches b (clock_of (board_at m b)) (link_of m s b) ts first (rest ++ end ∷ [])) → HomesLittle m s b ts first (rest ++ end ∷ []) (length p.made) t p.seen.begun w) where

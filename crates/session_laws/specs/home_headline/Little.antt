@@ -27,20 +27,36 @@ use Rattle.session_laws.specs.run_headline.Timely.{link_of}
 use Rattle.homing_laws.specs.fired_runs.Since.{AllReadTrue}
 use Rattle.homing_laws.specs.home_parts.Answers.{TakeSetUps}
 
+-- A board in a whole run in which axes home takes the set-up of each homing section in time; as it does in a scene without
+-- entries, where those units of a section of moves that are sent behind the turn in which they are due are sent by four turns
+-- behind its end.
+abbrev pub TakesInTime : (m : Machine) (s : Scene) (b : ℕ) (planned : List MotionTurn) (first : ReactorTurn) (rest : List ReactorTurn)
+    (turns : ℕ) (t : Told) (begun : List Started)
+    (w : IsInWhole m s.switches b (clock_of (board_at m b)) (link_of m s b) planned first rest) → Type 0
+TakesInTime m s b planned first rest turns t begun w =
+    ((s.entries ≡ []) × AreOut turns (runs_on m t.clocks begun b))
+    ⊎ TakeSetUps m (pins_of (board_at m b) b s.switches) s.entries b begun (behind [] w.made)
+
+-- It takes them so, or each report that counts for a homing section is read as a tick since which its trigger can't trigger.
+abbrev pub SetsUp : (m : Machine) (s : Scene) (b : ℕ) (planned : List MotionTurn) (first : ReactorTurn) (rest : List ReactorTurn)
+    (turns : ℕ) (t : Told) (begun : List Started)
+    (w : IsInWhole m s.switches b (clock_of (board_at m b)) (link_of m s b) planned first rest) → Type 0
+SetsUp m s b planned first rest turns t begun w =
+    TakesInTime m s b planned first rest turns t begun w
+    ⊎ AllReadTrue m s.switches b (came_before [] (first ∷ rest)) (behind [] w.made)
+
 -- A board in a whole run in which axes home holds nothing long: it takes no unit half a round of the 32-bit clock after
 -- its first tick. This is so where of the units that are due in the planner's turns none is sent more than so many
 -- turns behind the turn in which it is due, 10,700 at most, and the scene has no entries, or no busy stretch of its
--- link has more spoiled turns than are left of 10,700. And each report that counts for a homing section is read as a
--- tick since which the board's trigger can't trigger, or the board takes the set-up of each homing section in time, as
--- it does in a scene without entries, where those units of a section of moves that are sent behind the turn in which
--- they are due are sent by four turns behind its end.
+-- link has more spoiled turns than are left of 10,700. And it takes the set-up of each homing section in time, or its
+-- reports are read true (`SetsUp`).
 pub record HomesLittle (m : Machine) (s : Scene) (b : ℕ) (planned : List MotionTurn) (first : ReactorTurn) (rest : List ReactorTurn) (turns : ℕ) (t : Told) (begun : List Started)
     (w : IsInWhole m s.switches b (clock_of (board_at m b)) (link_of m s b) planned first rest) : Type 0 where
   pub timely : ((late : ℕ) × (late ≤ 10_700) × AreSpilled turns late (parts_on m t.clocks begun b) × ((s.entries ≡ []) ⊎ ((k : ℕ) → spoiled (take k (ends_of (clock_of (board_at m b)) 0 (orders_of w.made) (link_of m s b) (stands_after (link_of m s b) (behind [] w.made))
       (turns_told (clock_of (board_at m b)) 0 (orders_of w.made) (states_of w.made) (link_of m s b) (stands_after (link_of m s b) (behind [] w.made)) w.told))) ≤ 10_700 - late))) ⊎ AllTimely (start (board_at m b) (pins_of (board_at m b) b s.switches))
       (steps_of (clock_of (board_at m b)) 0 (orders_of w.made) (link_of m s b) (stands_after (link_of m s b) (behind [] w.made))
       (turns_told (clock_of (board_at m b)) 0 (orders_of w.made) (states_of w.made) (link_of m s b) (stands_after (link_of m s b) (behind [] w.made)) w.told))
-  pub sets_up : ((s.entries ≡ []) × AreOut turns (runs_on m t.clocks begun b)) ⊎ (TakeSetUps m (pins_of (board_at m b) b s.switches) s.entries b begun (behind [] w.made) ⊎ AllReadTrue m s.switches b (came_before [] (first ∷ rest)) (behind [] w.made))
+  pub sets_up : SetsUp m s b planned first rest turns t begun w
 
 -- so each board of a whole run of a text, of which the planner made some turns and the reactor these
 abbrev pub AllHomeLittle : Machine → Scene → List ℕ → List MotionTurn → List ReactorTurn → Type 0

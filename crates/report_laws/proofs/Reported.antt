@@ -1,5 +1,5 @@
 -- The report of a run over links, with what its lines show.
-use Rattle.std.proofs.Common.{◌≡◌, ◌∙◌, ℕ, suc, ◌+◌, List, [], ◌∷◌, ◌++◌, length, map, take, ap, sym, refl, Some}
+use Rattle.std.proofs.Common.{◌≡◌, ◌≢◌, ◌∙◌, ℕ, suc, ◌+◌, List, [], ◌∷◌, ◌++◌, length, map, take, ap, sym, refl, Some}
 use Rattle.std.proofs.Math.Logic.{∥∥₁_elim, ∥∥₁_map, ∥∥₁_prop}
 use Rattle.std.proofs.lemmas.List.{length-map}
 use Rattle.cause_runs.specs.Short.{HaveShortDictionaries}
@@ -22,12 +22,14 @@ use Rattle.report_laws.specs.Body.{section_lines}
 use Rattle.report_laws.specs.Homes.{ShowsBegun}
 use Rattle.report_laws.specs.Linked.{IsLinkReport, MeetPremise}
 use Rattle.report_laws.specs.Promises.{sections_over}
-use Rattle.report_laws.specs.Shown.{sections_shown}
+use Rattle.report_laws.specs.Shown.{section_turn, sections_shown}
 use Rattle.report_laws.specs.page.Report.{Shows}
 use Rattle.report_laws.proofs.Homing.{home-prints, shows}
 use Rattle.report_laws.proofs.Linked.{begun_texts}
 use Rattle.report_laws.proofs.Linked as linked
 use Rattle.report_laws.proofs.Scenes.{scene_under}
+use Rattle.report_laws.proofs.Standing.{first_shown}
+use Rattle.report_laws.proofs.page.Near.{near-boards}
 
 -- the lines of sections that were begun, the first ones of a text, are those of the first sections
 first-lines : (i : ℕ) (begun : List Started) (sections : List Section) (xs rest : List ReportLine) → map (λ s. s.section) begun ≡ take (length begun) sections → begun_lines i begun ≡ xs ++ rest → (starts : List ℕ) × (xs ≡ section_lines i starts sections)
@@ -43,6 +45,15 @@ first-lines i (s ∷ begun) (z ∷ sections) (x ∷ xs) rest of are =
     let behind : begun_lines (i + 1) begun ≡ xs ++ rest = cc in
     let later = first-lines (i + 1) begun sections xs rest next behind in
     (s.start ∷ later.0, ap (λ (l : ReportLine). l ∷ xs) (own ∙ ap (λ (y : Section). report.Section i s.start y.kind) same) ∙ ap (λ (ls : List ReportLine). report.Section i s.start z.kind ∷ ls) later.1)
+
+-- where a section has its line the first one has
+first-shown : (begun : List Started) (ls rest said : List ReportLine) → sections_shown said ≡ ls → ls ≢ [] → begun_lines 0 begun ≡ ls ++ rest → (turn : ℕ) × (section_turn 0 said ≡ Some turn)
+first-shown begun [] rest said is some e = absurd (some refl)
+first-shown [] (l ∷ ls) rest said is some e = absurd (let f : [] ≡ l ∷ (ls ++ rest) = e in cc)
+first-shown (s ∷ begun) (l ∷ ls) rest said is some e =
+    let f : report.Section 0 s.start s.section.kind ∷ begun_lines 1 begun ≡ l ∷ (ls ++ rest) = e in
+    let same : l ≡ report.Section 0 s.start s.section.kind = cc in
+    (s.start, first_shown 0 s.start s.section.kind ls said (is ∙ ap (λ (z : ReportLine). z ∷ ls) same))
 
 many : (i : ℕ) (ss : List Started) → length (begun_lines i ss) ≡ length ss
 many i [] = refl
@@ -66,7 +77,9 @@ module _ {F S : Type 0} (f : Files F) (o : Sink S) (m : Machine) (s : Scene) (gc
         follows = λ p. (prints p).follows;
         starts = λ p. (prints p).starts;
         cuts = λ p. (shows f o m s gcode files files' out out' c lines counts links valid short r text told p.1 w.0 w.1 p.2 (w.2 p.1 p.2) (scene_under m s p.0)).cuts;
-        clocks = λ p. (prints p).clocks;
+        clocks = λ some.
+            let first = first-shown b.begun (sections_shown r.said) b.sections.0 r.said refl some b.sections.1 in
+            near-boards m b.clocks b.ready b.last r.said (b.sound 0 first.0 first.1) (b.boards 0 first.0 first.1) (begun.2 0 first.0 first.1) (b.further 0 first.0 first.1) (b.named 0 first.0 first.1);
         says = λ p. (prints p).says;
         sections = first-lines 0 b.begun (sections_over m text) (sections_shown r.said) b.sections.0 b.of_text b.sections.1;
         all = all-shown m text c r.said b;

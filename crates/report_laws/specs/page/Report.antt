@@ -27,12 +27,12 @@ pub record Shows (near : Type 0) (m : Machine) (s : Scene) (text : List ℕ) (c 
   -- Cuts: each stands in the section that it names, which homes, and tells of its axis's endstop; and there is one
   -- where the next section has its line
   pub cuts : near → HaveCuts m s.switches c (sections_over m text) said
-  -- Clock lines: where a section has its line, each that is printed is near its board's clock
-  pub clocks : near → sections_shown said ≢ [] → AreNearBoards m (log_of said)
   -- Text: the log is what the printed text says, where the names of the machine are words, as those that a
   -- configuration gives
   pub says : near → HasNames m → SaysLog m (report_text m said) (log_of said)
-  -- In any case the section lines are those of the first sections of the text, in order, and of all where the run went
+  -- Clock lines: in any case, where a section has its line, each that is printed is near its board's clock
+  pub clocks : sections_shown said ≢ [] → AreNearBoards m (log_of said)
+  -- Sections: in any case the section lines are those of the first sections of the text, in order, and of all where the run went
   -- through
   pub sections : (starts : List ℕ) × (sections_shown said ≡ section_lines 0 starts (sections_over m text))
   pub all : GoesThrough c → length (sections_shown said) ≡ length (sections_over m text)

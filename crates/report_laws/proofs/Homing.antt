@@ -216,7 +216,7 @@ module _ {F S : Type 0} (f : Files F) (o : Sink S) (m : Machine) (s : Scene) (gc
   parts : heads_of whole ≡ heads_of own.said ++ heads_of own.rest
   parts = ap heads_of own.shown ∙ flat_map-append head_in own.said own.rest
 
-  pub shows : ShowsHomes m s.switches text c own.said
+  shows : ShowsHomes m s.switches text c own.said
   shows = home_lines f o m s gcode files files' out out' c lines counts links valid short own text made same not little own.said own.rest c (whole_of f o m s gcode files files' out out' c lines counts links valid short own) own.shown
 
   all_shows : ShowsHomes m s.switches text own.told.cause whole

@@ -76,7 +76,7 @@ use Rattle.report_laws.specs.Body.{cause_of, no_section, section_lines}
 use Rattle.report_laws.specs.Headline.{kind_of, moves_of}
 use Rattle.homing_laws.proofs.home_plans.Noting.{begun_row}
 use Rattle.session_laws.specs.home_headline.Cuts.{TellEnds}
-use Rattle.session_laws.specs.home_headline.Follow.{AllShowBegun, AllShowHomes, HaveBegunLines, ShowHomes}
+use Rattle.session_laws.specs.home_headline.Follow.{AllShowBegun, AllShowHomes, HaveBegunLines, ShowHomes, ShowBegun}
 use Rattle.session_laws.specs.run_headline.Made.{IsMade}
 use Rattle.session_laws.specs.home_headline.Little.{AllHomeLittle, ShownHoldLittle}
 use Rattle.session_laws.proofs.home_headline.Clear.{clear_little}
@@ -106,6 +106,7 @@ use Rattle.report_laws.specs.Promises.{FollowsPlanBy, IsCauseOf, IsCompleteBefor
 use Rattle.report_laws.specs.Homes.{ShowsBegun, ShowsHomes}
 use Rattle.report_laws.specs.Linked.{EndsFor, IsLinkReport, MeetPremise, ShowsText}
 use Rattle.report_laws.specs.page.Report.{Shows}
+use Rattle.report_laws.specs.Cuts.{HaveCuts}
 use Rattle.report_laws.specs.Shown.{lines_behind, pulses_before, pulses_in, section_turn, sections_shown}
 use Rattle.report_laws.proofs.Behind.{AreNumbered, behind, behind_front, in_stays, next_begun, numbered_due, numbered_front}
 use Rattle.report_laws.proofs.Followed.{NextAt, shown}
@@ -603,6 +604,36 @@ take_in k (suc from) zero xs h = absurd (omega (arith, h))
 take_in k (suc from) (suc n) [] h = refl
 take_in k (suc from) (suc n) (x ∷ xs) h = take_in k from n xs (omega (arith, h))
 
+-- the cut lines of those that were written
+module _ (m : Machine) (switches : List Switch) (seen : Seen) (clocks : List Clocks) (ready : ℕ) (own c : Cause) (text : List ℕ) (said rest : List ReportLine) (spread : Spread 260 seen.begun) (same : seen.text ≡ text) (through : GoesThrough c → (rest ≡ []) × (c ≡ own)) where
+  cuts_shown : (first : ReactorTurn) (later : List ReactorTurn) → ShowBegun m seen clocks ready own first later → TellEnds m switches seen.begun 0 (first ∷ later) → gather (λ t. t.lines) (first ∷ later) ≡ said ++ rest → HaveCuts m switches c (sections_over m text) said
+  cuts_shown first later h ends shown_all =
+      have_cuts m switches (sections_over m text) (drop (length seen.begun) (sections_over m text)) seen.begun of_sections spread ready (begun_row m clocks ready seen.begun h.started) (first ∷ later) h.lines ends c said rest shown_all numbered (λ g. (
+        (through g).0,
+        sym (ap length ((h.through (went g)).all ∙ ap (program_sections m) same)) ∙ length-map seen.begun (λ (x : Started). x.section),
+        λ past s more cut.
+            let Over : List Started → Type 0 = λ z. All (λ (y : Started). y.end + 5 ≤ length later) z in
+            let over = over_at (length later) past s more (subst Over cut (h.through (went g)).over) in
+            omega (arith, over),
+      ))
+    where
+      of_sections : sections_over m text ≡ map (λ x. x.section) seen.begun ++ drop (length seen.begun) (sections_over m text)
+      of_sections = sym (take-append-drop (length seen.begun) (sections_over m text)) ∙ ap (λ z. z ++ drop (length seen.begun) (sections_over m text)) (sym (h.of_text ∙ ap (λ z. take (length seen.begun) (program_sections m z)) same))
+
+      went : GoesThrough c → GoesThrough own
+      went g = subst (λ (z : Cause). GoesThrough z) (through g).1 g
+
+      numbered : AreNumbered 0 (heads_of said)
+      numbered =
+          let Numbered : List ReportLine → Type 0 = λ z. AreNumbered 0 z in
+          let its = begun_heads m seen clocks ready own first later h in
+          let all = numbered_front 0 (heads_of (gather (λ (t : ReactorTurn). t.lines) (first ∷ later))) its.front.0 (subst Numbered its.front.1 (numbered_begun 0 its.begun)) in
+          numbered_front 0 (heads_of said) (heads_of rest) (subst Numbered (ap heads_of shown_all ∙ flat_map-append head_in said rest) all)
+
+  all_cuts : (turns : List ReactorTurn) → (x : ReactorTurn) × (xs : List ReactorTurn) × (turns ≡ x ∷ xs) → AllShowBegun m seen clocks ready own turns → TellEnds m switches seen.begun 0 turns → gather (λ t. t.lines) turns ≡ said ++ rest → HaveCuts m switches c (sections_over m text) said
+  all_cuts [] some h ends shown_all = absurd (let e : [] ≡ some.0 ∷ some.1 = some.2 in cc)
+  all_cuts (first ∷ later) some h ends shown_all = cuts_shown first later h ends shown_all
+
 -- those that were written show it
 module _ (m : Machine) (switches : List Switch) (seen : Seen) (clocks : List Clocks) (ready : ℕ) (own c : Cause) (text : List ℕ) (said rest : List ReportLine) (spread : Spread 260 seen.begun) (same : seen.text ≡ text) (through : GoesThrough c → (rest ≡ []) × (c ≡ own)) where
   homes_shown : (turns : List ReactorTurn) → (x : ReactorTurn) × (xs : List ReactorTurn) × (turns ≡ x ∷ xs) → AllShowHomes m seen clocks ready own turns → TellEnds m switches seen.begun 0 turns → AllWholeHomes m seen clocks own turns → gather (λ t. t.lines) turns ≡ said ++ rest → ShowsHomes m switches text c said
@@ -627,14 +658,7 @@ module _ (m : Machine) (switches : List Switch) (seen : Seen) (clocks : List Clo
     all = λ g.
         let t = h.through (went g) in
         (t.all ∙ ap (program_sections m) same, same_heads said ∙ ap heads_of (sym (whole g)) ∙ whole_heads m seen clocks ready first later starts t.over);
-    cuts = have_cuts m switches (sections_over m text) (drop (length seen.begun) (sections_over m text)) seen.begun of_sections spread ready (begun_row m clocks ready seen.begun h.started) (first ∷ later) h.lines ends c said rest shown_all numbered (λ g. (
-      (through g).0,
-      sym (ap length ((h.through (went g)).all ∙ ap (program_sections m) same)) ∙ length-map seen.begun (λ (x : Started). x.section),
-      λ past s more cut.
-          let Over : List Started → Type 0 = λ z. All (λ (y : Started). y.end + 5 ≤ length later) z in
-          let over = over_at (length later) past s more (subst Over cut (h.through (went g)).over) in
-          omega (arith, over),
-    ));
+    cuts = cuts_shown m switches seen clocks ready own c text said rest spread same through first later (show_begun m seen clocks ready own first later h) ends shown_all;
     boards = λ i turn e. home_boards m seen clocks ready own first later said rest (show_begun m seen clocks ready own first later h) shown_all (some_behind i turn said e);
     counts = λ g.
         let is = h.counts (went g) ∙ ap (λ z. report.Lines (program_end m z).lines (program_end m z).passed ∷ []) same in
@@ -664,9 +688,6 @@ module _ (m : Machine) (switches : List Switch) (seen : Seen) (clocks : List Clo
         follow_front short m text said reached.more (subst Follows reached.upto (fits_follow m seen text first (take reached.n later) spread h.of_text upto_lines same short (fits short firsts)));
   }
     where
-      of_sections : sections_over m text ≡ map (λ x. x.section) seen.begun ++ drop (length seen.begun) (sections_over m text)
-      of_sections = sym (take-append-drop (length seen.begun) (sections_over m text)) ∙ ap (λ z. z ++ drop (length seen.begun) (sections_over m text)) (sym (h.of_text ∙ ap (λ z. take (length seen.begun) (program_sections m z)) same))
-
       -- the last turn of which lines were written
       reached : Reach (first ∷ later) said rest
       reached = reach first later said rest shown_all
@@ -905,6 +926,15 @@ module _ {F S : Type 0} (f : Files F) (o : Sink S) (m : Machine) (s : Scene) (gc
             w.2 ∙ is ∙ ends_as (program_end m text).stop;
       })
 
+  -- and the cut lines of any text
+  pub cut_lines : (r : IsReported f o m s gcode files files' out out' c lines counts links) (text : List ℕ) (made : IsMade m s r.runs.runs.0 r.runs.runs.1) → made.plans.seen.text ≡ text → (r.told.cause ≡ cause.Memory → ⊥)
+      → HaveCuts m s.switches c (sections_over m text) r.said
+  cut_lines r text made same other =
+      let seen = made.plans.seen in
+      all_cuts m s.switches seen (clocks_heard seen.told) (ready_heard seen.told) r.told.cause c text r.said r.rest (plans_spread m (length m.boards) r.runs.runs.0 made.plans) same (whole_of r) (r.runs.runs.1 ++ r.runs.runs.2 ∷ []) (some_turns r.runs.runs.1 r.runs.runs.2)
+      (all_begun m v s r.runs.runs.0 made.plans r.runs.runs.2 r.told.cause r.runs.runs.1 (facts f o m s gcode files files' out r.behind r.kept r.kept' r.told r.runs other))
+      (all_ends m v s r.runs.runs.0 made.plans r.runs.runs.2 r.told.cause r.runs.runs.1 (run_ended f o m s gcode files files' out r.behind r.kept r.kept' r.told r.runs other)) r.shown
+
   -- and of any text, all lines or the first ones
   pub home_lines : (r : IsReported f o m s gcode files files' out out' c lines counts links) (text : List ℕ) (made : IsMade m s r.runs.runs.0 r.runs.runs.1) → made.plans.seen.text ≡ text → (r.told.cause ≡ cause.Memory → ⊥)
       → AllHomeLittle m s text r.runs.runs.0 (r.runs.runs.1 ++ r.runs.runs.2 ∷ []) → (said rest : List ReportLine) (d : Cause) → (GoesThrough d → (rest ≡ []) × (d ≡ r.told.cause))
@@ -1055,7 +1085,7 @@ module _ {F S : Type 0} (f : Files F) (o : Sink S) (m : Machine) (s : Scene) (gc
 
   -- with what its lines show
   pub planned : (r : IsReported f o m s gcode files files' out out' c lines counts links)
-      → ((text : List ℕ) → f.told files gcode ≡ Some text → ∥ Shows (MeetPremise m s text r.runs.runs.0 r.runs.runs.1 r.runs.runs.2 r.told.cause) m s text c r.said ∥₁)
+      → ((text : List ℕ) → f.told files gcode ≡ Some text → ∥ Shows (MeetPremise m s text r.runs.runs.0 r.runs.runs.1 r.runs.runs.2 r.told.cause) (r.told.cause ≢ cause.Memory) m s text c r.said ∥₁)
       → IsLinkReport f o m s gcode files files' out out' c lines counts links
   planned r shown = record {
     reported = r;
@@ -1071,7 +1101,7 @@ module _ {F S : Type 0} (f : Files F) (o : Sink S) (m : Machine) (s : Scene) (gc
         (run_links f o m s gcode files files' out r.behind r.kept r.kept' r.told r.runs text told r.fresh.at);
     shows = shown;
     moves = texts r;
-    begun = λ text told. ∥∥₁_map (begun_texts r text told) (λ b. (b.0, b.1));
+    memory = λ text told is. ∥∥₁_map (begun_texts r text told) (λ b. (b.0, b.1));
     own = λ text told other little soon. run_own f o m s gcode files files' out r.behind r.kept r.kept' r.told r.runs v short text told r.fresh.at other little soon;
     complete = completes r;
     complete_homes = homes_complete r;

@@ -7,6 +7,7 @@ use Rattle.io_core.specs.declared.traits.Files.{Ghosts as Files}
 use Rattle.io_core.specs.declared.traits.Sink.{Ghosts as Sink}
 use Rattle.motion_work.specs.Seen.{Started}
 use Rattle.plan_types.specs.declared.cause.Cause.{Cause}
+use Rattle.plan_types.specs.declared.cause.Cause.TheVariants as cause
 use Rattle.plan_types.specs.declared.machine.Machine.{Machine}
 use Rattle.plan_types.specs.declared.plan.Section.{Section}
 use Rattle.plan_types.specs.Machines.{IsValidMachine}
@@ -24,8 +25,8 @@ use Rattle.report_laws.specs.Linked.{IsLinkReport, MeetPremise}
 use Rattle.report_laws.specs.Promises.{sections_over}
 use Rattle.report_laws.specs.Shown.{section_turn, sections_shown}
 use Rattle.report_laws.specs.page.Report.{Shows}
-use Rattle.report_laws.proofs.Homing.{home-prints, shows}
-use Rattle.report_laws.proofs.Linked.{begun_texts}
+use Rattle.report_laws.proofs.Homing.{home-prints}
+use Rattle.report_laws.proofs.Linked.{begun_texts, cut_lines}
 use Rattle.report_laws.proofs.Linked as linked
 use Rattle.report_laws.proofs.Scenes.{scene_under}
 use Rattle.report_laws.proofs.Standing.{first_shown}
@@ -66,7 +67,7 @@ all-shown m text c said begun gone =
 
 module _ {F S : Type 0} (f : Files F) (o : Sink S) (m : Machine) (s : Scene) (gcode : List ℕ) (files files' : F) (out out' : S) (c : Cause) (lines : List ReportLine) (counts : List ℕ) (links : List LinkLog) (valid : IsValidMachine m) (short : HaveShortDictionaries m) where
   shown : (r : IsReported f o m s gcode files files' out out' c lines counts links) (text : List ℕ) → f.told files gcode ≡ Some text
-      → ∥ Shows (MeetPremise m s text r.runs.runs.0 r.runs.runs.1 r.runs.runs.2 r.told.cause) m s text c r.said ∥₁
+      → ∥ Shows (MeetPremise m s text r.runs.runs.0 r.runs.runs.1 r.runs.runs.2 r.told.cause) (r.told.cause ≢ cause.Memory) m s text c r.said ∥₁
   shown r text told =
       ∥∥₁_elim (begun_texts f o m s gcode files files' out out' c lines counts links valid short r text told) ∥∥₁_prop (λ begun.
       ∥∥₁_map (run_shows f o m s gcode files files' out r.behind r.kept r.kept' r.told r.runs valid short text told r.fresh.at) (λ w.
@@ -76,7 +77,7 @@ module _ {F S : Type 0} (f : Files F) (o : Sink S) (m : Machine) (s : Scene) (gc
       record {
         follows = λ p. (prints p).follows;
         starts = λ p. (prints p).starts;
-        cuts = λ p. (shows f o m s gcode files files' out out' c lines counts links valid short r text told p.1 w.0 w.1 p.2 (w.2 p.1 p.2) (scene_under m s p.0)).cuts;
+        cuts = cut_lines f o m s gcode files files' out out' c lines counts links valid short r text w.0 w.1;
         clocks = λ some.
             let first = first-shown b.begun (sections_shown r.said) b.sections.0 r.said refl some b.sections.1 in
             near-boards m b.clocks b.ready b.last r.said (b.sound 0 first.0 first.1) (b.boards 0 first.0 first.1) (begun.2 0 first.0 first.1) (b.further 0 first.0 first.1) (b.named 0 first.0 first.1);

@@ -126,9 +126,9 @@ EndsFor m s told planned turns end _ = Unit {0}
 -- sections, each in its turn, in order and with longest triples, the controls that the reactor orders, and the states
 -- of the board's turns, whose pulses its lines show (`AreLinksIn`). Its lines, as they were written, with those of
 -- pulses, show the file's text (`Shows`), where the run met its premise (`MeetPremise`): of moves or homing, whatever
--- ended it but want of memory. Whatever ended it and whatever its links hold they show the sections that were begun
--- (`ShowsBegun`), with Prefix where each board held nothing long as far as its lines are shown. A run of moves shows
--- its text where no line holds a command for half a round of the 32-bit clock (`ShowsText`). Where moreover
+-- ended it but want of memory. Where that ended it they show the sections that were begun (`ShowsBegun`), and Prefix
+-- where each board held nothing long before the last turn. A run of moves shows its text where no line holds a command
+-- for half a round of the 32-bit clock (`ShowsText`). Where moreover
 -- the set-up is taken in time, and what a board's trigger does in a homing section is heard of within half a round
 -- (`AllHearSoon`), the tick that a turn tells of a switch is one at which this very section's readings are complete
 -- (`TellOwn`). What suffices for these premises in a scene without entries is said by laws
@@ -151,11 +151,11 @@ pub record IsLinkReport {F S : Type 0} (f : Files F) (o : Sink S) (m : Machine) 
   pub boards : (text : List ℕ) → f.told files gcode ≡ Some text → ∥ AreLinksIn m s text reported.told.cause reported.runs.runs.0 reported.runs.runs.1 reported.runs.runs.2 links ∥₁
   pub shows : (text : List ℕ) → f.told files gcode ≡ Some text →
       ∥ Shows (MeetPremise m s text reported.runs.runs.0 reported.runs.runs.1 reported.runs.runs.2 reported.told.cause)
-      m s text c reported.said ∥₁
+      (reported.told.cause ≢ cause.Memory) m s text c reported.said ∥₁
   pub moves : (text : List ℕ) → f.told files gcode ≡ Some text → AreOfMoves (sections_over m text) →
       (reported.told.cause ≡ cause.Memory → ⊥) →
       HoldsNothingLong m s text reported.runs.runs.0 (reported.runs.runs.1 ++ reported.runs.runs.2 ∷ []) → ∥ ShowsText m text c reported.said ∥₁
-  pub begun : (text : List ℕ) → f.told files gcode ≡ Some text →
+  pub memory : (text : List ℕ) → f.told files gcode ≡ Some text → reported.told.cause ≡ cause.Memory →
       ∥ ((begun : ShowsBegun m text c reported.said)
       × (ShownHoldLittle m s text reported.runs.runs.0 reported.runs.runs.1 reported.runs.runs.2 reported.told.cause →
       FollowsPlanBy begun.clocks m (sections_over m text) reported.said)) ∥₁

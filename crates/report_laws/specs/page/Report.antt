@@ -32,8 +32,8 @@ pub record Shows (near other : Type 0) (m : Machine) (s : Scene) (text : List �
   pub cuts : other → HaveCuts m s.switches c (sections_over m text) said
   -- Clock lines: in any case, where a section has its line, each that is printed is near its board's clock
   pub clocks : sections_shown said ≢ [] → AreNearBoards m (log_of said)
-  -- Sections: in any case the section lines are those of the first sections of the text, in order, and of all where the run went
-  -- through
+  -- Sections: in any case the section lines are those of the first sections of the text, in order, and of all where the
+  -- run went through
   pub sections : (starts : List ℕ) × (sections_shown said ≡ section_lines 0 starts (sections_over m text))
   pub all : GoesThrough c → length (sections_shown said) ≡ length (sections_over m text)
   -- Counts and Cause: a run that went through shows how many lines were accepted and how many commands were passed, and

@@ -1,5 +1,5 @@
 -- Reports that follow the plan check.
-use Rattle.std.proofs.Common.{◌≡◌, ◌≢◌, ◌∙◌, ◌<◌, ℕ, Bool, false, true, List, [], ◌∷◌, ◌++◌, length, ap, refl, Some}
+use Rattle.std.proofs.Common.{◌≡◌, ◌<◌, ℕ, Bool, false, true, List, [], ◌∷◌, ◌++◌, length, Some}
 use Rattle.log_check.specs.Verdicts.{log_verdict}
 use Rattle.plan_types.specs.declared.cause.Cause.{Cause}
 use Rattle.plan_types.specs.declared.cause.Cause.TheVariants as cause
@@ -12,8 +12,6 @@ use Rattle.report_laws.specs.Logged.{IsCauseOn}
 use Rattle.report_laws.specs.Names.{HasNames}
 use Rattle.report_laws.specs.Retold.{all_retold}
 use Rattle.report_laws.proofs.Running.{within-checks}
-use Rattle.session_laws.specs.run_ends.Ends.{GoesThrough}
-use Rattle.session_run.specs.Reported.{IsWritten}
 use Rattle.report_laws.specs.Checks.{check_cause}
 use Rattle.report_laws.specs.Promises.{FollowsPlanBy, IsCompleteBy, sections_by, sections_over}
 use Rattle.report_laws.specs.Headline.{plan_by}
@@ -35,20 +33,3 @@ pub cut-checks : (m : Machine) (text : List ℕ) (clocks : List Clocks) (cuts : 
 unfolding log_verdict
 cut-checks m text clocks cuts ready said c names follows complete cut due stands on =
     within-checks m (sections_over m text) (all_retold ready stands.told_lines) ready said c stands.machine names (go-within true m (sections_over m text) clocks cuts ready said stands.machine follows complete cut due stands) on
-
--- what a run wrote that went through
-through-whole : (c : Cause) → GoesThrough c → (c ≢ cause.Memory) × (c ≢ cause.WriteFault)
-through-whole cause.Done g = (λ e. let f : cause.Done ≡ cause.Memory = e in cc, λ e. let f : cause.Done ≡ cause.WriteFault = e in cc)
-through-whole (cause.Line line kind) g = (λ e. let f : cause.Line line kind ≡ cause.Memory = e in cc, λ e. let f : cause.Line line kind ≡ cause.WriteFault = e in cc)
-through-whole (cause.Asked line) g = (λ e. let f : cause.Asked line ≡ cause.Memory = e in cc, λ e. let f : cause.Asked line ≡ cause.WriteFault = e in cc)
-through-whole c g = absurd g
-
-same-bytes : (a b : List ℕ) → Some a ≡ Some b → a ≡ b
-same-bytes a b e = cc
-
-pub written-checks : (m : Machine) (text log : List ℕ) (c : Cause) (said : List ReportLine) → GoesThrough c → IsWritten m (Some []) (Some log) c (said ++ report.End c ∷ []) → check_cause m text (report_text m (said ++ report.End c ∷ [])) ≡ cause.Done
-    → check_cause m text log ≡ cause.Done
-written-checks m text log c said through written checks =
-    let whole = through-whole c through in
-    let wrote : log ≡ report_text m (said ++ report.End c ∷ []) = same-bytes log (report_text m (said ++ report.End c ∷ [])) (written.all whole.0 whole.1 [] refl) in
-    ap (check_cause m text) wrote ∙ checks

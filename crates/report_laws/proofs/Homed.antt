@@ -68,9 +68,7 @@ use Rattle.report_laws.proofs.Low.{AreNumbered, Facts, IsDue, keep_by, numbered_
 use Rattle.report_laws.proofs.Shorts.{told_timed}
 use Rattle.report_laws.proofs.Unbegun.{ShowsNone}
 use Rattle.report_laws.proofs.Standing.{AreAllKinds, apart_heads, are_behind, first_shown, of_run, shown_kinds, some_pulse, stands, told_behind, told_parts}
-use Rattle.report_laws.specs.page.Clocks.{AreNearBoards}
 use Rattle.report_laws.specs.page.Log.{Follows, SaysLog, StartsOnTime, TellsPulseOf, board_turn, log_of}
-use Rattle.report_laws.proofs.page.Near.{near-boards}
 use Rattle.report_laws.proofs.page.Front.{in_order_append, in_order_twice, AreFronted, all-follows, all-start, lines-follow}
 use Rattle.report_laws.proofs.page.Going.{Ahead, AreOf, IsShown, goes-on}
 
@@ -645,11 +643,6 @@ module _ (m : Machine) (switches : List Switch) (text : List ℕ) (c : Cause) (s
 
   pub home-says : HasNames m → SaysLog m (report_text m said) (log_of said)
   home-says = says-log m said valid of_said
-
-  -- and the clock lines that are told are near the boards' clocks
-  pub home-near : AreNearBoards m (log_of said)
-  unfolding facts
-  home-near = near-boards m shows.clocks shows.ready shows.last said facts.sound facts.boards low facts.further facts.names
 
   module _ (through : GoesThrough c) where
     begun_all : sections_shown said ≡ begun_lines 0 shows.begun

@@ -1,5 +1,5 @@
 -- The report of a run over links in which axes home checks.
-use Rattle.std.proofs.Common.{◌≡◌, ◌≢◌, ◌∙◌, ℕ, true, false, ◌+◌, ◌*◌, ◌<◌, ◌≤◌, ◌^◌, All, List, [], ◌∷◌, ◌++◌, length, Option, Some, None, ap, sym, refl, subst, arith, append-nil, inl, inr, length-append, map}
+use Rattle.std.proofs.Common.{◌≡◌, ◌≢◌, ◌∙◌, ℕ, true, false, ◌+◌, ◌<◌, ◌^◌, All, List, [], ◌∷◌, ◌++◌, length, Option, Some, None, ap, sym, refl, subst, arith, append-nil, inl, inr, length-append, map}
 use Rattle.std.proofs.Math.Logic.{∥∥₁_elim}
 use Rattle.std.proofs.Props.{props}
 use Rattle.std.proofs.lemmas.Grind.{flat_map-append}
@@ -9,10 +9,9 @@ use Rattle.io_core.specs.declared.traits.Sink.{Ghosts as Sink}
 use Rattle.plan_types.specs.declared.cause.Cause.{Cause}
 use Rattle.plan_types.specs.declared.cause.Cause.TheVariants as cause
 use Rattle.plan_types.specs.declared.machine.Machine.{Machine}
-use Rattle.plan_types.specs.Clock.{tick, turn_ns}
+use Rattle.plan_types.specs.Clock.{tick}
 use Rattle.plan_types.specs.Lines.{Clocks}
 use Rattle.plan_types.specs.Machines.{IsValidMachine}
-use Rattle.plan_types.specs.Sections.{clocks_at}
 use Rattle.report_text.specs.declared.line.ReportLine.{ReportLine}
 use Rattle.report_text.specs.declared.line.ReportLine.TheVariants as report
 use Rattle.report_text.specs.Text.{report_text}
@@ -56,11 +55,11 @@ use Rattle.session_laws.specs.home_headline.Cuts.{cuts_of}
 use Rattle.session_laws.specs.home_headline.Follow.{AllShowHomes, ShowHomes}
 use Rattle.session_laws.specs.home_headline.Little.{AllHomeLittle}
 use Rattle.cause_runs.specs.Short.{HaveShortDictionaries}
-use Rattle.session_laws.specs.run_limits.Limits.{AreLow, DriftsLow, greatest_tick, start_limit}
-use Rattle.session_laws.proofs.run_limits.Early.{heads_low, starts_early}
+use Rattle.session_laws.specs.run_limits.Limits.{AreLow, DriftsLow, start_limit}
+use Rattle.session_laws.proofs.run_limits.Early.{heads_low}
 use Rattle.session_laws.proofs.run_limits.Drifts.{drifts_low}
 use Rattle.session_laws.proofs.run_limits.Keeping.{gather_both, low_of, ready_by}
-use Rattle.session_laws.proofs.run_limits.Ticks.{board_low, lines_low}
+use Rattle.session_laws.proofs.run_limits.Ticks.{lines_low}
 use Rattle.report_laws.specs.Checks.{check_cause}
 use Rattle.report_laws.specs.Homes.{ShowsHomes}
 use Rattle.report_laws.specs.Promises.{sections_over}
@@ -68,10 +67,12 @@ use Rattle.report_laws.specs.Shown.{section_turn, sections_shown}
 use Rattle.report_laws.proofs.Inside.{some_behind}
 use Rattle.report_laws.specs.Names.{HasNames}
 use Rattle.session_laws.specs.run_headline.Made.{IsMade}
-use Rattle.report_laws.specs.page.Clocks.{AreNearBoards}
+use Rattle.report_laws.proofs.Shorts.{IsTimed}
+use Rattle.report_laws.proofs.Timed.{begun_timed, starts_soon}
+use Rattle.session_laws.proofs.home_headline.Heads.{show_begun}
 use Rattle.report_laws.specs.page.Log.{Follows, SaysLog, StartsOnTime, log_of}
 use Rattle.report_laws.proofs.Faulted.{last_lines}
-use Rattle.report_laws.proofs.Homed.{home-checks, home-front, home-near, home-none, home-says, log-follows, none_first, says-log, shown-all}
+use Rattle.report_laws.proofs.Homed.{home-checks, home-front, home-none, home-says, log-follows, none_first, says-log, shown-all}
 use Rattle.report_laws.proofs.Unbegun.{ShowsNone, counts_low}
 use Rattle.report_laws.proofs.Unshown.{alone_own, alone_plain, both_none, shown_heads, shown_none, whole_before}
 use Rattle.report_laws.proofs.page.Front.{heads-follow}
@@ -98,11 +99,10 @@ module _ (m : Machine) (v : IsValidMachine m) (s : Scene) (ts : List MotionTurn)
   module _ (first : ReactorTurn) (rest : List ReactorTurn) (f : Facts m s ts (first ∷ rest) end c) (why : Some c ≡ (reacts m s.switches f.known (length (came_from [] (first ∷ rest))) end.states end.note).ordered.end)
       (shows : ShowHomes m p.seen (clocks_heard p.seen.told) (ready_heard p.seen.told) c first (rest ++ end ∷ [])) where
     early : All (λ x. x.start < start_limit) p.seen.begun
-    early = starts_early m (length m.boards) ts p (length m.boards) f.from f.to f.goes
+    early = starts_soon m v s ts p end c (first ∷ rest) f
 
-    low_ticks : (o : Option Told) → p.seen.told ≡ o → (b : ℕ) → b < length m.boards → tick (clocks_at (clocks_heard o) b).first (ready_heard o * turn_ns) ≤ greatest_tick (ready_heard o)
-    low_ticks None e b h = absurd (some (subst (λ (o : Option Told). AreToldBy m o p.seen.begun) e p.sections))
-    low_ticks (Some t) e b h = board_low m v s ts p t first rest end e (ready m v s ts p t first rest end e f.ahead f.words_left f.turns f.words) b (f.boards b first rest h refl) h
+    timed : (b : ℕ) → b < length m.boards → IsTimed (clocks_heard p.seen.told) (ready_heard p.seen.told) b
+    timed = begun_timed m v s ts p end c (first ∷ rest) f (show_begun m p.seen (clocks_heard p.seen.told) (ready_heard p.seen.told) c first (rest ++ end ∷ []) shows) some
 
     boards_low : AreLow (boards_of (gather (λ t. t.lines) (first ∷ (rest ++ end ∷ []))))
     boards_low =
@@ -111,7 +111,7 @@ module _ (m : Machine) (v : IsValidMachine m) (s : Scene) (ts : List MotionTurn)
         let count = (shows.sound some).clocks_are.count in
         let cut = ap boards_of (ap lines told.are ∙ gather_both told.past told.later) ∙ flat_map-append board_in (lines told.past) (lines told.later) ∙ ap (λ z. boards_of (lines told.past) ++ z) told.rest ∙ append-nil (boards_of (lines told.past)) ∙ told.lines in
         subst AreLow (sym cut)
-        (lines_low (ready_heard p.seen.told) 0 (clocks_heard p.seen.told) (ready_by m (clocks_heard p.seen.told) (ready_heard p.seen.told) p.seen.begun shows.started some early) (λ i lt. low_ticks p.seen.told refl i (omega (arith, lt, count))))
+        (lines_low (ready_heard p.seen.told) 0 (clocks_heard p.seen.told) (ready_by m (clocks_heard p.seen.told) (ready_heard p.seen.told) p.seen.begun shows.started some early) (λ i lt. (timed i (omega (arith, lt, count))).low))
 
     further_low : DriftsLow (gather (λ t. t.lines) (first ∷ (rest ++ end ∷ [])))
     further_low = by p.seen.told refl
@@ -204,7 +204,6 @@ pub record ShowsLog (m : Machine) (text : List ℕ) (c : Cause) (said : List Rep
   pub follows : Follows (GoesThrough c) m (sections_over m text) (log_of said)
   pub starts : StartsOnTime (GoesThrough c) m (sections_over m text) (log_of said)
   pub says : HasNames m → SaysLog m (report_text m said) (log_of said)
-  pub clocks : sections_shown said ≢ [] → AreNearBoards m (log_of said)
 
 -- what a run shows, by what its planner made
 module _ {F S : Type 0} (f : Files F) (o : Sink S) (m : Machine) (s : Scene) (gcode : List ℕ) (files files' : F) (out out' : S) (c : Cause) (lines : List ReportLine) (counts : List ℕ) (links : List LinkLog) (valid : IsValidMachine m) (short : HaveShortDictionaries m)
@@ -217,7 +216,7 @@ module _ {F S : Type 0} (f : Files F) (o : Sink S) (m : Machine) (s : Scene) (gc
   parts : heads_of whole ≡ heads_of own.said ++ heads_of own.rest
   parts = ap heads_of own.shown ∙ flat_map-append head_in own.said own.rest
 
-  pub shows : ShowsHomes m s.switches text c own.said
+  shows : ShowsHomes m s.switches text c own.said
   shows = home_lines f o m s gcode files files' out out' c lines counts links valid short own text made same not little own.said own.rest c (whole_of f o m s gcode files files' out out' c lines counts links valid short own) own.shown
 
   all_shows : ShowsHomes m s.switches text own.told.cause whole
@@ -280,9 +279,9 @@ module _ {F S : Type 0} (f : Files F) (o : Sink S) (m : Machine) (s : Scene) (gc
           let n = none e in
           let Text = sections_over m text in
           let log = log-follows (GoesThrough c) m Text own.said (heads-follow (GoesThrough c) m Text (further_told (map logged own.said)) own.said n.may n.heads) (shown-all m s.switches text c own.said shows) in
-          record { follows = log.0; starts = log.1; says = says-log m own.said valid n.of_run; clocks = λ some. absurd (some (shown_heads own.said ∙ e)) }
+          record { follows = log.0; starts = log.1; says = says-log m own.said valid n.of_run }
       by (h ∷ hs) e =
           let some : heads_of own.said ≢ [] = λ none. (let g : h ∷ hs ≡ [] = sym e ∙ none in cc) in
           let shown : sections_shown own.said ≢ [] = λ none. some (sym (shown_heads own.said) ∙ none) in
           let log = home-front m s.switches text c own.said valid shown shows (low some) told_all long in
-          record { follows = log.0; starts = log.1; says = home-says m s.switches text c own.said valid shown shows (low some) told_all long; clocks = λ shown. home-near m s.switches text c own.said valid shown shows (low some) told_all long }
+          record { follows = log.0; starts = log.1; says = home-says m s.switches text c own.said valid shown shows (low some) told_all long }

@@ -40,3 +40,4 @@ pub mod Scenes
 pub mod Any
 pub mod Replaying
 pub mod Reported
+pub mod Timed

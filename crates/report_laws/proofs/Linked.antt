@@ -76,12 +76,16 @@ use Rattle.report_laws.specs.Body.{cause_of, no_section, section_lines}
 use Rattle.report_laws.specs.Headline.{kind_of, moves_of}
 use Rattle.homing_laws.proofs.home_plans.Noting.{begun_row}
 use Rattle.session_laws.specs.home_headline.Cuts.{TellEnds}
-use Rattle.session_laws.specs.home_headline.Follow.{AllShowBegun, AllShowHomes, HaveBegunLines, ShowHomes}
+use Rattle.session_laws.specs.home_headline.Follow.{AllShowBegun, AllShowHomes, HaveBegunLines, ShowHomes, ShowBegun}
 use Rattle.session_laws.specs.run_headline.Made.{IsMade}
 use Rattle.session_laws.specs.home_headline.Little.{AllHomeLittle, ShownHoldLittle}
 use Rattle.session_laws.proofs.home_headline.Clear.{clear_little}
 use Rattle.session_laws.proofs.home_headline.Heads.{begun_heads, home_boards, homes_apart, homes_further, homes_sound, show_begun}
-use Rattle.session_laws.proofs.home_headline.Before.{run_before}
+use Rattle.session_laws.proofs.run_headline.Cutting.{run_front}
+use Rattle.session_laws.proofs.run_headline.Making.{front_made}
+use Rattle.report_laws.proofs.Shorts.{IsTimed}
+use Rattle.session_laws.proofs.run_lines.Heads.{some_first}
+use Rattle.report_laws.proofs.Timed.{begun_timed}
 use Rattle.session_laws.proofs.home_headline.Sections.{all_begun}
 use Rattle.session_laws.proofs.home_headline.Shows.{all_shows}
 use Rattle.session_laws.proofs.home_headline.Switches.{all_ends, run_last}
@@ -103,6 +107,7 @@ use Rattle.report_laws.specs.Promises.{FollowsPlanBy, IsCauseOf, IsCompleteBefor
 use Rattle.report_laws.specs.Homes.{ShowsBegun, ShowsHomes}
 use Rattle.report_laws.specs.Linked.{EndsFor, IsLinkReport, MeetPremise, ShowsText}
 use Rattle.report_laws.specs.page.Report.{Shows}
+use Rattle.report_laws.specs.Cuts.{HaveCuts}
 use Rattle.report_laws.specs.Shown.{lines_behind, pulses_before, pulses_in, section_turn, sections_shown}
 use Rattle.report_laws.proofs.Behind.{AreNumbered, behind, behind_front, in_stays, next_begun, numbered_due, numbered_front}
 use Rattle.report_laws.proofs.Followed.{NextAt, shown}
@@ -600,6 +605,36 @@ take_in k (suc from) zero xs h = absurd (omega (arith, h))
 take_in k (suc from) (suc n) [] h = refl
 take_in k (suc from) (suc n) (x ∷ xs) h = take_in k from n xs (omega (arith, h))
 
+-- the cut lines of those that were written
+module _ (m : Machine) (switches : List Switch) (seen : Seen) (clocks : List Clocks) (ready : ℕ) (own c : Cause) (text : List ℕ) (said rest : List ReportLine) (spread : Spread 260 seen.begun) (same : seen.text ≡ text) (through : GoesThrough c → (rest ≡ []) × (c ≡ own)) where
+  cuts_shown : (first : ReactorTurn) (later : List ReactorTurn) → ShowBegun m seen clocks ready own first later → TellEnds m switches seen.begun 0 (first ∷ later) → gather (λ t. t.lines) (first ∷ later) ≡ said ++ rest → HaveCuts m switches c (sections_over m text) said
+  cuts_shown first later h ends shown_all =
+      have_cuts m switches (sections_over m text) (drop (length seen.begun) (sections_over m text)) seen.begun of_sections spread ready (begun_row m clocks ready seen.begun h.started) (first ∷ later) h.lines ends c said rest shown_all numbered (λ g. (
+        (through g).0,
+        sym (ap length ((h.through (went g)).all ∙ ap (program_sections m) same)) ∙ length-map seen.begun (λ (x : Started). x.section),
+        λ past s more cut.
+            let Over : List Started → Type 0 = λ z. All (λ (y : Started). y.end + 5 ≤ length later) z in
+            let over = over_at (length later) past s more (subst Over cut (h.through (went g)).over) in
+            omega (arith, over),
+      ))
+    where
+      of_sections : sections_over m text ≡ map (λ x. x.section) seen.begun ++ drop (length seen.begun) (sections_over m text)
+      of_sections = sym (take-append-drop (length seen.begun) (sections_over m text)) ∙ ap (λ z. z ++ drop (length seen.begun) (sections_over m text)) (sym (h.of_text ∙ ap (λ z. take (length seen.begun) (program_sections m z)) same))
+
+      went : GoesThrough c → GoesThrough own
+      went g = subst (λ (z : Cause). GoesThrough z) (through g).1 g
+
+      numbered : AreNumbered 0 (heads_of said)
+      numbered =
+          let Numbered : List ReportLine → Type 0 = λ z. AreNumbered 0 z in
+          let its = begun_heads m seen clocks ready own first later h in
+          let all = numbered_front 0 (heads_of (gather (λ (t : ReactorTurn). t.lines) (first ∷ later))) its.front.0 (subst Numbered its.front.1 (numbered_begun 0 its.begun)) in
+          numbered_front 0 (heads_of said) (heads_of rest) (subst Numbered (ap heads_of shown_all ∙ flat_map-append head_in said rest) all)
+
+  all_cuts : (turns : List ReactorTurn) → (x : ReactorTurn) × (xs : List ReactorTurn) × (turns ≡ x ∷ xs) → AllShowBegun m seen clocks ready own turns → TellEnds m switches seen.begun 0 turns → gather (λ t. t.lines) turns ≡ said ++ rest → HaveCuts m switches c (sections_over m text) said
+  all_cuts [] some h ends shown_all = absurd (let e : [] ≡ some.0 ∷ some.1 = some.2 in cc)
+  all_cuts (first ∷ later) some h ends shown_all = cuts_shown first later h ends shown_all
+
 -- those that were written show it
 module _ (m : Machine) (switches : List Switch) (seen : Seen) (clocks : List Clocks) (ready : ℕ) (own c : Cause) (text : List ℕ) (said rest : List ReportLine) (spread : Spread 260 seen.begun) (same : seen.text ≡ text) (through : GoesThrough c → (rest ≡ []) × (c ≡ own)) where
   homes_shown : (turns : List ReactorTurn) → (x : ReactorTurn) × (xs : List ReactorTurn) × (turns ≡ x ∷ xs) → AllShowHomes m seen clocks ready own turns → TellEnds m switches seen.begun 0 turns → AllWholeHomes m seen clocks own turns → gather (λ t. t.lines) turns ≡ said ++ rest → ShowsHomes m switches text c said
@@ -624,14 +659,7 @@ module _ (m : Machine) (switches : List Switch) (seen : Seen) (clocks : List Clo
     all = λ g.
         let t = h.through (went g) in
         (t.all ∙ ap (program_sections m) same, same_heads said ∙ ap heads_of (sym (whole g)) ∙ whole_heads m seen clocks ready first later starts t.over);
-    cuts = have_cuts m switches (sections_over m text) (drop (length seen.begun) (sections_over m text)) seen.begun of_sections spread ready (begun_row m clocks ready seen.begun h.started) (first ∷ later) h.lines ends c said rest shown_all numbered (λ g. (
-      (through g).0,
-      sym (ap length ((h.through (went g)).all ∙ ap (program_sections m) same)) ∙ length-map seen.begun (λ (x : Started). x.section),
-      λ past s more cut.
-          let Over : List Started → Type 0 = λ z. All (λ (y : Started). y.end + 5 ≤ length later) z in
-          let over = over_at (length later) past s more (subst Over cut (h.through (went g)).over) in
-          omega (arith, over),
-    ));
+    cuts = cuts_shown m switches seen clocks ready own c text said rest spread same through first later (show_begun m seen clocks ready own first later h) ends shown_all;
     boards = λ i turn e. home_boards m seen clocks ready own first later said rest (show_begun m seen clocks ready own first later h) shown_all (some_behind i turn said e);
     counts = λ g.
         let is = h.counts (went g) ∙ ap (λ z. report.Lines (program_end m z).lines (program_end m z).passed ∷ []) same in
@@ -661,9 +689,6 @@ module _ (m : Machine) (switches : List Switch) (seen : Seen) (clocks : List Clo
         follow_front short m text said reached.more (subst Follows reached.upto (fits_follow m seen text first (take reached.n later) spread h.of_text upto_lines same short (fits short firsts)));
   }
     where
-      of_sections : sections_over m text ≡ map (λ x. x.section) seen.begun ++ drop (length seen.begun) (sections_over m text)
-      of_sections = sym (take-append-drop (length seen.begun) (sections_over m text)) ∙ ap (λ z. z ++ drop (length seen.begun) (sections_over m text)) (sym (h.of_text ∙ ap (λ z. take (length seen.begun) (program_sections m z)) same))
-
       -- the last turn of which lines were written
       reached : Reach (first ∷ later) said rest
       reached = reach first later said rest shown_all
@@ -764,15 +789,21 @@ module _ (m : Machine) (seen : Seen) (clocks : List Clocks) (ready : ℕ) (own c
       whole : GoesThrough c → gather (λ t. t.lines) (first ∷ later) ≡ said
       whole g = shown_all ∙ ap (λ z. said ++ z) (through g).0 ∙ append-nil said
 
+-- with Prefix, where links hold little, and with what the ticks are that the boards' lines tell
+abbrev BegunSo : Machine → List ℕ → Cause → List ReportLine → Type 0 → Type 0
+BegunSo m text c said Little = (begun : ShowsBegun m text c said) × (Little → FollowsPlanBy begun.clocks m (sections_over m text) said)
+    × ((i turn : ℕ) → section_turn i said ≡ Some turn → (b : ℕ) → b < length m.boards → IsTimed begun.clocks begun.ready b)
+
 -- and what is of pulses too, where this may be said of the turns
 module _ (m : Machine) (seen : Seen) (clocks : List Clocks) (ready : ℕ) (own c : Cause) (text : List ℕ) (said rest : List ReportLine) (spread : Spread 260 seen.begun) (same : seen.text ≡ text) (through : GoesThrough c → (rest ≡ []) × (c ≡ own)) (Little : Type 0) where
-  front_shown : (turns : List ReactorTurn) → (x : ReactorTurn) × (xs : List ReactorTurn) × (turns ≡ x ∷ xs) → AllShowBegun m seen clocks ready own turns → (Little → AllShowHomes m seen clocks ready own turns) → gather (λ t. t.lines) turns ≡ said ++ rest
-      → (begun : ShowsBegun m text c said) × (Little → FollowsPlanBy begun.clocks m (sections_over m text) said)
+  front_shown : (turns : List ReactorTurn) → (x : ReactorTurn) × (xs : List ReactorTurn) × (turns ≡ x ∷ xs) → AllShowBegun m seen clocks ready own turns → (seen.begun ≢ [] → (b : ℕ) → b < length m.boards → IsTimed clocks ready b) → (Little → AllShowHomes m seen clocks ready own turns) → gather (λ t. t.lines) turns ≡ said ++ rest
+      → BegunSo m text c said Little
   unfolding begun_shown
-  front_shown [] some b h shown_all = absurd (let e : [] ≡ some.0 ∷ some.1 = some.2 in cc)
-  front_shown (first ∷ later) some b h shown_all = (
+  front_shown [] some b timed h shown_all = absurd (let e : [] ≡ some.0 ∷ some.1 = some.2 in cc)
+  front_shown (first ∷ later) some b timed h shown_all = (
     begun_shown m seen clocks ready own c text said rest same through (first ∷ later) some b shown_all,
     λ little. let At : List ReportLine → Type 0 = λ z. FollowsPlanBy clocks m (sections_over m text) z in follow_front clocks m text said rest (subst At shown_all (homes_follow m seen clocks ready own text first later spread (h little) same)),
+    λ i turn e. timed (some_first m clocks ready seen.begun (first ∷ later) said rest b.late b.started b.lines shown_all (some_behind i turn said e)),
   )
 
 no_turn : (turn : ℕ) → None ≡ Some turn → ⊥
@@ -896,6 +927,15 @@ module _ {F S : Type 0} (f : Files F) (o : Sink S) (m : Machine) (s : Scene) (gc
             w.2 ∙ is ∙ ends_as (program_end m text).stop;
       })
 
+  -- and the cut lines of any text
+  pub cut_lines : (r : IsReported f o m s gcode files files' out out' c lines counts links) (text : List ℕ) (made : IsMade m s r.runs.runs.0 r.runs.runs.1) → made.plans.seen.text ≡ text → (r.told.cause ≡ cause.Memory → ⊥)
+      → HaveCuts m s.switches c (sections_over m text) r.said
+  cut_lines r text made same other =
+      let seen = made.plans.seen in
+      all_cuts m s.switches seen (clocks_heard seen.told) (ready_heard seen.told) r.told.cause c text r.said r.rest (plans_spread m (length m.boards) r.runs.runs.0 made.plans) same (whole_of r) (r.runs.runs.1 ++ r.runs.runs.2 ∷ []) (some_turns r.runs.runs.1 r.runs.runs.2)
+      (all_begun m v s r.runs.runs.0 made.plans r.runs.runs.2 r.told.cause r.runs.runs.1 (facts f o m s gcode files files' out r.behind r.kept r.kept' r.told r.runs other))
+      (all_ends m v s r.runs.runs.0 made.plans r.runs.runs.2 r.told.cause r.runs.runs.1 (run_ended f o m s gcode files files' out r.behind r.kept r.kept' r.told r.runs other)) r.shown
+
   -- and of any text, all lines or the first ones
   pub home_lines : (r : IsReported f o m s gcode files files' out out' c lines counts links) (text : List ℕ) (made : IsMade m s r.runs.runs.0 r.runs.runs.1) → made.plans.seen.text ≡ text → (r.told.cause ≡ cause.Memory → ⊥)
       → AllHomeLittle m s text r.runs.runs.0 (r.runs.runs.1 ++ r.runs.runs.2 ∷ []) → (said rest : List ReportLine) (d : Cause) → (GoesThrough d → (rest ≡ []) × (d ≡ r.told.cause))
@@ -920,7 +960,7 @@ module _ {F S : Type 0} (f : Files F) (o : Sink S) (m : Machine) (s : Scene) (gc
   abbrev HoldLittle : IsReported f o m s gcode files files' out out' c lines counts links → List ℕ → Type 0
   HoldLittle r text = ShownHoldLittle m s text r.runs.runs.0 r.runs.runs.1 r.runs.runs.2 r.told.cause
 
-  pub begun_texts : (r : IsReported f o m s gcode files files' out out' c lines counts links) (text : List ℕ) → f.told files gcode ≡ Some text → ∥ ((begun : ShowsBegun m text c r.said) × (HoldLittle r text → FollowsPlanBy begun.clocks m (sections_over m text) r.said)) ∥₁
+  pub begun_texts : (r : IsReported f o m s gcode files files' out out' c lines counts links) (text : List ℕ) → f.told files gcode ≡ Some text → ∥ BegunSo m text c r.said (HoldLittle r text) ∥₁
   begun_texts r text told = elim (memory_or r.told.cause) [
     | inr other ↦ ∥∥₁_map (run_made f o m s gcode files files' out r.behind r.kept r.kept' r.told r.runs text told r.fresh.at) (λ w.
         let made = w.0 in
@@ -930,22 +970,27 @@ module _ {F S : Type 0} (f : Files F) (o : Sink S) (m : Machine) (s : Scene) (gc
         let all = facts f o m s gcode files files' out r.behind r.kept r.kept' r.told r.runs other in
         front_shown m seen (clocks_heard seen.told) (ready_heard seen.told) r.told.cause c text r.said r.rest (plans_spread m (length m.boards) r.runs.runs.0 made.plans) w.1 (whole_of r) (HoldLittle r text) turns (some_turns r.runs.runs.1 r.runs.runs.2)
         (all_begun m v s r.runs.runs.0 made.plans r.runs.runs.2 r.told.cause r.runs.runs.1 all)
+        (begun_timed m v s r.runs.runs.0 made.plans r.runs.runs.2 r.told.cause r.runs.runs.1 all (all_begun m v s r.runs.runs.0 made.plans r.runs.runs.2 r.told.cause r.runs.runs.1 all))
         (λ little. all_shows m v s r.runs.runs.0 made.plans r.runs.runs.2 r.told.cause r.runs.runs.1 all short (subst Little (sym w.1) (little.0 other))) r.shown)
     | inl memory ↦ elim (cut_last r.runs.runs.1) [
       | inl none ↦
           let lines_are : [] ≡ r.said ++ r.rest = sym (ap lines_of none) ∙ sym (written memory) ∙ r.shown in
-          let At : List ReportLine → Type 0 = λ z. (begun : ShowsBegun m text c z) × (HoldLittle r text → FollowsPlanBy begun.clocks m (sections_over m text) z) in
-          ∣ subst At (sym (nothing_written r.said r.rest lines_are)) (nothing_shown m text c (none_through memory), λ little i turn s e h. absurd (no_turn turn e)) ∣₁
+          let At : List ReportLine → Type 0 = λ z. BegunSo m text c z (HoldLittle r text) in
+          ∣ subst At (sym (nothing_written r.said r.rest lines_are)) (nothing_shown m text c (none_through memory), λ little i turn s e h. absurd (no_turn turn e), λ i turn e. absurd (no_turn turn e)) ∣₁
       | inr x ↦
           let turns = x.0 ++ x.1 ∷ [] in
           let lines_are : lines_of turns ≡ r.said ++ r.rest = sym (ap lines_of x.2) ∙ sym (written memory) ∙ r.shown in
           let size = ap length x.2 ∙ length-append x.0 (x.1 ∷ []) in
-          ∥∥₁_map (run_before f o m s gcode files files' out r.behind r.kept r.kept' r.told r.runs v text told r.fresh.at x.0 x.1 x.2) (λ w.
-          let seen = w.4.seen in
-          let long = w.3 in
-          let Little : List ReactorTurn → Type 0 = λ z. AllHomeLittle m s text w.0 z in
-          front_shown m seen (clocks_heard seen.told) (ready_heard seen.told) cause.ReadFault c text r.said r.rest (plans_spread m (length m.boards) w.0 w.4) w.5 (λ g. absurd (none_through memory g)) (HoldLittle r text) turns (some_turns x.0 x.1) w.6
-          (λ little. w.7 short (subst Little x.2 (little.1 memory w.0 w.1 w.2 (omega (arith, long, size))))) lines_are)
+          let part = run_front f o m s gcode files files' out r.behind r.kept r.kept' r.told r.runs x.0 x.1 x.2 in
+          ∥∥₁_map (front_made f o m s gcode files files' out r.behind r.kept r.kept' r.told r.runs text told r.fresh.at part.planned part.later part.are) (λ w.
+          let seen = w.0.seen in
+          let long = part.long in
+          let Little : List ℕ → Type 0 = λ z. AllHomeLittle m s z part.planned turns in
+          let Held : List ReactorTurn → Type 0 = λ z. AllHomeLittle m s text part.planned z in
+          let begun = all_begun m v s part.planned w.0 x.1 cause.ReadFault x.0 part.facts in
+          front_shown m seen (clocks_heard seen.told) (ready_heard seen.told) cause.ReadFault c text r.said r.rest (plans_spread m (length m.boards) part.planned w.0) w.1 (λ g. absurd (none_through memory g)) (HoldLittle r text) turns (some_turns x.0 x.1) begun
+          (begun_timed m v s part.planned w.0 x.1 cause.ReadFault x.0 part.facts begun)
+          (λ little. all_shows m v s part.planned w.0 x.1 cause.ReadFault x.0 part.facts short (subst Little (sym w.1) (subst Held x.2 (little.1 memory part.planned part.later part.are (omega (arith, long, size)))))) lines_are)
     ]
   ]
     where
@@ -1020,7 +1065,7 @@ module _ {F S : Type 0} (f : Files F) (o : Sink S) (m : Machine) (s : Scene) (gc
 
   -- with what its lines show
   pub planned : (r : IsReported f o m s gcode files files' out out' c lines counts links)
-      → ((text : List ℕ) → f.told files gcode ≡ Some text → ∥ Shows (MeetPremise m s text r.runs.runs.0 r.runs.runs.1 r.runs.runs.2 r.told.cause) m s text c r.said ∥₁)
+      → ((text : List ℕ) → f.told files gcode ≡ Some text → ∥ Shows (MeetPremise m s text r.runs.runs.0 r.runs.runs.1 r.runs.runs.2 r.told.cause) (r.told.cause ≢ cause.Memory) m s text c r.said ∥₁)
       → IsLinkReport f o m s gcode files files' out out' c lines counts links
   planned r shown = record {
     reported = r;
@@ -1036,7 +1081,7 @@ module _ {F S : Type 0} (f : Files F) (o : Sink S) (m : Machine) (s : Scene) (gc
         (run_links f o m s gcode files files' out r.behind r.kept r.kept' r.told r.runs text told r.fresh.at);
     shows = shown;
     moves = texts r;
-    begun = begun_texts r;
+    memory = λ text told is. ∥∥₁_map (begun_texts r text told) (λ b. (b.0, b.1));
     triggers = λ text told other reads. run_own f o m s gcode files files' out r.behind r.kept r.kept' r.told r.runs v short text told r.fresh.at other reads;
     complete = ends_as_read r;
     first_ticks = λ text told other reads takes. firsts.run_first f o m s gcode files files' out r.behind r.kept r.kept' r.told r.runs v short text told r.fresh.at other reads takes;

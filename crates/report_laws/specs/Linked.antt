@@ -143,10 +143,10 @@ pub record IsLinkReport {F S : Type 0} (f : Files F) (o : Sink S) (m : Machine) 
   -- of moves or homing, whatever ended it
   pub shows : (text : List ℕ) → f.told files gcode ≡ Some text →
       ∥ Shows (MeetPremise m s text reported.runs.runs.0 reported.runs.runs.1 reported.runs.runs.2 reported.told.cause)
-      m s text c reported.said ∥₁
-  -- Begun sections: whatever its links hold, and also for want of memory, they show the sections that were begun, by the
-  -- clock lines that the planner heard, and Prefix by these
-  pub begun : (text : List ℕ) → f.told files gcode ≡ Some text →
+      (reported.told.cause ≢ cause.Memory) m s text c reported.said ∥₁
+  -- Memory: where memory ran out they show the sections that were begun, by the clock lines that the planner heard, and
+  -- Prefix by these where each board held nothing long before the last turn
+  pub memory : (text : List ℕ) → f.told files gcode ≡ Some text → reported.told.cause ≡ cause.Memory →
       ∥ ((begun : ShowsBegun m text c reported.said)
       × (ShownHoldLittle m s text reported.runs.runs.0 reported.runs.runs.1 reported.runs.runs.2 reported.told.cause →
       FollowsPlanBy begun.clocks m (sections_over m text) reported.said)) ∥₁

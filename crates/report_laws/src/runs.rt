@@ -4,7 +4,7 @@ ghost use Rattle.std.specs.Prelude.{◌≡◌, ◌∷◌, ◌++◌, [], ℕ, Lis
 ghost use Rattle.cfg_text.specs.Reading.{reading};
 ghost use Rattle.report_laws.specs.Checks.{check_cause};
 ghost use Rattle.report_laws.specs.Promises.{FollowsPlanBy, IsCompleteBy, sections_by, sections_over};
-ghost use Rattle.report_laws.specs.Linked.{IsLinkReport, ShowsText};
+ghost use Rattle.report_laws.specs.Linked.{IsLinkReport};
 ghost use Rattle.report_laws.specs.Shown.{sections_shown};
 ghost use Rattle.report_laws.specs.Read.{IsSceneFor};
 ghost use Rattle.report_laws.specs.Stands.{StandInOrder};
@@ -48,12 +48,6 @@ pub fn what_runs_over_links_write_checks<F: Files, S: Sink>()
         reading printer ≡ Ok m → (r : IsLinkReport F.Files S.Sink m s gcode files files' out out' c lines counts links) → (text : List ℕ) → F.told files gcode ≡ Some text →
         AreOfMoves (sections_over m text) → HoldsNothingLong m s text r.reported.runs.runs.0 (r.reported.runs.runs.1 ++ r.reported.runs.runs.2 ∷ []) → GoesThrough c →
         (log : List ℕ) → S.written out ≡ Some [] → S.written out' ≡ Some log → check_cause m text log ≡ Cause.Done }
-{}
-
-/// The same of any such run whose lines stand as a log wants them, also where the text has no sections.
-pub fn runs_over_links_in_order_check()
-    ensures { (m : Machine) (text : List ℕ) (c : Cause) (said : List ReportLine) → HasNames m → (shows : ShowsText m text c said) → GoesThrough c →
-        StandInOrder false m shows.clocks shows.ready (sections_over m text) said → IsCauseOn m c → check_cause m text (report_text m (said ++ report.End c ∷ [])) ≡ Cause.Done }
 {}
 
 /// The law of runs over links in which axes home: where such a run went through, of moves or homing, in a scene that was read or in none,

@@ -27,7 +27,6 @@ use Rattle.session_laws.specs.run_headline.Further.{AreNamed, TellsFurther}
 use Rattle.session_laws.specs.run_headline.Near.{FollowsClock}
 use Rattle.session_laws.specs.run_headline.Timely.{AreSound}
 use Rattle.session_laws.specs.run_lines.Due.{BoardsHave}
-use Rattle.session_laws.specs.run_limits.Limits.{AreLow}
 use Rattle.report_laws.specs.Logged.{logged}
 use Rattle.report_laws.specs.Retold.{HoldFrom, retold}
 use Rattle.report_laws.specs.page.Clocks.{AreNearBoards, IsNearBoard, IsOwnTick}
@@ -35,7 +34,7 @@ use Rattle.report_laws.specs.page.Log.{log_of}
 use Rattle.report_laws.proofs.Further.{HaveTurns}
 use Rattle.report_laws.proofs.page.Front.{in_order_append, in_order_twice}
 use Rattle.report_laws.proofs.Retelling.{AreTold, tick-retold}
-use Rattle.report_laws.proofs.Shorts.{early_first, early_from, early_turns, told_timed}
+use Rattle.report_laws.proofs.Shorts.{IsTimed, early_first, early_from, early_turns}
 
 -- what a line of a log says of the clock of its board
 abbrev SoNear : Machine → LogLine → Type 0
@@ -152,9 +151,9 @@ found m (x ∷ said) [] l later h e = (let f : logged x ∷ map logged said ≡ 
 found m (x ∷ said) (y ∷ before) l later h e = (let f : logged x ∷ map logged said ≡ y ∷ (before ++ l ∷ later) = e in found m said before l later h.1 cc)
 
 -- The clock lines that a report prints are near the boards' clocks.
-pub near-boards : (m : Machine) (clocks : List Clocks) (ready last : ℕ) (said : List ReportLine) → AreSound m clocks ready → BoardsHave clocks ready said → AreLow said → ((b : ℕ) → b < length m.boards → TellsFurther b (clocks_at clocks b).held last said) → AreNamed m said
+pub near-boards : (m : Machine) (clocks : List Clocks) (ready last : ℕ) (said : List ReportLine) → AreSound m clocks ready → BoardsHave clocks ready said → ((b : ℕ) → b < length m.boards → IsTimed clocks ready b) → ((b : ℕ) → b < length m.boards → TellsFurther b (clocks_at clocks b).held last said) → AreNamed m said
     → AreNearBoards m (log_of said)
-near-boards m clocks ready last said sound boards low further named = record {
+near-boards m clocks ready last said sound boards timed further named = record {
   boards = λ later lines b turn at e. found m said (in_order lines) (line.Board b turn at) (in_order later) all (turned later (line.Board b turn at) lines e);
   further = λ later lines b turn at from e. found m said (in_order lines) (line.Line b turn at from) (in_order later) all (turned later (line.Line b turn at from) lines e);
 }
@@ -167,18 +166,18 @@ near-boards m clocks ready last said sound boards low further named = record {
         let are = sound.clocks_are in
         let count = are.count in
         let inside : i < length m.boards = omega (arith, below, count) in
-        let timed = told_timed m clocks ready said count boards low i inside in
-        let early = timed.early in
-        let least = timed.low in
+        let soon = timed i inside in
+        let early = soon.early in
+        let least = soon.low in
         let told : AreTold (clocks_at clocks i) ready = record { kept = sound.kept i inside; behind = hold-from ready (clocks_at clocks i).held (sound.behind i inside); before = are.before i inside; soon = sound.small } in
         first-near m i (clocks_at clocks i) ready told (are.freq i inside) (omega (arith, early, least)) (sound.near i inside)
 
     turns : (b : ℕ) (inside : b < length m.boards) → HaveTurns (further b inside).told
     turns b inside =
         let are = sound.clocks_are in
-        let timed = told_timed m clocks ready said are.count boards low b inside in
-        let early = timed.early in
-        let most = timed.low in
+        let soon = timed b inside in
+        let early = soon.early in
+        let most = soon.low in
         let f = further b inside in
         let lasting = are.lasting b inside (omega (arith, early, most)) in
         let c = clocks_at clocks b in

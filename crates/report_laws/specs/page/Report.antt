@@ -16,24 +16,24 @@ use Rattle.report_laws.specs.page.Clocks.{AreNearBoards}
 use Rattle.report_laws.specs.page.Log.{Follows, SaysLog, StartsOnTime, log_of}
 
 -- What the lines of a run show of a text, as they were printed, with those of pulses: where the run met its premise
--- (`near`), and in any case.
-pub record Shows (near : Type 0) (m : Machine) (s : Scene) (text : List ℕ) (c : Cause)
+-- (`near`); where it did not end for want of memory (`other`); and in any case.
+pub record Shows (near other : Type 0) (m : Machine) (s : Scene) (text : List ℕ) (c : Cause)
     (said : List ReportLine) : Type 0 where
   -- Prefix, Whole and Sections: what is printed follows the plan of the text, by the clock lines that it tells, as far
   -- as the run came
   pub follows : near → Follows (GoesThrough c) m (sections_over m text) (log_of said)
   -- each section starts in its turn, unless a cut stands in the one before
   pub starts : near → StartsOnTime (GoesThrough c) m (sections_over m text) (log_of said)
-  -- Cuts: each stands in the section that it names, which homes, and tells of its axis's endstop; and there is one
-  -- where the next section has its line
-  pub cuts : near → HaveCuts m s.switches c (sections_over m text) said
-  -- Clock lines: where a section has its line, each that is printed is near its board's clock
-  pub clocks : near → sections_shown said ≢ [] → AreNearBoards m (log_of said)
   -- Text: the log is what the printed text says, where the names of the machine are words, as those that a
   -- configuration gives
   pub says : near → HasNames m → SaysLog m (report_text m said) (log_of said)
-  -- In any case the section lines are those of the first sections of the text, in order, and of all where the run went
-  -- through
+  -- Cuts: each stands in the section that it names, which homes, and tells of its axis's endstop; and there is one
+  -- where the next section has its line
+  pub cuts : other → HaveCuts m s.switches c (sections_over m text) said
+  -- Clock lines: in any case, where a section has its line, each that is printed is near its board's clock
+  pub clocks : sections_shown said ≢ [] → AreNearBoards m (log_of said)
+  -- Sections: in any case the section lines are those of the first sections of the text, in order, and of all where the
+  -- run went through
   pub sections : (starts : List ℕ) × (sections_shown said ≡ section_lines 0 starts (sections_over m text))
   pub all : GoesThrough c → length (sections_shown said) ≡ length (sections_over m text)
   -- Counts and Cause: a run that went through shows how many lines were accepted and how many commands were passed, and

@@ -1,5 +1,5 @@
 use Rattle.std.proofs.Common.{◌≡◌, ◌∙◌, ℕ, List, ap, rules}
-use Rattle.generated_load.specs.contracts.LoadFilesFiles.TheImpl.{ghosts as load_ghosts}
+use Rattle.generated_load.specs.contracts.load_file.LoadFilesFiles.TheImpl.{ghosts as load_ghosts}
 use Rattle.io_core.specs.contracts.sure.SureSinkSink.TheImpl.{ghosts as sink_ghosts}
 use Rattle.std.specs.Prelude.{codes}
 use Rattle.host_cli.specs.Counts.{summary}

@@ -1,6 +1,6 @@
 use Rattle.std.proofs.Common.{◌∙◌, List, inr, sym}
 use Rattle.io_core.specs.contracts.sure.SureSinkSink.TheImpl.{ghosts as sink_ghosts}
-use Rattle.generated_load.specs.contracts.LoadFilesFiles.TheImpl.{ghosts as load_ghosts}
+use Rattle.generated_load.specs.contracts.load_file.LoadFilesFiles.TheImpl.{ghosts as load_ghosts}
 use Rattle.host_cli.proofs.Asked.{ends-both}
 use Rattle.host_cli.proofs.Loaded.{load-shown}
 use Rattle.host_cli.proofs.Whole.{for-cause, memory-machine, quiet-output, written-text}

@@ -1,7 +1,7 @@
 use Rattle.std.proofs.Common.{Option, inl, sym, subst}
 use Rattle.command_words.specs.Forms.{Asked}
 use Rattle.io_core.specs.contracts.sure.SureSinkSink.TheImpl.{ghosts as sink_ghosts}
-use Rattle.generated_load.specs.contracts.LoadFilesFiles.TheImpl.{ghosts as load_ghosts}
+use Rattle.generated_load.specs.contracts.load_file.LoadFilesFiles.TheImpl.{ghosts as load_ghosts}
 use Rattle.host_cli.specs.Asks.{Answers}
 use Rattle.host_cli.proofs.Asked.{ends-both, unread}
 use Rattle.host_cli.proofs.top.host_main.Goals as goal

@@ -86,7 +86,7 @@ use Rattle.session_laws.proofs.home_headline.Sections.{all_begun}
 use Rattle.session_laws.proofs.home_headline.Shows.{all_shows}
 use Rattle.session_laws.proofs.home_headline.Switches.{all_ends, run_last}
 use Rattle.session_laws.specs.home_wholes.Whole.{AllWholeHomes}
-use Rattle.session_laws.proofs.home_wholes.First as firsts
+use Rattle.session_laws.proofs.home_wholes.First as first_cuts
 use Rattle.session_laws.proofs.home_wholes.Own.{run_own}
 use Rattle.session_laws.proofs.home_wholes.Shows.{all_wholes}
 use Rattle.session_laws.specs.clear_homes.Closes.{AllClose}
@@ -1004,7 +1004,7 @@ module _ {F S : Type 0} (f : Files F) (o : Sink S) (m : Machine) (s : Scene) (gc
     complete = completes r;
     complete_homes = homes_complete r;
     complete_switches = switches_complete r;
-    first_ticks = λ text told other reads takes. firsts.run_first f o m s gcode files files' out r.behind r.kept r.kept' r.told r.runs v short text told r.fresh.at other reads takes;
+    first_ticks = λ text told other reads takes. first_cuts.run_first f o m s gcode files files' out r.behind r.kept r.kept' r.told r.runs v short text told r.fresh.at other reads takes;
     no_switch = λ text told goes clear sends. ∥∥₁_map (homed.run_misses f o m s gcode files files' out r.behind r.kept r.kept' r.told r.runs v short text told r.fresh.at clear goes sends) (λ w.
         (w.0, w.1, λ section e. w.2 section (of_no_switch r section e)));
     last_cut = λ text told. run_last f o m s gcode files files' out r.behind r.kept r.kept' r.told r.runs v text told r.fresh.at;

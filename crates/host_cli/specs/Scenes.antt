@@ -93,18 +93,14 @@ pub record ShowsText (m : Machine) (text : List ℕ) (c : Cause) (said : List Re
 -- section in time or its reports are read true (`ShowsFront`). And they show the file's text; of a run of moves that does not end for want of memory, where no line holds a
 -- command for half a round of the 32-bit clock; and of one of any text, where besides each board takes the set-up of a homing section in time or its
 -- reports are read true. Where the reports that readings triggered a board's trigger are read true
--- (`AllSwitchesReadTrue`),
--- whatever else happens on the links, the tick that a turn tells of a switch is the section's trigger tick
--- (`TellTriggers`);
--- and where the boards take the set-ups of homing sections in time (`AllTakeInTime`), as they do in a scene without
--- entries, the
--- first tick, from the section's start on, at which its switch closes (`TellFirst`).
--- What suffices for these
+-- (`AllSwitchesReadTrue`), whatever else happens on the links, the tick that a turn tells of a switch is the section's
+-- trigger tick (`TellTriggers`); and where the boards take the set-ups of homing sections in time (`AllTakeInTime`), as
+-- they do in a scene without entries where units of moves are sent by four turns behind their section's end, it is the
+-- first tick, from the section's start on, at which its switch closes (`TellFirst`). What suffices for these
 -- premises in a scene without entries is said by laws (`clear_links_hold_nothing_long`, `clear_scenes_hold_little`). Completeness: in a scene without entries, and where no line asks for a stop, a run of moves whose units are all sent soon (`SendsAllSoon`) ends as the reading
 -- of its text does, but for want of memory and for faults of files and output; and so does one of any text whose units are sent so, or a switch
 -- never closed; where each section's switch closes in time (`AllClose`) there is no such exception, and where a run
--- ends since
--- no switch closed, none did in time (`MissesSwitch`). Causes: a run ends for a board that gives no
+-- ends since no switch closed, none did in time (`MissesSwitch`). Causes: a run ends for a board that gives no
 -- answer, or whose clock line is too old, only where its askings in a row were hindered on its link (`GaveNoAnswer`, `IsStaleSince`), and for a board
 -- that expired only where, by what the members of the homing section's group told, it is the first of them
 -- (`IsFirstExpired`); as

@@ -105,9 +105,9 @@ pub fn homing_runs_are_cut_at_trigger_ticks<F: Files, S: Sink>()
 {}
 
 /// The law of first ticks: where moreover each board takes the set-up of each homing section in time
-/// (`AllTakeInTime`), as it does in a scene without entries, each of those turns tells of the first tick, from the
-/// section's start on by the clock lines that the planner was told, at which four readings in a row show its switch
-/// pressed (`TellFirst`).
+/// (`AllTakeInTime`), as it does in a scene without entries where units of moves are sent by four turns behind their
+/// section's end, each of those turns tells of the first tick, from the section's start on by the clock lines that the
+/// planner was told, at which four readings in a row show its switch pressed (`TellFirst`).
 pub fn homing_runs_are_cut_at_first_ticks<F: Files, S: Sink>()
     ensures { (m : Machine) (s : Scene) (name : List ℕ) (files files' : F) (out out' : S) (kept kept' : Kept) (t : Told Run) →
         (r : RunsOver F.Files S.Sink m s name files out kept t files' out' kept') → IsValidMachine m → HaveShortDictionaries m → (text : List ℕ) → F.told files name ≡ Some text → kept.at ≡ 0 →

@@ -103,14 +103,11 @@ pub record ShowsText (m : Machine) (text : List ℕ) (c : Cause) (said : List Re
 -- ends since no switch closed, none did in time (`MissesSwitch`). Causes: a run ends for a board that gives no
 -- answer, or whose clock line is too old, only where its askings in a row were hindered on its link (`GaveNoAnswer`, `IsStaleSince`), and for a board
 -- that expired only where, by what the members of the homing section's group told, it is the first of them
--- (`IsFirstExpired`); as
--- no switch closed only where, by what these told, none expired in time and the endstop's board read no switch
--- (`IsUnswitched`). It ends for steps that came too late only
--- where the board took them so in its link's last turn (`ComesLateIn`), and they are a unit's of its plan, with its
--- spoiled
--- turns and its spill, where units of moves are sent by four turns behind their section's end (`SendsOut`,
--- `HasLateUnitIn`); no state tells of any other shutdown but the order to stop (`AllMayTell`). Sections start and end
--- in their turns (`AreTimed`), and the
+-- (`IsFirstExpired`); as no switch closed only where, by what these told, none expired in time and the endstop's board
+-- read no switch (`IsUnswitched`). It ends for steps that came too late only where the board took them so in its link's
+-- last turn (`ComesLateIn`), and they are a unit's of its plan, with its spoiled turns and its spill, where units of
+-- moves are sent by four turns behind their section's end (`SendsOut`, `HasLateUnitIn`); no state tells of any other
+-- shutdown but the order to stop (`AllMayTell`). Sections start and end in their turns (`AreTimed`), and the
 -- `board` lines are of clock lines that follow the boards' clocks (`TellKnownLines`). The turn that ends a run
 -- tells of no switch.
 pub record IsLinkReport {F S : Type 0} (f : Files F) (o : Sink S) (m : Machine) (s : Scene) (gcode : List ℕ) (files files' : F) (out out' : S) (c : Cause) (lines : List ReportLine) (counts : List ℕ) (links : List LinkLog) : Type 0 where

@@ -42,11 +42,12 @@ pub fn answered_triggers_have_fired()
         HasFiredSince (trigger_of m b) h.start (first_state (board_at m b) pins b entries) turns }
 {}
 
-/// The law of trigger ticks, whatever comes late: where the group of a homing section answers that its switch closed, it does
-/// so with the section's trigger tick (`IsTriggerOf`): the last reading of the first group of readings that show the switch
-/// pressed throughout, of those that begin with the section's command as the board of its axis's endstop took it, from the
-/// section's start on. What it takes is that the board's reports that readings triggered its trigger are read as ticks
-/// since which it could not trigger for that reason (`ReadsSwitchTrue`), and else what the law of firings takes.
+/// The law of trigger ticks, whatever comes late: where the group of a homing section answers that its switch closed,
+/// it does so with the section's trigger tick (`IsTriggerOf`): the last reading of the first group of readings that
+/// show the switch pressed throughout, of those that begin with the section's command as the board of its axis's
+/// endstop took it, from the section's start on. What it takes is that the board's reports that readings triggered
+/// its trigger are read as ticks since which it could not trigger for that reason (`ReadsSwitchTrue`), and else what
+/// the law of firings takes.
 pub fn answers_are_of_trigger_ticks()
     ensures { (m : Machine) (switches : List Switch) (pins : List (List Level)) (entries : List Entry) (b : ℕ) (c : Came) (before : List Came) (turns : List BoardTurn) (h : Homing) (tick : ℕ) → IsValidMachine m →
         IsInRun m switches pins entries b before turns → state_at b c.states ≡ latest_state turns → BeginsApart m switches (c ∷ before) → AreRead (ReadsSwitchTrue m switches b) (c ∷ before) turns → AreBehind m switches b (c ∷ before) →
@@ -55,9 +56,9 @@ pub fn answers_are_of_trigger_ticks()
 {}
 
 /// The law of half a round: what the state of a board's turn tells of its trigger is read true (`ReadsTrue`,
-/// `ReadsSwitchTrue`), where it comes within half a round of the 32-bit clock of the tick since which the trigger stands (`HearsSoon`), and the board
-/// took the set-up of the homing section in time. What it takes is that the section is known from 254 turns before its
-/// start on, and that no unit sets a clock from there on.
+/// `ReadsSwitchTrue`), where it comes within half a round of the 32-bit clock of the tick since which the trigger
+/// stands (`HearsSoon`), and the board took the set-up of the homing section in time. What it takes is that the
+/// section is known from 254 turns before its start on, and that no unit sets a clock from there on.
 pub fn reports_heard_soon_are_read_true()
     ensures { (m : Machine) (switches : List Switch) (pins : List (List Level)) (entries : List Entry) (b : ℕ) (c : Came) (before : List Came) (h : Homing) (from : ℕ) (t : BoardTurn) (earlier : List BoardTurn) → IsValidMachine m →
         IsInRun m switches pins entries b before (t ∷ earlier) → state_at b c.states ≡ latest_state (t ∷ earlier) → (noted m c.note (known_by m switches before)).homing ≡ Some h → from + 254 ≡ h.start →

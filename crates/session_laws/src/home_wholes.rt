@@ -90,10 +90,11 @@ pub fn homing_runs_are_whole<F: Files, S: Sink>()
         ((t.cause ≡ Cause.Memory → ⊥) → TellEnds m s.switches made.plans.seen.begun 0 (r.runs.1 ++ r.runs.2 ∷ []))) ∥₁ }
 {}
 
-/// The law of trigger ticks: of a whole run that doesn't end for want of memory, in any scene, each turn before the last one that
-/// tells that the switch of a homing section closed tells of the section's trigger tick (`TellTriggers`): the last reading of the
-/// first group of readings that show the switch pressed throughout, of those that begin with the section's command as the board
-/// of its axis's endstop took it, from the section's start on; whatever happens on the lines.
+/// The law of trigger ticks: of a whole run that doesn't end for want of memory, in any scene, each turn before the
+/// last one that tells that the switch of a homing section closed tells of the section's trigger tick
+/// (`TellTriggers`): the last reading of the first group of readings that show the switch pressed throughout, of
+/// those that begin with the section's command as the board of its axis's endstop took it, from the section's start
+/// on; whatever happens on the lines.
 ///
 /// It is asked that each board's reports that readings triggered its trigger are read true (`AllSwitchesReadTrue`).
 pub fn homing_runs_are_cut_at_trigger_ticks<F: Files, S: Sink>()
@@ -103,9 +104,10 @@ pub fn homing_runs_are_cut_at_trigger_ticks<F: Files, S: Sink>()
         ∥ ((made : IsMade m s r.runs.0 r.runs.1) × (made.plans.seen.text ≡ text) × TellTriggers m s made.plans.seen r.runs.0 r.runs.1 r.runs.2) ∥₁ }
 {}
 
-/// The law of first ticks: where moreover each board takes the set-up of each homing section in time (`AllTakeInTime`), as it
-/// does in a scene without entries, each of those turns tells of the first tick, from the section's start on by the clock lines
-/// that the planner was told, at which four readings in a row show its switch pressed (`TellFirst`).
+/// The law of first ticks: where moreover each board takes the set-up of each homing section in time
+/// (`AllTakeInTime`), as it does in a scene without entries where units of moves are sent by four turns behind their
+/// section's end, each of those turns tells of the first tick, from the section's start on by the clock lines that the
+/// planner was told, at which four readings in a row show its switch pressed (`TellFirst`).
 pub fn homing_runs_are_cut_at_first_ticks<F: Files, S: Sink>()
     ensures { (m : Machine) (s : Scene) (name : List ℕ) (files files' : F) (out out' : S) (kept kept' : Kept) (t : Told Run) →
         (r : RunsOver F.Files S.Sink m s name files out kept t files' out' kept') → IsValidMachine m → HaveShortDictionaries m → (text : List ℕ) → F.told files name ≡ Some text → kept.at ≡ 0 →

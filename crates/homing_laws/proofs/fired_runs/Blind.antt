@@ -392,7 +392,7 @@ module _ (Z : Type 0) (E F : ℕ → (ℕ → Type 0)) (G : ℕ → Type 0) (n :
       let parts = run_append host down l.core in (
         (host ++ down) ++ rest,
         ap (λ (h : Core). run (come Up turn l2.up.copies) h) (run_append down (Do (event.Pass (board_tick clock (turn + 1))) ∷ []) l1.core)
-        ∙ ap (λ (h : Core). run rest h) (sym parts) ∙ sym (run_append (host ++ down) rest l.core),
+            ∙ ap (λ (h : Core). run rest h) (sym parts) ∙ sym (run_append (host ++ down) rest l.core),
         λ to. held_times (host ++ down) rest l.core held to (none_times rest (run (host ++ down) l.core) (tt, all_come TakesNone Up up_takes_none turn l2.up.copies)),
       )
 

@@ -13,8 +13,8 @@ use Rattle.link_work.specs.Runs.{queued_in}
 use Rattle.link_work.specs.Stands.{orders}
 use Rattle.board_runs.specs.Turns.{BoardTurn}
 
--- A tick at which the readings of a pin with these levels are complete, which began with a homing command that a board took
--- at another.
+-- A tick at which the readings of a pin with these levels are complete, which began with a homing command that a
+-- board took at another.
 pub record IsComplete (levels : List Level) (home : Homing) (now tick : ℕ) : Type 0 where
   pub sampling : Sampling
   pub begun : first_sampling now home ≡ Some sampling
@@ -28,7 +28,14 @@ IsFit E F pins (cmd.TrsyncTrigger oid reason) = (reason < 2 ^ 8) × (reason ≡ 
 IsFit E F pins (cmd.TrsyncStart oid clock every reason) = (reason < 2 ^ 8) × (reason ≡ 1 → ⊥)
 IsFit E F pins (cmd.EndstopHome oid clock sample count rest value other reason) =
     (reason < 2 ^ 8) × (reason ≡ 1 → (pin now tick : ℕ) → E oid pin →
-    IsComplete (slice_index_or pins pin []) (record { clock = clock; sample_ticks = sample; sample_count = count; rest_ticks = rest; pin_value = value; reason = reason }) now tick → F now tick)
+    IsComplete (slice_index_or pins pin []) (record {
+      clock = clock;
+      sample_ticks = sample;
+      sample_count = count;
+      rest_ticks = rest;
+      pin_value = value;
+      reason = reason;
+    }) now tick → F now tick)
 IsFit E F pins c = Unit {0}
 
 -- so commands that come to a board, and those of some turns

@@ -51,11 +51,11 @@ KnewSo m switches b at start axis lines (c ∷ before) =
     ((length before ≡ at) × KnowsSo m switches b start axis lines c before)
     ⊎ KnewSo m switches b at start axis lines before
 
--- A tick at which a board's readings of an axis's endstop are complete, where it took the command that begins them at another:
--- those that the homing section of this axis with this start has it make, from its start on, by the clock lines that are known
--- in the turn with this number.
-pub record IsReadAt (m : Machine) (switches : List Switch) (pins : List (List Level)) (b at start axis : ℕ) (came : List Came)
-    (now tick : ℕ) : Type 0 where
+-- A tick at which a board's readings of an axis's endstop are complete, where it took the command that begins them at
+-- another: those that the homing section of this axis with this start has it make, from its start on, by the clock
+-- lines that are known in the turn with this number.
+pub record IsReadAt (m : Machine) (switches : List Switch) (pins : List (List Level)) (b at start axis : ℕ)
+    (came : List Came) (now tick : ℕ) : Type 0 where
   pub lines : Clocks
   pub knew : KnewSo m switches b at start axis lines came
   pub complete : IsComplete (slice_index_or pins (axis_at m axis).pin [])

@@ -25,9 +25,10 @@ abbrev pub AreBlind : List Meant → Type 0
 AreBlind [] = Unit {0}
 AreBlind (m ∷ ms) = IsBlind m.command × AreBlind ms
 
--- In the turn with this number a board took the command that begins the readings of a homing section with this start. It was
--- queued in the turn 250 turns in front of the start, and is the only one that begins any of all that was queued from that turn on.
--- As the turn with this number began, that one or a later one, it wasn't taken yet, and as it ended it was.
+-- In the turn with this number a board took the command that begins the readings of a homing section with this start.
+-- It was queued in the turn 250 turns in front of the start, and is the only one that begins any of all that was
+-- queued from that turn on. As the turn with this number began, that one or a later one, it wasn't taken yet, and as
+-- it ended it was.
 pub record TookHome (first : LinkState) (start : ℕ) (turns : List BoardTurn) (turn : ℕ) : Type 0 where
   -- the turn in which it was queued, those before it and those behind it
   pub up : List BoardTurn
@@ -52,11 +53,11 @@ pub record TookHome (first : LinkState) (start : ℕ) (turns : List BoardTurn) (
   pub not_yet : length (stands_after first (since ++ early)).core.taken ≤ length (queued_by early ++ front)
   pub taken : length (queued_by early ++ front) < length took.after.core.taken
 
--- The trigger tick of a homing section: of the groups of readings that begin with the section's command, as the board took it
--- (as one of its turns began), from the section's start on, the last reading of the first group that shows the switch pressed
--- throughout.
-pub record IsTriggerOf (m : Machine) (switches : List Switch) (pins : List (List Level)) (entries : List Entry) (b start axis : ℕ)
-    (came : List Came) (turns : List BoardTurn) (tick : ℕ) : Type 0 where
+-- The trigger tick of a homing section: of the groups of readings that begin with the section's command, as the board
+-- took it (as one of its turns began), from the section's start on, the last reading of the first group that shows
+-- the switch pressed throughout.
+pub record IsTriggerOf (m : Machine) (switches : List Switch) (pins : List (List Level)) (entries : List Entry)
+    (b start axis : ℕ) (came : List Came) (turns : List BoardTurn) (tick : ℕ) : Type 0 where
   pub turn : ℕ
   pub took : TookHome (first_state (board_at m b) pins b entries) start turns turn
   pub read : IsReadAt m switches pins b (start - 250) start axis came (board_tick (clock_of (board_at m b)) turn) tick

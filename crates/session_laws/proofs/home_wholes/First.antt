@@ -18,7 +18,7 @@ use Rattle.board_runs.specs.Turns.{AreBoardTurns, BoardTurn}
 use Rattle.motion_work.specs.Seen.{Started}
 use Rattle.motion_work.specs.Told.{Told}
 use Rattle.session_lanes.specs.declared.near.Told as near
-use Rattle.session_desk.specs.declared.tell.Kept.{Kept}
+use Rattle.session_run.specs.declared.tell.Kept.{Kept}
 use Rattle.session_work.specs.declared.table.MotionTurn.{MotionTurn}
 use Rattle.session_work.specs.declared.table.ReactorTurn.{ReactorTurn}
 use Rattle.session_run.specs.Boards.{came_in}

@@ -27,19 +27,20 @@ use Rattle.session_laws.specs.run_headline.Timely.{link_of}
 use Rattle.homing_laws.specs.fired_runs.Since.{AllReadTrue}
 use Rattle.homing_laws.specs.home_parts.Answers.{TakeSetUps}
 
--- A board in a whole run in which axes home takes the set-up of each homing section in time; as it does in a scene without
--- entries, where those units of a section of moves that are sent behind the turn in which they are due are sent by four turns
--- behind its end.
-abbrev pub TakesInTime : (m : Machine) (s : Scene) (b : ℕ) (planned : List MotionTurn) (first : ReactorTurn) (rest : List ReactorTurn)
-    (turns : ℕ) (t : Told) (begun : List Started)
+-- A board in a whole run in which axes home takes the set-up of each homing section in time; as it does in a scene
+-- without entries, where those units of a section of moves that are sent behind the turn in which they are due are
+-- sent by four turns behind its end.
+abbrev pub TakesInTime : (m : Machine) (s : Scene) (b : ℕ) (planned : List MotionTurn) (first : ReactorTurn)
+    (rest : List ReactorTurn) (turns : ℕ) (t : Told) (begun : List Started)
     (w : IsInWhole m s.switches b (clock_of (board_at m b)) (link_of m s b) planned first rest) → Type 0
 TakesInTime m s b planned first rest turns t begun w =
     ((s.entries ≡ []) × AreOut turns (runs_on m t.clocks begun b))
     ⊎ TakeSetUps m (pins_of (board_at m b) b s.switches) s.entries b begun (behind [] w.made)
 
--- It takes them so, or each report that counts for a homing section is read as a tick since which its trigger can't trigger.
-abbrev pub SetsUp : (m : Machine) (s : Scene) (b : ℕ) (planned : List MotionTurn) (first : ReactorTurn) (rest : List ReactorTurn)
-    (turns : ℕ) (t : Told) (begun : List Started)
+-- It takes them so, or each report that counts for a homing section is read as a tick since which its trigger can't
+-- trigger.
+abbrev pub SetsUp : (m : Machine) (s : Scene) (b : ℕ) (planned : List MotionTurn) (first : ReactorTurn)
+    (rest : List ReactorTurn) (turns : ℕ) (t : Told) (begun : List Started)
     (w : IsInWhole m s.switches b (clock_of (board_at m b)) (link_of m s b) planned first rest) → Type 0
 SetsUp m s b planned first rest turns t begun w =
     TakesInTime m s b planned first rest turns t begun w

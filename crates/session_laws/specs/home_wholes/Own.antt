@@ -33,11 +33,12 @@ AllSwitchesReadTrue m s planned (first ∷ rest) =
     (w : IsInWhole m s.switches b (clock_of (board_at m b)) (link_of m s b) planned first rest) →
     AllRead (ReadsSwitchTrue m s.switches b) (came_before [] (first ∷ rest)) (behind [] w.made)
 
--- The tick is the trigger tick of the homing section with this number, of those that were begun, in a whole run: by what came to
--- the reactor before a turn, and the turns of its axis's board by then. Where the board took the section's command before its
--- start, it is the first tick, from the start on, at which four readings in a row show the switch pressed.
-pub record IsTriggerIn (m : Machine) (s : Scene) (seen : Seen) (planned : List MotionTurn) (first : ReactorTurn) (rest : List ReactorTurn)
-    (section : ℕ) (before : List Came) (tick : ℕ) : Type 0 where
+-- The tick is the trigger tick of the homing section with this number, of those that were begun, in a whole run: by
+-- what came to the reactor before a turn, and the turns of its axis's board by then. Where the board took the
+-- section's command before its start, it is the first tick, from the start on, at which four readings in a row show
+-- the switch pressed.
+pub record IsTriggerIn (m : Machine) (s : Scene) (seen : Seen) (planned : List MotionTurn) (first : ReactorTurn)
+    (rest : List ReactorTurn) (section : ℕ) (before : List Came) (tick : ℕ) : Type 0 where
   pub past : List Started
   pub x : Started
   pub later : List Started
@@ -54,12 +55,14 @@ pub record IsTriggerIn (m : Machine) (s : Scene) (seen : Seen) (planned : List M
   pub turns : List BoardTurn
   pub are : behind [] w.made ≡ others ++ turns
   pub long : length turns ≡ length before
-  pub is : IsTriggerOf m s.switches (pins_of (board_at m board) board s.switches) s.entries board x.start axis before turns tick
+  pub is : IsTriggerOf m s.switches (pins_of (board_at m board) board s.switches) s.entries board x.start axis before
+      turns tick
   pub exact : is.turn < x.start → ClosesFirst m s seen section tick
 
--- Each of some turns of the reactor, behind what came to it before, that tells that the switch of a homing section closed, tells
--- of the section's trigger tick.
-abbrev pub TellTriggersBehind : Machine → Scene → Seen → List MotionTurn → ReactorTurn → List ReactorTurn → List Came → List ReactorTurn → Type 0
+-- Each of some turns of the reactor, behind what came to it before, that tells that the switch of a homing section
+-- closed, tells of the section's trigger tick.
+abbrev pub TellTriggersBehind : Machine → Scene → Seen → List MotionTurn → ReactorTurn → List ReactorTurn → List Came
+    → List ReactorTurn → Type 0
 TellTriggersBehind m s seen planned first rest before [] = Unit {0}
 TellTriggersBehind m s seen planned first rest before (t ∷ ts) =
     ((x : TellsAnswer m s.switches (came_in t) before t.lines) →
@@ -69,12 +72,13 @@ TellTriggersBehind m s seen planned first rest before (t ∷ ts) =
 -- so in a whole run, by what was begun, the planner's turns, the reactor's turns before its last one, and this one
 abbrev pub TellTriggers : Machine → Scene → Seen → List MotionTurn → List ReactorTurn → ReactorTurn → Type 0
 TellTriggers m s seen planned [] last = Unit {0}
-TellTriggers m s seen planned (first ∷ rest) last = TellTriggersBehind m s seen planned first (rest ++ last ∷ []) [] (first ∷ rest)
+TellTriggers m s seen planned (first ∷ rest) last =
+    TellTriggersBehind m s seen planned first (rest ++ last ∷ []) [] (first ∷ rest)
 
 -- Each board of a whole run of a text takes the set-up of each homing section in time.
 abbrev pub AllTakeInTime : Machine → Scene → List ℕ → List MotionTurn → List ReactorTurn → Type 0
 AllTakeInTime m s text planned [] = Unit {0}
 AllTakeInTime m s text planned (first ∷ rest) =
-    (p : Plans m (length m.boards) planned) (t : Told) (b : ℕ) → p.seen.text ≡ text → p.seen.told ≡ Some t → b < length m.boards →
-    (w : IsInWhole m s.switches b (clock_of (board_at m b)) (link_of m s b) planned first rest) →
+    (p : Plans m (length m.boards) planned) (t : Told) (b : ℕ) → p.seen.text ≡ text → p.seen.told ≡ Some t →
+    b < length m.boards → (w : IsInWhole m s.switches b (clock_of (board_at m b)) (link_of m s b) planned first rest) →
     TakesInTime m s b planned first rest (length p.made) t p.seen.begun w

@@ -1079,26 +1079,12 @@ module _ {F S : Type 0} (f : Files F) (o : Sink S) (m : Machine) (s : Scene) (gc
     readings = run_reads f o m s gcode files files' out r.behind r.kept r.kept' r.told r.runs;
     boards = λ text told. subst (λ z. ∥ AreLinksIn m s text r.told.cause r.runs.runs.0 r.runs.runs.1 r.runs.runs.2 z ∥₁) (sym r.links_are)
         (run_links f o m s gcode files files' out r.behind r.kept r.kept' r.told r.runs text told r.fresh.at);
-<<<<<<< HEAD:crates/report_laws/proofs/Linked.antt
     shows = shown;
     moves = texts r;
     memory = λ text told is. ∥∥₁_map (begun_texts r text told) (λ b. (b.0, b.1));
     triggers = λ text told other reads. run_own f o m s gcode files files' out r.behind r.kept r.kept' r.told r.runs v short text told r.fresh.at other reads;
     complete = ends_as_read r;
-    first_ticks = λ text told other reads takes. firsts.run_first f o m s gcode files files' out r.behind r.kept r.kept' r.told r.runs v short text told r.fresh.at other reads takes;
-=======
-    shows = texts r;
-    begun = begun_texts r;
-    fronts = front_texts r;
-    homes = home_texts r;
-    own = λ text told other reads. run_own f o m s gcode files files' out r.behind r.kept r.kept' r.told r.runs v short text told r.fresh.at other reads;
-    complete = completes r;
-    complete_homes = homes_complete r;
-    complete_switches = switches_complete r;
     first_ticks = λ text told other reads takes. first_cuts.run_first f o m s gcode files files' out r.behind r.kept r.kept' r.told r.runs v short text told r.fresh.at other reads takes;
-    no_switch = λ text told goes clear sends. ∥∥₁_map (homed.run_misses f o m s gcode files files' out r.behind r.kept r.kept' r.told r.runs v short text told r.fresh.at clear goes sends) (λ w.
-        (w.0, w.1, λ section e. w.2 section (of_no_switch r section e)));
->>>>>>> br_cd:crates/host_cli/proofs/Linked.antt
     last_cut = λ text told. run_last f o m s gcode files files' out r.behind r.kept r.kept' r.told r.runs v text told r.fresh.at;
     ends = cause_ends r c refl;
     shutdowns = λ text told other near. elim near [

@@ -95,7 +95,7 @@ sent_more j P Q (c ∷ cs) f a = (one_more j P Q c f a.0, sent_more j P Q cs f a
 congruent : (now tick : ℕ) → (now + ahead now (tick % 2 ^ 32)) % 2 ^ 32 ≡ tick % 2 ^ 32
 congruent now tick = omega arith
 
-nearest_low : (now tick : ℕ) → now < tick + 2 ^ 31 → nearest now (tick % 2 ^ 32) ≤ tick
+pub nearest_low : (now tick : ℕ) → now < tick + 2 ^ 31 → nearest now (tick % 2 ^ 32) ≤ tick
 nearest_low now tick soon = by (ahead now (tick % 2 ^ 32)) (congruent now tick) (omega arith)
   where
     by : (a : ℕ) → (now + a) % 2 ^ 32 ≡ tick % 2 ^ 32 → a < 2 ^ 32

@@ -42,11 +42,11 @@ bit_zero : (b : Bool) → b ≡ false → bit b ≡ 0
 bit_zero true e = cc
 bit_zero false e = refl
 
-clock_there : (can : Bool) (at tick : ℕ) → can ≡ true → (if can then at else tick) % 2 ^ 32 ≡ at % 2 ^ 32
+pub clock_there : (can : Bool) (at tick : ℕ) → can ≡ true → (if can then at else tick) % 2 ^ 32 ≡ at % 2 ^ 32
 clock_there true at tick e = refl
 clock_there false at tick e = cc
 
-bit_one : (b : Bool) → (bit b ≡ 0 → ⊥) → b ≡ true
+pub bit_one : (b : Bool) → (bit b ≡ 0 → ⊥) → b ≡ true
 bit_one true n = refl
 bit_one false n = absurd (n refl)
 

@@ -17,7 +17,7 @@ use Rattle.wire_scene.specs.declared.scene.Switch.{Switch}
 use Rattle.link_work.specs.Stands.{first_state}
 use Rattle.link_work.specs.Turn.{LinkState}
 use Rattle.trigger_group.specs.declared.order.Member.{Member}
-use Rattle.host_reactor.specs.Runs.{Came, state_at}
+use Rattle.host_reactor.specs.Runs.{Came}
 use Rattle.board_runs.specs.Turns.{AreBoardTurns, BoardTurn, IsBoardOf, latest_state, stands_after}
 use Rattle.clock_runs.proofs.Lines.{as_long}
 use Rattle.homing_laws.specs.clear_boards.Hearing.{IsAble, TellAble}
@@ -89,7 +89,7 @@ module _ (m : Machine) (switches : List Switch) (pins : List (List Level)) (entr
       let near = nearest_low (turn_tick clocks (length old)) y.0 (far_enough (turn_tick clocks (length old)) (own (length x.past)) y.0 soon from) in
       let at = nearest (turn_tick clocks s.turn) a.clock in
       let same : at ≡ nearest (turn_tick clocks (length old)) (y.0 % 2 ^ 32) =
-          ap (λ (n : ℕ). nearest (turn_tick clocks n) a.clock) turn ∙ ap (λ (n : ℕ). nearest (turn_tick clocks (length old)) n) y.3 in
+      ap (λ (n : ℕ). nearest (turn_tick clocks n) a.clock) turn ∙ ap (λ (n : ℕ). nearest (turn_tick clocks (length old)) n) y.3 in
       let early = in_front clocks (u + 1) at (nearest (turn_tick clocks (length old)) (y.0 % 2 ^ 32)) y.0 k.slot.trigger.tick tick same near since low begins in
       let less = before_start clocks (u + 1) at when (omega arith) early a.is in
       omega (arith, less)
@@ -109,9 +109,9 @@ module _ (m : Machine) (switches : List Switch) (pins : List (List Level)) (entr
       let next : all ≡ on ++ turns = e ∙ sym (append_assoc later (v ∷ []) turns) in
       let long = as_long m switches b before turns is.2 in (
         λ s when came counts able.
-        let late = counted on turns s next (sym is.0 ∙ came) counts in
-        one_report on turns c before s when next (sym is.0 ∙ came) (soon.0 late) (begins.0 (omega (arith, late, long)))
-        (able_answer (clocks_at (known_in m switches c before).clocks b) s.turn when s.news able),
+            let late = counted on turns s next (sym is.0 ∙ came) counts in
+            one_report on turns c before s when next (sym is.0 ∙ came) (soon.0 late) (begins.0 (omega (arith, late, long)))
+            (able_answer (clocks_at (known_in m switches c before).clocks b) s.turn when s.news able),
         could_then on turns before next is.2 begins.1 soon.1,
       )
     where

@@ -1,8 +1,8 @@
 -- What a board tells of triggers that can trigger is of moments at which they could.
-use Rattle.std.proofs.Common.{◌≡◌, ◌≢◌, ℕ, zero, suc, ◌+◌, ◌-◌, ◌*◌, ◌/◌, ◌%◌, ◌^◌, ◌<◌, ◌≤◌, ◌==◌, ◌&&◌, Bool, true, false, not, List, [], ◌∷◌, ◌++◌, get_or, set, Option, Some, None, refl, ap, sym, ◌∙◌, subst, arith, ◌⊎◌, inl, inr}
-use Rattle.std.specs.Prelude.{if◌then◌else◌, slice_index_or, nat_le, nat_lt}
+use Rattle.std.proofs.Common.{◌≡◌, ℕ, zero, suc, ◌+◌, ◌-◌, ◌*◌, ◌/◌, ◌%◌, ◌^◌, ◌<◌, ◌≤◌, ◌==◌, Bool, true, false, List, [], ◌∷◌, get_or, set, Option, Some, None, refl, ap, sym, ◌∙◌, subst, arith, ◌⊎◌, inl, inr}
+use Rattle.std.specs.Prelude.{if◌then◌else◌, slice_index_or, nat_lt}
 use Rattle.std.proofs.lemmas.List.{get_or-set_same}
-use Rattle.std.proofs.lemmas.Bool.Decides.{leb_tells, nat_tests}
+use Rattle.std.proofs.lemmas.Bool.Decides.{nat_tests}
 use Rattle.plan_types.specs.declared.levels.Level.{Level}
 use Rattle.plan_types.specs.declared.plan.BoardState.{BoardState}
 use Rattle.plan_types.specs.declared.plan.BoardState.TheVariants.{Running, Shut}
@@ -18,18 +18,19 @@ use Rattle.board_trig.specs.Nexts.{ExpiresAt, IsNextOf, SwitchesAt}
 use Rattle.board_trig.proofs.Nexts.{is_next}
 use Rattle.msg_code.specs.declared.cmd.Cmd.{Cmd}
 use Rattle.msg_code.specs.declared.cmd.Cmd.TheVariants as cmd
-use Rattle.board_sim.specs.Board.{bit, stepper_at}
-use Rattle.board_sim.specs.Rig.{Passed, Rig, Slot, acts, acts_running, all_left, at_of, becomes, bind, earliest, expires_at_once, goes_on, happens, happens_to, home, make_endstop, make_trigger, pass, passes, passes_by, rested, rests_to, runs_to, set_timeout, slot_at, start, takes, takes_all, told, trigger}
+use Rattle.board_sim.specs.Board.{stepper_at}
+use Rattle.board_sim.specs.Rig.{Passed, Rig, Slot, acts, acts_running, all_left, at_of, becomes, bind, earliest, expires_at_once, goes_on, happens, happens_to, home, make_endstop, make_trigger, pass, passes_by, rested, rests_to, runs_to, set_timeout, slot_at, start, takes, told, trigger}
 use Rattle.board_sim.specs.RigRuns.{AllSound, IsSound}
 use Rattle.board_sim.proofs.Bound.{map_at, one_slot, same_or_not, set_other, slot_range}
 use Rattle.board_sim.proofs.Halting.{quiet_moves, quiet_switch}
 use Rattle.board_sim.proofs.Passing.{finishes}
 use Rattle.board_sim.proofs.RigStates.{all_tick}
-use Rattle.board_sim.proofs.Sound.{passes_sound, sound_regular, takes_sound}
+use Rattle.board_sim.proofs.Sound.{sound_regular}
 use Rattle.clock_runs.proofs.Answers.{Each, each_both}
 use Rattle.homing_laws.specs.home_runs.Moments.{CouldAt}
 use Rattle.homing_laws.proofs.clear_boards.Held.{at_set, rested_is}
 use Rattle.homing_laws.proofs.clear_boards.Reports.{reports_told}
+use Rattle.homing_laws.proofs.clear_groups.Early.{bit_one, clock_there}
 
 -- A trigger, while time passes: if it triggers, then at this tick or later; and its next report is at another one or
 -- later.
@@ -70,23 +71,32 @@ happened_late x low until pins Nothing s next k = record {
   due = k.due;
 }
 happened_late x low until pins (Expires at) s next k = record {
-  told = k.told; moves = tt; idle = λ f. refl; timeout = λ y e. absurd (cc); switch = λ y (z, can, is, there). absurd (cc); fired = λ f. k.timeout at next.0; due = k.due;
+  told = k.told;
+  moves = tt;
+  idle = λ f. refl;
+  timeout = λ y e. absurd (cc);
+  switch = λ y (z, can, is, there). absurd (cc);
+  fired = λ f. k.timeout at next.0;
+  due = k.due;
 }
 happened_late x low until pins (Switches at) s next k = record {
-  told = k.told; moves = tt; idle = λ f. refl; timeout = λ y e. absurd (cc); switch = λ y (z, can, is, there). absurd (cc); fired = λ f. k.switch at next.0; due = k.due;
+  told = k.told;
+  moves = tt;
+  idle = λ f. refl;
+  timeout = λ y e. absurd (cc);
+  switch = λ y (z, can, is, there). absurd (cc);
+  fired = λ f. k.switch at next.0;
+  due = k.due;
 }
 happened_late x low until pins (Reports at) s next k = record {
-  told = k.told; moves = k.moves; idle = k.idle; timeout = k.timeout; switch = k.switch; fired = k.fired;
+  told = k.told;
+  moves = k.moves;
+  idle = k.idle;
+  timeout = k.timeout;
+  switch = k.switch;
+  fired = k.fired;
   due = λ y e. (let same : at + s.trigger.every ≡ y = cc in let far = k.due at next.0 in omega (arith, same, far));
 }
-
-bit_one : (b : Bool) → (bit b ≡ 0 → ⊥) → b ≡ true
-bit_one true n = refl
-bit_one false n = absurd (n refl)
-
-clock_there : (can : Bool) (at tick : ℕ) → can ≡ true → (if can then at else tick) % 2 ^ 32 ≡ at % 2 ^ 32
-clock_there true at tick e = refl
-clock_there false at tick e = cc
 
 -- what is told then
 abbrev SaidThen : ℕ → ℕ → ℕ → List (List Level) → Slot → (ℕ → ℕ → Type 0)
@@ -99,17 +109,17 @@ happened_says oid low until pins (Expires at) s next k = ((λ no. absurd (no ref
 happened_says oid low until pins (Switches at) s next k = ((λ no. absurd (no refl)), tt)
 happened_says oid low until pins (Reports at) s next k = (
   λ able. (
-  let can = bit_one s.trigger.can able in
-  let from = k.due at next.0 in
-  let now : IsLate at low pins (then_of s pins until (Reports at)) = record {
-    told = k.told;
-    moves = k.moves;
-    idle = k.idle;
-    timeout = λ y e. (let far = next.2 y e in omega (arith, far));
-    switch = λ y e. (let far = next.3 y e in omega (arith, far));
-    fired = λ f. absurd (let bad : true ≡ false = sym can ∙ f in cc);
-    due = λ y e. (let same : at + s.trigger.every ≡ y = cc in omega (arith, same, from));
-  } in (at, (refl, from, next.1, now), clock_there s.trigger.can at s.trigger.tick can)),
+      let can = bit_one s.trigger.can able in
+      let from = k.due at next.0 in
+      let now : IsLate at low pins (then_of s pins until (Reports at)) = record {
+        told = k.told;
+        moves = k.moves;
+        idle = k.idle;
+        timeout = λ y e. (let far = next.2 y e in omega (arith, far));
+        switch = λ y e. (let far = next.3 y e in omega (arith, far));
+        fired = λ f. absurd (let bad : true ≡ false = sym can ∙ f in cc);
+        due = λ y e. (let same : at + s.trigger.every ≡ y = cc in omega (arith, same, from));
+      } in (at, (refl, from, next.1, now), clock_there s.trigger.can at s.trigger.tick can)),
   tt,
 )
 
@@ -174,11 +184,15 @@ happens_says low until k r (Some s) e all =
     let q = becomes r k s (trig.advanced (slice_index_or r.pins s.pin []) until s.trigger).trigger in
     let Then : ℕ → ℕ → Type 0 = λ o x. (low ≤ x) × (x < until) × LateAt o x low q in
     moments_more (SaidThen k low until r.pins next) Then (told k (trig.advanced (slice_index_or r.pins s.pin []) until s.trigger).event)
-    (λ o x y. (y.1, y.2, record {
-      slot = next;
-      is = subst (λ (n : ℕ). slot_at q n ≡ Some next) (sym y.0) (get_or-set_same r.triggers k (Some next) None (slot_range r.triggers k s e));
-      late = y.3;
-    }))
+    (λ o x y. (
+      y.1,
+      y.2,
+      record {
+        slot = next;
+        is = subst (λ (n : ℕ). slot_at q n ≡ Some next) (sym y.0) (get_or-set_same r.triggers k (Some next) None (slot_range r.triggers k s e));
+        late = y.3;
+      },
+    ))
     (told_says s.trigger.untold k low until r.pins s refl (all k s e))
 
 rests_late : (o x low t : ℕ) (r : Rig) → LateAt o x low r → LateAt o x low (rests_to r t).rig

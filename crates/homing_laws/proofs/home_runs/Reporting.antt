@@ -1,8 +1,7 @@
 -- What comes to the host of triggers that can trigger, over a line that may lose, repeat, delay and garble blocks and replies.
-use Rattle.std.proofs.Common.{◌≡◌, ℕ, ◌+◌, ◌%◌, ◌^◌, ◌<◌, ◌≤◌, Bool, true, false, cond, List, [], ◌∷◌, ◌++◌, length, map, Option, Some, None, refl, ap, sym, ◌∙◌, subst, arith, inl, inr}
-use Rattle.std.specs.Prelude.{nat_le, nat_lt}
+use Rattle.std.proofs.Common.{◌≡◌, ℕ, ◌+◌, ◌%◌, ◌^◌, ◌≤◌, Bool, true, false, cond, List, [], ◌∷◌, ◌++◌, length, map, Option, Some, None, refl, ap, sym, ◌∙◌, subst, arith, inl, inr}
+use Rattle.std.specs.Prelude.{nat_lt}
 use Rattle.std.proofs.lemmas.Bool.Decides.{leb_tells}
-use Rattle.plan_types.specs.declared.clock.BoardClock.{BoardClock}
 use Rattle.plan_types.specs.declared.levels.Level.{Level}
 use Rattle.plan_types.specs.declared.machine.BoardDef.{BoardDef}
 use Rattle.plan_types.specs.declared.plan.BoardState.{BoardState}
@@ -19,7 +18,7 @@ use Rattle.wire_scene.specs.declared.scene.Entry.{Entry}
 use Rattle.wire_scene.specs.declared.scene.Way.TheVariants.{Up}
 use Rattle.link_core.specs.Core.{Reply, numbered}
 use Rattle.board_sim.specs.Fair.{Meant, commands_of}
-use Rattle.board_sim.specs.Rig.{Passed, Rig, Slot, all_left, new_rig, pass, passes, slot_at, takes, takes_all}
+use Rattle.board_sim.specs.Rig.{Passed, Rig, all_left, new_rig, pass, slot_at, takes, takes_all}
 use Rattle.board_sim.specs.RigRuns.{AllSound}
 use Rattle.board_sim.specs.Turn.{says_shut}
 use Rattle.board_sim.proofs.Passing.{finishes}
@@ -28,10 +27,10 @@ use Rattle.board_sim.proofs.Sound.{passes_sound, sound_regular, takes_sound}
 use Rattle.board_world.specs.declared.event.Event.{Event}
 use Rattle.board_world.specs.declared.event.Event.TheVariants as event
 use Rattle.board_world.specs.Stands.{IsAnswer}
-use Rattle.board_world.specs.World.{Core, Deed, Do, Step, Turn, after, does, happens, obeys, run, runs, shut_before, start, takes_in, text_of}
+use Rattle.board_world.specs.World.{Core, Deed, Do, Step, Turn, after, does, happens, obeys, run, runs, shut_before, takes_in, text_of}
 use Rattle.link_work.specs.Stands.{first_state, orders}
 use Rattle.link_work.specs.Told.{AreNews, before_replies, news_of}
-use Rattle.link_work.specs.Turn.{LinkState, after_replies, come}
+use Rattle.link_work.specs.Turn.{LinkState, come}
 use Rattle.link_work.proofs.Turns.{turns_are_steps}
 use Rattle.board_runs.specs.Turns.{AreBoardTurns, BoardTurn, stands_after}
 use Rattle.clock_runs.proofs.Answers.{Each, each_both}
@@ -141,8 +140,8 @@ able_answers : (F : ℕ → Type 0) (low now : ℕ) (r : Rig) (n : ℕ) (cs : Li
 able_answers F low now r n [] l s k = tt
 able_answers F low now r n (c ∷ cs) l s k = (
   λ oid can reason clock t able. (
-  let x = able_row F (λ o x. (now ≤ x) × CouldAt o x r) oid can reason clock c s.0 k.0 (same_kind c (cmd.TrsyncState oid can reason clock) t) t able in
-  let far = x.1.0 in (x.0, omega (arith, far, l), x.1.1, x.2)),
+      let x = able_row F (λ o x. (now ≤ x) × CouldAt o x r) oid can reason clock c s.0 k.0 (same_kind c (cmd.TrsyncState oid can reason clock) t) t able in
+      let far = x.1.0 in (x.0, omega (arith, far, l), x.1.1, x.2)),
   able_answers F low now r n cs l s.1 k.1,
 )
 
@@ -226,9 +225,9 @@ module _ (E : ℕ → (ℕ → Type 0)) (F : ℕ → Type 0) (b : BoardDef) (pin
       let came : t.after.core ≡ run (come Up turn l2.up.copies) l2.core = ap (λ (x : LinkState). x.core) are.0.0.becomes in (
         done.1,
         λ oid can reason at has able.
-        let x = able_news low l2.core.board _ t.state.news oid can reason at are.0.1.news (up_come (TellsAble low l2.core.board) turn l2.up.copies l2.core done.0.told).0 able has in
-        let stays = stays_along oid x.0 (come Up turn l2.up.copies) l2.core (record { sound = done.0.keeps.ordered.sound; due = done.0.due; could = x.2 }) in
-        (x.0, x.1, subst (λ (y : Core). CouldAt oid x.0 y.board) (sym came) stays.could, x.3),
+            let x = able_news low l2.core.board _ t.state.news oid can reason at are.0.1.news (up_come (TellsAble low l2.core.board) turn l2.up.copies l2.core done.0.told).0 able has in
+            let stays = stays_along oid x.0 (come Up turn l2.up.copies) l2.core (record { sound = done.0.keeps.ordered.sound; due = done.0.due; could = x.2 }) in
+            (x.0, x.1, subst (λ (y : Core). CouldAt oid x.0 y.board) (sym came) stays.could, x.3),
       )
 
   all_hear : (turns : List BoardTurn) → AreBoardTurns (clock_of b) First turns → BringFit E F pins turns → Hears E F pins 0 (stands_after First turns).core

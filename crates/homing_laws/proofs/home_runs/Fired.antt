@@ -44,11 +44,13 @@ record Able (clocks : Clocks) (turn when : ℕ) (news : List News) : Type 0 wher
   able : can ≡ 0 → ⊥
   is : turn_in_run clocks (nearest (turn_tick clocks turn) clock) ≡ Some when
 
-able_one : (clocks : Clocks) (turn when : ℕ) (n : News) (news : List News) (c : Cmd) → n.answer ≡ c → IsAble clocks turn when c → Able clocks turn when (n ∷ news)
+able_one : (clocks : Clocks) (turn when : ℕ) (n : News) (news : List News) (c : Cmd) → n.answer ≡ c
+    → IsAble clocks turn when c → Able clocks turn when (n ∷ news)
 able_one clocks turn when n news (cmd.TrsyncState oid can reason clock) e a = record { oid = oid; can = can; reason = reason; clock = clock; has = inl e; able = a.0; is = a.1 }
 able_one clocks turn when n news c e a = absurd a
 
-able_answer : (clocks : Clocks) (turn when : ℕ) (news : List News) → TellAble clocks turn when news → Able clocks turn when news
+able_answer : (clocks : Clocks) (turn when : ℕ) (news : List News) → TellAble clocks turn when news
+    → Able clocks turn when news
 able_answer clocks turn when [] t = absurd t
 able_answer clocks turn when (n ∷ news) (inl a) = able_one clocks turn when n news n.answer refl a
 able_answer clocks turn when (n ∷ news) (inr t) =
@@ -64,12 +66,15 @@ module _ (m : Machine) (switches : List Switch) (pins : List (List Level)) (entr
   abbrev First : LinkState
   First = first_state (board_at m b) pins b entries
 
-  turn_is : (later : List BoardTurn) (t : BoardTurn) (earlier : List BoardTurn) → AreBoardTurns (clock_of (board_at m b)) First (later ++ t ∷ earlier) → t.state.turn ≡ length earlier
+  turn_is : (later : List BoardTurn) (t : BoardTurn) (earlier : List BoardTurn)
+      → AreBoardTurns (clock_of (board_at m b)) First (later ++ t ∷ earlier) → t.state.turn ≡ length earlier
   turn_is [] t earlier a = a.0.1.turn
   turn_is (v ∷ later) t earlier a = turn_is later t earlier a.1
 
-  one_report : (on turns : List BoardTurn) (c : Came) (before : List Came) (s : State) (when : ℕ) → all ≡ on ++ turns → latest_state turns ≡ s ∷ [] → ComesSoon m switches pins entries b c before turns
-      → tick ≤ tick_in m switches b c before (u + 1) → Able (clocks_at (known_in m switches c before).clocks b) s.turn when s.news → when ≤ u
+  one_report : (on turns : List BoardTurn) (c : Came) (before : List Came) (s : State) (when : ℕ) → all ≡ on ++ turns
+      → latest_state turns ≡ s ∷ [] → ComesSoon m switches pins entries b c before turns
+      → tick ≤ tick_in m switches b c before (u + 1)
+      → Able (clocks_at (known_in m switches c before).clocks b) s.turn when s.news → when ≤ u
   one_report on turns c before s when e latest x begins a =
       let clocks = clocks_at (known_in m switches c before).clocks b in
       let own = board_tick (clock_of (board_at m b)) in
@@ -97,10 +102,12 @@ module _ (m : Machine) (switches : List Switch) (pins : List (List Level)) (entr
       far_enough : (now from x : ℕ) → now < from + 2 ^ 31 → from ≤ x → now < x + 2 ^ 31
       far_enough now from x a b = omega (arith, a, b)
 
-      in_front : (clocks : Clocks) (turn at near x slot tick : ℕ) → at ≡ near → near ≤ x → x ≤ slot → slot < tick → tick ≤ turn_tick clocks turn → at < lines_tick clocks (turn * turn_ns)
+      in_front : (clocks : Clocks) (turn at near x slot tick : ℕ) → at ≡ near → near ≤ x → x ≤ slot → slot < tick
+          → tick ≤ turn_tick clocks turn → at < lines_tick clocks (turn * turn_ns)
       in_front clocks turn at near x slot tick a b c d e = omega (arith, a, b, c, d, e)
 
-  could_then : (later turns : List BoardTurn) (came : List Came) → all ≡ later ++ turns → IsBoardOf m switches b came turns → BeginsFrom m switches b start (u + 1) tick came
+  could_then : (later turns : List BoardTurn) (came : List Came) → all ≡ later ++ turns
+      → IsBoardOf m switches b came turns → BeginsFrom m switches b start (u + 1) tick came
       → AllComeSoon m switches pins entries b start came turns → CouldUpTo m switches b start u came
   could_then later turns [] e is begins soon = tt
   could_then later [] (c ∷ before) e is begins soon = absurd is
@@ -115,24 +122,28 @@ module _ (m : Machine) (switches : List Switch) (pins : List (List Level)) (entr
         could_then on turns before next is.2 begins.1 soon.1,
       )
     where
-      counted : (on turns : List BoardTurn) (s : State) → all ≡ on ++ turns → latest_state turns ≡ s ∷ [] → start ≤ s.turn + 1 → start ≤ length turns
+      counted : (on turns : List BoardTurn) (s : State) → all ≡ on ++ turns → latest_state turns ≡ s ∷ []
+          → start ≤ s.turn + 1 → start ≤ length turns
       counted on [] s e latest counts = absurd (let l = ap length latest in omega (arith, l))
       counted on (t ∷ earlier) s e latest counts =
           let state = same_state t.state s latest in
           let turn : s.turn ≡ length earlier = ap (λ (z : State). z.turn) (sym state) ∙ turn_is on t earlier (subst (AreBoardTurns (clock_of (board_at m b)) First) e are) in
           omega (arith, turn, counts)
 
-could_up_to : (m : Machine) (switches : List Switch) (pins : List (List Level)) (entries : List Entry) (b start u : ℕ) (came : List Came) (turns : List BoardTurn) → HasTriggeredIn m switches pins entries b start u came turns
+could_up_to : (m : Machine) (switches : List Switch) (pins : List (List Level)) (entries : List Entry) (b start u : ℕ)
+    (came : List Came) (turns : List BoardTurn) → HasTriggeredIn m switches pins entries b start u came turns
     → CouldUpTo m switches b start u came
 could_up_to m switches pins entries b start u came turns x =
     let F = IsRead m switches pins b came in
     could_then m switches pins entries b start u x.tick F turns x.run_is.turns_are (bring_fit m switches pins entries b F came turns x.run_is (λ tick k. k)) x.fired [] turns came refl x.run_is.both x.before x.soon
 
-pub stops_by_fired : (m : Machine) (switches : List Switch) (pins others : List (List Level)) (entries : List Entry) (b s other : ℕ) (came : List Came)
+pub stops_by_fired : (m : Machine) (switches : List Switch) (pins others : List (List Level)) (entries : List Entry)
+    (b s other : ℕ) (came : List Came)
     (later : List BoardTurn) (t : BoardTurn) (between early : List BoardTurn) (turns : List BoardTurn) (from start u most : ℕ) (ms : List Member) → IsValidMachine m
     → IsBoundIn m switches pins entries b s came later t between early from start ms
     → TakesSent m switches pins entries b came (later ++ t ∷ (between ++ early)) early
-    → IsMember other ms → start ≤ u → HasTriggeredIn m switches others entries other start u came turns → BeginsBy m switches b from (u + 25) most came
+    → IsMember other ms → start ≤ u → HasTriggeredIn m switches others entries other start u came turns
+    → BeginsBy m switches b from (u + 25) most came
     → StopsAt m pins entries b s most (later ++ t ∷ (between ++ early)) (between ++ early)
 stops_by_fired m switches pins others entries b s other came later t between early turns from start u most ms v x soon member late fired begins =
     stops_by_heard m switches pins entries b s other came later t between early from start u most ms v x soon member late

@@ -48,7 +48,8 @@ abbrev pub IsMoment : (ℕ → ℕ → Type 0) → Cmd → Type 0
 IsMoment P (cmd.TrsyncState oid can reason clock) = (can ≡ 0 → ⊥) → (x : ℕ) × P oid x × (clock ≡ x % 2 ^ 32)
 IsMoment P c = Unit {0}
 
-moments_more : (P Q : ℕ → ℕ → Type 0) (cs : List Cmd) → ((o x : ℕ) → P o x → Q o x) → Each (IsMoment P) cs → Each (IsMoment Q) cs
+moments_more : (P Q : ℕ → ℕ → Type 0) (cs : List Cmd) → ((o x : ℕ) → P o x → Q o x) → Each (IsMoment P) cs
+    → Each (IsMoment Q) cs
 moments_more P Q [] f k = tt
 moments_more P Q (c ∷ cs) f k = (one c k.0, moments_more P Q cs f k.1)
   where
@@ -59,7 +60,8 @@ moments_more P Q (c ∷ cs) f k = (one c k.0, moments_more P Q cs f k.1)
 abbrev then_of : Slot → List (List Level) → ℕ → Happening → Slot
 then_of s pins until e = record s { trigger = (trig.happened (slice_index_or pins s.pin []) until e s.trigger).trigger }
 
-happened_late : (x low until : ℕ) (pins : List (List Level)) (e : Happening) (s : Slot) → IsNextOf (slice_index_or pins s.pin []) until s.trigger e
+happened_late : (x low until : ℕ) (pins : List (List Level)) (e : Happening) (s : Slot)
+    → IsNextOf (slice_index_or pins s.pin []) until s.trigger e
     → IsLate x low pins s → IsLate x low pins (then_of s pins until e)
 happened_late x low until pins Nothing s next k = record {
   told = k.told;
@@ -102,8 +104,10 @@ happened_late x low until pins (Reports at) s next k = record {
 abbrev SaidThen : ℕ → ℕ → ℕ → List (List Level) → Slot → (ℕ → ℕ → Type 0)
 SaidThen oid low until pins s o x = (o ≡ oid) × (low ≤ x) × (x < until) × IsLate x low pins s
 
-happened_says : (oid low until : ℕ) (pins : List (List Level)) (e : Happening) (s : Slot) → IsNextOf (slice_index_or pins s.pin []) until s.trigger e → IsLate 0 low pins s
-    → Each (IsMoment (SaidThen oid low until pins (then_of s pins until e))) (told oid (trig.happened (slice_index_or pins s.pin []) until e s.trigger).event)
+happened_says : (oid low until : ℕ) (pins : List (List Level)) (e : Happening) (s : Slot)
+    → IsNextOf (slice_index_or pins s.pin []) until s.trigger e → IsLate 0 low pins s
+    → Each (IsMoment (SaidThen oid low until pins (then_of s pins until e)))
+    (told oid (trig.happened (slice_index_or pins s.pin []) until e s.trigger).event)
 happened_says oid low until pins Nothing s next k = tt
 happened_says oid low until pins (Expires at) s next k = ((λ no. absurd (no refl)), tt)
 happened_says oid low until pins (Switches at) s next k = ((λ no. absurd (no refl)), tt)
@@ -127,14 +131,16 @@ happened_says oid low until pins (Reports at) s next k = (
 abbrev next_of : Slot → List (List Level) → ℕ → Slot
 next_of s pins until = record s { trigger = (trig.advanced (slice_index_or pins s.pin []) until s.trigger).trigger }
 
-told_late : (o : Option ℕ) (x low until : ℕ) (pins : List (List Level)) (s : Slot) → s.trigger.untold ≡ o → IsLate x low pins s
+told_late : (o : Option ℕ) (x low until : ℕ) (pins : List (List Level)) (s : Slot) → s.trigger.untold ≡ o
+    → IsLate x low pins s
     → IsLate x low pins (record s { trigger = (trig.tells o (slice_index_or pins s.pin []) until s.trigger).trigger })
 told_late None x low until pins s e k =
     let levels = slice_index_or pins s.pin [] in
     happened_late x low until pins (trig.next levels until s.trigger) s (is_next levels until s.trigger k.moves) k
 told_late (Some n) x low until pins s e k = absurd (let bad : None ≡ Some n = sym k.told ∙ e in cc)
 
-told_says : (o : Option ℕ) (oid low until : ℕ) (pins : List (List Level)) (s : Slot) → s.trigger.untold ≡ o → IsLate 0 low pins s
+told_says : (o : Option ℕ) (oid low until : ℕ) (pins : List (List Level)) (s : Slot) → s.trigger.untold ≡ o
+    → IsLate 0 low pins s
     → Each (IsMoment (SaidThen oid low until pins (record s { trigger = (trig.tells o (slice_index_or pins s.pin []) until s.trigger).trigger })))
     (told oid (trig.tells o (slice_index_or pins s.pin []) until s.trigger).event)
 told_says None oid low until pins s e k =
@@ -151,7 +157,8 @@ pub record LateAt (o x low : ℕ) (r : Rig) : Type 0 where
 abbrev pub AllLate : ℕ → Rig → Type 0
 AllLate low r = (oid : ℕ) (s : Slot) → slot_at r oid ≡ Some s → IsLate 0 low r.pins s
 
-happens_late : (o x low until k : ℕ) (r : Rig) (c : Option Slot) → slot_at r k ≡ c → LateAt o x low r → LateAt o x low (happens_to r until k c).rig
+happens_late : (o x low until k : ℕ) (r : Rig) (c : Option Slot) → slot_at r k ≡ c → LateAt o x low r
+    → LateAt o x low (happens_to r until k c).rig
 happens_late o x low until k r None e h = h
 happens_late o x low until k r (Some s) e h =
     let q = becomes r k s (trig.advanced (slice_index_or r.pins s.pin []) until s.trigger).trigger in
@@ -166,18 +173,21 @@ happens_late o x low until k r (Some s) e h =
       | inr other ↦ record { slot = h.slot; is = set_other r q o k (Some (next_of s r.pins until)) refl other ∙ h.is; late = h.late }
     ]
 
-one_late : (low : ℕ) (pins : List (List Level)) (u s : Slot) (before : Option Slot) → IsLate 0 low pins u → (before ≡ Some s → IsLate 0 low pins s) → (s ≡ u) ⊎ (before ≡ Some s) → IsLate 0 low pins s
+one_late : (low : ℕ) (pins : List (List Level)) (u s : Slot) (before : Option Slot) → IsLate 0 low pins u
+    → (before ≡ Some s → IsLate 0 low pins s) → (s ≡ u) ⊎ (before ≡ Some s) → IsLate 0 low pins s
 one_late low pins u s before here others (inl e) = subst (IsLate 0 low pins) (sym e) here
 one_late low pins u s before here others (inr e) = others e
 
-happens_all : (low until k : ℕ) (r : Rig) (c : Option Slot) → slot_at r k ≡ c → AllLate low r → AllLate low (happens_to r until k c).rig
+happens_all : (low until k : ℕ) (r : Rig) (c : Option Slot) → slot_at r k ≡ c → AllLate low r
+    → AllLate low (happens_to r until k c).rig
 happens_all low until k r None e all = all
 happens_all low until k r (Some s) e all = λ oid u at.
     let next = next_of s r.pins until in
     one_late low r.pins next u (get_or r.triggers oid None) (told_late s.trigger.untold 0 low until r.pins s refl (all k s e)) (all oid u) (at_set r.triggers k oid next u at (same_or_not oid k))
 
 happens_says : (low until k : ℕ) (r : Rig) (c : Option Slot) → slot_at r k ≡ c → AllLate low r
-    → Each (IsMoment (λ o x. (low ≤ x) × (x < until) × LateAt o x low (happens_to r until k c).rig)) (happens_to r until k c).answers
+    → Each (IsMoment (λ o x. (low ≤ x) × (x < until) × LateAt o x low (happens_to r until k c).rig))
+    (happens_to r until k c).answers
 happens_says low until k r None e all = tt
 happens_says low until k r (Some s) e all =
     let next = next_of s r.pins until in
@@ -202,7 +212,8 @@ rests_late o x low t r h = record {
   late = quiet_late x low t r.pins h.slot h.late;
 }
   where
-    quiet_late : (x low t : ℕ) (pins : List (List Level)) (s : Slot) → IsLate x low pins s → IsLate x low pins (then_of s pins t Nothing)
+    quiet_late : (x low t : ℕ) (pins : List (List Level)) (s : Slot) → IsLate x low pins s
+        → IsLate x low pins (then_of s pins t Nothing)
     quiet_late x low t pins s k = record {
       told = k.told;
       moves = quiet_moves s.trigger.sampling (slice_index_or pins s.pin []) t k.moves;
@@ -227,7 +238,8 @@ pass_late (suc n) o x low t r h =
     goes_by (λ (p : Passed). LateAt o x low p.rig) next (rests_to r t) (passes_by first (pass n first.rig t)) (rests_late o x low t r h)
     (pass_late n o x low t first.rig (happens_late o x low t (at_of next).1 ran (slot_at ran (at_of next).1) refl on))
 
-pub pass_says : (n low t : ℕ) (r : Rig) → AllLate low r → Each (IsMoment (λ o x. (low ≤ x) × (x < t) × LateAt o x low (pass n r t).rig)) (pass n r t).answers
+pub pass_says : (n low t : ℕ) (r : Rig) → AllLate low r
+    → Each (IsMoment (λ o x. (low ≤ x) × (x < t) × LateAt o x low (pass n r t).rig)) (pass n r t).answers
 pass_says zero low t r all = tt
 pass_says (suc n) low t r all =
     let next = earliest r t 0 r.triggers in
@@ -270,7 +282,8 @@ ceiling a step some =
     let one : ((a + (step - 1)) / step + 1) * step ≡ (a + (step - 1)) / step * step + step = omega arith in
     omega (arith, less, one, some)
 
-report_from : (b : Bool) (now clock every y : ℕ) → (every == 0) ≡ b → (if b then None else Some (trig.first_from now (nearest now clock) every)) ≡ Some y → now ≤ y
+report_from : (b : Bool) (now clock every y : ℕ) → (every == 0) ≡ b
+    → (if b then None else Some (trig.first_from now (nearest now clock) every)) ≡ Some y → now ≤ y
 report_from true now clock every y e is = absurd (cc)
 report_from false now clock every y e is =
     let some : 0 < every = grind (arith, nat_tests) in
@@ -291,7 +304,8 @@ triggered_steps : (can : Bool) (now reason : ℕ) (t : Trigger) → Steps now t 
 triggered_steps true now reason t = record { since = λ x l k f. l; due = λ k. k }
 triggered_steps false now reason t = stays now t
 
-expires_changed : (o : Option ℕ) (r : Rig) (oid : ℕ) (s : Slot) (t : Trigger) → slot_at r oid ≡ Some s → Steps r.controller.tick s.trigger t → Changed r (expires_at_once r oid s t o).rig
+expires_changed : (o : Option ℕ) (r : Rig) (oid : ℕ) (s : Slot) (t : Trigger) → slot_at r oid ≡ Some s
+    → Steps r.controller.tick s.trigger t → Changed r (expires_at_once r oid s t o).rig
 expires_changed None r oid s t e k = Turned oid s (record s { trigger = t }) e refl k
 expires_changed (Some n) r oid s t e k = Turned oid s (record s { trigger = record t { untold = None } }) e refl (record { since = k.since; due = k.due })
 
@@ -299,24 +313,28 @@ made_changed : (r : Rig) (oid : ℕ) (o : Option Slot) → slot_at r oid ≡ o �
 made_changed r oid None e = Made oid e refl
 made_changed r oid (Some s) e = Same refl
 
-start_changed : (r : Rig) (oid : ℕ) (o : Option Slot) (clock every reason : ℕ) → slot_at r oid ≡ o → Changed r (start r oid o clock every reason)
+start_changed : (r : Rig) (oid : ℕ) (o : Option Slot) (clock every reason : ℕ) → slot_at r oid ≡ o
+    → Changed r (start r oid o clock every reason)
 start_changed r oid None clock every reason e = Same refl
 start_changed r oid (Some s) clock every reason e =
     Turned oid s (record s { trigger = trig.started r.controller.tick clock every reason s.trigger }) e refl (started_steps r.controller.tick clock every reason s.trigger)
 
-set_changed : (r : Rig) (oid clock : ℕ) (o : Option Slot) → slot_at r oid ≡ o → Changed r (set_timeout r oid o clock).rig
+set_changed : (r : Rig) (oid clock : ℕ) (o : Option Slot) → slot_at r oid ≡ o
+    → Changed r (set_timeout r oid o clock).rig
 set_changed r oid clock None e = Same refl
 set_changed r oid clock (Some s) e =
     let now = r.controller.tick in
     let t = trig.with_timeout now clock s.trigger in
     expires_changed t.untold r oid s t e (timed_steps s.trigger.can (nat_lt now (nearest now clock)) now (nearest now clock) s.trigger refl)
 
-trigger_changed : (r : Rig) (oid reason : ℕ) (o : Option Slot) → slot_at r oid ≡ o → Changed r (trigger r oid o reason).rig
+trigger_changed : (r : Rig) (oid reason : ℕ) (o : Option Slot) → slot_at r oid ≡ o
+    → Changed r (trigger r oid o reason).rig
 trigger_changed r oid reason None e = Same refl
 trigger_changed r oid reason (Some s) e =
     Turned oid s (record s { trigger = trig.triggered r.controller.tick reason s.trigger }) e refl (triggered_steps s.trigger.can r.controller.tick reason s.trigger)
 
-bind_changed : (r : Rig) (oid other : ℕ) (q : Option Pending) (o : Option Slot) → slot_at r other ≡ o → Changed r (bind r oid q other o)
+bind_changed : (r : Rig) (oid other : ℕ) (q : Option Pending) (o : Option Slot) → slot_at r other ≡ o
+    → Changed r (bind r oid q other o)
 bind_changed r oid other None o e = Same refl
 bind_changed r oid other (Some q) None e = Same refl
 bind_changed r oid other (Some q) (Some s) e = Turned other s (record s { bound = oid ∷ s.bound }) e refl (stays r.controller.tick s.trigger)
@@ -325,7 +343,8 @@ endstop_changed : (r : Rig) (oid pin : ℕ) (o : Option ℕ) → Changed r (make
 endstop_changed r oid pin None = Same refl
 endstop_changed r oid pin (Some p) = Same refl
 
-home_changed : (r : Rig) (other : ℕ) (p : Option ℕ) (o : Option Slot) (g : Homing) → slot_at r other ≡ o → Changed r (home r p other o g)
+home_changed : (r : Rig) (other : ℕ) (p : Option ℕ) (o : Option Slot) (g : Homing) → slot_at r other ≡ o
+    → Changed r (home r p other o g)
 home_changed r other None o g e = Same refl
 home_changed r other (Some pin) None g e = Same refl
 home_changed r other (Some pin) (Some s) g e =
@@ -372,17 +391,20 @@ could_by o x r q t (Turned oid s u at e steps) k = elim (same_or_not oid o) [
   | inr other ↦ record { came = (let l = k.came in omega (arith, l, t)); slot = k.slot; is = set_other r q o oid (Some u) e other ∙ k.is; fired = k.fired }
 ]
 
-due_one : (now : ℕ) (u s : Slot) (before : Option Slot) → DueFrom now u.trigger → (before ≡ Some s → DueFrom now s.trigger) → (s ≡ u) ⊎ (before ≡ Some s) → DueFrom now s.trigger
+due_one : (now : ℕ) (u s : Slot) (before : Option Slot) → DueFrom now u.trigger
+    → (before ≡ Some s → DueFrom now s.trigger) → (s ≡ u) ⊎ (before ≡ Some s) → DueFrom now s.trigger
 due_one now u s before here others (inl e) = subst (λ (z : Slot). DueFrom now z.trigger) (sym e) here
 due_one now u s before here others (inr e) = others e
 
-due_set : (now : ℕ) (r q : Rig) (k : ℕ) (u : Slot) → q.triggers ≡ set r.triggers k (Some u) → ((oid : ℕ) (s : Slot) → slot_at r oid ≡ Some s → DueFrom now s.trigger) → DueFrom now u.trigger
+due_set : (now : ℕ) (r q : Rig) (k : ℕ) (u : Slot) → q.triggers ≡ set r.triggers k (Some u)
+    → ((oid : ℕ) (s : Slot) → slot_at r oid ≡ Some s → DueFrom now s.trigger) → DueFrom now u.trigger
     → (oid : ℕ) (s : Slot) → slot_at q oid ≡ Some s → DueFrom now s.trigger
 due_set now r q k u e all here oid s at =
     let there : get_or (set r.triggers k (Some u)) oid None ≡ Some s = subst (λ (xs : List (Option Slot)). get_or xs oid None ≡ Some s) e at in
     due_one now u s (get_or r.triggers oid None) here (all oid s) (at_set r.triggers k oid u s there (same_or_not oid k))
 
-due_by : (now : ℕ) (r q : Rig) → r.controller.tick ≡ now → Changed r q → AllDueNow r → (oid : ℕ) (s : Slot) → slot_at q oid ≡ Some s → DueFrom now s.trigger
+due_by : (now : ℕ) (r q : Rig) → r.controller.tick ≡ now → Changed r q → AllDueNow r → (oid : ℕ) (s : Slot)
+    → slot_at q oid ≡ Some s → DueFrom now s.trigger
 due_by now r q t (Same e) all = λ oid s at. subst (λ (n : ℕ). DueFrom n s.trigger) t (all oid s (subst (λ (xs : List (Option Slot)). get_or xs oid None ≡ Some s) e at))
 due_by now r q t (Made oid none e) all = due_set now r q oid _ e (λ o s at. subst (λ (n : ℕ). DueFrom n s.trigger) t (all o s at)) (λ y is. absurd (cc))
 due_by now r q t (Turned oid s u at e steps) all =
@@ -398,7 +420,8 @@ takes_due r c all = λ oid s at y is.
     omega (arith, far, t)
 
 -- over time
-late_of : (x low now : ℕ) (pins : List (List Level)) (s : Slot) → IsSound now pins s → x ≤ now → Since x s.trigger → DueFrom low s.trigger → IsLate x low pins s
+late_of : (x low now : ℕ) (pins : List (List Level)) (s : Slot) → IsSound now pins s → x ≤ now → Since x s.trigger
+    → DueFrom low s.trigger → IsLate x low pins s
 late_of x low now pins s k l since due = record {
   told = k.told;
   moves = k.moves;
@@ -409,7 +432,8 @@ late_of x low now pins s k l since due = record {
   due = due;
 }
 
-pub pass_could : (n o x t : ℕ) (r : Rig) → AllSound r → r.controller.tick ≤ t → all_left t r.triggers < n → CouldAt o x r → CouldAt o x (pass n r t).rig
+pub pass_could : (n o x t : ℕ) (r : Rig) → AllSound r → r.controller.tick ≤ t → all_left t r.triggers < n
+    → CouldAt o x r → CouldAt o x (pass n r t).rig
 pass_could n o x t r sound l enough k =
     let h = pass_late n o x 0 t r (record { slot = k.slot; is = k.is; late = late_of x 0 r.controller.tick r.pins k.slot (sound o k.slot k.is) k.came k.fired (λ y e. omega arith) }) in
     let tick = finishes n r t (sound_regular r sound) l enough in
@@ -425,14 +449,16 @@ pass_tells n t r sound due l enough =
     (pass_says n now t r (λ oid s at. late_of 0 now now r.pins s (sound oid s at) (omega arith) (λ f. omega arith) (due oid s at)))
 
 -- a slot behind a stretch of time stood before it
-happens_back : (until k oid : ℕ) (r : Rig) (c : Option Slot) (u : Slot) → slot_at r k ≡ c → slot_at (happens_to r until k c).rig oid ≡ Some u → (s : Slot) × (slot_at r oid ≡ Some s)
+happens_back : (until k oid : ℕ) (r : Rig) (c : Option Slot) (u : Slot) → slot_at r k ≡ c
+    → slot_at (happens_to r until k c).rig oid ≡ Some u → (s : Slot) × (slot_at r oid ≡ Some s)
 happens_back until k oid r None u e at = (u, at)
 happens_back until k oid r (Some s) u e at = elim (same_or_not oid k) [
   | inl same ↦ (s, subst (λ (n : ℕ). slot_at r n ≡ Some s) (sym same) e)
   | inr other ↦ (u, sym (set_other r (happens_to r until k (Some s)).rig oid k (Some (next_of s r.pins until)) refl (λ same. other (sym same))) ∙ at)
 ]
 
-pass_back : (n t oid : ℕ) (r : Rig) (u : Slot) → slot_at (pass n r t).rig oid ≡ Some u → (s : Slot) × (slot_at r oid ≡ Some s)
+pass_back : (n t oid : ℕ) (r : Rig) (u : Slot) → slot_at (pass n r t).rig oid ≡ Some u
+    → (s : Slot) × (slot_at r oid ≡ Some s)
 pass_back zero t oid r u at = (u, at)
 pass_back (suc n) t oid r u at =
     let next = earliest r t 0 r.triggers in
@@ -442,14 +468,16 @@ pass_back (suc n) t oid r u at =
     (λ is. let x = rested_is r.pins t (slot_at r oid) u (sym (map_at (rested r.pins t) r.triggers oid refl) ∙ is) in (x.0, x.1))
     (λ is. let x = pass_back n t oid first.rig u is in happens_back t (at_of next).1 oid ran (slot_at ran (at_of next).1) x.0 refl x.1) at
 
-pub pass_due : (n t : ℕ) (r : Rig) → AllSound r → r.controller.tick ≤ t → all_left t r.triggers < n → AllDueNow (pass n r t).rig
+pub pass_due : (n t : ℕ) (r : Rig) → AllSound r → r.controller.tick ≤ t → all_left t r.triggers < n
+    → AllDueNow (pass n r t).rig
 pass_due n t r sound l enough = λ oid u at.
     let tick = finishes n r t (sound_regular r sound) l enough in
     let old = pass_back n t oid r u at in
     let far = by old.0 (old.0.trigger.report) oid u old.1 refl at in
     λ y e. let d = far y e in omega (arith, d, tick)
   where
-    by : (s : Slot) (o : Option ℕ) (oid : ℕ) (u : Slot) → slot_at r oid ≡ Some s → s.trigger.report ≡ o → slot_at (pass n r t).rig oid ≡ Some u → DueFrom t u.trigger
+    by : (s : Slot) (o : Option ℕ) (oid : ℕ) (u : Slot) → slot_at r oid ≡ Some s → s.trigger.report ≡ o
+        → slot_at (pass n r t).rig oid ≡ Some u → DueFrom t u.trigger
     by s None oid u here none at =
         let k = late_of 0 t r.controller.tick r.pins s (sound oid s here) (omega arith) (λ f. omega arith) (λ y e. absurd (let bad : None ≡ Some y = sym none ∙ e in cc)) in
         let h = pass_late n oid 0 t t r (record { slot = s; is = here; late = k }) in

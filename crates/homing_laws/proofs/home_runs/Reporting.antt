@@ -127,15 +127,18 @@ TellsAble low r reply =
     (oid can reason clock : ℕ) → IsText own_formats (cmd.TrsyncState oid can reason clock) reply.answer → (can ≡ 0 → ⊥)
     → (x : ℕ) × (low ≤ x) × CouldAt oid x r × (clock ≡ x % 2 ^ 32)
 
-able_row : (F : ℕ → Type 0) (P : ℕ → ℕ → Type 0) (oid can reason clock : ℕ) (c : Cmd) → Says F c → IsMoment P c → row.TrsyncState ≡ row_of c
-    → IsText own_formats (cmd.TrsyncState oid can reason clock) (text_of c) → (can ≡ 0 → ⊥) → (x : ℕ) × P oid x × (clock ≡ x % 2 ^ 32)
+able_row : (F : ℕ → Type 0) (P : ℕ → ℕ → Type 0) (oid can reason clock : ℕ) (c : Cmd) → Says F c → IsMoment P c
+    → row.TrsyncState ≡ row_of c
+    → IsText own_formats (cmd.TrsyncState oid can reason clock) (text_of c) → (can ≡ 0 → ⊥)
+    → (x : ℕ) × P oid x × (clock ≡ x % 2 ^ 32)
 able_row F P oid can reason clock (cmd.TrsyncState a b r k) s m e t able =
     let same = state_told a b r k oid can reason clock s.0 s.1 s.2 s.3 t in
     let y = m (λ none. able (same.1 ∙ none)) in
     (y.0, subst (λ (n : ℕ). P n y.0) (sym same.0) y.1, same.3 ∙ y.2)
 able_row F P oid can reason clock c s m e t able = absurd (cc)
 
-able_answers : (F : ℕ → Type 0) (low now : ℕ) (r : Rig) (n : ℕ) (cs : List Cmd) → low ≤ now → Each (Says F) cs → Each (IsMoment (λ o x. (now ≤ x) × CouldAt o x r)) cs
+able_answers : (F : ℕ → Type 0) (low now : ℕ) (r : Rig) (n : ℕ) (cs : List Cmd) → low ≤ now → Each (Says F) cs
+    → Each (IsMoment (λ o x. (now ≤ x) × CouldAt o x r)) cs
     → AllUp (TellsAble low r) (numbered n (map text_of cs))
 able_answers F low now r n [] l s k = tt
 able_answers F low now r n (c ∷ cs) l s k = (
@@ -152,7 +155,8 @@ pub record Hears (E : ℕ → (ℕ → Type 0)) (F : ℕ → Type 0) (pins : Lis
   pub low_so : low ≤ h.board.controller.tick
   pub told : AllUp (TellsAble low h.board) h.link.up
 
-hears_step : (E : ℕ → (ℕ → Type 0)) (F : ℕ → Type 0) (pins : List (List Level)) (low : ℕ) (h : Core) (s : Step) → Brings E F F pins s → Hears E F pins low h → Hears E F pins low (after h s)
+hears_step : (E : ℕ → (ℕ → Type 0)) (F : ℕ → Type 0) (pins : List (List Level)) (low : ℕ) (h : Core) (s : Step)
+    → Brings E F F pins s → Hears E F pins low h → Hears E F pins low (after h s)
 hears_step E F pins low h (Do e) b k =
     let one = keeps_by E F F pins h e b k.keeps in
     let d = event_does h e k.keeps.ordered.sound k.due in
@@ -194,16 +198,20 @@ stays_along o x (Do e ∷ steps) h k =
 stays_along o x (Turn turn ∷ steps) h k = stays_along o x steps (after h (Turn turn)) (record { sound = k.sound; due = k.due; could = k.could })
 
 -- the news of replies
-first_able : (low : ℕ) (q : Rig) (r : Reply) (o : Option Cmd) (rest : List News) (oid can reason clock : ℕ) → TellsAble low q r → IsAnswer r o → (can ≡ 0 → ⊥)
+first_able : (low : ℕ) (q : Rig) (r : Reply) (o : Option Cmd) (rest : List News) (oid can reason clock : ℕ)
+    → TellsAble low q r → IsAnswer r o → (can ≡ 0 → ⊥)
     → (HasAnswer (cmd.TrsyncState oid can reason clock) rest → (x : ℕ) × (low ≤ x) × CouldAt oid x q × (clock ≡ x % 2 ^ 32))
-    → HasAnswer (cmd.TrsyncState oid can reason clock) (news_of r o ++ rest) → (x : ℕ) × (low ≤ x) × CouldAt oid x q × (clock ≡ x % 2 ^ 32)
+    → HasAnswer (cmd.TrsyncState oid can reason clock) (news_of r o ++ rest)
+    → (x : ℕ) × (low ≤ x) × CouldAt oid x q × (clock ≡ x % 2 ^ 32)
 first_able low q r None rest oid can reason clock k a able more has = more has
 first_able low q r (Some c) rest oid can reason clock k a able more (inl e) =
     k oid can reason clock (subst (λ (d : Cmd). IsText own_formats d r.answer) e ((a c).0 refl)) able
 first_able low q r (Some c) rest oid can reason clock k a able more (inr has) = more has
 
-able_news : (low : ℕ) (q : Rig) (rs : List Reply) (news : List News) (oid can reason clock : ℕ) → AreNews rs news → AllUp (TellsAble low q) rs → (can ≡ 0 → ⊥)
-    → HasAnswer (cmd.TrsyncState oid can reason clock) news → (x : ℕ) × (low ≤ x) × CouldAt oid x q × (clock ≡ x % 2 ^ 32)
+able_news : (low : ℕ) (q : Rig) (rs : List Reply) (news : List News) (oid can reason clock : ℕ) → AreNews rs news
+    → AllUp (TellsAble low q) rs → (can ≡ 0 → ⊥)
+    → HasAnswer (cmd.TrsyncState oid can reason clock) news
+    → (x : ℕ) × (low ≤ x) × CouldAt oid x q × (clock ≡ x % 2 ^ 32)
 able_news low q [] news oid can reason clock are k able has = absurd (subst (HasAnswer (cmd.TrsyncState oid can reason clock)) are has)
 able_news low q (r ∷ rs) news oid can reason clock are k able has =
     first_able low q r are.0 are.1 oid can reason clock k.0 are.2 able (λ later. able_news low q rs are.1 oid can reason clock are.3 k.1 able later)
@@ -213,7 +221,8 @@ module _ (E : ℕ → (ℕ → Type 0)) (F : ℕ → Type 0) (b : BoardDef) (pin
   abbrev First : LinkState
   First = first_state b pins place entries
 
-  turn_hears : (low : ℕ) (t : BoardTurn) (before : List BoardTurn) → AreBoardTurns (clock_of b) First (t ∷ before) → BringFit E F pins (t ∷ before)
+  turn_hears : (low : ℕ) (t : BoardTurn) (before : List BoardTurn) → AreBoardTurns (clock_of b) First (t ∷ before)
+      → BringFit E F pins (t ∷ before)
       → Hears E F pins low (stands_after First before).core
       → (k : Hears E F pins low t.after.core)
       × ((oid can reason clock : ℕ) → HasAnswer (cmd.TrsyncState oid can reason clock) t.state.news → (can ≡ 0 → ⊥) → (x : ℕ) × (low ≤ x) × CouldAt oid x t.after.core.board × (clock ≡ x % 2 ^ 32))
@@ -230,12 +239,14 @@ module _ (E : ℕ → (ℕ → Type 0)) (F : ℕ → Type 0) (b : BoardDef) (pin
             (x.0, x.1, subst (λ (y : Core). CouldAt oid x.0 y.board) (sym came) stays.could, x.3),
       )
 
-  all_hear : (turns : List BoardTurn) → AreBoardTurns (clock_of b) First turns → BringFit E F pins turns → Hears E F pins 0 (stands_after First turns).core
+  all_hear : (turns : List BoardTurn) → AreBoardTurns (clock_of b) First turns → BringFit E F pins turns
+      → Hears E F pins 0 (stands_after First turns).core
   all_hear [] are fit = record { keeps = start_keeps E F F b pins; due = λ oid s at. absurd (none_some (slot_at (new_rig b pins) oid) s (none_at 256 oid) at); low_so = omega arith; told = tt }
   all_hear (t ∷ before) are fit = (turn_hears 0 t before are fit (all_hear before are.1 fit.1)).0
 
   -- from a turn on as which begins nothing is under way
-  later_hear : (later past : List BoardTurn) → AreBoardTurns (clock_of b) First (later ++ past) → BringFit E F pins (later ++ past) → (stands_after First past).core.link.up ≡ []
+  later_hear : (later past : List BoardTurn) → AreBoardTurns (clock_of b) First (later ++ past)
+      → BringFit E F pins (later ++ past) → (stands_after First past).core.link.up ≡ []
       → Hears E F pins (board_tick (clock_of b) (length past)) (stands_after First (later ++ past)).core
   later_hear [] past are fit none =
       let old = all_hear past are fit in
@@ -243,7 +254,8 @@ module _ (E : ℕ → (ℕ → Type 0)) (F : ℕ → Type 0) (b : BoardDef) (pin
       record { keeps = old.keeps; due = old.due; low_so = omega (arith, tick); told = subst (AllUp (TellsAble (board_tick (clock_of b) (length past)) (stands_after First past).core.board)) (sym none) tt }
   later_hear (t ∷ later) past are fit none = (turn_hears (board_tick (clock_of b) (length past)) t (later ++ past) are fit (later_hear later past are.1 fit.1 none)).0
 
-  still_could : (o x : ℕ) (later past : List BoardTurn) → AreBoardTurns (clock_of b) First (later ++ past) → BringFit E F pins (later ++ past) → CouldAt o x (stands_after First past).core.board
+  still_could : (o x : ℕ) (later past : List BoardTurn) → AreBoardTurns (clock_of b) First (later ++ past)
+      → BringFit E F pins (later ++ past) → CouldAt o x (stands_after First past).core.board
       → CouldAt o x (stands_after First (later ++ past)).core.board
   still_could o x [] past are fit k = k
   still_could o x (t ∷ later) past are fit k =
@@ -255,8 +267,11 @@ module _ (E : ℕ → (ℕ → Type 0)) (F : ℕ → Type 0) (b : BoardDef) (pin
       subst (λ (y : Core). CouldAt o x y.board) (sym steps.1) (stays_along o x steps.0 l.core (record { sound = hears.keeps.ordered.sound; due = hears.due; could = here })).could
 
   -- A report that a trigger could trigger is of a moment when it could, which is not before a turn as which began nothing was under way.
-  pub reports_moments : (later : List BoardTurn) (t : BoardTurn) (middle past : List BoardTurn) (oid can reason clock : ℕ) → AreBoardTurns (clock_of b) First (later ++ t ∷ (middle ++ past)) → BringFit E F pins (later ++ t ∷ (middle ++ past))
-      → (stands_after First past).core.link.up ≡ [] → HasAnswer (cmd.TrsyncState oid can reason clock) t.state.news → (can ≡ 0 → ⊥)
+  pub reports_moments : (later : List BoardTurn) (t : BoardTurn) (middle past : List BoardTurn)
+      (oid can reason clock : ℕ) → AreBoardTurns (clock_of b) First (later ++ t ∷ (middle ++ past))
+      → BringFit E F pins (later ++ t ∷ (middle ++ past))
+      → (stands_after First past).core.link.up ≡ [] → HasAnswer (cmd.TrsyncState oid can reason clock) t.state.news
+      → (can ≡ 0 → ⊥)
       → (x : ℕ) × (board_tick (clock_of b) (length past) ≤ x) × CouldAt oid x (stands_after First (later ++ t ∷ (middle ++ past))).core.board × (clock ≡ x % 2 ^ 32)
   reports_moments later t middle past oid can reason clock are fit none has able =
       let old = middle ++ past in
@@ -264,6 +279,7 @@ module _ (E : ℕ → (ℕ → Type 0)) (F : ℕ → Type 0) (b : BoardDef) (pin
       let x = (turn_hears (board_tick (clock_of b) (length past)) t old cut.0 cut.1 (later_hear middle past cut.0.1 cut.1.1 none)).1 oid can reason clock has able in
       (x.0, x.1, still_could oid x.0 later (t ∷ old) are fit x.2, x.3)
     where
-      cut_turns : (later past : List BoardTurn) → AreBoardTurns (clock_of b) First (later ++ past) → BringFit E F pins (later ++ past) → AreBoardTurns (clock_of b) First past × BringFit E F pins past
+      cut_turns : (later past : List BoardTurn) → AreBoardTurns (clock_of b) First (later ++ past)
+          → BringFit E F pins (later ++ past) → AreBoardTurns (clock_of b) First past × BringFit E F pins past
       cut_turns [] past are fit = (are, fit)
       cut_turns (u ∷ later) past are fit = cut_turns later past are.1 fit.1

@@ -45,7 +45,8 @@ pub record ComesSoon (m : Machine) (switches : List Switch) (pins : List (List L
       < board_tick (clock_of (board_at m b)) (length past) + 2 ^ 31
 
 -- so all that it told in the turn in front of a section's start or later; it comes in the turn behind its own
-abbrev pub AllComeSoon : Machine → List Switch → List (List Level) → List Entry → ℕ → ℕ → List Came → List BoardTurn → Type 0
+abbrev pub AllComeSoon : Machine → List Switch → List (List Level) → List Entry → ℕ → ℕ → List Came
+    → List BoardTurn → Type 0
 AllComeSoon m switches pins entries b start [] turns = Unit {0}
 AllComeSoon m switches pins entries b start (c ∷ before) [] = Unit {0}
 AllComeSoon m switches pins entries b start (c ∷ before) (t ∷ turns) =
@@ -55,8 +56,8 @@ AllComeSoon m switches pins entries b start (c ∷ before) (t ∷ turns) =
 -- A board's trigger triggered in a turn or before, as a run of it ends: it can't trigger since a tick before that at
 -- which the turn behind this one begins, by the clock lines that are known from a section's start on; and what it told
 -- since then comes soon.
-pub record HasTriggeredIn (m : Machine) (switches : List Switch) (pins : List (List Level)) (entries : List Entry) (b start turn : ℕ)
-    (came : List Came) (turns : List BoardTurn) : Type 0 where
+pub record HasTriggeredIn (m : Machine) (switches : List Switch) (pins : List (List Level)) (entries : List Entry)
+    (b start turn : ℕ) (came : List Came) (turns : List BoardTurn) : Type 0 where
   pub run_is : IsInRun m switches pins entries b came turns
   pub tick : ℕ
   pub fired : AllFiredBefore tick (stands_after (first_state (board_at m b) pins b entries) turns).core.board

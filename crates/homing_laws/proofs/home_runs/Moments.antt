@@ -18,7 +18,7 @@ use Rattle.board_trig.specs.Nexts.{ExpiresAt, IsNextOf, SwitchesAt}
 use Rattle.board_trig.proofs.Nexts.{is_next}
 use Rattle.msg_code.specs.declared.cmd.Cmd.{Cmd}
 use Rattle.msg_code.specs.declared.cmd.Cmd.TheVariants as cmd
-use Rattle.board_sim.specs.Board.{stepper_at}
+use Rattle.board_sim.specs.Board.{bit, stepper_at}
 use Rattle.board_sim.specs.Rig.{Passed, Rig, Slot, acts, acts_running, all_left, at_of, becomes, bind, earliest, expires_at_once, goes_on, happens, happens_to, home, make_endstop, make_trigger, pass, passes_by, rested, rests_to, runs_to, set_timeout, slot_at, start, takes, told, trigger}
 use Rattle.board_sim.specs.RigRuns.{AllSound, IsSound}
 use Rattle.board_sim.proofs.Bound.{map_at, one_slot, same_or_not, set_other, slot_range}
@@ -30,18 +30,16 @@ use Rattle.clock_runs.proofs.Answers.{Each, each_both}
 use Rattle.homing_laws.specs.home_runs.Moments.{CouldAt}
 use Rattle.homing_laws.proofs.clear_boards.Held.{at_set, rested_is}
 use Rattle.homing_laws.proofs.clear_boards.Reports.{reports_told}
-use Rattle.homing_laws.proofs.clear_groups.Early.{bit_one, clock_there}
 
 -- A trigger, while time passes: if it triggers, then at this tick or later; and its next report is at another one or
 -- later.
 pub record IsLate (x low : ℕ) (pins : List (List Level)) (s : Slot) : Type 0 where
-  told : s.trigger.untold ≡ None
-  moves : MovesOn s.trigger.sampling
-  idle : s.trigger.can ≡ false → s.trigger.timeout ≡ None
-  timeout : (y : ℕ) → ExpiresAt s.trigger y → x ≤ y
-  switch : (y : ℕ) → SwitchesAt (slice_index_or pins s.pin []) s.trigger y → x ≤ y
-  fired : s.trigger.can ≡ false → x ≤ s.trigger.tick
-  due : (y : ℕ) → s.trigger.report ≡ Some y → low ≤ y
+  pub told : s.trigger.untold ≡ None
+  pub moves : MovesOn s.trigger.sampling
+  pub timeout : (y : ℕ) → ExpiresAt s.trigger y → x ≤ y
+  pub switch : (y : ℕ) → SwitchesAt (slice_index_or pins s.pin []) s.trigger y → x ≤ y
+  pub fired : s.trigger.can ≡ false → x ≤ s.trigger.tick
+  pub due : (y : ℕ) → s.trigger.report ≡ Some y → low ≤ y
 
 -- an answer that tells of a trigger that it can trigger tells of a tick of which this holds
 abbrev pub IsMoment : (ℕ → ℕ → Type 0) → Cmd → Type 0
@@ -66,7 +64,6 @@ happened_late : (x low until : ℕ) (pins : List (List Level)) (e : Happening) (
 happened_late x low until pins Nothing s next k = record {
   told = k.told;
   moves = quiet_moves s.trigger.sampling (slice_index_or pins s.pin []) until k.moves;
-  idle = k.idle;
   timeout = k.timeout;
   switch = λ y (z, can, is, at). let old = quiet_switch s.trigger.sampling (slice_index_or pins s.pin []) until z y is at in k.switch y (old.0, can, old.1, old.2);
   fired = k.fired;
@@ -75,7 +72,7 @@ happened_late x low until pins Nothing s next k = record {
 happened_late x low until pins (Expires at) s next k = record {
   told = k.told;
   moves = tt;
-  idle = λ f. refl;
+ 
   timeout = λ y e. absurd (cc);
   switch = λ y (z, can, is, there). absurd (cc);
   fired = λ f. k.timeout at next.0;
@@ -84,7 +81,7 @@ happened_late x low until pins (Expires at) s next k = record {
 happened_late x low until pins (Switches at) s next k = record {
   told = k.told;
   moves = tt;
-  idle = λ f. refl;
+ 
   timeout = λ y e. absurd (cc);
   switch = λ y (z, can, is, there). absurd (cc);
   fired = λ f. k.switch at next.0;
@@ -93,7 +90,6 @@ happened_late x low until pins (Switches at) s next k = record {
 happened_late x low until pins (Reports at) s next k = record {
   told = k.told;
   moves = k.moves;
-  idle = k.idle;
   timeout = k.timeout;
   switch = k.switch;
   fired = k.fired;
@@ -101,6 +97,14 @@ happened_late x low until pins (Reports at) s next k = record {
 }
 
 -- what is told then
+bit_one : (b : Bool) → (bit b ≡ 0 → ⊥) → b ≡ true
+bit_one true n = refl
+bit_one false n = absurd (n refl)
+
+clock_there : (can : Bool) (at tick : ℕ) → can ≡ true → (if can then at else tick) % 2 ^ 32 ≡ at % 2 ^ 32
+clock_there true at tick e = refl
+clock_there false at tick e = cc
+
 abbrev SaidThen : ℕ → ℕ → ℕ → List (List Level) → Slot → (ℕ → ℕ → Type 0)
 SaidThen oid low until pins s o x = (o ≡ oid) × (low ≤ x) × (x < until) × IsLate x low pins s
 
@@ -118,7 +122,6 @@ happened_says oid low until pins (Reports at) s next k = (
       let now : IsLate at low pins (then_of s pins until (Reports at)) = record {
         told = k.told;
         moves = k.moves;
-        idle = k.idle;
         timeout = λ y e. (let far = next.2 y e in omega (arith, far));
         switch = λ y e. (let far = next.3 y e in omega (arith, far));
         fired = λ f. absurd (let bad : true ≡ false = sym can ∙ f in cc);
@@ -217,7 +220,6 @@ rests_late o x low t r h = record {
     quiet_late x low t pins s k = record {
       told = k.told;
       moves = quiet_moves s.trigger.sampling (slice_index_or pins s.pin []) t k.moves;
-      idle = k.idle;
       timeout = k.timeout;
       switch = λ y (z, can, is, at). let old = quiet_switch s.trigger.sampling (slice_index_or pins s.pin []) t z y is at in k.switch y (old.0, can, old.1, old.2);
       fired = k.fired;
@@ -425,7 +427,6 @@ late_of : (x low now : ℕ) (pins : List (List Level)) (s : Slot) → IsSound no
 late_of x low now pins s k l since due = record {
   told = k.told;
   moves = k.moves;
-  idle = k.idle;
   timeout = λ y e. (let far = k.timeout y e in omega (arith, far, l));
   switch = λ y (z, can, is, at). let far = k.switch z y is at in omega (arith, far, l);
   fired = since;

@@ -30,3 +30,6 @@ pub mod Stopped
 pub mod Timing
 pub mod Timeouts
 pub mod Hearing
+pub mod Moments
+pub mod Reporting
+pub mod Fired

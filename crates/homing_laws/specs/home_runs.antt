@@ -8,3 +8,4 @@ pub mod Words
 pub mod Ended
 pub mod SetUps
 pub mod Timeouts
+pub mod Moments

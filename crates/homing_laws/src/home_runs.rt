@@ -29,6 +29,7 @@ ghost use Rattle.plan_types.specs.Machines.{IsValidMachine, board_at};
 ghost use Rattle.plan_types.specs.Machines as machine;
 ghost use Rattle.homing_laws.specs.home_runs.Sections.{HomesFrom, IsAnswered, IsMoved, Moves, RestsInTime, SpoilsFew, TakesSetUp, queued_by};
 ghost use Rattle.homing_laws.specs.home_runs.SetUps.{AreInOrder, IsBoundIn, StopsAt};
+ghost use Rattle.homing_laws.specs.home_runs.Moments.{HasTriggeredIn};
 ghost use Rattle.homing_laws.specs.home_runs.Timeouts.{BeginsBy, CouldUpTo, EndsWith, TakesSent};
 ghost use Rattle.section_units.specs.Sections.{BoardSection};
 ghost use Rattle.trigger_group.specs.declared.order.Member.{Member};
@@ -190,27 +191,48 @@ pub fn set_ups_are_taken_in_order()
         AreInOrder (machine.stepper_at m stepper).oid (trigger_of m b) 0 (commands_of own) }
 {}
 
-/// The law of bound steppers, of homing sections: from the turn on in which a board took the command that binds a stepper that moves in a
-/// homing section to the board's trigger, the stepper makes no pulse at or after the tick at which the trigger triggered, up to any turn at
-/// whose end this can't trigger, whatever happens on the lines, and none at all where the trigger couldn't trigger as it was bound.
+/// The law of bound steppers, of homing sections: from the turn on in which a board took the command that binds a
+/// stepper that moves in a homing section to the board's trigger, the stepper makes no pulse at or after the tick
+/// at which the trigger triggered, up to any turn at whose end this can't trigger, whatever happens on the lines,
+/// and none at all where the trigger couldn't trigger as it was bound.
 pub fn moving_steppers_stop_with_their_trigger()
-    ensures { (m : Machine) (switches : List Switch) (pins : List (List Level)) (entries : List Entry) (b stepper : ℕ) (came : List Came) (later : List BoardTurn) (t : BoardTurn) (between early : List BoardTurn)
-        (from start : ℕ) (members : List Member) → IsValidMachine m → IsBoundIn m switches pins entries b stepper came later t between early from start members →
-        (slot : Slot) → slot_at (stands_after (first_state (board_at m b) pins b entries) (later ++ t ∷ (between ++ early))).core.board (trigger_of m b) ≡ Some slot → slot.trigger.can ≡ false →
+    ensures { (m : Machine) (switches : List Switch) (pins : List (List Level)) (entries : List Entry)
+        (b stepper : ℕ) (came : List Came) (later : List BoardTurn) (t : BoardTurn) (between early : List BoardTurn) (from start : ℕ)
+        (members : List Member) → IsValidMachine m →
+        IsBoundIn m switches pins entries b stepper came later t between early from start members → (slot : Slot) →
+        slot_at (stands_after (first_state (board_at m b) pins b entries) (later ++ t ∷ (between ++ early))).core.board
+        (trigger_of m b) ≡ Some slot → slot.trigger.can ≡ false →
         StopsAt m pins entries b stepper slot.trigger.tick (later ++ t ∷ (between ++ early)) (between ++ early) }
 {}
 
-/// The law of groups, of homing sections: from the turn on in which a board took the command that binds a stepper that moves in a homing
-/// section to the board's trigger, the stepper makes no pulse at or after the tick of the turn behind the section's last one; and where no
-/// report that counts says of some member that it could trigger in a turn behind `u`, none at or after the tick of the turn 25 behind `u`.
-/// So it is whatever happens on the lines, where no timeout is taken half a round of the 32-bit clock after its tick.
+/// The law of groups, of homing sections: from the turn on in which a board took the command that binds a stepper
+/// that moves in a homing section to the board's trigger, the stepper makes no pulse at or after the tick of the
+/// turn behind the section's last one; and where no report that counts says of some member that it could trigger in
+/// a turn behind `u`, none at or after the tick of the turn 25 behind `u`. So it makes none where some member's
+/// trigger triggered in turn `u`, and what its board told comes soon. This is so whatever happens on the lines,
+/// where no timeout is taken half a round of the 32-bit clock after its tick.
 pub fn members_stop_in_time()
-    ensures end { (m : Machine) (switches : List Switch) (pins : List (List Level)) (entries : List Entry) (b stepper : ℕ) (came : List Came) (later : List BoardTurn) (t : BoardTurn) (between early : List BoardTurn)
-        (from start last most : ℕ) (members : List Member) → IsValidMachine m → IsBoundIn m switches pins entries b stepper came later t between early from start members →
-        TakesSent m switches pins entries b came (later ++ t ∷ (between ++ early)) early → EndsWith m switches from last came → BeginsBy m switches b from (last + 1) most came →
+    ensures end { (m : Machine) (switches : List Switch) (pins : List (List Level)) (entries : List Entry)
+        (b stepper : ℕ) (came : List Came) (later : List BoardTurn) (t : BoardTurn) (between early : List BoardTurn)
+        (from start last most : ℕ) (members : List Member) → IsValidMachine m →
+        IsBoundIn m switches pins entries b stepper came later t between early from start members →
+        TakesSent m switches pins entries b came (later ++ t ∷ (between ++ early)) early →
+        EndsWith m switches from last came → BeginsBy m switches b from (last + 1) most came →
         StopsAt m pins entries b stepper most (later ++ t ∷ (between ++ early)) (between ++ early) }
-    ensures heard { (m : Machine) (switches : List Switch) (pins : List (List Level)) (entries : List Entry) (b stepper other : ℕ) (came : List Came) (later : List BoardTurn) (t : BoardTurn) (between early : List BoardTurn)
-        (from start u most : ℕ) (members : List Member) → IsValidMachine m → IsBoundIn m switches pins entries b stepper came later t between early from start members →
-        TakesSent m switches pins entries b came (later ++ t ∷ (between ++ early)) early → IsMember other members → start ≤ u → CouldUpTo m switches other start u came → BeginsBy m switches b from (u + 25) most came →
+    ensures heard { (m : Machine) (switches : List Switch) (pins : List (List Level)) (entries : List Entry)
+        (b stepper other : ℕ) (came : List Came) (later : List BoardTurn) (t : BoardTurn)
+        (between early : List BoardTurn) (from start u most : ℕ) (members : List Member) → IsValidMachine m →
+        IsBoundIn m switches pins entries b stepper came later t between early from start members →
+        TakesSent m switches pins entries b came (later ++ t ∷ (between ++ early)) early →
+        IsMember other members → start ≤ u → CouldUpTo m switches other start u came →
+        BeginsBy m switches b from (u + 25) most came →
+        StopsAt m pins entries b stepper most (later ++ t ∷ (between ++ early)) (between ++ early) }
+    ensures fired { (m : Machine) (switches : List Switch) (pins others : List (List Level)) (entries : List Entry)
+        (b stepper other : ℕ) (came : List Came) (later : List BoardTurn) (t : BoardTurn)
+        (between early turns : List BoardTurn) (from start u most : ℕ) (members : List Member) → IsValidMachine m →
+        IsBoundIn m switches pins entries b stepper came later t between early from start members →
+        TakesSent m switches pins entries b came (later ++ t ∷ (between ++ early)) early →
+        IsMember other members → start ≤ u → HasTriggeredIn m switches others entries other start u came turns →
+        BeginsBy m switches b from (u + 25) most came →
         StopsAt m pins entries b stepper most (later ++ t ∷ (between ++ early)) (between ++ early) }
 {}

@@ -1,28 +1,21 @@
 -- What a board tells of triggers that can trigger is of ticks that it comes to.
-use Rattle.std.proofs.Common.{◌≡◌, ℕ, zero, suc, ◌+◌, ◌/◌, ◌%◌, ◌^◌, Bool, true, false, List, [], ◌∷◌, ◌++◌, get_or, set, Option, Some, None, refl, sym, ◌∙◌, subst, arith, ◌⊎◌, inl, inr}
-use Rattle.std.specs.Prelude.{if◌then◌else◌, slice_index_or, nat_le, nat_lt}
-use Rattle.plan_types.specs.declared.levels.Level.{Level}
+use Rattle.std.proofs.Common.{◌≡◌, ℕ, ◌+◌, ◌<◌, ◌≤◌, Bool, true, false, List, [], ◌∷◌, ◌++◌, Option, Some, None, refl, sym, ◌∙◌, arith}
+use Rattle.std.specs.Prelude.{if◌then◌else◌, nat_le, nat_lt}
 use Rattle.plan_types.specs.declared.plan.BoardState.{BoardState}
 use Rattle.plan_types.specs.declared.plan.BoardState.TheVariants.{Running, Shut}
 use Rattle.plan_types.specs.Board.{nearest}
 use Rattle.board_trig.specs.declared.trigger.Trigger.{Trigger}
-use Rattle.board_trig.specs.declared.trigger.Happening.{Happening}
-use Rattle.board_trig.specs.declared.trigger.Happening.TheVariants.{Nothing, Expires, Switches, Reports}
 use Rattle.board_trig.specs.Trigger as trig
-use Rattle.board_trig.specs.Nexts.{IsNextOf}
-use Rattle.board_trig.proofs.Nexts.{is_next}
 use Rattle.msg_code.specs.declared.cmd.Cmd.{Cmd}
 use Rattle.msg_code.specs.declared.cmd.Cmd.TheVariants as cmd
 use Rattle.board_sim.specs.Board.{bit, takes as board_takes}
-use Rattle.board_sim.specs.Rig.{Passed, Rig, Slot, acts, acts_running, all_left, at_of, becomes, earliest, expires_at_once, goes_on, happens, happens_to, pass, passes, passes_by, rested, rests_to, runs_to, set_timeout, slot_at, takes, takes_all, told, trigger}
+use Rattle.board_sim.specs.Rig.{Passed, Rig, Slot, acts, acts_running, all_left, expires_at_once, pass, passes, set_timeout, slot_at, takes, takes_all, told, trigger}
 use Rattle.board_sim.specs.Turn.{says_shut}
-use Rattle.board_sim.proofs.Bound.{map_at, same_or_not}
-use Rattle.board_sim.proofs.Halting.{quiet_moves}
 use Rattle.board_world.specs.World.{says, shut_before}
 use Rattle.clock_runs.proofs.Answers.{Each}
-use Rattle.homing_laws.proofs.clear_boards.Held.{at_set, rested_is}
-use Rattle.homing_laws.specs.clear_groups.Early.{AllDue, AreEarly, IsDue, IsEarly}
+use Rattle.homing_laws.specs.clear_groups.Early.{AllDue, AreEarly, IsEarly}
 use Rattle.homing_laws.proofs.clear_boards.Turned.{triggered_off}
+use Rattle.homing_laws.proofs.home_runs.Moments.{AllLate, IsMoment, LateAt, pass_says}
 use Rattle.homing_laws.proofs.home_runs.Saying.{IsOther, board_tells}
 
 all_both : (from until : ℕ) (xs ys : List Cmd) → AreEarly from until xs → AreEarly from until ys → AreEarly from until (xs ++ ys)
@@ -42,80 +35,28 @@ bit_zero : (b : Bool) → b ≡ false → bit b ≡ 0
 bit_zero true e = cc
 bit_zero false e = refl
 
-clock_there : (can : Bool) (at tick : ℕ) → can ≡ true → (if can then at else tick) % 2 ^ 32 ≡ at % 2 ^ 32
-clock_there true at tick e = refl
-clock_there false at tick e = cc
+-- the same of time that passes
+late_due : (from : ℕ) (r : Rig) → AllDue from r → AllLate from r
+late_due from r all = λ oid s at.
+    let k = all oid s at in
+    record { told = k.told; moves = k.moves; timeout = λ y e. omega arith; switch = λ y e. omega arith; fired = λ f. omega arith; due = k.due }
 
-bit_one : (b : Bool) → (bit b ≡ 0 → ⊥) → b ≡ true
-bit_one true n = refl
-bit_one false n = absurd (n refl)
-
-happened_early : (oid from until : ℕ) (levels : List Level) (e : Happening) (s : Slot) → IsNextOf levels until s.trigger e → IsDue from s
-    → IsDue from (record s { trigger = (trig.happened levels until e s.trigger).trigger }) × AreEarly from until (told oid (trig.happened levels until e s.trigger).event)
-happened_early oid from until levels Nothing s next k = (record { told = k.told; moves = quiet_moves s.trigger.sampling levels until k.moves; due = k.due }, tt)
-happened_early oid from until levels (Expires at) s next k = (record { told = k.told; moves = tt; due = k.due }, ((λ no. absurd (no refl)), tt))
-happened_early oid from until levels (Switches at) s next k = (record { told = k.told; moves = tt; due = k.due }, ((λ no. absurd (no refl)), tt))
-happened_early oid from until levels (Reports at) s next k =
-    let low = k.due at next.0 in (
-      record { told = k.told; moves = k.moves; due = λ x is. (let same : at + s.trigger.every ≡ x = cc in omega (arith, same, low)) },
-      ((λ can. (at, low, next.1, clock_there s.trigger.can at s.trigger.tick (bit_one s.trigger.can can))), tt),
-    )
-
-tells_early : (o : Option ℕ) (oid from until : ℕ) (levels : List Level) (s : Slot) → s.trigger.untold ≡ o → IsDue from s
-    → IsDue from (record s { trigger = (trig.tells o levels until s.trigger).trigger }) × AreEarly from until (told oid (trig.tells o levels until s.trigger).event)
-tells_early None oid from until levels s e k = happened_early oid from until levels (trig.next levels until s.trigger) s (is_next levels until s.trigger k.moves) k
-tells_early (Some n) oid from until levels s e k = absurd (let bad : None ≡ Some n = sym k.told ∙ e in cc)
-
--- and to all of a board
-one_due : (from : ℕ) (u s : Slot) (before : Option Slot) → IsDue from u → (before ≡ Some s → IsDue from s) → (s ≡ u) ⊎ (before ≡ Some s) → IsDue from s
-one_due from u s before here others (inl e) = subst (IsDue from) (sym e) here
-one_due from u s before here others (inr e) = others e
-
-set_due : (from : ℕ) (r q : Rig) (k : ℕ) (u : Slot) → q.triggers ≡ set r.triggers k (Some u) → AllDue from r → IsDue from u → AllDue from q
-set_due from r q k u e all here oid s at =
-    let there : get_or (set r.triggers k (Some u)) oid None ≡ Some s = subst (λ (xs : List (Option Slot)). get_or xs oid None ≡ Some s) e at in
-    one_due from u s (get_or r.triggers oid None) here (all oid s) (at_set r.triggers k oid u s there (same_or_not oid k))
-
-same_due : (from : ℕ) (r q : Rig) → q.triggers ≡ r.triggers → AllDue from r → AllDue from q
-same_due from r q e all oid s at = all oid s (subst (λ (xs : List (Option Slot)). get_or xs oid None ≡ Some s) e at)
-
-happens_early : (oid from until : ℕ) (r : Rig) (o : Option Slot) → slot_at r oid ≡ o → AllDue from r → AllDue from (happens_to r until oid o).rig × AreEarly from until (happens_to r until oid o).answers
-happens_early oid from until r None e all = (all, tt)
-happens_early oid from until r (Some s) e all =
-    let levels = slice_index_or r.pins s.pin [] in
-    let a = trig.advanced levels until s.trigger in
-    let h = tells_early s.trigger.untold oid from until levels s refl (all oid s e) in
-    (set_due from r (becomes r oid s a.trigger) oid (record s { trigger = a.trigger }) refl all h.0, h.1)
-
-rests_due : (from : ℕ) (r : Rig) (t : ℕ) → AllDue from r → AllDue from (rests_to r t).rig
-rests_due from r t all oid u at =
-    let x = rested_is r.pins t (slot_at r oid) u (sym (map_at (rested r.pins t) r.triggers oid refl) ∙ at) in
-    let k = all oid x.0 x.1 in
-    let levels = slice_index_or r.pins x.0.pin [] in
-    let there : IsDue from (record x.0 { trigger = (trig.happened levels t Nothing x.0.trigger).trigger }) = record { told = k.told; moves = quiet_moves x.0.trigger.sampling levels t k.moves; due = k.due } in
-    subst (IsDue from) (sym x.2) there
-
-goes_early : (from until : ℕ) (o : Option (ℕ × ℕ)) (x y : Passed) → AllDue from x.rig × AreEarly from until x.answers → AllDue from y.rig × AreEarly from until y.answers
-    → AllDue from (goes_on o x y).rig × AreEarly from until (goes_on o x y).answers
-goes_early from until None x y k l = k
-goes_early from until (Some at) x y k l = l
-
-pass_early : (n from until : ℕ) (r : Rig) → AllDue from r → AllDue from (pass n r until).rig × AreEarly from until (pass n r until).answers
-pass_early zero from until r all = (all, tt)
-pass_early (suc n) from until r all =
-    let next = earliest r until 0 r.triggers in
-    let ran = (runs_to r ((at_of next).0 / 3)).rig in
-    let first = happens r until (at_of next) in
-    let rest = pass n first.rig until in
-    let one = happens_early (at_of next).1 from until ran (slot_at ran (at_of next).1) refl (same_due from r ran refl all) in
-    let more = pass_early n from until first.rig one.0 in
-    goes_early from until next (rests_to r until) (passes_by first rest) (rests_due from r until all, tt) (more.0, all_both from until first.answers rest.answers one.1 more.1)
+early_moments : (from until : ℕ) (P : ℕ → ℕ → Type 0) (cs : List Cmd)
+    → Each (IsMoment (λ o x. (from ≤ x) × (x < until) × P o x)) cs → AreEarly from until cs
+early_moments from until P [] k = tt
+early_moments from until P (c ∷ cs) k = (one c k.0, early_moments from until P cs k.1)
+  where
+    one : (c : Cmd) → IsMoment (λ o x. (from ≤ x) × (x < until) × P o x) c → IsEarly from until c
+    one (cmd.TrsyncState oid can reason clock) m = λ able. let x = m able in (x.0, x.1.0, x.1.1, x.2)
+    one c m = tt
 
 passes_early : (from until : ℕ) (r : Rig) → AllDue from r → AreEarly from until (passes r until).answers
 passes_early from until r all = by (nat_le r.controller.tick until)
   where
     by : (b : Bool) → let p : Passed = if b then pass (all_left until r.triggers + 1) r until else record { rig = r; pulses = []; answers = [] } in AreEarly from until p.answers
-    by true = (pass_early (all_left until r.triggers + 1) from until r all).1
+    by true =
+        let n = all_left until r.triggers + 1 in
+        early_moments from until (λ o x. LateAt o x from (pass n r until).rig) (pass n r until).answers (pass_says n from until r (late_due from r all))
     by false = tt
 
 -- a command tells of no trigger that can trigger

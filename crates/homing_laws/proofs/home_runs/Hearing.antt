@@ -46,7 +46,8 @@ able_by : (clocks : Clocks) (turn most : ℕ) (ns : List News) → ((when : ℕ)
 able_by clocks turn most [] f = tt
 able_by clocks turn most (n ∷ ns) f = (λ when a. f when (inl a), able_by clocks turn most ns (λ when a. f when (inr a)))
 
-up_to : (b start u : ℕ) (xs : List Seen) → HeardUntil start b u xs → IsMember b (map (λ (x : Seen). x.member) xs) → UpTo b start u xs
+up_to : (b start u : ℕ) (xs : List Seen) → HeardUntil start b u xs → IsMember b (map (λ (x : Seen). x.member) xs)
+    → UpTo b start u xs
 up_to b start u [] k is = absurd is
 up_to b start u (x ∷ xs) k (inl e) = inl (e, k.0 e)
 up_to b start u (x ∷ xs) k (inr is) = inr (up_to b start u xs k.1 is)
@@ -67,7 +68,8 @@ module _ (m : Machine) (switches : List Switch) (b start u : ℕ) (late : start 
   begun_if true section axis turn at last ms = λ e. unseen_so ms
   begun_if false section axis turn at last ms = tt
 
-  begun_so : (section : ℕ) (kind : SectionKind) (turn last moving : ℕ) → HeardSo (homing_of m section kind turn last moving)
+  begun_so : (section : ℕ) (kind : SectionKind) (turn last moving : ℕ)
+      → HeardSo (homing_of m section kind turn last moving)
   begun_so section Moves turn last moving = tt
   begun_so section (Home axis) turn last moving =
       let ms = members_from m (axis_at m axis) moving 0 m.boards in
@@ -88,7 +90,8 @@ module _ (m : Machine) (switches : List Switch) (b start u : ℕ) (late : start 
   noted_so (Some note) r k = all_told_so note.news r k
 
   -- the states come
-  heard_so : (c : Came) (before : List Came) (h : Homing) → CouldUpTo m switches b start u (c ∷ before) → HeardSo (Some h)
+  heard_so : (c : Came) (before : List Came) (h : Homing) → CouldUpTo m switches b start u (c ∷ before)
+      → HeardSo (Some h)
       → HeardSo (Some (hears_all (known_in m switches c before).clocks c.states h))
   heard_so c before h could k = λ e.
       let clocks = (known_in m switches c before).clocks in
@@ -99,14 +102,16 @@ module _ (m : Machine) (switches : List Switch) (b start u : ℕ) (late : start 
   goes_so k h None s = λ e. subst (HeardUntil start b u) (sym (after_members h.group k)) (s e)
   goes_so k h (Some end) s = tt
 
-  after_so : (c : Came) (before : List Came) (o : Option Homing) → CouldUpTo m switches b start u (c ∷ before) → HeardSo o
+  after_so : (c : Came) (before : List Came) (o : Option Homing) → CouldUpTo m switches b start u (c ∷ before)
+      → HeardSo o
       → HeardSo (homing_after (known_in m switches c before).clocks (length before) c.states o)
   after_so c before None could s = tt
   after_so c before (Some h) could s =
       let g = hears_all (known_in m switches c before).clocks c.states h in
       goes_so (length before) g (answer_in (length before) g.start g.group) (heard_so c before h could s)
 
-  known_so : (came : List Came) → GoesOn m switches came → CouldUpTo m switches b start u came → HeardSo (known_by m switches came).homing
+  known_so : (came : List Came) → GoesOn m switches came → CouldUpTo m switches b start u came
+      → HeardSo (known_by m switches came).homing
   known_so [] g could = tt
   known_so (c ∷ before) g could =
       let known = known_by m switches before in
@@ -119,7 +124,8 @@ module _ (m : Machine) (switches : List Switch) (b start u : ℕ) (late : start 
       ]
 
   -- what it sends then
-  pub heard_within : (from : ℕ) (ms : List Member) (came : List Came) → GoesOn m switches came → HomesFrom m switches from start ms came
+  pub heard_within : (from : ℕ) (ms : List Member) (came : List Came) → GoesOn m switches came
+      → HomesFrom m switches from start ms came
       → IsMember b ms → CouldUpTo m switches b start u came → AllWithinFrom m switches from (u + 25) came
   heard_within from ms [] g homes member could = tt
   heard_within from ms (c ∷ before) g homes member could = (
@@ -136,11 +142,13 @@ module _ (m : Machine) (switches : List Switch) (b start u : ℕ) (late : start 
     heard_within from ms before g.1 homes.1 member could.1,
   )
 
-pub stops_by_heard : (m : Machine) (switches : List Switch) (pins : List (List Level)) (entries : List Entry) (b s other : ℕ) (came : List Came)
+pub stops_by_heard : (m : Machine) (switches : List Switch) (pins : List (List Level)) (entries : List Entry)
+    (b s other : ℕ) (came : List Came)
     (later : List BoardTurn) (t : BoardTurn) (between early : List BoardTurn) (from start u most : ℕ) (ms : List Member) → IsValidMachine m
     → IsBoundIn m switches pins entries b s came later t between early from start ms
     → TakesSent m switches pins entries b came (later ++ t ∷ (between ++ early)) early
-    → IsMember other ms → start ≤ u → CouldUpTo m switches other start u came → BeginsBy m switches b from (u + 25) most came
+    → IsMember other ms → start ≤ u → CouldUpTo m switches other start u came
+    → BeginsBy m switches b from (u + 25) most came
     → StopsAt m pins entries b s most (later ++ t ∷ (between ++ early)) (between ++ early)
 stops_by_heard m switches pins entries b s other came later t between early from start u most ms v x soon member late could begins =
     stops_under m switches pins entries b s came later t between early from start (u + 25) most ms v x soon

@@ -95,7 +95,7 @@ sent_more j P Q (c ∷ cs) f a = (one_more j P Q c f a.0, sent_more j P Q cs f a
 congruent : (now tick : ℕ) → (now + ahead now (tick % 2 ^ 32)) % 2 ^ 32 ≡ tick % 2 ^ 32
 congruent now tick = omega arith
 
-nearest_low : (now tick : ℕ) → now < tick + 2 ^ 31 → nearest now (tick % 2 ^ 32) ≤ tick
+pub nearest_low : (now tick : ℕ) → now < tick + 2 ^ 31 → nearest now (tick % 2 ^ 32) ≤ tick
 nearest_low now tick soon = by (ahead now (tick % 2 ^ 32)) (congruent now tick) (omega arith)
   where
     by : (a : ℕ) → (now + a) % 2 ^ 32 ≡ tick % 2 ^ 32 → a < 2 ^ 32
@@ -279,7 +279,8 @@ module _ (m : Machine) (switches : List Switch) (pins : List (List Level)) (entr
       let left = drop (length h.link.taken) h.queued in
       (left, ap (λ (x : List Meant). x ++ left) o.first ∙ take-append-drop (length h.link.taken) h.queued ∙ all_queued d pins b entries turns are)
 
-  reads_early : (own : ℕ → ℕ) (j most n : ℕ) (turns : List BoardTurn) → AreBoardTurns (clock_of (board_at m b)) First turns
+  reads_early : (own : ℕ → ℕ) (j most n : ℕ) (turns : List BoardTurn)
+      → AreBoardTurns (clock_of (board_at m b)) First turns
       → length (queued_by turns) ≤ n → ReadsAtMost own j most n First turns
   reads_early own j most n [] are few = tt
   reads_early own j most n (t ∷ before) are few =
@@ -295,11 +296,13 @@ module _ (m : Machine) (switches : List Switch) (pins : List (List Level)) (entr
         reads_early own j most n before are.1 (omega (arith, few, more)),
       )
     where
-      too_many : (f k taken left n queued : ℕ) {sum all : ℕ} → taken ≡ sum → sum ≡ f + suc k → all ≡ taken + left → all ≡ queued → queued ≤ n → n ≤ f → ⊥
+      too_many : (f k taken left n queued : ℕ) {sum all : ℕ} → taken ≡ sum → sum ≡ f + suc k → all ≡ taken + left
+          → all ≡ queued → queued ≤ n → n ≤ f → ⊥
       too_many f k taken left n queued a p q e l o = omega arith
 
   pub reads : (own : ℕ → ℕ) (most start : ℕ) (ms : List Member) (came : List Came) (later early : List BoardTurn)
-      → IsInRun m switches pins entries b came (later ++ early) → HomesFrom m switches from start ms came → length early ≡ from
+      → IsInRun m switches pins entries b came (later ++ early) → HomesFrom m switches from start ms came
+      → length early ≡ from
       → ((tick : ℕ) → Sent came tick → tick ≤ most)
       → TakesInTime own (trigger_of m b) (length (queued_by early)) (Sent came) First (later ++ early)
       → ReadsAtMost own (trigger_of m b) most (length (queued_by early)) First (later ++ early)
@@ -334,7 +337,8 @@ module _ (m : Machine) (switches : List Switch) (pins : List (List Level)) (entr
   ctls_within turn n (c ∷ ctls) w (inl e) = w.0 turn (ap (λ (x : Ctl). x.what) e)
   ctls_within turn n (c ∷ ctls) w (inr a) = ctls_within turn n ctls w.1 a
 
-  ordered_within : (k n : ℕ) (h : Homing) (o : Option End) → Within n (orders_of h.group k) → Within n (by_answer k h o).ctls.items
+  ordered_within : (k n : ℕ) (h : Homing) (o : Option End) → Within n (orders_of h.group k)
+      → Within n (by_answer k h o).ctls.items
   ordered_within k n h None w = w
   ordered_within k n h (Some (end.Endstop tick)) w = tt
   ordered_within k n h (Some end.NoSwitch) w = tt
@@ -359,7 +363,8 @@ module _ (m : Machine) (switches : List Switch) (pins : List (List Level)) (entr
   tick_up : (clocks : Clocks) (j k : ℕ) → j ≤ k → turn_tick clocks j ≤ turn_tick clocks k
   tick_up clocks j k l = let up = lines_up clocks j k l in omega (arith, up)
 
-  pub sent_by : (turn most : ℕ) (came : List Came) → AllWithinFrom m switches from turn came → BeginsBy m switches b from turn most came
+  pub sent_by : (turn most : ℕ) (came : List Came) → AllWithinFrom m switches from turn came
+      → BeginsBy m switches b from turn most came
       → (tick : ℕ) → Sent came tick → tick ≤ most
   sent_by turn most [] within begins tick sent = absurd sent
   sent_by turn most (c ∷ before) within begins tick (inl x) =
@@ -371,7 +376,8 @@ module _ (m : Machine) (switches : List Switch) (pins : List (List Level)) (entr
       omega (arith, up, begin, at)
   sent_by turn most (c ∷ before) within begins tick (inr sent) = sent_by turn most before within.1 begins.1 tick sent
 
-  pub ends_within : (last : ℕ) (came : List Came) → EndsWith m switches from last came → AllWithinFrom m switches from (last + 1) came
+  pub ends_within : (last : ℕ) (came : List Came) → EndsWith m switches from last came
+      → AllWithinFrom m switches from (last + 1) came
   ends_within last [] ends = tt
   ends_within last (c ∷ before) ends = (
     λ late h is. (
@@ -383,7 +389,8 @@ module _ (m : Machine) (switches : List Switch) (pins : List (List Level)) (entr
   )
 
 -- a stepper that is bound behind a timeout of the section stops at the last one that is sent
-pub stops_under : (m : Machine) (switches : List Switch) (pins : List (List Level)) (entries : List Entry) (b s : ℕ) (came : List Came)
+pub stops_under : (m : Machine) (switches : List Switch) (pins : List (List Level)) (entries : List Entry) (b s : ℕ)
+    (came : List Came)
     (later : List BoardTurn) (t : BoardTurn) (between early : List BoardTurn) (from start turn most : ℕ) (ms : List Member) → IsValidMachine m
     → IsBoundIn m switches pins entries b s came later t between early from start ms
     → TakesSent m switches pins entries b came (later ++ t ∷ (between ++ early)) early
@@ -402,7 +409,8 @@ stops_under m switches pins entries b s came later t between early from start tu
     (subst (IsInRun m switches pins entries b came) (sym same) x.run_is) x.homes x.long (sent_by m switches pins entries b from turn most came within begins) late in
     run_limits m switches pins entries b s came later t between early from start ms v x most (subst (ReadsAtMost own (trigger_of m b) most n first) same read)
 
-pub stops_by_end : (m : Machine) (switches : List Switch) (pins : List (List Level)) (entries : List Entry) (b s : ℕ) (came : List Came)
+pub stops_by_end : (m : Machine) (switches : List Switch) (pins : List (List Level)) (entries : List Entry) (b s : ℕ)
+    (came : List Came)
     (later : List BoardTurn) (t : BoardTurn) (between early : List BoardTurn) (from start last most : ℕ) (ms : List Member) → IsValidMachine m
     → IsBoundIn m switches pins entries b s came later t between early from start ms
     → TakesSent m switches pins entries b came (later ++ t ∷ (between ++ early)) early

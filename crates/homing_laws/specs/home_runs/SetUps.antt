@@ -54,9 +54,9 @@ TookInTurn first front t past =
 -- In a turn of a run a board took the command that binds a stepper to its trigger, for a homing section with these
 -- members in which the stepper moves; the section was known, and no unit set a clock, from 254 turns before its start
 -- on, and none was sent in the four turns of the set-up.
-pub record IsBoundIn (m : Machine) (switches : List Switch) (pins : List (List Level)) (entries : List Entry) (b stepper : ℕ)
-    (came : List Came) (later : List BoardTurn) (t : BoardTurn) (between early : List BoardTurn) (from start : ℕ)
-    (members : List Member) : Type 0 where
+pub record IsBoundIn (m : Machine) (switches : List Switch) (pins : List (List Level)) (entries : List Entry)
+    (b stepper : ℕ) (came : List Came) (later : List BoardTurn) (t : BoardTurn) (between early : List BoardTurn)
+    (from start : ℕ) (members : List Member) : Type 0 where
   pub run_is : IsInRun m switches pins entries b came (later ++ t ∷ (between ++ early))
   pub homes : HomesFrom m switches from start members came
   pub begun : from + 254 ≡ start

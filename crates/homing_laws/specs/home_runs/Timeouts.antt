@@ -38,7 +38,8 @@ tick_in m switches b c before turn = turn_tick (clocks_at (known_in m switches c
 pub record IsTimeout (m : Machine) (switches : List Switch) (b tick : ℕ) (c : Came) (before : List Came) : Type 0 where
   pub turn : ℕ
   pub sent : IsAmong (record { board = b; what = Timeout turn })
-      (homing_turn (known_in m switches c before).clocks (length before) c.states (known_in m switches c before).homing).ctls.items
+      (homing_turn (known_in m switches c before).clocks (length before) c.states
+      (known_in m switches c before).homing).ctls.items
   pub at : tick ≡ tick_in m switches b c before turn
 
 -- so in one of some turns, from a number on
@@ -58,7 +59,8 @@ TakesInTime own trigger n sent first (t ∷ before) =
     × TakesInTime own trigger n sent first before
 
 -- so those of a board that its section's group sends it, behind what was queued in some turns before
-abbrev pub TakesSent : Machine → List Switch → List (List Level) → List Entry → ℕ → List Came → List BoardTurn → List BoardTurn → Type 0
+abbrev pub TakesSent : Machine → List Switch → List (List Level) → List Entry → ℕ → List Came → List BoardTurn
+    → List BoardTurn → Type 0
 TakesSent m switches pins entries b came turns early =
     TakesInTime (board_tick (clock_of (board_at m b))) (trigger_of m b) (length (queued_by early))
     (λ tick. SendsTimeout m switches b (length early) tick came) (first_state (board_at m b) pins b entries) turns

@@ -55,8 +55,8 @@ use Rattle.wire_scene.specs.declared.scene.Switch.{Switch}
 use Rattle.report_laws.specs.Checks.{check_cause}
 use Rattle.report_laws.specs.Cuts.{IsCutOf, cuts_in, lines_before, scene_line}
 use Rattle.report_laws.specs.Headline.{kind_of, moves_of, plan_by}
-use Rattle.report_laws.specs.Homes.{ShowsHomes}
-use Rattle.report_laws.specs.Promises.{FollowsPlanBy, IsCompleteOfMovesBy, sections_over}
+use Rattle.report_laws.proofs.Homes.{IsCompleteOfMovesBy, ShowsHomes}
+use Rattle.report_laws.specs.Promises.{FollowsPlanBy, sections_over}
 use Rattle.report_laws.specs.Shown.{begins, lines_behind, pulses_in, section_turn, sections_shown}
 use Rattle.report_laws.proofs.Inside.{kind_at, section_here, turn_front}
 use Rattle.report_laws.specs.Stands.{IsPlannedAlike}

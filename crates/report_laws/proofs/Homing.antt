@@ -61,7 +61,7 @@ use Rattle.session_laws.proofs.run_limits.Drifts.{drifts_low}
 use Rattle.session_laws.proofs.run_limits.Keeping.{gather_both, low_of, ready_by}
 use Rattle.session_laws.proofs.run_limits.Ticks.{lines_low}
 use Rattle.report_laws.specs.Checks.{check_cause}
-use Rattle.report_laws.specs.Homes.{ShowsHomes}
+use Rattle.report_laws.proofs.Homes.{ShowsHomes}
 use Rattle.report_laws.specs.Promises.{sections_over}
 use Rattle.report_laws.specs.Shown.{section_turn, sections_shown}
 use Rattle.report_laws.proofs.Inside.{some_behind}

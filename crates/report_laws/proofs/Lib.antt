@@ -24,6 +24,7 @@ pub mod Further
 pub mod Shorts
 pub mod Standing
 pub mod Low
+pub mod Homes
 pub mod Homed
 pub mod Linking
 pub mod Wide

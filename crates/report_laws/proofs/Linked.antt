@@ -103,8 +103,9 @@ use Rattle.session_laws.specs.clear_runs.Clear.{SendsAllSoon}
 use Rattle.session_laws.proofs.clear_runs.Clear.{run_through}
 use Rattle.session_laws.proofs.clear_runs.Stopped.{run_is_for}
 use Rattle.session_laws.proofs.clear_runs.Through.{sends_hold}
-use Rattle.report_laws.specs.Promises.{FollowsPlanBy, IsCauseOf, IsCompleteBefore, IsCompleteBy, IsCompleteOfMovesBefore, IsCompleteOfMovesBy, lines_line, sections_over}
-use Rattle.report_laws.specs.Homes.{ShowsBegun, ShowsHomes}
+use Rattle.report_laws.specs.Promises.{FollowsPlanBy, IsCauseOf, IsCompleteBefore, IsCompleteBy, lines_line, sections_over}
+use Rattle.report_laws.specs.Homes.{ShowsBegun}
+use Rattle.report_laws.proofs.Homes.{IsCompleteOfMovesBefore, IsCompleteOfMovesBy, ShowsHomes}
 use Rattle.report_laws.specs.Linked.{EndsFor, IsLinkReport, MeetPremise, ShowsText}
 use Rattle.report_laws.specs.page.Report.{Shows}
 use Rattle.report_laws.specs.Cuts.{HaveCuts}

@@ -4,7 +4,6 @@ use Rattle.plan_types.specs.declared.cause.Cause.{Cause}
 use Rattle.plan_types.specs.declared.cause.Cause.TheVariants as cause
 use Rattle.plan_types.specs.declared.machine.Machine.{Machine}
 use Rattle.plan_types.specs.declared.plan.Section.{Section}
-use Rattle.plan_types.specs.declared.plan.SectionKind.TheVariants.{Moves}
 use Rattle.plan_types.specs.Lines.{Clocks}
 use Rattle.plan_types.specs.Machines.{stepper_at}
 use Rattle.plan_types.specs.Plan.{Fits}
@@ -14,7 +13,7 @@ use Rattle.report_text.specs.declared.line.ReportLine.TheVariants as report
 use Rattle.report_text.specs.Text.{report_text}
 use Rattle.gcode_program.specs.Programs.{program_sections}
 use Rattle.report_laws.specs.Body.{section_lines}
-use Rattle.report_laws.specs.Headline.{kind_of, plan_by}
+use Rattle.report_laws.specs.Headline.{plan_by}
 use Rattle.report_text.specs.Written.{WritesAll, WritesFront}
 use Rattle.run_plans.specs.Lines.{pulses_of}
 use Rattle.report_laws.specs.Shown.{lines_behind, pulses_in, section_turn}
@@ -40,18 +39,6 @@ IsCompleteBy clocks m sections lines =
 abbrev pub IsCompleteBefore : List Clocks → Machine → List Section → List ReportLine → Type 0
 IsCompleteBefore clocks m sections lines =
     (i turn s other : ℕ) → section_turn i lines ≡ Some turn → s < length m.steppers → other < length m.steppers → (stepper_at m other).board ≡ (stepper_at m s).board →
-    pulses_of other (lines_behind (i + 1) lines) ≢ [] → length (pulses_in i s lines) ≡ length (plan_by clocks m sections i turn s)
-
--- Whole, of the sections of moves among others: there are as many of them as planned steps.
-abbrev pub IsCompleteOfMovesBy : List Clocks → Machine → List Section → List ReportLine → Type 0
-IsCompleteOfMovesBy clocks m sections lines =
-    (i turn s : ℕ) → section_turn i lines ≡ Some turn → kind_of sections i ≡ Moves → s < length m.steppers → length (pulses_in i s lines) ≡ length (plan_by clocks m sections i turn s)
-
--- Whole, of the sections of moves before a fault: there are as many of them as planned steps where, behind the line of the next section,
--- any stepper of the same board has a pulse.
-abbrev pub IsCompleteOfMovesBefore : List Clocks → Machine → List Section → List ReportLine → Type 0
-IsCompleteOfMovesBefore clocks m sections lines =
-    (i turn s other : ℕ) → section_turn i lines ≡ Some turn → kind_of sections i ≡ Moves → s < length m.steppers → other < length m.steppers → (stepper_at m other).board ≡ (stepper_at m s).board →
     pulses_of other (lines_behind (i + 1) lines) ≢ [] → length (pulses_in i s lines) ≡ length (plan_by clocks m sections i turn s)
 
 -- the section lines of some sections, of which the first may start in a turn: each section's number and kind, and the turn in

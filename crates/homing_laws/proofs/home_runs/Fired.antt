@@ -19,9 +19,10 @@ use Rattle.link_work.specs.Turn.{LinkState}
 use Rattle.trigger_group.specs.declared.order.Member.{Member}
 use Rattle.host_reactor.specs.Runs.{Came}
 use Rattle.board_runs.specs.Turns.{AreBoardTurns, BoardTurn, IsBoardOf, latest_state, stands_after}
+use Rattle.clock_runs.specs.Runs.{IsInRun}
 use Rattle.clock_runs.proofs.Lines.{as_long}
 use Rattle.homing_laws.specs.clear_boards.Hearing.{IsAble, TellAble}
-use Rattle.homing_laws.specs.home_runs.Moments.{AllComeSoon, AllFiredBefore, BeginsFrom, ComesSoon, HasTriggeredIn}
+use Rattle.homing_laws.specs.home_runs.Moments.{AllComeSoon, AllFiredBefore, BeginsFrom, ComesSoon, CouldAt, HasTriggeredIn}
 use Rattle.homing_laws.specs.home_runs.SetUps.{IsBoundIn, StopsAt}
 use Rattle.homing_laws.specs.home_runs.Timeouts.{BeginsBy, CouldUpTo, TakesSent, known_in, tick_in}
 use Rattle.homing_laws.specs.home_runs.Told.{IsMember}
@@ -129,6 +130,19 @@ module _ (m : Machine) (switches : List Switch) (pins : List (List Level)) (entr
           let state = same_state t.state s latest in
           let turn : s.turn ≡ length earlier = ap (λ (z : State). z.turn) (sym state) ∙ turn_is on t earlier (subst (AreBoardTurns (clock_of (board_at m b)) First) e are) in
           omega (arith, turn, counts)
+
+pub run_moments : (m : Machine) (switches : List Switch) (pins : List (List Level)) (entries : List Entry) (b : ℕ)
+    (came : List Came) (later : List BoardTurn) (t : BoardTurn) (middle past : List BoardTurn) (oid can reason clock : ℕ)
+    → IsInRun m switches pins entries b came (later ++ t ∷ (middle ++ past))
+    → (stands_after (first_state (board_at m b) pins b entries) past).core.link.up ≡ []
+    → HasAnswer (cmd.TrsyncState oid can reason clock) t.state.news → (can ≡ 0 → ⊥)
+    → (x : ℕ) × (board_tick (clock_of (board_at m b)) (length past) ≤ x)
+    × CouldAt oid x (stands_after (first_state (board_at m b) pins b entries) (later ++ t ∷ (middle ++ past))).core.board
+    × (clock ≡ x % 2 ^ 32)
+run_moments m switches pins entries b came later t middle past oid can reason clock r =
+    let F = IsRead m switches pins b came in
+    reports_moments (IsEndstop m b) F (board_at m b) pins b entries later t middle past oid can reason clock r.turns_are
+    (bring_fit m switches pins entries b F came (later ++ t ∷ (middle ++ past)) r (λ tick k. k))
 
 could_up_to : (m : Machine) (switches : List Switch) (pins : List (List Level)) (entries : List Entry) (b start u : ℕ)
     (came : List Came) (turns : List BoardTurn) → HasTriggeredIn m switches pins entries b start u came turns

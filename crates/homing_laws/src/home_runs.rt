@@ -1,6 +1,6 @@
 //! Homing over the turns of a run: a board, its link, and the group that it is a member of.
 
-ghost use Rattle.std.specs.Prelude.{◌≡◌, ◌<◌, ◌≤◌, ◌+◌, ◌++◌, ◌∷◌, ℕ, All, List, [], Option, Some, length, false, map, true};
+ghost use Rattle.std.specs.Prelude.{◌≡◌, ◌<◌, ◌≤◌, ◌+◌, ◌%◌, ◌^◌, ◌++◌, ◌∷◌, ℕ, All, List, [], Option, Some, length, false, map, true};
 ghost use Rattle.plan_types.specs.declared.levels.Level.{Level};
 ghost use Rattle.plan_types.specs.declared.machine.BoardDef.{BoardDef};
 ghost use Rattle.plan_types.specs.declared.machine.Machine.{Machine};
@@ -29,7 +29,7 @@ ghost use Rattle.plan_types.specs.Machines.{IsValidMachine, board_at};
 ghost use Rattle.plan_types.specs.Machines as machine;
 ghost use Rattle.homing_laws.specs.home_runs.Sections.{HomesFrom, IsAnswered, IsMoved, Moves, RestsInTime, SpoilsFew, TakesSetUp, queued_by};
 ghost use Rattle.homing_laws.specs.home_runs.SetUps.{AreInOrder, IsBoundIn, StopsAt};
-ghost use Rattle.homing_laws.specs.home_runs.Moments.{HasTriggeredIn};
+ghost use Rattle.homing_laws.specs.home_runs.Moments.{CouldAt, HasTriggeredIn};
 ghost use Rattle.homing_laws.specs.home_runs.Timeouts.{BeginsBy, CouldUpTo, EndsWith, TakesSent};
 ghost use Rattle.section_units.specs.Sections.{BoardSection};
 ghost use Rattle.trigger_group.specs.declared.order.Member.{Member};
@@ -203,6 +203,21 @@ pub fn moving_steppers_stop_with_their_trigger()
         slot_at (stands_after (first_state (board_at m b) pins b entries) (later ++ t ∷ (between ++ early))).core.board
         (trigger_of m b) ≡ Some slot → slot.trigger.can ≡ false →
         StopsAt m pins entries b stepper slot.trigger.tick (later ++ t ∷ (between ++ early)) (between ++ early) }
+{}
+
+/// The law of reports: whatever answer of a board comes to the host that tells of a trigger that it could trigger, it
+/// is of a moment when it could: it has the clock of a tick that the board came to, not before a turn as which began
+/// nothing that the board had said was under way; and where the trigger can't trigger, up to any later turn's end, it
+/// can't since this tick or a later one. This is so whatever happens on the lines.
+pub fn reports_are_of_moments()
+    ensures { (m : Machine) (switches : List Switch) (pins : List (List Level)) (entries : List Entry) (b : ℕ)
+        (came : List Came) (later : List BoardTurn) (t : BoardTurn) (middle past : List BoardTurn)
+        (oid can reason clock : ℕ) → IsInRun m switches pins entries b came (later ++ t ∷ (middle ++ past)) →
+        (stands_after (first_state (board_at m b) pins b entries) past).core.link.up ≡ [] →
+        HasAnswer (TrsyncState oid can reason clock) t.state.news → (can ≡ 0 → ⊥) →
+        (tick : ℕ) × (board_tick (clock_of (board_at m b)) (length past) ≤ tick) × CouldAt oid tick
+        (stands_after (first_state (board_at m b) pins b entries) (later ++ t ∷ (middle ++ past))).core.board ×
+        (clock ≡ tick % 2 ^ 32) }
 {}
 
 /// The law of groups, of homing sections: from the turn on in which a board took the command that binds a stepper

@@ -19,14 +19,14 @@ use Rattle.link_work.specs.Turn.{LinkState}
 use Rattle.trigger_group.specs.declared.order.Member.{Member}
 use Rattle.host_reactor.specs.Runs.{Came}
 use Rattle.board_runs.specs.Turns.{AreBoardTurns, BoardTurn, IsBoardOf, latest_state, stands_after}
+use Rattle.clock_runs.specs.Runs.{IsInRun}
 use Rattle.clock_runs.proofs.Lines.{as_long}
 use Rattle.homing_laws.specs.clear_boards.Hearing.{IsAble, TellAble}
-use Rattle.homing_laws.specs.home_runs.Moments.{AllComeSoon, AllFiredBefore, BeginsFrom, ComesSoon, HasTriggeredIn}
+use Rattle.homing_laws.specs.home_runs.Moments.{AllComeSoon, AllFiredBefore, BeginsFrom, ComesSoon, CouldAt, HasTriggeredIn}
 use Rattle.homing_laws.specs.home_runs.SetUps.{IsBoundIn, StopsAt}
 use Rattle.homing_laws.specs.home_runs.Timeouts.{BeginsBy, CouldUpTo, TakesSent, known_in, tick_in}
 use Rattle.homing_laws.specs.home_runs.Told.{IsMember}
 use Rattle.homing_laws.specs.home_runs.Windows.{HasAnswer}
-use Rattle.homing_laws.specs.switch_runs.Reading.{BringFit}
 use Rattle.homing_laws.specs.switch_runs.Runs.{IsEndstop, IsRead}
 use Rattle.homing_laws.proofs.fired_runs.Reported.{before_start}
 use Rattle.homing_laws.proofs.home_runs.Hearing.{stops_by_heard}
@@ -60,8 +60,21 @@ able_answer clocks turn when (n ∷ news) (inr t) =
 same_state : (s u : State) → s ∷ [] ≡ u ∷ [] → s ≡ u
 same_state s u e = cc
 
-module _ (m : Machine) (switches : List Switch) (pins : List (List Level)) (entries : List Entry) (b start u tick : ℕ) (F : ℕ → Type 0) (all : List BoardTurn)
-    (are : AreBoardTurns (clock_of (board_at m b)) (first_state (board_at m b) pins b entries) all) (fit : BringFit (IsEndstop m b) F pins all)
+pub run_moments : (m : Machine) (switches : List Switch) (pins : List (List Level)) (entries : List Entry) (b : ℕ)
+    (came : List Came) (later : List BoardTurn) (t : BoardTurn) (middle past : List BoardTurn) (oid can reason clock : ℕ)
+    → IsInRun m switches pins entries b came (later ++ t ∷ (middle ++ past))
+    → (stands_after (first_state (board_at m b) pins b entries) past).core.link.up ≡ []
+    → HasAnswer (cmd.TrsyncState oid can reason clock) t.state.news → (can ≡ 0 → ⊥)
+    → (x : ℕ) × (board_tick (clock_of (board_at m b)) (length past) ≤ x)
+    × CouldAt oid x (stands_after (first_state (board_at m b) pins b entries) (later ++ t ∷ (middle ++ past))).core.board
+    × (clock ≡ x % 2 ^ 32)
+run_moments m switches pins entries b came later t middle past oid can reason clock r =
+    let F = IsRead m switches pins b came in
+    reports_moments (IsEndstop m b) F (board_at m b) pins b entries later t middle past oid can reason clock r.turns_are
+    (bring_fit m switches pins entries b F came (later ++ t ∷ (middle ++ past)) r (λ tick k. k))
+
+module _ (m : Machine) (switches : List Switch) (pins : List (List Level)) (entries : List Entry) (b start u tick : ℕ)
+    (run : List Came) (all : List BoardTurn) (r : IsInRun m switches pins entries b run all)
     (fired : AllFiredBefore tick (stands_after (first_state (board_at m b) pins b entries) all).core.board) where
   abbrev First : LinkState
   First = first_state (board_at m b) pins b entries
@@ -80,11 +93,11 @@ module _ (m : Machine) (switches : List Switch) (pins : List (List Level)) (entr
       let own = board_tick (clock_of (board_at m b)) in
       let old = x.middle ++ x.past in
       let whole : all ≡ on ++ x.latest ∷ old = e ∙ ap (λ (l : List BoardTurn). on ++ l) x.are in
-      let turns_are = subst (AreBoardTurns (clock_of (board_at m b)) First) whole are in
+      let on_run = subst (IsInRun m switches pins entries b run) whole r in
       let state : x.latest.state ≡ s = same_state x.latest.state s (sym (ap latest_state x.are) ∙ latest) in
-      let turn : s.turn ≡ length old = ap (λ (z : State). z.turn) (sym state) ∙ turn_is on x.latest old turns_are in
+      let turn : s.turn ≡ length old = ap (λ (z : State). z.turn) (sym state) ∙ turn_is on x.latest old on_run.turns_are in
       let has = subst (λ (z : State). HasAnswer (cmd.TrsyncState a.oid a.can a.reason a.clock) z.news) (sym state) a.has in
-      let y = reports_moments (IsEndstop m b) F (board_at m b) pins b entries on x.latest x.middle x.past a.oid a.can a.reason a.clock turns_are (subst (BringFit (IsEndstop m b) F pins) whole fit) x.none has a.able in
+      let y = run_moments m switches pins entries b run on x.latest x.middle x.past a.oid a.can a.reason a.clock on_run x.none has a.able in
       let k = y.2 in
       let off = subst (λ (l : List BoardTurn). AllFiredBefore tick (stands_after First l).core.board) whole fired a.oid k.slot k.is in
       let since = k.fired off.0 in
@@ -127,15 +140,14 @@ module _ (m : Machine) (switches : List Switch) (pins : List (List Level)) (entr
       counted on [] s e latest counts = absurd (let l = ap length latest in omega (arith, l))
       counted on (t ∷ earlier) s e latest counts =
           let state = same_state t.state s latest in
-          let turn : s.turn ≡ length earlier = ap (λ (z : State). z.turn) (sym state) ∙ turn_is on t earlier (subst (AreBoardTurns (clock_of (board_at m b)) First) e are) in
+          let turn : s.turn ≡ length earlier = ap (λ (z : State). z.turn) (sym state) ∙ turn_is on t earlier (subst (AreBoardTurns (clock_of (board_at m b)) First) e r.turns_are) in
           omega (arith, turn, counts)
 
 could_up_to : (m : Machine) (switches : List Switch) (pins : List (List Level)) (entries : List Entry) (b start u : ℕ)
     (came : List Came) (turns : List BoardTurn) → HasTriggeredIn m switches pins entries b start u came turns
     → CouldUpTo m switches b start u came
 could_up_to m switches pins entries b start u came turns x =
-    let F = IsRead m switches pins b came in
-    could_then m switches pins entries b start u x.tick F turns x.run_is.turns_are (bring_fit m switches pins entries b F came turns x.run_is (λ tick k. k)) x.fired [] turns came refl x.run_is.both x.before x.soon
+    could_then m switches pins entries b start u x.tick came turns x.run_is x.fired [] turns came refl x.run_is.both x.before x.soon
 
 pub stops_by_fired : (m : Machine) (switches : List Switch) (pins others : List (List Level)) (entries : List Entry)
     (b s other : ℕ) (came : List Came)

@@ -72,7 +72,6 @@ happened_late x low until pins Nothing s next k = record {
 happened_late x low until pins (Expires at) s next k = record {
   told = k.told;
   moves = tt;
- 
   timeout = λ y e. absurd (cc);
   switch = λ y (z, can, is, there). absurd (cc);
   fired = λ f. k.timeout at next.0;
@@ -81,7 +80,6 @@ happened_late x low until pins (Expires at) s next k = record {
 happened_late x low until pins (Switches at) s next k = record {
   told = k.told;
   moves = tt;
- 
   timeout = λ y e. absurd (cc);
   switch = λ y (z, can, is, there). absurd (cc);
   fired = λ f. k.switch at next.0;

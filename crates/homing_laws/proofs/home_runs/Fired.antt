@@ -71,7 +71,7 @@ pub run_moments : (m : Machine) (switches : List Switch) (pins : List (List Leve
 run_moments m switches pins entries b came later t middle past oid can reason clock r =
     let F = IsRead m switches pins b came in
     reports_moments (IsEndstop m b) F (board_at m b) pins b entries later t middle past oid can reason clock r.turns_are
-    (bring_fit m switches pins entries b F came (later ++ t ∷ (middle ++ past)) r (λ tick k. k))
+    (bring_fit m switches pins entries b (λ (n : ℕ). F) came (later ++ t ∷ (middle ++ past)) r (λ tick k. k))
 
 module _ (m : Machine) (switches : List Switch) (pins : List (List Level)) (entries : List Entry) (b start u tick : ℕ)
     (run : List Came) (all : List BoardTurn) (r : IsInRun m switches pins entries b run all)

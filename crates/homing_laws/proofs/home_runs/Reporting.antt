@@ -222,7 +222,7 @@ module _ (E : ℕ → (ℕ → Type 0)) (F : ℕ → Type 0) (b : BoardDef) (pin
   First = first_state b pins place entries
 
   turn_hears : (low : ℕ) (t : BoardTurn) (before : List BoardTurn) → AreBoardTurns (clock_of b) First (t ∷ before)
-      → BringFit E F pins (t ∷ before)
+      → BringFit E (λ (n : ℕ). F) pins (t ∷ before)
       → Hears E F pins low (stands_after First before).core
       → (k : Hears E F pins low t.after.core)
       × ((oid can reason clock : ℕ) → HasAnswer (cmd.TrsyncState oid can reason clock) t.state.news → (can ≡ 0 → ⊥) → (x : ℕ) × (low ≤ x) × CouldAt oid x t.after.core.board × (clock ≡ x % 2 ^ 32))
@@ -239,14 +239,14 @@ module _ (E : ℕ → (ℕ → Type 0)) (F : ℕ → Type 0) (b : BoardDef) (pin
             (x.0, x.1, subst (λ (y : Core). CouldAt oid x.0 y.board) (sym came) stays.could, x.3),
       )
 
-  all_hear : (turns : List BoardTurn) → AreBoardTurns (clock_of b) First turns → BringFit E F pins turns
+  all_hear : (turns : List BoardTurn) → AreBoardTurns (clock_of b) First turns → BringFit E (λ (n : ℕ). F) pins turns
       → Hears E F pins 0 (stands_after First turns).core
   all_hear [] are fit = record { keeps = start_keeps E F F b pins; due = λ oid s at. absurd (none_some (slot_at (new_rig b pins) oid) s (none_at 256 oid) at); low_so = omega arith; told = tt }
   all_hear (t ∷ before) are fit = (turn_hears 0 t before are fit (all_hear before are.1 fit.1)).0
 
   -- from a turn on as which begins nothing is under way
   later_hear : (later past : List BoardTurn) → AreBoardTurns (clock_of b) First (later ++ past)
-      → BringFit E F pins (later ++ past) → (stands_after First past).core.link.up ≡ []
+      → BringFit E (λ (n : ℕ). F) pins (later ++ past) → (stands_after First past).core.link.up ≡ []
       → Hears E F pins (board_tick (clock_of b) (length past)) (stands_after First (later ++ past)).core
   later_hear [] past are fit none =
       let old = all_hear past are fit in
@@ -255,7 +255,7 @@ module _ (E : ℕ → (ℕ → Type 0)) (F : ℕ → Type 0) (b : BoardDef) (pin
   later_hear (t ∷ later) past are fit none = (turn_hears (board_tick (clock_of b) (length past)) t (later ++ past) are fit (later_hear later past are.1 fit.1 none)).0
 
   still_could : (o x : ℕ) (later past : List BoardTurn) → AreBoardTurns (clock_of b) First (later ++ past)
-      → BringFit E F pins (later ++ past) → CouldAt o x (stands_after First past).core.board
+      → BringFit E (λ (n : ℕ). F) pins (later ++ past) → CouldAt o x (stands_after First past).core.board
       → CouldAt o x (stands_after First (later ++ past)).core.board
   still_could o x [] past are fit k = k
   still_could o x (t ∷ later) past are fit k =
@@ -269,7 +269,7 @@ module _ (E : ℕ → (ℕ → Type 0)) (F : ℕ → Type 0) (b : BoardDef) (pin
   -- A report that a trigger could trigger is of a moment when it could, which is not before a turn as which began nothing was under way.
   pub reports_moments : (later : List BoardTurn) (t : BoardTurn) (middle past : List BoardTurn)
       (oid can reason clock : ℕ) → AreBoardTurns (clock_of b) First (later ++ t ∷ (middle ++ past))
-      → BringFit E F pins (later ++ t ∷ (middle ++ past))
+      → BringFit E (λ (n : ℕ). F) pins (later ++ t ∷ (middle ++ past))
       → (stands_after First past).core.link.up ≡ [] → HasAnswer (cmd.TrsyncState oid can reason clock) t.state.news
       → (can ≡ 0 → ⊥)
       → (x : ℕ) × (board_tick (clock_of b) (length past) ≤ x) × CouldAt oid x (stands_after First (later ++ t ∷ (middle ++ past))).core.board × (clock ≡ x % 2 ^ 32)
@@ -280,6 +280,6 @@ module _ (E : ℕ → (ℕ → Type 0)) (F : ℕ → Type 0) (b : BoardDef) (pin
       (x.0, x.1, still_could oid x.0 later (t ∷ old) are fit x.2, x.3)
     where
       cut_turns : (later past : List BoardTurn) → AreBoardTurns (clock_of b) First (later ++ past)
-          → BringFit E F pins (later ++ past) → AreBoardTurns (clock_of b) First past × BringFit E F pins past
+          → BringFit E (λ (n : ℕ). F) pins (later ++ past) → AreBoardTurns (clock_of b) First past × BringFit E (λ (n : ℕ). F) pins past
       cut_turns [] past are fit = (are, fit)
       cut_turns (u ∷ later) past are fit = cut_turns later past are.1 fit.1

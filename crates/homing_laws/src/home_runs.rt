@@ -197,8 +197,8 @@ pub fn set_ups_are_taken_in_order()
 /// and none at all where the trigger couldn't trigger as it was bound.
 pub fn moving_steppers_stop_with_their_trigger()
     ensures { (m : Machine) (switches : List Switch) (pins : List (List Level)) (entries : List Entry)
-        (b stepper : ℕ) (came : List Came) (later : List BoardTurn) (t : BoardTurn) (between early : List BoardTurn) (from start : ℕ)
-        (members : List Member) → IsValidMachine m →
+        (b stepper : ℕ) (came : List Came) (later : List BoardTurn) (t : BoardTurn) (between early : List BoardTurn)
+        (from start : ℕ) (members : List Member) → IsValidMachine m →
         IsBoundIn m switches pins entries b stepper came later t between early from start members → (slot : Slot) →
         slot_at (stands_after (first_state (board_at m b) pins b entries) (later ++ t ∷ (between ++ early))).core.board
         (trigger_of m b) ≡ Some slot → slot.trigger.can ≡ false →

@@ -247,16 +247,18 @@ none_own m switches begun k before (r ∷ rs) none ends = (
 )
 
 module _ (m : Machine) (v : IsValidMachine m) (s : Scene) (ts : List MotionTurn) (p : Plans m (length m.boards) ts) (end : ReactorTurn) (c : Cause) where
-  own_by : HaveShortDictionaries m → (o : Option Told) (first : ReactorTurn) (rest : List ReactorTurn) → Facts m s ts (first ∷ rest) end c → p.seen.told ≡ o → AllHomeLittle m s p.seen.text ts (first ∷ (rest ++ end ∷ [])) → AllHearSoon m s p.seen.text ts (first ∷ (rest ++ end ∷ []))
+  own_by : HaveShortDictionaries m → (o : Option Told) (begun : List Started) (first : ReactorTurn) (rest : List ReactorTurn) → Facts m s ts (first ∷ rest) end c → p.seen.told ≡ o → p.seen.begun ≡ begun → AllHomeLittle m s p.seen.text ts (first ∷ (rest ++ end ∷ [])) → AllHearSoon m s p.seen.text ts (first ∷ (rest ++ end ∷ []))
       → SendsOut m p.seen.text ts → TellEnds m s.switches p.seen.begun 0 (first ∷ rest) → TellOwn m s.switches [] (first ∷ rest)
-  own_by short None first rest f told little soon sends ends = none_own m s.switches p.seen.begun 0 [] (first ∷ rest) (not_told m v s ts p end c told) ends
-  own_by short (Some t) first rest f told little soon sends ends = own_turns m v s ts p t first rest end c told f short (λ b h w. little p t b refl told h w) soon sends [] (first ∷ rest) refl ends
+  own_by short None begun first rest f told are little soon sends ends = none_own m s.switches p.seen.begun 0 [] (first ∷ rest) (not_told m v s ts p end c told) ends
+  own_by short (Some t) [] first rest f told are little soon sends ends = none_own m s.switches p.seen.begun 0 [] (first ∷ rest) are ends
+  own_by short (Some t) (x ∷ begun) first rest f told are little soon sends ends =
+      own_turns m v s ts p t first rest end c told f short (λ b h w. little p t b refl told (λ none. in_none [] x begun p.seen.begun none are) h w) soon sends [] (first ∷ rest) refl ends
 
   all_own : HaveShortDictionaries m → (rs : List ReactorTurn) → Ended m s ts rs end c → AllHomeLittle m s p.seen.text ts (rs ++ end ∷ []) → AllHearSoon m s p.seen.text ts (rs ++ end ∷ []) → SendsOut m p.seen.text ts → TellOwn m s.switches [] rs
   all_own short [] e little soon sends = tt
   all_own short (first ∷ rest) e little soon sends =
       let ends = ends_front m s.switches p.seen.begun 0 (first ∷ rest) (end ∷ []) (all_ends m v s ts p end c (first ∷ rest) e) in
-      own_by short p.seen.told first rest e.facts refl little soon sends ends
+      own_by short p.seen.told p.seen.begun first rest e.facts refl refl little soon sends ends
 
 pub run_own : {F S : Type 0} (f : Files F) (o : Sink S) (m : Machine) (s : Scene) (name : List ℕ) (files files' : F) (out out' : S) (kept kept' : Kept) (t : near.Told Run) (r : RunsOver f o m s name files out kept t files' out' kept') → IsValidMachine m → HaveShortDictionaries m → (text : List ℕ)
     → f.told files name ≡ Some text → kept.at ≡ 0 → (t.cause ≡ cause.Memory → ⊥) → AllHomeLittle m s text r.runs.0 (r.runs.1 ++ r.runs.2 ∷ []) → AllHearSoon m s text r.runs.0 (r.runs.1 ++ r.runs.2 ∷ []) → SendsOut m text r.runs.0 → ∥ TellOwn m s.switches [] r.runs.1 ∥₁

@@ -1,5 +1,5 @@
 -- The boards of a whole run end for two reasons alone.
-use Rattle.std.proofs.Common.{All, ◌≡◌, ℕ, ◌<◌, List, [], ◌∷◌, ◌++◌, length, Option, Some, None, refl, sym, subst, arith, inl, inr}
+use Rattle.std.proofs.Common.{All, ◌≡◌, ◌≢◌, ℕ, ◌<◌, List, [], ◌∷◌, ◌++◌, length, Option, Some, None, refl, sym, subst, arith, inl, inr}
 use Rattle.std.proofs.Math.Logic.{∥∥₁_map}
 use Rattle.std.proofs.lemmas.List.Elements.{All-cons, All-nil}
 use Rattle.io_core.specs.declared.traits.Files.{Ghosts as Files}
@@ -47,7 +47,7 @@ use Rattle.session_laws.proofs.run_headline.Cutting.{run_front}
 use Rattle.session_laws.proofs.run_headline.Making.{front_made, run_made}
 use Rattle.session_laws.proofs.run_headline.Plain.{AllMoves, all_moves}
 use Rattle.session_laws.proofs.run_headline.Runs.{facts}
-use Rattle.session_laws.proofs.run_headline.Showing.{Facts, long, not_told, notes_before}
+use Rattle.session_laws.proofs.run_headline.Showing.{Facts, in_none, long, not_told, notes_before}
 use Rattle.session_laws.specs.run_lates.Late.{AllMayTell, MayTell}
 use Rattle.session_laws.proofs.run_lates.Boards as boards
 use Rattle.session_laws.proofs.run_lates.Moves as of_moves
@@ -80,15 +80,16 @@ module _ (m : Machine) (v : IsValidMachine m) (s : Scene) (ts : List MotionTurn)
     none_may e Running is = tt
     none_may e (Shut reason tick at) is = inr (controls_may (board_at m b) (pins_of (board_at m b) b s.switches) b s.entries (behind [] w.made) reason tick at w.turns_are (none_sent e) (none_controls e) is)
 
-    told_may : HaveShortDictionaries m → AllHomeLittle m s p.seen.text ts (first ∷ (rest ++ end ∷ [])) → (t : Told) → p.seen.told ≡ Some t → MayBe End_state
-    told_may short little t told =
-        let k = boards.on m v s ts p t first rest end c told f short b low w (little p t b refl told low w) in
+    told_may : HaveShortDictionaries m → AllHomeLittle m s p.seen.text ts (first ∷ (rest ++ end ∷ [])) → (t : Told) → p.seen.told ≡ Some t → p.seen.begun ≢ [] → MayBe End_state
+    told_may short little t told some =
+        let k = boards.on m v s ts p t first rest end c told f short b low w (little p t b refl told some low w) in
         may_at b s.entries (boards.By m v s ts p t first rest end c told f short) (length (rest ++ end ∷ [])) (cuts_on m t.clocks (length p.made) p.seen.begun b) (here_by m v s ts p t first rest end told (length p.made) b w) (stands_after (link_of m s b) (behind [] w.made)) k
         (turns_in_order (clock_of (board_at m b)) (link_of m s b) (behind [] w.made) w.turns_are)
 
-    pub may : HaveShortDictionaries m → AllHomeLittle m s p.seen.text ts (first ∷ (rest ++ end ∷ [])) → (o : Option Told) → p.seen.told ≡ o → MayBe End_state
-    may short little None e = none_may (not_told m v s ts p end c e) End_state refl
-    may short little (Some t) e = told_may short little t e
+    pub may : HaveShortDictionaries m → AllHomeLittle m s p.seen.text ts (first ∷ (rest ++ end ∷ [])) → (o : Option Told) (begun : List Started) → p.seen.told ≡ o → p.seen.begun ≡ begun → MayBe End_state
+    may short little None begun e are = none_may (not_told m v s ts p end c e) End_state refl
+    may short little (Some t) [] e are = none_may are End_state refl
+    may short little (Some t) (x ∷ begun) e are = told_may short little t e (λ none. in_none [] x begun p.seen.begun none are)
 
   -- so each of their states tells of none but these
   pub all_tell : ((b : ℕ) → b < length m.boards → (w : IsInWhole m s.switches b (clock_of (board_at m b)) (link_of m s b) ts first (rest ++ end ∷ [])) → MayBe (stands_after (link_of m s b) (behind [] w.made)).core.board.controller.state) → AllMayTell (first ∷ (rest ++ end ∷ []))
@@ -119,7 +120,7 @@ module _ (m : Machine) (v : IsValidMachine m) (s : Scene) (ts : List MotionTurn)
 home_tells : (m : Machine) (v : IsValidMachine m) (s : Scene) (ts : List MotionTurn) (p : Plans m (length m.boards) ts) (end : ReactorTurn) (c : Cause) (rs : List ReactorTurn) → Facts m s ts rs end c → HaveShortDictionaries m
     → AllHomeLittle m s p.seen.text ts (rs ++ end ∷ []) → AllMayTell (rs ++ end ∷ [])
 home_tells m v s ts p end c [] g short little = alone_tell m s ts end c g
-home_tells m v s ts p end c (first ∷ rest) g short little = all_tell m v s ts p end c first rest g (λ b low w. may m v s ts p end c first rest g b low w short little p.seen.told refl)
+home_tells m v s ts p end c (first ∷ rest) g short little = all_tell m v s ts p end c first rest g (λ b low w. may m v s ts p end c first rest g b low w short little p.seen.told p.seen.begun refl refl)
 
 near_tells : (m : Machine) (v : IsValidMachine m) (s : Scene) (ts : List MotionTurn) (p : Plans m (length m.boards) ts) (end : ReactorTurn) (c : Cause) (rs : List ReactorTurn) → Facts m s ts rs end c → HaveShortDictionaries m
     → AreOfMoves (program_sections m p.seen.text) → AllTakeNear m s p.seen.text ts (rs ++ end ∷ []) → AllMayTell (rs ++ end ∷ [])

@@ -76,7 +76,7 @@ use Rattle.session_laws.proofs.clear_runs.Punctual.{end_so, fair_turns}
 use Rattle.session_laws.proofs.home_headline.Board.{Homing, here_by}
 use Rattle.session_laws.proofs.home_headline.Good.{board_good}
 use Rattle.session_laws.proofs.run_headline.Boarded.{came_cut, valid_at}
-use Rattle.session_laws.proofs.run_headline.Showing.{Facts, long, not_told}
+use Rattle.session_laws.proofs.run_headline.Showing.{Facts, in_none, long, not_told}
 use Rattle.session_laws.specs.run_lates.Late.{ComesLate, ComesLateIn, HasFewUnits, HasLateUnit, HasLateUnitIn, held_by, spoiled_by}
 use Rattle.session_laws.proofs.run_lates.Boards as boards
 use Rattle.session_laws.proofs.run_lates.Due.{AreNearBy, orders_due, orders_of_due, parts_due, sections_due}
@@ -325,12 +325,13 @@ late_none m v s ts p end c first rest f b due arrival spoiled spill x none =
 
 module _ {F S : Type 0} (f : Files F) (o : Sink S) (m : Machine) (s : Scene) (name : List ℕ) (files files' : F) (out out' : S) (kept kept' : Kept) (t : near.Told Run) (r : RunsOver f o m s name files out kept t files' out' kept') (v : IsValidMachine m) (short : HaveShortDictionaries m)
     (b due arrival spoiled spill : ℕ) where
-  home_units : (p : Plans m (length m.boards) r.runs.0) (told : Option Told) → p.seen.told ≡ told → (rs : List ReactorTurn) → Facts m s r.runs.0 rs r.runs.2 t.cause → AllHomeLittle m s p.seen.text r.runs.0 (rs ++ r.runs.2 ∷ []) → SendsOut m p.seen.text r.runs.0 → (c : ComesLateIn m s b due arrival spoiled spill r.runs.0 rs r.runs.2)
+  home_units : (p : Plans m (length m.boards) r.runs.0) (told : Option Told) (begun : List Started) → p.seen.told ≡ told → p.seen.begun ≡ begun → (rs : List ReactorTurn) → Facts m s r.runs.0 rs r.runs.2 t.cause → AllHomeLittle m s p.seen.text r.runs.0 (rs ++ r.runs.2 ∷ []) → SendsOut m p.seen.text r.runs.0 → (c : ComesLateIn m s b due arrival spoiled spill r.runs.0 rs r.runs.2)
       → (heard : Told) × (p.seen.told ≡ Some heard) × HasLateUnitIn m s b due arrival spoiled spill r.runs.0 rs r.runs.2 heard.clocks p.seen.begun c
-  home_units p told is [] g little sends c = absurd c
-  home_units p None is (first ∷ rest) g little sends c = absurd (late_none m v s r.runs.0 p r.runs.2 t.cause first rest g b due arrival spoiled spill c (not_told m v s r.runs.0 p r.runs.2 t.cause is))
-  home_units p (Some heard) is (first ∷ rest) g little sends c =
-      (heard, is, home_unit m v s r.runs.0 p heard first rest r.runs.2 t.cause is g short b due arrival spoiled spill c (little p heard b refl is c.there c.w) (sends p heard b refl is c.there))
+  home_units p told begun is are [] g little sends c = absurd c
+  home_units p None begun is are (first ∷ rest) g little sends c = absurd (late_none m v s r.runs.0 p r.runs.2 t.cause first rest g b due arrival spoiled spill c (not_told m v s r.runs.0 p r.runs.2 t.cause is))
+  home_units p (Some heard) [] is are (first ∷ rest) g little sends c = absurd (late_none m v s r.runs.0 p r.runs.2 t.cause first rest g b due arrival spoiled spill c are)
+  home_units p (Some heard) (x ∷ begun) is are (first ∷ rest) g little sends c =
+      (heard, is, home_unit m v s r.runs.0 p heard first rest r.runs.2 t.cause is g short b due arrival spoiled spill c (little p heard b refl is (λ none. in_none [] x begun p.seen.begun none are) c.there c.w) (sends p heard b refl is c.there))
 
   near_units : (p : Plans m (length m.boards) r.runs.0) (told : Option Told) → p.seen.told ≡ told → (rs : List ReactorTurn) → Facts m s r.runs.0 rs r.runs.2 t.cause → AreOfMoves (program_sections m p.seen.text) → AllTakeNear m s p.seen.text r.runs.0 (rs ++ r.runs.2 ∷ [])
       → (c : ComesLateIn m s b due arrival spoiled spill r.runs.0 rs r.runs.2)
@@ -359,7 +360,7 @@ module _ {F S : Type 0} (f : Files F) (o : Sink S) (m : Machine) (s : Scene) (na
     run_home_units little sends =
         ∥∥₁_map (run_made f o m s name files files' out out' kept kept' t r text told at) (λ w.
         let Little : List ℕ → Type 0 = λ z. AllHomeLittle m s z r.runs.0 (r.runs.1 ++ r.runs.2 ∷ []) in
-        (w.0, w.1, late, home_units w.0.plans w.0.plans.seen.told refl r.runs.1 (facts f o m s name files files' out out' kept kept' t r other) (subst Little (sym w.1) little) (let Sends : List ℕ → Type 0 = λ z. SendsOut m z r.runs.0 in subst Sends (sym w.1) sends) late))
+        (w.0, w.1, late, home_units w.0.plans w.0.plans.seen.told w.0.plans.seen.begun refl refl r.runs.1 (facts f o m s name files files' out out' kept kept' t r other) (subst Little (sym w.1) little) (let Sends : List ℕ → Type 0 = λ z. SendsOut m z r.runs.0 in subst Sends (sym w.1) sends) late))
 
     pub run_near_units : AreOfMoves (program_sections m text) → AllTakeNear m s text r.runs.0 (r.runs.1 ++ r.runs.2 ∷ []) → ∥ ((made : IsMade m s r.runs.0 r.runs.1) × (made.plans.seen.text ≡ text) × (c : Late_in)
         × ((heard : Told) × (made.plans.seen.told ≡ Some heard) × IsLateUnit (parts_on m heard.clocks made.plans.seen.begun b) arrival due × (HasFewUnits m s b due arrival spoiled spill r.runs.0 r.runs.1 r.runs.2 c

@@ -1,30 +1,20 @@
 -- A run in three parts, and the pulses of its middle.
-use Rattle.std.proofs.Common.{◌≡◌, ℕ, ◌+◌, ◌<◌, ◌≤◌, List, [], ◌∷◌, ◌++◌, length, refl, ap, sym, ◌∙◌, subst, arith, append_assoc, append-nil}
-use Rattle.std.proofs.lemmas.List.Elements.{All-head, All-tail}
+use Rattle.std.proofs.Common.{◌≡◌, ℕ, ◌+◌, List, [], ◌++◌, length, refl, ap, sym, ◌∙◌, subst, arith, append_assoc, append-nil}
 use Rattle.plan_types.specs.declared.levels.Level.{Level}
 use Rattle.plan_types.specs.declared.machine.BoardDef.{BoardDef}
-use Rattle.plan_types.specs.declared.plan.Pulse.{Pulse}
-use Rattle.plan_types.specs.Lines.{Clocks}
-use Rattle.board_sim.specs.Fair.{only}
-use Rattle.board_sim.proofs.HaltedTime.{part_cut}
-use Rattle.board_sim.proofs.Steps.{only-append}
 use Rattle.board_world.specs.World.{Core, Step, AllFair, run, start}
 use Rattle.board_world.specs.Units.{AllFind}
 use Rattle.link_work.specs.Turn.{Orders}
 use Rattle.link_work.proofs.Sending.{run_append}
-use Rattle.run_laws.specs.Events.{AreTicks, AreTurnsOf}
-use Rattle.run_laws.specs.Known.{Sent, sent_in, unknown, known}
+use Rattle.run_laws.specs.Events.{AreTurnsOf}
+use Rattle.run_laws.specs.Known.{Sent, sent_in}
 use Rattle.run_laws.specs.Timely.{AllTimely}
-use Rattle.section_units.specs.Sections.{BoardSection, IsSection, section_steps, all_steps}
-use Rattle.run_laws.specs.Parts.{IsRun}
-use Rattle.run_laws.specs.Runs.{IsBoardRun, Begins, NextAfter, IsSpan}
-use Rattle.run_laws.proofs.Taking.{front_front}
+use Rattle.section_units.specs.Sections.{BoardSection}
+use Rattle.run_laws.specs.Runs.{IsSpan}
 use Rattle.run_laws.proofs.Running.{Plan, Holds}
 use Rattle.run_laws.proofs.Turning.{starts, turns_hold, timely_front, timely_behind}
-use Rattle.run_laws.proofs.Sectioning.{Splits}
-use Rattle.run_laws.proofs.Entering.{AreEarly}
 use Rattle.run_laws.proofs.Windows.{Makes, turns_make}
-use Rattle.run_laws.proofs.Spans.{plan_of, meant_front, AreLate, between_early, between_late, middle_begins, section_late, row_parts, past_early, later_late, all_split, steps_split, sent_in_append}
+use Rattle.run_laws.proofs.Spans.{sent_in_append}
 
 -- a run whose commands split as a plan says: the state at its end
 pub end_holds : (b : BoardDef) (pins : List (List Level)) (p : Plan) (os : List Orders) (steps : List Step) (rest : List Sent) → p.own 0 ≡ b.start → p.slots ≡ b.slots → AreTurnsOf p.own 0 os steps
@@ -88,61 +78,3 @@ parts b pins p s later before during behind first second third start_is slots sp
       makes = turns_make p a s1 s3 during second h1 span.second_turns k1 more t2;
       makes_on = turns_make p d (s1 ++ s2) [] behind third h2 span.third_turns k2 last t3;
     }
-
--- what is known of a section within a run
-pub record Around (own : ℕ → ℕ) (clocks : Clocks) (freq slots ready until a d : ℕ) (past : List BoardSection) (s : BoardSection) (later : List BoardSection) (oid : ℕ) : Type 0 where
-  pub past_made : AreEarly (own a) (all_steps oid past)
-  pub own_late : AreLate (own a) (section_steps oid s)
-  pub later_low : AreLate (own a) (all_steps oid later)
-  pub later_high : AreLate (own d) (all_steps oid later)
-  pub section : IsSection clocks freq slots s
-  pub low : ready ≤ s.end
-  pub soon : s.end < until
-
-pub around : (own : ℕ → ℕ) (clocks : Clocks) (freq slots ready : ℕ) (past : List BoardSection) (s : BoardSection) (later : List BoardSection) (os : List Orders) (a d : ℕ) → AreTicks own
-    → (r : IsRun own clocks freq slots ready (past ++ s ∷ later) os) → a + 1 ≡ s.start → a ≤ d → NextAfter d later → (oid : ℕ) → Around own clocks freq slots ready r.tracked.until a d past s later oid
-around own clocks freq slots ready past s later os a d ticks r begins order ends oid =
-    let P : BoardSection → Type 0 = λ y. IsSection clocks freq slots y in
-    let each = all_split P past (s ∷ later) r.sections in
-    let rows = row_parts r.tracked.until ready ready past s later (omega arith) r.row in
-    let i = All-head P s later each.1 in
-    let rest = All-tail P s later each.1 in
-    let (end, up, row) = rows.1 in
-    let low : ready + 260 ≤ s.start = omega (arith, up, row.0) in
-    record {
-      past_made = past_early own clocks freq slots ready s.start a oid past ticks r.tracked each.0 rows.0 (omega (arith, begins));
-      own_late = section_late own clocks freq slots ready a oid s ticks r.tracked i low (omega (arith, row.1, row.2)) (omega (arith, begins));
-      later_low = later_late own clocks freq slots ready s.end a oid later ticks r.tracked rest row.3 (omega (arith, low, row.1)) (next_down a d later order ends);
-      later_high = later_late own clocks freq slots ready s.end d oid later ticks r.tracked rest row.3 (omega (arith, low, row.1)) ends;
-      section = i;
-      low = omega (arith, low, row.1);
-      soon = row.2;
-    }
-  where
-    next_down : (a d : ℕ) (later : List BoardSection) → a ≤ d → NextAfter d later → NextAfter a later
-    next_down a d [] h n = tt
-    next_down a d (t ∷ later) h n = omega (arith, h, n)
-
--- the pulses of the middle begin the section's steps
-pub middle_is : (b : BoardDef) (pins : List (List Level)) (own : ℕ → ℕ) (clocks : Clocks) (ready : ℕ) (past : List BoardSection) (s : BoardSection) (later : List BoardSection) (before during behind : List Orders)
-    (first second third : List Step) (r : IsBoardRun b pins own clocks ready (past ++ s ∷ later) (before ++ (during ++ behind)) (first ++ (second ++ third)))
-    (span : IsSpan own s later before during behind first second third)
-    (x : Splits own b.slots (0 + length (before ++ (during ++ behind))) (sent_in 0 (before ++ (during ++ behind))) (λ oid. unknown) (λ oid. []) [] (past ++ s ∷ later))
-    (q : Parts (plan_of b own (sent_in 0 (before ++ (during ++ behind))) (past ++ s ∷ later) (0 + length (before ++ (during ++ behind))) r.ticks x) b pins before during behind first second third)
-    (oid : ℕ) → Begins (only oid q.makes.0) (section_steps oid s)
-middle_is b pins own clocks ready past s later before during behind first second third r span x q oid =
-    let a = length before in
-    let d = a + length during in
-    let p = plan_of b own (sent_in 0 (before ++ (during ++ behind))) (past ++ s ∷ later) (0 + length (before ++ (during ++ behind))) r.ticks x in
-    let w = around own clocks b.freq b.slots ready past s later (before ++ (during ++ behind)) a d r.ticks r.run_is span.begins (omega arith) span.ends oid in
-    let k = q.late_holds in
-    let cut = part_cut q.late.board.controller q.late.made q.late.meant k.kept oid in
-    let front = front_front (only oid q.late.meant) (known p.front oid).steps (all_steps oid (past ++ s ∷ later)) (meant_front p d (sent_in 0 before ++ sent_in a during) q.late k oid) (x.steps oid) in
-    let all = front_front (only oid q.late.made) (only oid q.late.meant) (all_steps oid (past ++ s ∷ later)) cut front in
-    let made : only oid q.late.made ≡ only oid q.mid.made ++ only oid q.makes.0 = ap (only oid) q.makes.1 ∙ only-append oid q.mid.made q.makes.0 in
-    let sofar : only oid q.mid.made ≡ only oid q.made.0 = ap (only oid) q.made.1 in
-    let At : List Pulse → Type 0 = λ y. AreEarly (own a) y in
-    middle_begins (own a) (own d) (only oid q.mid.made) (only oid q.makes.0) all.0 (all_steps oid past) (section_steps oid s) (all_steps oid later)
-    (subst At (sym sofar) (between_early (own 0) (own a) (only oid q.made.0) (q.made.2 oid))) (between_late (own a) (own d) (only oid q.makes.0) (q.makes.2 oid))
-    (between_early (own a) (own d) (only oid q.makes.0) (q.makes.2 oid)) w.past_made w.own_late w.later_low w.later_high
-    (ap (λ y. y ++ all.0) (sym made) ∙ all.1 ∙ steps_split oid past (s ∷ later))

@@ -4,7 +4,6 @@ use Rattle.std.proofs.lemmas.List.Elements.{All-nil, All-cons, All-head, All-tai
 use Rattle.std.proofs.lemmas.Bool.Decides.{leb_tells}
 use Rattle.std.specs.Prelude.{nat_le, if◌then◌else◌}
 use Rattle.plan_types.specs.declared.machine.BoardDef.{BoardDef}
-use Rattle.plan_types.specs.declared.plan.BoardState.{BoardState}
 use Rattle.plan_types.specs.declared.plan.Pulse.{Pulse}
 use Rattle.plan_types.specs.declared.plan.Planned.{Planned}
 use Rattle.plan_types.specs.Clock.{turn_ns}
@@ -16,7 +15,6 @@ use Rattle.link_work.specs.Turn.{Orders}
 use Rattle.link_work.specs.Runs.{queued_in}
 use Rattle.run_laws.specs.Events.{AreTicks}
 use Rattle.run_laws.specs.Known.{Sent, sent_at, sent_in, unknown, known_from, known}
-use Rattle.run_laws.specs.Ends.{MayBe}
 use Rattle.section_units.specs.Sections.{BoardSection, base_of, IsSection, section_steps, all_steps}
 use Rattle.run_laws.specs.Parts.{AreTracked, AreInARow}
 use Rattle.run_laws.specs.Runs.{Begins, NextAfter}
@@ -39,15 +37,6 @@ meant_front p turn sent h k oid = elim k.state [
       let e : known p.front oid ≡ known_from oid (known r.done oid) r.more = ap (λ x. known x oid) (sym r.front_is) ∙ known_append oid unknown r.done r.more in
       rw (r.meant oid, e) (all_grow oid (known r.done oid) r.more)
   | inr e ↦ e.meant oid
-]
-
-pub may_be : (p : Plan) (turn : ℕ) (sent : List Sent) (h : Core) → Holds p turn sent h → MayBe h.board.controller.state
-may_be p turn sent h k = elim k.state [
-  | inl r ↦ let At : BoardState → Type 0 = λ o. MayBe o in subst At (sym r.fits.steppers.running) tt
-  | inr e ↦
-      let (reason, tick, first, state, may) = e.shut in
-      let At : BoardState → Type 0 = λ o. MayBe o in
-      subst At (sym state) may
 ]
 
 -- Of lists of pulses, those from a tick on.
@@ -95,14 +84,6 @@ between_early low high (p ∷ ps) a = (a.1, between_early low high ps a.2)
 pub between_late : (low high : ℕ) (ps : List Pulse) → AreBetween low high ps → AreLate low ps
 between_late low high [] a = tt
 between_late low high (p ∷ ps) a = (a.0, between_late low high ps a.2)
-
-pub late_behind : (x : ℕ) (ps qs : List Pulse) → AreLate x (ps ++ qs) → AreLate x qs
-late_behind x [] qs a = a
-late_behind x (p ∷ ps) qs a = late_behind x ps qs a.1
-
-pub early_front : (x : ℕ) (ps qs : List Pulse) → AreEarly x (ps ++ qs) → AreEarly x ps
-early_front x [] qs a = tt
-early_front x (p ∷ ps) qs a = (a.0, early_front x ps qs a.1)
 
 pub early_behind : (x : ℕ) (ps qs : List Pulse) → AreEarly x (ps ++ qs) → AreEarly x qs
 early_behind x [] qs a = a
@@ -165,15 +146,6 @@ row_parts until ready e (t ∷ past) s later low r =
   where
     flatten : RowParts until ready t.end past s later → AreEnded until ready s.start past × (end : ℕ) × (t.end ≤ end) × AreInARow until end (s ∷ later)
     flatten x = (x.0, x.1.0, x.1.1, x.1.2)
-
-pub past_early : (own : ℕ → ℕ) (clocks : Clocks) (freq slots ready x n oid : ℕ) (past : List BoardSection) → AreTicks own → (tracked : AreTracked own clocks ready) → All (IsSection clocks freq slots) past → AreEnded tracked.until ready x past → x ≤ n + 1
-    → AreEarly (own n) (all_steps oid past)
-past_early own clocks freq slots ready x n oid [] ticks tracked i e h = tt
-past_early own clocks freq slots ready x n oid (s ∷ past) ticks tracked i e h =
-    let P : BoardSection → Type 0 = λ y. IsSection clocks freq slots y in
-    early_append (own n) (section_steps oid s) (all_steps oid past)
-    (section_early own clocks freq slots ready n oid s ticks tracked (All-head P s past i) e.0 e.2 (omega (arith, e.1, h)))
-    (past_early own clocks freq slots ready x n oid past ticks tracked (All-tail P s past i) e.3 h)
 
 pub later_late : (own : ℕ → ℕ) (clocks : Clocks) (freq slots ready e n oid : ℕ) (later : List BoardSection) → AreTicks own → (tracked : AreTracked own clocks ready) → All (IsSection clocks freq slots) later → AreInARow tracked.until e later → ready ≤ e
     → NextAfter n later → AreLate (own n) (all_steps oid later)

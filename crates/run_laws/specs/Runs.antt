@@ -1,15 +1,12 @@
 -- A board and its link over the turns of a run.
-use Rattle.std.specs.Prelude.{◌≡◌, ℕ, ◌+◌, ◌<◌, ◌≤◌, List, [], ◌∷◌, ◌++◌, length, take}
-use Rattle.std.specs.List.{flat_map}
+use Rattle.std.specs.Prelude.{◌≡◌, ℕ, ◌+◌, ◌<◌, ◌≤◌, List, [], ◌∷◌, ◌++◌, length}
 use Rattle.plan_types.specs.declared.machine.BoardDef.{BoardDef}
 use Rattle.plan_types.specs.declared.levels.Level.{Level}
 use Rattle.plan_types.specs.declared.plan.Pulse.{Pulse}
 use Rattle.plan_types.specs.Lines.{Clocks}
 use Rattle.step_feed.specs.Pacing.{Release}
-use Rattle.board_sim.specs.Fair.{Meant}
 use Rattle.board_world.specs.World.{Core, Step, start}
 use Rattle.link_work.specs.Turn.{Orders}
-use Rattle.link_work.specs.Runs.{queued_in}
 use Rattle.run_laws.specs.Events.{AreTicks, AreTurnsOf}
 use Rattle.run_laws.specs.Timely.{AllTimely}
 use Rattle.section_units.specs.Sections.{BoardSection}
@@ -28,12 +25,6 @@ pub record IsBoardRun (b : BoardDef) (pins : List (List Level)) (own : ℕ → �
 abbrev pub Begins : List Pulse → List Pulse → Type 0
 Begins ps qs = (rest : List Pulse) × (ps ++ rest ≡ qs)
 
--- each pulse has a later tick than the one before it
-abbrev pub AreRising : List Pulse → Type 0
-AreRising [] = Unit {0}
-AreRising (p ∷ []) = Unit {0}
-AreRising (p ∷ q ∷ ps) = (p.tick < q.tick) × AreRising (q ∷ ps)
-
 -- the pulses that were made from a state to a later one
 abbrev pub Made : Core → Core → List Pulse → Type 0
 Made before after pulses = after.made ≡ before.made ++ pulses
@@ -51,10 +42,6 @@ pub record IsSpan (own : ℕ → ℕ) (s : BoardSection) (later : List BoardSect
   pub third_turns : AreTurnsOf own (length before + length during) behind third
   pub begins : length before + 1 ≡ s.start
   pub ends : NextAfter (length before + length during) later
-
--- a board took all that was queued before a turn
-abbrev pub TookBefore : ℕ → List Orders → Core → Type 0
-TookBefore turn os h = (more : List Meant) × (flat_map queued_in (take turn os) ++ more ≡ h.taken)
 
 -- sections whose steps are all made by a turn: it is five turns behind their ends
 abbrev pub AreOver : ℕ → List BoardSection → Type 0

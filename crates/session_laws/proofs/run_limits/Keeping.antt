@@ -24,7 +24,8 @@ use Rattle.session_laws.specs.run_ends.Boards.{board_in, boards_of, counts_of}
 use Rattle.session_laws.specs.run_ends.Ends.{GoesThrough}
 use Rattle.session_laws.proofs.run_ends.Ending.{own_cause}
 use Rattle.session_laws.specs.run_headline.Further.{TellFurther}
-use Rattle.session_laws.specs.run_headline.Timely.{ShowPlans, clocks_heard, ready_heard}
+use Rattle.session_laws.specs.run_headline.Timely.{clocks_heard, ready_heard}
+use Rattle.session_laws.specs.home_headline.Follow.{ShowBegun}
 use Rattle.session_laws.proofs.run_headline.Boarded.{ready}
 use Rattle.session_laws.proofs.run_headline.Showing.{Facts, long_own}
 use Rattle.session_laws.specs.run_limits.Limits.{AreLow, DriftsLow, greatest_tick, start_limit}
@@ -64,7 +65,7 @@ none_of (s ∷ begun) some e = cc
 
 module _ (m : Machine) (v : IsValidMachine m) (s : Scene) (ts : List MotionTurn) (p : Plans m (length m.boards) ts) (end : ReactorTurn) (c : Cause) (through : GoesThrough c) (sections : program_sections m p.seen.text ≢ []) where
   -- a run of one turn doesn't go through
-  pub none_alone : ShowPlans m p.seen (clocks_heard p.seen.told) (ready_heard p.seen.told) c end [] → ⊥
+  pub none_alone : ShowBegun m p.seen (clocks_heard p.seen.told) (ready_heard p.seen.told) c end [] → ⊥
   none_alone shows =
       let th = shows.through through in
       by p.seen.begun (none_of p.seen.begun (λ e. sections (sym th.all ∙ e))) th.over
@@ -73,7 +74,7 @@ module _ (m : Machine) (v : IsValidMachine m) (s : Scene) (ts : List MotionTurn)
       by [] some over = some refl
       by (x ∷ begun) some over = (let late = over 0 x (omega arith) in absurd (omega (arith, late)))
 
-  module _ (first : ReactorTurn) (rest : List ReactorTurn) (f : Facts m s ts (first ∷ rest) end c) (shows : ShowPlans m p.seen (clocks_heard p.seen.told) (ready_heard p.seen.told) c first (rest ++ end ∷ [])) where
+  module _ (first : ReactorTurn) (rest : List ReactorTurn) (f : Facts m s ts (first ∷ rest) end c) (shows : ShowBegun m p.seen (clocks_heard p.seen.told) (ready_heard p.seen.told) c first (rest ++ end ∷ [])) where
     some : p.seen.begun ≢ []
     some = none_of p.seen.begun (λ e. sections (sym (shows.through through).all ∙ e))
 
@@ -110,8 +111,8 @@ module _ (m : Machine) (v : IsValidMachine m) (s : Scene) (ts : List MotionTurn)
             let small = p.small in
             let many = length-append rest (end ∷ []) in
             let own = long_own m v s ts p end c first rest f (own_cause c through) in
-            let Tell : Option Told → Type 0 = λ o. TellFurther m (clocks_heard o) (length (rest ++ end ∷ [])) c (gather (λ t. t.lines) (first ∷ (rest ++ end ∷ []))) in
-            drifts_low m v s ts p t first rest end e (ready m v s ts p t first rest end e f.ahead f.words_left f.turns f.words) (λ b h. f.boards b first rest h refl) (omega (arith, made, small, many, own)) (length (rest ++ end ∷ [])) c (gather (λ t. t.lines) (first ∷ (rest ++ end ∷ []))) (subst Tell e (shows.further some))
+            let Tell : Option Told → Type 0 = λ o. TellFurther m (clocks_heard o) (length (rest ++ end ∷ []) + 271) c (gather (λ t. t.lines) (first ∷ (rest ++ end ∷ []))) in
+            drifts_low m v s ts p t first rest end e (ready m v s ts p t first rest end e f.ahead f.words_left f.turns f.words) (λ b h. f.boards b first rest h refl) (omega (arith, made, small, many, own)) (length (rest ++ end ∷ []) + 271) c (gather (λ t. t.lines) (first ∷ (rest ++ end ∷ []))) (subst Tell e (shows.further some))
 
     pub run_low : AreLow (gather (λ t. t.lines) (first ∷ (rest ++ end ∷ [])))
     run_low =

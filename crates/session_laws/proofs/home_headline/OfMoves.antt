@@ -1,5 +1,6 @@
 -- A run of moves that takes all near holds nothing long, as one in which axes home.
-use Rattle.std.proofs.Common.{◌≡◌, ℕ, List, [], ◌∷◌, ◌++◌, length, None, Some, sym, ◌∙◌, subst, inl, inr}
+use Rattle.std.proofs.Common.{◌≡◌, ℕ, false, List, [], ◌∷◌, ◌++◌, length, None, Some, ap, sym, ◌∙◌, subst, inl, inr}
+use Rattle.std.proofs.Math.Logic.{∥∥₁_map}
 use Rattle.gcode_program.specs.Programs.{program_sections}
 use Rattle.plan_types.specs.declared.cause.Cause.{Cause}
 use Rattle.plan_types.specs.declared.cause.Cause.TheVariants as cause
@@ -10,22 +11,32 @@ use Rattle.io_core.specs.declared.traits.Sink.{Ghosts as Sink}
 use Rattle.wire_scene.specs.declared.scene.Scene.{Scene}
 use Rattle.wire_scene.specs.declared.scene.Switch.{Switch}
 use Rattle.axis_homing.specs.declared.homing.Homing.{Homing}
-use Rattle.host_reactor.specs.Reactor.{Run}
+use Rattle.host_reactor.specs.declared.ordered.Known.{Known}
+use Rattle.host_reactor.specs.Reactor.{Run, reacts}
 use Rattle.host_reactor.specs.Runs.{Came, GoesOn, known_by}
 use Rattle.board_runs.specs.Turns.{BoardTurn}
 use Rattle.session_lanes.specs.declared.near.Told.{Told}
 use Rattle.session_work.specs.declared.table.MotionTurn.{MotionTurn}
 use Rattle.session_work.specs.declared.table.ReactorTurn.{ReactorTurn}
+use Rattle.session_work.specs.Rows.{gather}
 use Rattle.session_desk.specs.declared.tell.Kept.{Kept}
+use Rattle.session_run.specs.Boards.{came_from}
 use Rattle.session_run.specs.Runs.{RunsOver}
 use Rattle.run_boards.specs.Boards.{behind}
+use Rattle.run_plans.specs.Planned.{Plans}
 use Rattle.homing_laws.specs.fired_runs.Since.{AllReadTrue, AreReadTrue}
+use Rattle.session_laws.specs.run_ends.Ends.{GoesThrough}
 use Rattle.session_laws.specs.run_headline.Timely.{AllTakeNear, AreOfMoves}
+use Rattle.session_laws.specs.run_headline.Told.{AreTold}
+use Rattle.session_laws.proofs.run_ends.Ending.{own_cause}
+use Rattle.session_laws.proofs.run_headline.Making.{run_made}
+use Rattle.session_laws.proofs.run_headline.Telling.{turns_told}
+use Rattle.session_laws.proofs.run_limits.Runs.{in_memory}
 use Rattle.session_laws.proofs.run_headline.Boarded.{came_cut}
 use Rattle.session_laws.proofs.run_headline.Cutting.{run_front, same_front}
 use Rattle.session_laws.proofs.run_headline.Plain.{AllMoves, all_moves, known_none, noted_none}
 use Rattle.session_laws.proofs.run_headline.Runs.{facts}
-use Rattle.session_laws.proofs.run_headline.Showing.{Facts, kinds, long, none_told, notes_before}
+use Rattle.session_laws.proofs.run_headline.Showing.{Facts, alone_ends, kinds, long, long_own, none_told, notes_before, took_notes}
 use Rattle.session_laws.specs.home_headline.Little.{AllHomeLittle}
 
 -- where no homing section is ever known, no report counts for one
@@ -54,6 +65,16 @@ near_little m v s text ts (first ∷ rest) end c f moves near = λ p t b same to
       | inr z ↦ absurd (some z.none)
     ]
 
+-- its lines are such as a reactor tells that homes nothing
+own_lines : (m : Machine) (v : IsValidMachine m) (s : Scene) (ts : List MotionTurn) (p : Plans m (length m.boards) ts) (rs : List ReactorTurn) (end : ReactorTurn) (c : Cause) → Facts m s ts rs end c → AreOfMoves (program_sections m p.seen.text) → GoesThrough c
+    → AreTold false m (gather (λ t. t.lines) (rs ++ end ∷ []))
+own_lines m v s ts p [] end c f moves through = absurd (alone_ends m v s ts p end c f through)
+own_lines m v s ts p (first ∷ rest) end c f moves through =
+    let own = f.own (own_cause c through) in
+    let is = f.lines_are ∙ ap (λ (k : Known). (reacts m s.switches k (length (came_from [] (first ∷ rest))) end.states end.note).ordered.lines) own.0 in
+    let notes = took_notes m v s ts p end c first rest f (long_own m v s ts p end c first rest f (own_cause c through)) in
+    turns_told m s.switches [] (first ∷ rest) end f.turns tt (all_moves m p.seen.text p.seen.begun p.made first (rest ++ end ∷ []) (kinds m v s ts p end c first rest f moves) p.put notes) is
+
 module _ {F S : Type 0} (f : Files F) (o : Sink S) (m : Machine) (s : Scene) (name : List ℕ) (files files' : F) (out out' : S) (kept kept' : Kept) (t : Told Run) (r : RunsOver f o m s name files out kept t files' out' kept') (v : IsValidMachine m) (text : List ℕ) (moves : AreOfMoves (program_sections m text)) where
   pub run_near_little : (t.cause ≡ cause.Memory → ⊥) → AllTakeNear m s text r.runs.0 (r.runs.1 ++ r.runs.2 ∷ []) → AllHomeLittle m s text r.runs.0 (r.runs.1 ++ r.runs.2 ∷ [])
   run_near_little other near = near_little m v s text r.runs.0 r.runs.1 r.runs.2 t.cause (facts f o m s name files files' out out' kept kept' t r other) moves near
@@ -66,3 +87,9 @@ module _ {F S : Type 0} (f : Files F) (o : Sink S) (m : Machine) (s : Scene) (na
       let same : part.planned ≡ front = same_front part.planned front part.later later (sym part.are ∙ are) (part.long ∙ sym long) in
       let Of : List MotionTurn → Type 0 = λ z. Facts m s z turns last cause.ReadFault in
       near_little m v s text front turns last cause.ReadFault (subst Of same part.facts) moves near
+
+  pub run_own_lines : f.told files name ≡ Some text → kept.at ≡ 0 → GoesThrough t.cause → ∥ AreTold false m (gather (λ t. t.lines) (r.runs.1 ++ r.runs.2 ∷ [])) ∥₁
+  run_own_lines told at through =
+      ∥∥₁_map (run_made f o m s name files files' out out' kept kept' t r text told at) (λ w.
+      let Moves : List ℕ → Type 0 = λ z. AreOfMoves (program_sections m z) in
+      own_lines m v s r.runs.0 w.0.plans r.runs.1 r.runs.2 t.cause (facts f o m s name files files' out out' kept kept' t r (in_memory t.cause through)) (subst Moves (sym w.1) moves) through)

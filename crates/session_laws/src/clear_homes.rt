@@ -63,8 +63,8 @@ pub fn clear_runs_with_switches_go_through<F: Files, S: Sink>()
         GoesThrough t.cause }
 {}
 
-/// The law of texts of moves: they have no homing sections, so that nothing is asked of their switches (`AllClose`), and a run of such a text goes
-/// through.
+/// The law of texts of moves: they have no homing sections, so that nothing is asked of their switches (`AllClose`).
+/// So a clear run of such a text goes through.
 pub fn texts_of_moves_close()
     ensures { (m : Machine) (s : Scene) (text : List ℕ) (planned : List MotionTurn) → AreOfMoves (program_sections m text) → AllClose m s text planned }
 {}

@@ -113,9 +113,10 @@ pub fn homing_runs_show_their_sections<F: Files, S: Sink>()
         AllShowHomes m made.plans.seen (clocks_heard made.plans.seen.told) (ready_heard made.plans.seen.told) t.cause (r.runs.1 ++ r.runs.2 ∷ []))) ∥₁ }
 {}
 
-/// The law of runs of moves: where each board of such a run takes all near (`AllTakeNear`), each holds nothing long, as one of a run in which axes
-/// home may (`AllHomeLittle`): in all turns of a run that does not end for want of memory, and in those before the last one of any run, by what the
-/// planner made up to then. And each takes all near where no line holds a command for long (`HoldsNothingLong`).
+/// The law of runs of moves: where each board of such a run takes all near (`AllTakeNear`), each holds nothing long, as
+/// one of a run in which axes home may (`AllHomeLittle`): in all turns of a run that does not end for want of memory,
+/// and in those before the last one of any run, by what the planner made up to then. And each takes all near where no
+/// line holds a command for long (`HoldsNothingLong`).
 pub fn runs_of_moves_hold_little<F: Files, S: Sink>()
     ensures little { (m : Machine) (s : Scene) (name : List ℕ) (files files' : F) (out out' : S) (kept kept' : Kept) (t : Told Run) →
         (r : RunsOver F.Files S.Sink m s name files out kept t files' out' kept') → IsValidMachine m → (text : List ℕ) → AreOfMoves (program_sections m text) → (t.cause ≡ Cause.Memory → ⊥) →
@@ -129,8 +130,8 @@ pub fn runs_of_moves_hold_little<F: Files, S: Sink>()
         (t.cause ≡ Cause.Memory → ⊥) → HoldsNothingLong m s text r.runs.0 (r.runs.1 ++ r.runs.2 ∷ []) → AllTakeNear m s text r.runs.0 (r.runs.1 ++ r.runs.2 ∷ []) }
 {}
 
-/// The law of a run's lines, where it is of moves: where it went through they are such as a reactor tells that homes nothing, so that none tells of
-/// a switch (`AreTold`).
+/// The law of the lines of a run of moves: where it went through, they are such as a reactor tells that homes nothing,
+/// so that none tells of a switch (`AreTold`).
 pub fn runs_of_moves_tell_no_switch<F: Files, S: Sink>()
     ensures { (m : Machine) (s : Scene) (name : List ℕ) (files files' : F) (out out' : S) (kept kept' : Kept) (t : Told Run) →
         (r : RunsOver F.Files S.Sink m s name files out kept t files' out' kept') → IsValidMachine m → (text : List ℕ) → F.told files name ≡ Some text → kept.at ≡ 0 →

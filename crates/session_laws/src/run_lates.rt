@@ -49,9 +49,9 @@ pub fn late_runs_tell_of_their_units<F: Files, S: Sink>()
 {}
 
 /// The law of shutdowns: in whatever threads a run went, in any scene, each state that came to the reactor tells of no shutdown, or of one for steps
-/// that came too late or for the order to stop, where each board holds nothing long (`AllHomeLittle`). So no queue is ever full, no clock is set
-/// while steps pend, and no steps have no count. It holds in all turns of a run that does not end for want of memory, and in those before the last
-/// one of any run, by what the planner made up to then.
+/// that came too late or for the order to stop, where each board holds nothing long (`AllHomeLittle`). So no queue is ever full,
+/// no clock is set while steps pend, and no steps have no count. It holds in all turns of a run that does not end for
+/// want of memory, and in those before the last one of any run, by what the planner made up to then.
 pub fn boards_of_runs_end_for_two_reasons<F: Files, S: Sink>()
     ensures whole { (m : Machine) (s : Scene) (name : List ℕ) (files files' : F) (out out' : S) (kept kept' : Kept) (t : Told Run) →
         (r : RunsOver F.Files S.Sink m s name files out kept t files' out' kept') → IsValidMachine m → HaveShortDictionaries m → (text : List ℕ) → F.told files name ≡ Some text → kept.at ≡ 0 →

@@ -11,8 +11,9 @@ ghost use Rattle.session_laws.specs.home_headline.Follow.{HaveBegunLines};
 
 use plan_types::Cause;
 
-/// The law of due lines: where sections of a text of moves have their line in the report of a whole run (`HaveBegunLines`), they are the first ones of
-/// the text, in their order, each in the turn in which it is due by the clock lines; and all of them where the run went through.
+/// The law of due lines: where sections of a text of moves have their line in the report of a whole run
+/// (`HaveBegunLines`), they are the first ones of the text, in their order, each in the turn in which it is due by the
+/// clock lines; and all of them where the run went through.
 pub fn sections_have_their_lines()
     ensures { (m : Machine) (text : List ℕ) (clocks : List Clocks) (ready : ℕ) (c : Cause) (lines : List ReportLine) →
         HaveBegunLines m text clocks ready c lines → AreOfMoves (program_sections m text) → HaveTheirLines m text clocks ready c lines }

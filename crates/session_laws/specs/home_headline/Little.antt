@@ -42,7 +42,8 @@ pub record HomesLittle (m : Machine) (s : Scene) (b : ℕ) (planned : List Motio
       (turns_told (clock_of (board_at m b)) 0 (orders_of w.made) (states_of w.made) (link_of m s b) (stands_after (link_of m s b) (behind [] w.made)) w.told))
   pub sets_up : ((s.entries ≡ []) × AreOut turns (runs_on m t.clocks begun b)) ⊎ (TakeSetUps m (pins_of (board_at m b) b s.switches) s.entries b begun (behind [] w.made) ⊎ AllReadTrue m s.switches b (came_before [] (first ∷ rest)) (behind [] w.made))
 
--- so each board of a whole run of a text, of which the planner made some turns and the reactor these, where it begun a section
+-- so each board of a whole run of a text, of which the planner made some turns and the reactor these, where a section
+-- was begun
 abbrev pub AllHomeLittle : Machine → Scene → List ℕ → List MotionTurn → List ReactorTurn → Type 0
 AllHomeLittle m s text planned [] = Unit {0}
 AllHomeLittle m s text planned (first ∷ rest) =

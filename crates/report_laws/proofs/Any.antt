@@ -22,25 +22,30 @@ use Rattle.report_laws.specs.Linked.{IsLinkReport}
 use Rattle.report_laws.specs.Read.{IsSceneFor}
 use Rattle.cause_runs.proofs.ShortNames.{short_dictionaries}
 use Rattle.plan_types.specs.Machines.{IsValidMachine}
+use Rattle.session_laws.proofs.home_headline.OfMoves.{run_near_little}
 use Rattle.session_laws.proofs.home_headline.Shows.{run_shows}
+use Rattle.session_laws.proofs.run_headline.Runs.{run_near}
 use Rattle.std.proofs.Math.Logic.{∥∥₁_elim}
 use Rattle.std.proofs.Props.{props}
 use Rattle.report_laws.proofs.Configured.{names-of-reading}
 use Rattle.report_laws.proofs.Homing.{home-links}
-use Rattle.report_laws.proofs.Linking.{link-checks, same-log, written-whole}
+use Rattle.report_laws.proofs.Linking.{same-log, written-whole}
 use Rattle.report_laws.proofs.Scenes.{scene_under}
 use Rattle.report_laws.proofs.WithoutSections.{none-links}
 
 module _ {F S : Type 0} (f : Files F) (o : Sink S) (printer : List ℕ) (m : Machine) (s : Scene) (gcode : List ℕ) (files files' : F) (out out' : S) (c : Cause) (lines : List ReportLine) (counts : List ℕ) (links : List LinkLog) (configured : reading printer ≡ Ok m)
-    (r : IsLinkReport f o m s gcode files files' out out' c lines counts links) (text : List ℕ) (told : f.told files gcode ≡ Some text) (through : GoesThrough c) where
-  -- a run of moves
-  pub any-moves : AreOfMoves (sections_over m text) → HoldsNothingLong m s text r.reported.runs.runs.0 (r.reported.runs.runs.1 ++ r.reported.runs.runs.2 ∷ []) → check_cause m text (report_text m (r.reported.said ++ report.End c ∷ [])) ≡ cause.Done
-  any-moves moves holds = by (sections_over m text) refl
-    where
-      by : (sections : List Section) → sections_over m text ≡ sections → check_cause m text (report_text m (r.reported.said ++ report.End c ∷ [])) ≡ cause.Done
-      by [] e = none-links f o printer m s gcode files files' out out' c lines counts links configured r text told e through
-      by (x ∷ sections) e = link-checks f o printer m s gcode files files' out out' c lines counts links configured r text told moves (λ none. (let g : x ∷ sections ≡ [] = sym e ∙ none in cc)) holds through
+    (r : IsLinkReport f o m s gcode files files' out out' c lines counts links) (text : List ℕ) where
+  -- no line of a run of moves that holds no command for long holds anything long
+  pub moves-little : AreOfMoves (sections_over m text) → (r.reported.told.cause ≡ cause.Memory → ⊥) → HoldsNothingLong m s text r.reported.runs.runs.0 (r.reported.runs.runs.1 ++ r.reported.runs.runs.2 ∷ [])
+      → AllHomeLittle m s text r.reported.runs.runs.0 (r.reported.runs.runs.1 ++ r.reported.runs.runs.2 ∷ [])
+  moves-little moves other holds =
+      let own = r.reported in
+      let valid : IsValidMachine m = subst (λ (x : Machine). IsValidMachine x) own.runs.printer own.runs.fresh.machine in
+      run_near_little f o m s gcode files files' out own.behind own.kept own.kept' own.told own.runs valid text moves other
+      (run_near f o m s gcode files files' out own.behind own.kept own.kept' own.told own.runs valid (short_dictionaries printer m configured) text other moves holds)
 
+module _ {F S : Type 0} (f : Files F) (o : Sink S) (printer : List ℕ) (m : Machine) (s : Scene) (gcode : List ℕ) (files files' : F) (out out' : S) (c : Cause) (lines : List ReportLine) (counts : List ℕ) (links : List LinkLog) (configured : reading printer ≡ Ok m)
+    (r : IsLinkReport f o m s gcode files files' out out' c lines counts links) (text : List ℕ) (told : f.told files gcode ≡ Some text) (through : GoesThrough c) where
   -- a run of moves and homing
   pub any-homes : AllHomeLittle m s text r.reported.runs.runs.0 (r.reported.runs.runs.1 ++ r.reported.runs.runs.2 ∷ []) → IsSceneFor m s → check_cause m text (report_text m (r.reported.said ++ report.End c ∷ [])) ≡ cause.Done
   any-homes little scene = by (sections_over m text) refl

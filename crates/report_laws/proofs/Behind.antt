@@ -7,8 +7,6 @@ use Rattle.plan_types.specs.declared.machine.Machine.{Machine}
 use Rattle.plan_types.specs.declared.plan.Pulse.{Pulse}
 use Rattle.plan_types.specs.declared.plan.Section.{Section}
 use Rattle.plan_types.specs.declared.plan.SectionKind.{SectionKind}
-use Rattle.plan_types.specs.Lines.{Clocks}
-use Rattle.plan_types.specs.Sections.{section_end}
 use Rattle.report_text.specs.declared.line.ReportLine.{ReportLine}
 use Rattle.report_text.specs.declared.line.ReportLine.TheVariants as report
 use Rattle.host_reactor.specs.Report.{machine_line}
@@ -17,7 +15,6 @@ use Rattle.session_work.specs.declared.table.ReactorTurn.{ReactorTurn}
 use Rattle.run_plans.specs.Lines.{TellTurns, head_in, heads_of, pulses_of}
 use Rattle.run_plans.proofs.Beginning.{Spread}
 use Rattle.run_plans.proofs.Telling.{pulses_append}
-use Rattle.session_laws.specs.run_lines.Due.{due_lines}
 use Rattle.report_laws.specs.Shown.{begins, lines_behind, pulses_before, pulses_in}
 use Rattle.report_laws.proofs.Followed.{Starts, lines_of, no_head, no_machine, quiet, starts_one}
 
@@ -142,10 +139,6 @@ behind_front place i (x ∷ xs) ys some = by (begins i x) (λ more. behind_front
 abbrev pub AreNumbered : ℕ → List ReportLine → Type 0
 AreNumbered k [] = Unit {0}
 AreNumbered k (line ∷ lines) = ((turn : ℕ) × (kind : SectionKind) × (line ≡ report.Section k turn kind)) × AreNumbered (k + 1) lines
-
-pub numbered_due : (m : Machine) (clocks : List Clocks) (ready k : ℕ) (sections : List Section) → AreNumbered k (due_lines m clocks ready k sections)
-numbered_due m clocks ready k [] = tt
-numbered_due m clocks ready k (s ∷ sections) = ((ready + s.dwell, s.kind, refl), numbered_due m clocks (section_end m clocks s.moves (ready + s.dwell) + 260) (k + 1) sections)
 
 pub numbered_front : (k : ℕ) (xs ys : List ReportLine) → AreNumbered k (xs ++ ys) → AreNumbered k xs
 numbered_front k [] ys n = tt

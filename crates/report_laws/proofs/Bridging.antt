@@ -14,7 +14,7 @@ use Rattle.plan_types.specs.declared.plan.SectionKind.TheVariants.{Home}
 use Rattle.plan_types.specs.Lines.{Clocks}
 use Rattle.plan_types.specs.Machines.{IsValidMachine, stepper_at}
 use Rattle.plan_types.specs.Plan.{Fits}
-use Rattle.plan_types.specs.Sections.{base_tick, clocks_at, section_end, section_starts, stepper_plan}
+use Rattle.plan_types.specs.Sections.{base_tick, clocks_at, section_end, stepper_plan}
 use Rattle.report_text.specs.declared.line.ReportLine.{ReportLine}
 use Rattle.report_text.specs.declared.line.ReportLine.TheVariants as report
 use Rattle.log_check.specs.Behind.{pulses}
@@ -29,9 +29,9 @@ use Rattle.report_laws.proofs.Running.{told-more}
 use Rattle.session_laws.specs.home_headline.Cuts.{cuts_of}
 use Rattle.report_laws.specs.Cuts.{cuts_in, lines_before}
 use Rattle.report_laws.specs.Shown.{lines_behind, pulses_before, pulses_in, section_turn, sections_shown}
-use Rattle.report_laws.specs.Body.{no_section, section_lines}
+use Rattle.report_laws.specs.Body.{no_section}
 use Rattle.report_laws.specs.Headline.{kind_of, moves_of, plan_by}
-use Rattle.report_laws.specs.Promises.{FollowsPlanBy, IsCompleteBy, sections_by}
+use Rattle.report_laws.specs.Promises.{FollowsPlanBy}
 use Rattle.report_laws.proofs.Ends.{section_end-after}
 
 -- lines behind that of a section, which may have cut lines of any section
@@ -439,50 +439,3 @@ go-within homes m sections clocks cuts ready said valid follows complete cut due
       soonest = stands.soonest;
       told_all = tell-all m sections clocks short cuts homes ready valid one sections [] 0 ready stands.body refl refl (omega arith) stands.begins stands.behind (subst Due shows due) follow;
     }
-
--- sections of moves are due, and none of them is cut
-moves-due : (m : Machine) (clocks : List Clocks) (soon i : ℕ) (secs : List Section) → AreDue m clocks (λ j. false) soon i secs (section_lines i (section_starts m clocks soon secs) secs)
-moves-due m clocks soon i [] = tt
-moves-due m clocks soon i (s ∷ secs) = (soon + s.dwell, refl, omega arith, moves-due m clocks (section_end m clocks s.moves (soon + s.dwell) + 260) (i + 1) secs)
-
-uncut-behind : (i : ℕ) (lines : List ReportLine) → AreBehind false lines → AreBehind false (lines_behind i lines)
-uncut-behind i [] b = tt
-uncut-behind i (report.Section j turn kind ∷ lines) b = by (j == i) (uncut-behind i lines b)
-  where
-    by : (t : Bool) → AreBehind false (lines_behind i lines) → AreBehind false (if t then lines else lines_behind i lines)
-    by true h = b
-    by false h = h
-uncut-behind i (report.Pulse board stepper tick up ∷ lines) b = uncut-behind i lines b
-uncut-behind i (report.Machine corexy boards steppers ∷ lines) b = uncut-behind i lines b
-uncut-behind i (report.Cut j board pin tick from ∷ lines) b = absurd (let e : false ≡ true = b.0 in cc)
-uncut-behind i (report.Drift board sent clock from ∷ lines) b = uncut-behind i lines b
-uncut-behind i (report.Lines accepted passed ∷ lines) b = uncut-behind i lines b
-uncut-behind i (report.Board board freq turn tick ∷ lines) b = absurd b
-uncut-behind i (report.Out board pin tick on ∷ lines) b = absurd b
-uncut-behind i (report.Made seed moves ∷ lines) b = absurd b
-uncut-behind i (report.Count stepper pulses ∷ lines) b = absurd b
-uncut-behind i (report.Fit section stepper pulses planned early late ∷ lines) b = absurd b
-uncut-behind i (report.End c ∷ lines) b = absurd b
-
-uncut-before : (lines : List ReportLine) → AreBehind false lines → cuts_of (lines_before lines) ≡ []
-uncut-before [] b = refl
-uncut-before (report.Section j turn kind ∷ lines) b = refl
-uncut-before (report.Pulse board stepper tick up ∷ lines) b = uncut-before lines b
-uncut-before (report.Machine corexy boards steppers ∷ lines) b = uncut-before lines b
-uncut-before (report.Cut j board pin tick from ∷ lines) b = absurd (let e : false ≡ true = b.0 in cc)
-uncut-before (report.Drift board sent clock from ∷ lines) b = uncut-before lines b
-uncut-before (report.Lines accepted passed ∷ lines) b = uncut-before lines b
-uncut-before (report.Board board freq turn tick ∷ lines) b = absurd b
-uncut-before (report.Out board pin tick on ∷ lines) b = absurd b
-uncut-before (report.Made seed moves ∷ lines) b = absurd b
-uncut-before (report.Count stepper pulses ∷ lines) b = absurd b
-uncut-before (report.Fit section stepper pulses planned early late ∷ lines) b = absurd b
-uncut-before (report.End c ∷ lines) b = absurd b
-
-pub go-through : (m : Machine) (sections : List Section) (clocks : List Clocks) (ready : ℕ) (said : List ReportLine) → IsValidMachine m → FollowsPlanBy clocks m sections said → IsCompleteBy clocks m sections said → sections_shown said ≡ sections_by clocks m ready sections
-    → (stands : StandInOrder false m clocks ready sections said) → GoWithin m sections (all_retold ready stands.told_lines) ready said
-go-through m sections clocks ready said valid follows complete shown stands =
-    let Due : List ReportLine → Type 0 = λ hs. AreDue m clocks (λ (j : ℕ). false) ready 0 sections hs in
-    go-within false m sections clocks (λ (j : ℕ). false) ready said valid follows (λ j turn s e uncut inside. complete j turn s e inside)
-    (λ j turn e. inl (refl, ap (cuts_in j) stands.are ∙ ap (λ (z : List ReportLine). cuts_of (lines_before z)) (head-behind 0 j stands.head stands.body stands.heads) ∙ uncut-before (lines_behind j stands.body) (uncut-behind j stands.body stands.behind)))
-    (subst Due (sym shown) (moves-due m clocks ready 0 sections)) stands

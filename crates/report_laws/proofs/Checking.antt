@@ -13,19 +13,12 @@ use Rattle.report_laws.specs.Names.{HasNames}
 use Rattle.report_laws.specs.Retold.{all_retold}
 use Rattle.report_laws.proofs.Running.{within-checks}
 use Rattle.report_laws.specs.Checks.{check_cause}
-use Rattle.report_laws.specs.Promises.{FollowsPlanBy, IsCompleteBy, sections_by, sections_over}
+use Rattle.report_laws.specs.Promises.{FollowsPlanBy, sections_over}
 use Rattle.report_laws.specs.Headline.{plan_by}
 use Rattle.report_laws.specs.Shown.{pulses_in, section_turn, sections_shown}
 use Rattle.report_laws.specs.Stands.{StandInOrder}
-use Rattle.report_laws.proofs.Bridging.{AreDue, IsCutOrNot, go-through, go-within}
+use Rattle.report_laws.proofs.Bridging.{AreDue, IsCutOrNot, go-within}
 
-pub plan-checks : (m : Machine) (text : List ℕ) (clocks : List Clocks) (ready : ℕ) (said : List ReportLine) (c : Cause) → HasNames m → FollowsPlanBy clocks m (sections_over m text) said → IsCompleteBy clocks m (sections_over m text) said
-    → sections_shown said ≡ sections_by clocks m ready (sections_over m text) → StandInOrder false m clocks ready (sections_over m text) said → IsCauseOn m c → check_cause m text (report_text m (said ++ report.End c ∷ [])) ≡ cause.Done
-unfolding log_verdict
-plan-checks m text clocks ready said c names follows complete shown stands on =
-    within-checks m (sections_over m text) (all_retold ready stands.told_lines) ready said c stands.machine names (go-through m (sections_over m text) clocks ready said stands.machine follows complete shown stands) on
-
--- and so do those of which some sections are cut
 pub cut-checks : (m : Machine) (text : List ℕ) (clocks : List Clocks) (cuts : ℕ → Bool) (ready : ℕ) (said : List ReportLine) (c : Cause) → HasNames m → FollowsPlanBy clocks m (sections_over m text) said
     → ((j turn s : ℕ) → section_turn j said ≡ Some turn → cuts j ≡ false → s < length m.steppers → length (pulses_in j s said) ≡ length (plan_by clocks m (sections_over m text) j turn s))
     → ((j turn : ℕ) → section_turn j said ≡ Some turn → IsCutOrNot (sections_over m text) (cuts j) j said) → AreDue m clocks cuts ready 0 (sections_over m text) (sections_shown said) → StandInOrder true m clocks ready (sections_over m text) said → IsCauseOn m c

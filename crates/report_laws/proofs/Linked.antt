@@ -42,8 +42,7 @@ use Rattle.run_plans.specs.Lines.{TellTurns, pulse_in, pulses_of}
 use Rattle.run_plans.proofs.Beginning.{Spread}
 use Rattle.run_plans.proofs.Spreading.{plans_spread}
 use Rattle.run_laws.specs.Boards.{IsWindow, NextStart}
-use Rattle.session_laws.specs.run_headline.Told.{AreTold}
-use Rattle.session_laws.specs.run_headline.Timely.{AllShowPlans, AreOfMoves, AreSound, HoldsNothingLong, ShowPlans, clocks_heard, ready_heard}
+use Rattle.session_laws.specs.run_headline.Timely.{clocks_heard, ready_heard}
 use Rattle.session_laws.specs.run_ends.Ends.{GoesThrough}
 use Rattle.host_reactor.specs.Rows.{IsOwn}
 use Rattle.session_laws.specs.run_headline.Made.{IsNamed}
@@ -51,7 +50,7 @@ use Rattle.session_laws.proofs.run_headline.Cutting.{run_silent}
 use Rattle.session_laws.proofs.run_headline.Making.{run_made}
 use Rattle.session_laws.specs.run_links.Links.{AreLinksIn}
 use Rattle.session_laws.proofs.run_links.Links.{run_links}
-use Rattle.session_laws.proofs.run_lates.Ending.{run_home_tells, run_near_tells}
+use Rattle.session_laws.proofs.run_lates.Ending.{run_home_tells}
 use Rattle.session_laws.proofs.run_lates.Late.{run_late}
 use Rattle.session_laws.proofs.run_lates.Naming.{run_home_units}
 use Rattle.session_laws.proofs.run_turns.Ending.{ends}
@@ -59,20 +58,20 @@ use Rattle.session_laws.proofs.run_turns.Starting.{starts}
 use Rattle.session_laws.proofs.run_turns.Words.{run_taken}
 use Rattle.session_laws.proofs.run_clocks.First as clocks
 use Rattle.session_laws.proofs.run_clocks.Printed.{run_printed}
-use Rattle.session_laws.proofs.run_headline.Runs.{facts, run_ended, run_names, run_none, run_shows}
+use Rattle.session_laws.proofs.run_headline.Runs.{facts, run_ended, run_names, run_none}
 use Rattle.session_laws.proofs.run_headline.Showing.{cut_last}
 use Rattle.session_laws.proofs.home_headline.Cuts.{run_answers}
 use Rattle.session_laws.proofs.home_headline.Read.{run_reads}
 use Rattle.std.proofs.lemmas.Grind.{flat_map-append}
-use Rattle.plan_types.specs.Sections.{section_end, section_starts}
+use Rattle.plan_types.specs.Sections.{section_end}
 use Rattle.run_plans.specs.Lines.{head_in, heads_of}
 use Rattle.session_laws.specs.run_headline.Further.{TellFurther}
 use Rattle.run_plans.specs.Planned.{Seen}
-use Rattle.session_laws.specs.run_lines.Due.{AreFirst, BoardsHave, HaveTheirLines, StandApart, begun_lines, due_lines}
+use Rattle.session_laws.specs.run_lines.Due.{AreFirst, begun_lines}
 use Rattle.session_laws.proofs.run_lines.Further.{Reach, reach}
-use Rattle.session_laws.proofs.run_lines.Heads.{ShowStarts, first_heads, shown_boards, shown_further, shown_heads, shown_sound, stand_apart, whole_heads}
+use Rattle.session_laws.proofs.run_lines.Heads.{ShowStarts, first_heads, whole_heads}
 use Rattle.session_laws.specs.run_ends.Boards.{counts_of}
-use Rattle.report_laws.specs.Body.{cause_of, no_section, section_lines}
+use Rattle.report_laws.specs.Body.{cause_of, no_section}
 use Rattle.report_laws.specs.Headline.{kind_of, moves_of}
 use Rattle.homing_laws.proofs.home_plans.Noting.{begun_row}
 use Rattle.session_laws.specs.home_headline.Cuts.{TellEnds}
@@ -93,7 +92,6 @@ use Rattle.session_laws.specs.home_wholes.Whole.{AllWholeHomes}
 use Rattle.session_laws.proofs.home_wholes.First as first_cuts
 use Rattle.session_laws.proofs.home_wholes.Own.{run_own}
 use Rattle.session_laws.proofs.home_wholes.Shows.{all_wholes}
-use Rattle.session_laws.specs.clear_homes.Closes.{AllClose}
 use Rattle.session_laws.proofs.clear_homes.Clear as homed
 use Rattle.session_laws.proofs.clear_homes.First.{run_first, run_unswitched}
 use Rattle.session_laws.proofs.run_causes.Answering as answering
@@ -102,15 +100,14 @@ use Rattle.cause_runs.specs.Short.{HaveShortDictionaries}
 use Rattle.session_laws.specs.clear_runs.Clear.{SendsAllSoon}
 use Rattle.session_laws.proofs.clear_runs.Clear.{run_through}
 use Rattle.session_laws.proofs.clear_runs.Stopped.{run_is_for}
-use Rattle.session_laws.proofs.clear_runs.Through.{sends_hold}
-use Rattle.report_laws.specs.Promises.{FollowsPlanBy, IsCauseOf, IsCompleteBefore, IsCompleteBy, lines_line, sections_over}
+use Rattle.report_laws.specs.Promises.{FollowsPlanBy, IsCauseOf, lines_line, sections_over}
 use Rattle.report_laws.specs.Homes.{ShowsBegun}
 use Rattle.report_laws.proofs.Homes.{IsCompleteOfMovesBefore, IsCompleteOfMovesBy, ShowsHomes}
-use Rattle.report_laws.specs.Linked.{EndsFor, IsLinkReport, MeetPremise, ShowsText}
+use Rattle.report_laws.specs.Linked.{EndsFor, IsLinkReport, MeetPremise}
 use Rattle.report_laws.specs.page.Report.{Shows}
 use Rattle.report_laws.specs.Cuts.{HaveCuts}
 use Rattle.report_laws.specs.Shown.{lines_behind, pulses_before, pulses_in, section_turn, sections_shown}
-use Rattle.report_laws.proofs.Behind.{AreNumbered, behind, behind_front, in_stays, next_begun, numbered_due, numbered_front}
+use Rattle.report_laws.proofs.Behind.{AreNumbered, behind, behind_front, in_stays, next_begun, numbered_front}
 use Rattle.report_laws.proofs.Followed.{NextAt, shown}
 use Rattle.report_laws.proofs.Inside.{have_cuts, numbered_begun, some_behind, turn_front}
 use Rattle.session_laws.proofs.run_headline.Facts.{starts_late}
@@ -248,103 +245,6 @@ module _ (m : Machine) (seen : Seen) (text : List ℕ) (first : ReactorTurn) (re
       let Of : List Pulse × ℕ × List _ → Type 0 = λ z. Fits (clocks_at clocks (stepper_at m s).board).first.freq (base_tick m clocks z.1 s) z.0 (stepper_plan m clocks z.2 z.1 s) in
       subst Of (λ j. (pulses j, start j, sym own j)) fit
 
-module _ (m : Machine) (seen : Seen) (clocks : List Clocks) (ready : ℕ) (c : Cause) (text : List ℕ) (first : ReactorTurn) (rest : List ReactorTurn) (spread : Spread 260 seen.begun) (h : ShowPlans m seen clocks ready c first rest)
-    (same : seen.text ≡ text) where
-  piece : (i turn s : ℕ) → section_turn i (gather (λ t. t.lines) (first ∷ rest)) ≡ Some turn → Part m seen text first rest spread h.of_text h.lines same i turn s
-  piece i turn s e = part_of m seen text first rest spread h.of_text h.lines same i turn s e
-
-  lines_follow : FollowsPlanBy clocks m (sections_over m text) (gather (λ t. t.lines) (first ∷ rest))
-  lines_follow = fits_follow m seen text first rest spread h.of_text h.lines same clocks h.fit
-
-  lines_whole : GoesThrough c → IsCompleteBy clocks m (sections_over m text) (gather (λ t. t.lines) (first ∷ rest))
-  lines_whole g i turn s e low =
-      let x = piece i turn s e in
-      let whole = h.whole g x.past x.x x.later x.from x.to s x.cut low x.window (over x.past x.x x.later x.to x.cut x.ends) in
-      let pulses = x.pulses in
-      let start = x.start in
-      let own = x.moves in
-      let Of : List Pulse × ℕ × List _ → Type 0 = λ z. length z.0 ≡ length (stepper_plan m clocks z.2 z.1 s) in
-      subst Of (λ j. (pulses j, start j, sym own j)) whole
-    where
-      over : (past : List Started) (x : Started) (later : List Started) (to : ℕ) → seen.begun ≡ past ++ x ∷ later → (to ≡ length rest) ⊎ NextAt m seen.begun spread s (to + 1) later → x.end + 5 ≤ to
-      over past x later to cut (inl f) =
-          let Over : List Started → Type 0 = λ z. All (λ y. y.end + 5 ≤ length rest) z in
-          let o = over_at (length rest) past x later (subst Over cut (h.through g).over) in
-          omega (arith, o, f)
-      over past x [] to cut (inr f) = absurd f
-      over past x (y ∷ later) to cut (inr f) =
-          let Apart : List Started → Type 0 = λ z. AreStarted m clocks ready z in
-          let a = apart_by m clocks ready past x y later (subst Apart cut h.started) in
-          omega (arith, a, f)
-
-  lines_before : IsCompleteBefore clocks m (sections_over m text) (gather (λ t. t.lines) (first ∷ rest))
-  lines_before i turn s other e low more same some =
-      let x = piece i turn s e in
-      let b = behind m seen.begun spread other 0 (i + 1) (first ∷ rest) h.lines some in
-      let next = next_begun x.past x.x x.later b.past b.s b.later (sym x.cut ∙ b.cut) (omega (arith, b.place_is, x.place_is)) in
-      let at = starts x.later b.s b.later x.to next x.window.next x.ends b.within in
-      let Apart : List Started → Type 0 = λ z. AreStarted m clocks ready z in
-      let apart = apart_by m clocks ready x.past x.x b.s b.later (subst Apart (x.cut ∙ ap (λ z. x.past ++ x.x ∷ z) next) h.started) in
-      let turns : b.s.start - 0 ≡ suc x.to = omega (arith, at) in
-      let size = length-drop x.to rest in
-      let told : pulses_of other (lines_behind (i + 1) (gather (λ t. t.lines) (first ∷ rest))) ≡ pulses_of other (lines_between x.to (length rest) rest) =
-      b.pulses ∙ ap (λ n. pulses_of other (gather (λ (t : ReactorTurn). t.lines) (drop n (first ∷ rest)))) turns
-      ∙ ap (λ z. pulses_of other (gather (λ (t : ReactorTurn). t.lines) z)) (sym (take_all (length rest - x.to) (drop x.to rest) (omega (arith, size)))) in
-      let whole = h.passed x.past x.x x.later x.from x.to s other x.cut low more same x.window (omega (arith, at, apart)) (λ f. some (told ∙ f)) in
-      let pulses = x.pulses in
-      let start = x.start in
-      let own = x.moves in
-      let Of : List Pulse × ℕ × List _ → Type 0 = λ z. length z.0 ≡ length (stepper_plan m clocks z.2 z.1 s) in
-      subst Of (λ j. (pulses j, start j, sym own j)) whole
-    where
-      starts : (later : List Started) (y : Started) (more : List Started) (to : ℕ) → later ≡ y ∷ more → NextStart to (times_of later) → (to ≡ length rest) ⊎ NextAt m seen.begun spread s (to + 1) later → y.start < 0 + length (first ∷ rest) → y.start ≡ to + 1
-      starts [] y more to e n a w = absurd (let f : [] ≡ y ∷ more = e in cc)
-      starts (z ∷ later) y more to e n (inl a) w = let same : z ≡ y = cc in let is = ap (λ (q : Started). q.start) same in absurd (omega (arith, n, a, w, is))
-      starts (z ∷ later) y more to e n (inr a) w = let same : z ≡ y = cc in ap (λ (q : Started). q.start) (sym same) ∙ a
-
--- and what a run that went through shows of its cause
-ends_through : (m : Machine) (seen : Seen) (clocks : List Clocks) (ready : ℕ) (c : Cause) (text : List ℕ) (all : List ReactorTurn) → (c' : ReactorTurn) × (r : List ReactorTurn) × (all ≡ c' ∷ r) → AllShowPlans m seen clocks ready c all → seen.text ≡ text → GoesThrough c
-    → c ≡ text_end (program_end m text).stop
-ends_through m seen clocks ready c text [] some h same g = absurd (let e : [] ≡ some.0 ∷ some.1 = some.2 in cc)
-ends_through m seen clocks ready c text (first ∷ rest) some h same g = let t = h.through g in t.cause_is ∙ ap (λ z. text_end (program_end m z).stop) same
-
-all_follow : (m : Machine) (seen : Seen) (clocks : List Clocks) (ready : ℕ) (c : Cause) (text : List ℕ) (all : List ReactorTurn) → Spread 260 seen.begun → AllShowPlans m seen clocks ready c all → seen.text ≡ text
-    → FollowsPlanBy clocks m (sections_over m text) (gather (λ t. t.lines) all)
-all_follow m seen clocks ready c text [] spread h same i turn s e low = absurd (let f : None ≡ Some turn = e in cc)
-all_follow m seen clocks ready c text (first ∷ rest) spread h same i turn s e low = lines_follow m seen clocks ready c text first rest spread h same i turn s e low
-
-all_before : (m : Machine) (seen : Seen) (clocks : List Clocks) (ready : ℕ) (c : Cause) (text : List ℕ) (all : List ReactorTurn) → Spread 260 seen.begun → AllShowPlans m seen clocks ready c all → seen.text ≡ text
-    → IsCompleteBefore clocks m (sections_over m text) (gather (λ t. t.lines) all)
-all_before m seen clocks ready c text [] spread h same = λ i turn s other e low other_low board some. absurd (some refl)
-all_before m seen clocks ready c text (first ∷ rest) spread h same = lines_before m seen clocks ready c text first rest spread h same
-
-all_whole : (m : Machine) (seen : Seen) (clocks : List Clocks) (ready : ℕ) (c : Cause) (text : List ℕ) (all : List ReactorTurn) → Spread 260 seen.begun → AllShowPlans m seen clocks ready c all → seen.text ≡ text → GoesThrough c
-    → IsCompleteBy clocks m (sections_over m text) (gather (λ t. t.lines) all)
-all_whole m seen clocks ready c text [] spread h same g i turn s e low = absurd (let f : None ≡ Some turn = e in cc)
-all_whole m seen clocks ready c text (first ∷ rest) spread h same g i turn s e low = lines_whole m seen clocks ready c text first rest spread h same g i turn s e low
-
-all_over : (m : Machine) (seen : Seen) (clocks : List Clocks) (ready : ℕ) (c : Cause) (text : List ℕ) (all : List ReactorTurn) → Spread 260 seen.begun → AllShowPlans m seen clocks ready c all → seen.text ≡ text → AreOfMoves (sections_over m text) → GoesThrough c
-    → (i turn : ℕ) → section_turn i (gather (λ t. t.lines) all) ≡ Some turn → section_end m clocks (moves_of (sections_over m text) i) turn < length all - 1
-all_over m seen clocks ready c text [] spread h same moves g i turn e = absurd (let f : None ≡ Some turn = e in cc)
-all_over m seen clocks ready c text (first ∷ rest) spread h same moves g i turn e =
-    let x = part_of m seen text first rest spread h.of_text h.lines same i turn 0 e in
-    let Kinds : ℕ → Type 0 = λ n. kind_of (sections_over m text) n ≡ Moves in
-    let Over : ℕ → Type 0 = λ n. section_end m clocks (moves_of (sections_over m text) i) turn < n in
-    let one : suc (length rest) - 1 ≡ length rest = omega (arith) in
-    subst Over (sym one) (part_over m seen text first rest spread h.of_text h.lines same clocks ready h.started (h.through g).over i turn e
-    (subst Kinds x.place_is (kind_moves (sections_over m text) (length x.past) moves (inside x.past x.x x.later x.cut (h.through g).all))))
-  where
-    inside : (past : List Started) (y : Started) (later : List Started) → seen.begun ≡ past ++ y ∷ later → map (λ (z : Started). z.section) seen.begun ≡ program_sections m seen.text → length past < length (sections_over m text)
-    inside past y later cut whole =
-        let size = sym (length-map seen.begun (λ (z : Started). z.section)) ∙ ap length whole ∙ ap (λ z. length (program_sections m z)) same in
-        let count = ap length cut ∙ length-append past (y ∷ later) in
-        omega (arith, size, count)
-
-    kind_moves : (sections : List Section) (n : ℕ) → AreOfMoves sections → n < length sections → kind_of sections n ≡ Moves
-    kind_moves [] n all low = absurd (omega (arith, low))
-    kind_moves (s ∷ sections) zero all low = All-head (λ (z : Section). z.kind ≡ Moves) s sections all
-    kind_moves (s ∷ sections) (suc n) all low = kind_moves sections n (All-tail (λ (z : Section). z.kind ≡ Moves) s sections all) (omega (arith, low))
-
 -- the first lines of a report show the first ones of the pulses
 before_front : (s : ℕ) (xs ys : List ReportLine) → (more : List Pulse) × (pulses_before s (xs ++ ys) ≡ pulses_before s xs ++ more)
 before_front s [] ys = (pulses_before s ys, refl)
@@ -400,17 +300,6 @@ follow_front clocks m text xs ys h i turn s e low =
     let At : List Pulse → Type 0 = λ z. Fits freq (base_tick m clocks turn s) z plan in
     fits_front freq (base_tick m clocks turn s) (pulses_in i s xs) f.0 plan (subst At f.1 all)
 
-complete_front : (clocks : List Clocks) (m : Machine) (text : List ℕ) (xs ys : List ReportLine) → AreNumbered 0 (heads_of xs) → IsCompleteBefore clocks m (sections_over m text) (xs ++ ys) → IsCompleteBefore clocks m (sections_over m text) xs
-complete_front clocks m text xs ys numbered h i turn s other e low more same some =
-    let front = behind_front other (i + 1) xs ys some in
-    let grown = ap (pulses_of other) front ∙ flat_map-append (pulse_in other) (lines_behind (i + 1) xs) ys in
-    let stays = in_stays i s other 0 xs ys numbered (omega arith) some in
-    ap length (sym stays) ∙ h i turn s other (turn_front i turn xs ys e) low more same (λ f. some (first_none (pulses_of other (lines_behind (i + 1) xs)) (pulses_of other ys) (sym grown ∙ f)))
-  where
-    first_none : (ps qs : List Pulse) → ps ++ qs ≡ [] → ps ≡ []
-    first_none [] qs e = refl
-    first_none (p ∷ ps) qs e = let f : p ∷ (ps ++ qs) ≡ [] = e in cc
-
 moves_front : (clocks : List Clocks) (m : Machine) (text : List ℕ) (xs ys : List ReportLine) → AreNumbered 0 (heads_of xs) → IsCompleteOfMovesBefore clocks m (sections_over m text) (xs ++ ys) → IsCompleteOfMovesBefore clocks m (sections_over m text) xs
 moves_front clocks m text xs ys numbered h i turn s other e kind low more same some =
     let front = behind_front other (i + 1) xs ys some in
@@ -438,10 +327,6 @@ same_heads (report.Made seed moves ∷ lines) = same_heads lines
 same_heads (report.Count stepper pulses ∷ lines) = same_heads lines
 same_heads (report.End c ∷ lines) = same_heads lines
 
-as_due : (m : Machine) (clocks : List Clocks) (ready i : ℕ) (sections : List Section) → due_lines m clocks ready i sections ≡ section_lines i (section_starts m clocks ready sections) sections
-as_due m clocks ready i [] = refl
-as_due m clocks ready i (s ∷ sections) = ap (λ z. report.Section i (ready + s.dwell) s.kind ∷ z) (as_due m clocks (section_end m clocks s.moves (ready + s.dwell) + 260) (i + 1) sections)
-
 -- the numbers of what was read
 first_counts : (a p : ℕ) (rest lines : List ReportLine) → counts_of lines ≡ report.Lines a p ∷ rest → lines_line lines ≡ Some (a, p)
 first_counts a p rest [] e = absurd (let f : [] ≡ report.Lines a p ∷ rest = e in cc)
@@ -460,45 +345,6 @@ first_counts a p rest (report.Fit section stepper pulses planned early late ∷ 
 first_counts a p rest (report.Made seed moves ∷ lines) e = first_counts a p rest lines e
 first_counts a p rest (report.Count stepper pulses ∷ lines) e = first_counts a p rest lines e
 first_counts a p rest (report.End c ∷ lines) e = first_counts a p rest lines e
-
-all_counts : (m : Machine) (seen : Seen) (clocks : List Clocks) (ready : ℕ) (c : Cause) (text : List ℕ) (all : List ReactorTurn) → (x : ReactorTurn) × (xs : List ReactorTurn) × (all ≡ x ∷ xs) → AllShowPlans m seen clocks ready c all → seen.text ≡ text
-    → GoesThrough c → counts_of (gather (λ t. t.lines) all) ≡ report.Lines (program_end m text).lines (program_end m text).passed ∷ []
-all_counts m seen clocks ready c text [] some h same g = absurd (let e : [] ≡ some.0 ∷ some.1 = some.2 in cc)
-all_counts m seen clocks ready c text (first ∷ rest) some h same g =
-    h.counts g ∙ ap (λ z. report.Lines (program_end m z).lines (program_end m z).passed ∷ []) same
-
-all_heads : (m : Machine) (seen : Seen) (clocks : List Clocks) (ready : ℕ) (c : Cause) (text : List ℕ) (all : List ReactorTurn) → AllShowPlans m seen clocks ready c all → (some : (x : ReactorTurn) × (xs : List ReactorTurn) × (all ≡ x ∷ xs))
-    → seen.text ≡ text → AreOfMoves (program_sections m text) → HaveTheirLines m text clocks ready c (gather (λ t. t.lines) all)
-all_heads m seen clocks ready c text [] h some same moves = absurd (let e : [] ≡ some.0 ∷ some.1 = some.2 in cc)
-all_heads m seen clocks ready c text (first ∷ rest) h some same moves =
-    let Moves : List ℕ → Type 0 = λ z. AreOfMoves (program_sections m z) in
-    let Have : List ℕ → Type 0 = λ z. HaveTheirLines m z clocks ready c (gather (λ (t : ReactorTurn). t.lines) (first ∷ rest)) in
-    subst Have same (shown_heads m seen clocks ready c first rest h (subst Moves (sym same) moves))
-
-all_boards : (m : Machine) (seen : Seen) (clocks : List Clocks) (ready : ℕ) (c : Cause) (all : List ReactorTurn) (said more : List ReportLine) → AllShowPlans m seen clocks ready c all → gather (λ t. t.lines) all ≡ said ++ more → (heads_of said ≡ [] → ⊥)
-    → BoardsHave clocks ready said
-all_boards m seen clocks ready c [] [] more h are some = absurd (some refl)
-all_boards m seen clocks ready c [] (s ∷ said) more h are some = absurd (let e : [] ≡ s ∷ (said ++ more) = are in cc)
-all_boards m seen clocks ready c (first ∷ rest) said more h are some = shown_boards m seen clocks ready c first rest said more h are some
-
-all_apart : (m : Machine) (seen : Seen) (clocks : List Clocks) (ready : ℕ) (c : Cause) (all : List ReactorTurn) (said more : List ReportLine) → AllShowPlans m seen clocks ready c all → gather (λ t. t.lines) all ≡ said ++ more → (heads_of said ≡ [] → ⊥)
-    → StandApart m clocks ready said × AreSound m clocks ready
-all_apart m seen clocks ready c [] [] more h are some = absurd (some refl)
-all_apart m seen clocks ready c [] (s ∷ said) more h are some = absurd (let e : [] ≡ s ∷ (said ++ more) = are in cc)
-all_apart m seen clocks ready c (first ∷ rest) said more h are some = (stand_apart m seen clocks ready c first rest h said more are some, shown_sound m seen clocks ready c first rest said more h are some)
-
-reach_all : (all : List ReactorTurn) → (x : ReactorTurn) × (xs : List ReactorTurn) × (all ≡ x ∷ xs) → (said more : List ReportLine) → gather (λ t. t.lines) all ≡ said ++ more → Reach all said more
-reach_all [] some said more are = absurd (let e : [] ≡ some.0 ∷ some.1 = some.2 in cc)
-reach_all (first ∷ rest) some said more are = reach first rest said more are
-
-all_further : (m : Machine) (seen : Seen) (clocks : List Clocks) (ready : ℕ) (c : Cause) (all : List ReactorTurn) (said more : List ReportLine) → AllShowPlans m seen clocks ready c all → gather (λ t. t.lines) all ≡ said ++ more
-    → (r : Reach all said more) → (heads_of said ≡ [] → ⊥) → TellFurther m clocks (r.n + 271) said
-all_further m seen clocks ready c [] said more h are r some = absurd (let within = r.within in omega (arith, within))
-all_further m seen clocks ready c (first ∷ rest) said more h are r some = shown_further m seen clocks ready c first rest said more h are r some
-
-all_own : (m : Machine) (seen : Seen) (clocks : List Clocks) (ready : ℕ) (c : Cause) (all : List ReactorTurn) → AllShowPlans m seen clocks ready c all → GoesThrough c → AreTold false m (gather (λ t. t.lines) all)
-all_own m seen clocks ready c [] h g = tt
-all_own m seen clocks ready c (first ∷ rest) h g = h.own g
 
 ends_as : (s : ReadStop) → text_end s ≡ cause_of s
 ends_as read.End = refl
@@ -853,81 +699,6 @@ module _ {F S : Type 0} (f : Files F) (o : Sink S) (m : Machine) (s : Scene) (gc
       let w = r.cause_is not.0 not.1 in
       (w.0, w.2)
 
-  texts : (r : IsReported f o m s gcode files files' out out' c lines counts links) (text : List ℕ) → f.told files gcode ≡ Some text → AreOfMoves (sections_over m text) → (r.told.cause ≡ cause.Memory → ⊥)
-      → HoldsNothingLong m s text r.runs.runs.0 (r.runs.runs.1 ++ r.runs.runs.2 ∷ []) → ∥ ShowsText m text c r.said ∥₁
-  texts r text told moves other holds =
-      ∥∥₁_map (run_shows f o m s gcode files files' out r.behind r.kept r.kept' r.told r.runs v short text told r.fresh.at) (λ shows.
-      let seen = shows.0.plans.seen in
-      let same = shows.1 in
-      let all = shows.2 other moves holds in
-      let clocks = clocks_heard seen.told in
-      let ready = ready_heard seen.told in
-      let turns = r.runs.runs.1 ++ r.runs.runs.2 ∷ [] in
-      let spread = plans_spread m (length m.boards) r.runs.runs.0 shows.0.plans in
-      let own = r.told.cause in
-      let follows = all_follow m seen clocks ready own text turns spread all same in
-      let At : List ReportLine → Type 0 = λ z. FollowsPlanBy clocks m (sections_over m text) z in
-      let Whole : List ReportLine → Type 0 = λ z. IsCompleteBy clocks m (sections_over m text) z in
-      let Through : Cause → Type 0 = λ z. GoesThrough z in
-      let heads = all_heads m seen clocks ready own text turns all (some_turns r.runs.runs.1 r.runs.runs.2) same moves in
-      let due = as_due m clocks ready 0 (sections_over m text) in
-      let both = ap heads_of r.shown ∙ flat_map-append head_in r.said r.rest in
-      let Before : List ReportLine → Type 0 = λ z. IsCompleteBefore clocks m (sections_over m text) z in
-      let Numbered : List ReportLine → Type 0 = λ z. AreNumbered 0 z in
-      let numbered = numbered_front 0 (heads_of r.said) (heads_of r.rest) (subst Numbered both (numbered_front 0 (heads_of (gather (λ t. t.lines) turns)) heads.front.0 (subst Numbered heads.front.1 (numbered_due m clocks ready 0 (sections_over m text))))) in
-      let reached = reach_all turns (some_turns r.runs.runs.1 r.runs.runs.2) r.said r.rest r.shown in
-      let told_further = λ (i turn : ℕ) (e : section_turn i r.said ≡ Some turn). all_further m seen clocks ready own turns r.said r.rest all r.shown reached (some_behind i turn r.said e) in
-      record {
-        clocks = clocks;
-        ready = ready;
-        sections = (
-          heads_of r.rest ++ heads.front.0,
-          sym due ∙ heads.front.1 ∙ ap (λ z. z ++ heads.front.0) both ∙ append_assoc (heads_of r.said) (heads_of r.rest) heads.front.0 ∙ ap (λ z. z ++ (heads_of r.rest ++ heads.front.0)) (sym (same_heads r.said)),
-        );
-        all = λ g.
-            let not = through_whole c g in
-            let w = r.cause_is not.0 not.1 in
-            let said : gather (λ t. t.lines) turns ≡ r.said = r.shown ∙ ap (λ z. r.said ++ z) w.0 ∙ append-nil r.said in
-            same_heads r.said ∙ ap heads_of (sym said) ∙ heads.all (subst Through w.2 g) ∙ due;
-        counts = λ g.
-            let not = through_whole c g in
-            let w = r.cause_is not.0 not.1 in
-            let said : gather (λ t. t.lines) turns ≡ r.said = r.shown ∙ ap (λ z. r.said ++ z) w.0 ∙ append-nil r.said in
-            let is = all_counts m seen clocks ready own text turns (some_turns r.runs.runs.1 r.runs.runs.2) all same (subst Through w.2 g) in
-            first_counts (program_end m text).lines (program_end m text).passed [] r.said (ap counts_of (sym said) ∙ is);
-        boards = λ i turn e. all_boards m seen clocks ready own turns r.said r.rest all r.shown (some_behind i turn r.said e);
-        apart = λ i turn e. (all_apart m seen clocks ready own turns r.said r.rest all r.shown (some_behind i turn r.said e)).0;
-        sound = λ i turn e. (all_apart m seen clocks ready own turns r.said r.rest all r.shown (some_behind i turn r.said e)).1;
-        last = reached.n + 271;
-        further = λ i turn e. (told_further i turn e).further;
-        first = λ i turn e. (told_further i turn e).first;
-        named = λ i turn e. (told_further i turn e).named;
-        over = λ g i turn e.
-            let not = through_whole c g in
-            let w = r.cause_is not.0 not.1 in
-            let said : gather (λ t. t.lines) turns ≡ r.said = r.shown ∙ ap (λ z. r.said ++ z) w.0 ∙ append-nil r.said in
-            let over = all_over m seen clocks ready own text turns spread all same moves (subst Through w.2 g) i turn (ap (section_turn i) said ∙ e) in
-            let all_turns = reached.whole w.0 in
-            omega (arith, over, all_turns);
-        own = λ g.
-            let not = through_whole c g in
-            let w = r.cause_is not.0 not.1 in
-            let said : gather (λ t. t.lines) turns ≡ r.said = r.shown ∙ ap (λ z. r.said ++ z) w.0 ∙ append-nil r.said in
-            subst (AreTold false m) said (all_own m seen clocks ready own turns all (subst Through w.2 g));
-        prefix = follow_front clocks m text r.said r.rest (subst At r.shown follows);
-        before = complete_front clocks m text r.said r.rest numbered (subst Before r.shown (all_before m seen clocks ready own text turns spread all same));
-        whole = λ g.
-            let not = through_whole c g in
-            let w = r.cause_is not.0 not.1 in
-            let said : gather (λ t. t.lines) turns ≡ r.said = r.shown ∙ ap (λ z. r.said ++ z) w.0 ∙ append-nil r.said in
-            subst Whole said (all_whole m seen clocks ready own text turns spread all same (subst Through w.2 g));
-        cause = λ g.
-            let not = through_whole c g in
-            let w = r.cause_is not.0 not.1 in
-            let is = ends_through m seen clocks ready own text turns (some_turns r.runs.runs.1 r.runs.runs.2) all same (subst Through w.2 g) in
-            w.2 ∙ is ∙ ends_as (program_end m text).stop;
-      })
-
   -- and the cut lines of any text
   pub cut_lines : (r : IsReported f o m s gcode files files' out out' c lines counts links) (text : List ℕ) (made : IsMade m s r.runs.runs.0 r.runs.runs.1) → made.plans.seen.text ≡ text → (r.told.cause ≡ cause.Memory → ⊥)
       → HaveCuts m s.switches c (sections_over m text) r.said
@@ -1047,7 +818,7 @@ module _ {F S : Type 0} (f : Files F) (o : Sink S) (m : Machine) (s : Scene) (gc
   cause_ends r (cause.Late board first arrival spoiled spill) e =
       let is = of_late r board first arrival spoiled spill e in (
         run_late f o m s gcode files files' out r.behind r.kept r.kept' r.told r.runs v board first arrival spoiled spill is,
-        λ text told little sends. ∥∥₁_map (run_home_units f o m s gcode files files' out r.behind r.kept r.kept' r.told r.runs v short board first arrival spoiled spill text told r.fresh.at is little sends)
+        λ text told little sends. ∥∥₁_map (run_home_units f o m s gcode files files' out r.behind r.kept r.kept' r.told r.runs v short board first arrival spoiled spill text told r.fresh.at is little (inl sends))
             (λ w. record { made = w.0; of_text = w.1; late = w.2; heard = w.3.0; known = w.3.1; unit = w.3.2 }),
       )
   cause_ends r (cause.Expired board turn) e = run_first f o m s gcode files files' out r.behind r.kept r.kept' r.told r.runs board turn
@@ -1081,17 +852,13 @@ module _ {F S : Type 0} (f : Files F) (o : Sink S) (m : Machine) (s : Scene) (gc
     boards = λ text told. subst (λ z. ∥ AreLinksIn m s text r.told.cause r.runs.runs.0 r.runs.runs.1 r.runs.runs.2 z ∥₁) (sym r.links_are)
         (run_links f o m s gcode files files' out r.behind r.kept r.kept' r.told r.runs text told r.fresh.at);
     shows = shown;
-    moves = texts r;
     memory = λ text told is. ∥∥₁_map (begun_texts r text told) (λ b. (b.0, b.1));
     triggers = λ text told other reads. run_own f o m s gcode files files' out r.behind r.kept r.kept' r.told r.runs v short text told r.fresh.at other reads;
     complete = ends_as_read r;
     first_ticks = λ text told other reads takes. first_cuts.run_first f o m s gcode files files' out r.behind r.kept r.kept' r.told r.runs v short text told r.fresh.at other reads takes;
     last_cut = λ text told. run_last f o m s gcode files files' out r.behind r.kept r.kept' r.told r.runs v text told r.fresh.at;
     ends = cause_ends r c refl;
-    shutdowns = λ text told other near. elim near [
-      | inl little ↦ run_home_tells f o m s gcode files files' out r.behind r.kept r.kept' r.told r.runs v short text told r.fresh.at other little
-      | inr x ↦ run_near_tells f o m s gcode files files' out r.behind r.kept r.kept' r.told r.runs v short text told r.fresh.at other x.0 x.1
-    ];
+    shutdowns = λ text told other little. run_home_tells f o m s gcode files files' out r.behind r.kept r.kept' r.told r.runs v short text told r.fresh.at other little;
     times = λ text told. ∥∥₁_map (run_made f o m s gcode files files' out r.behind r.kept r.kept' r.told r.runs text told r.fresh.at) (λ w.
         let ts = r.runs.runs.0 in
         let rs = r.runs.runs.1 in

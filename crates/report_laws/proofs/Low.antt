@@ -1,9 +1,8 @@
 -- The lines of a run over links keep the limits of a log.
-use Rattle.std.proofs.Common.{◌≡◌, ◌≢◌, ◌∙◌, ℕ, zero, suc, ◌+◌, ◌-◌, ◌*◌, ◌^◌, ◌<◌, ◌≤◌, Bool, true, false, List, [], ◌∷◌, ◌++◌, All, length, map, ap, sym, refl, subst, arith, inl, inr, Option, Some, None}
+use Rattle.std.proofs.Common.{◌≡◌, ◌∙◌, ℕ, zero, suc, ◌+◌, ◌-◌, ◌*◌, ◌^◌, ◌<◌, ◌≤◌, Bool, true, false, List, [], ◌∷◌, ◌++◌, All, length, map, ap, sym, refl, subst, arith, inl, inr, Option, Some, None}
 use Rattle.std.specs.Prelude.{◌==◌, if◌then◌else◌}
 use Rattle.std.proofs.lemmas.Bool.Decides.{eqb_tells}
 use Rattle.std.proofs.lemmas.List.Elements.{All-head, All-tail}
-use Rattle.plan_types.specs.declared.cause.Cause.{Cause}
 use Rattle.plan_types.specs.declared.machine.Machine.{Machine}
 use Rattle.plan_types.specs.declared.plan.Planned.{Planned}
 use Rattle.plan_types.specs.declared.plan.Pulse.{Pulse}
@@ -13,7 +12,7 @@ use Rattle.plan_types.specs.Clock.{tick, turn_ns}
 use Rattle.plan_types.specs.Lines.{Clocks}
 use Rattle.plan_types.specs.Machines.{IsValidMachine, stepper_at}
 use Rattle.plan_types.specs.Plan.{Fits}
-use Rattle.plan_types.specs.Sections.{base_tick, clocks_at, section_end, section_starts, stepper_plan}
+use Rattle.plan_types.specs.Sections.{base_tick, clocks_at, stepper_plan}
 use Rattle.gcode_program.specs.Held.{ArePlannable}
 use Rattle.gcode_program.proofs.Plannable.{sections_plannable}
 use Rattle.motion_work.specs.Seen.{Started}
@@ -23,32 +22,27 @@ use Rattle.report_text.specs.declared.line.ReportLine.TheVariants as report
 use Rattle.log_check.specs.Faults.{have_room}
 use Rattle.report_laws.specs.Further.{further_told}
 use Rattle.report_laws.specs.Logged.{logged}
-use Rattle.report_laws.specs.Retold.{PlansAlike, all_retold}
+use Rattle.report_laws.specs.Retold.{all_retold}
 use Rattle.report_laws.specs.Through.{AreHeads}
-use Rattle.report_laws.proofs.Fewer.{fewer}
 use Rattle.report_laws.proofs.Retelling.{alike}
-use Rattle.report_laws.proofs.Shortening.{AreShownShort, short-lines}
+use Rattle.report_laws.proofs.Shortening.{AreShownShort}
 use Rattle.run_plans.specs.Lines.{pulses_of}
-use Rattle.session_laws.specs.run_ends.Ends.{GoesThrough}
 use Rattle.session_laws.specs.run_headline.Further.{AreNamed, BoardsFirst, TellsFurther}
 use Rattle.session_laws.specs.run_headline.Told.{AreTold}
-use Rattle.session_laws.specs.run_headline.Timely.{AreOfMoves, AreSound}
+use Rattle.session_laws.specs.run_headline.Timely.{AreSound}
 use Rattle.session_laws.specs.run_lines.Due.{BoardsHave, StandApart, begun_lines}
 use Rattle.session_laws.specs.run_limits.Limits.{AreLow, greatest_tick, start_limit}
-use Rattle.report_laws.specs.Body.{no_section, section_lines}
+use Rattle.report_laws.specs.Body.{no_section}
 use Rattle.report_laws.specs.Headline.{moves_of, plan_by}
 use Rattle.report_laws.specs.Promises.{FollowsPlanBy, sections_over}
-use Rattle.report_laws.specs.Linked.{ShowsText}
 use Rattle.session_laws.specs.home_headline.Cuts.{cuts_of}
 use Rattle.report_laws.specs.Cuts.{cuts_in, lines_before}
 use Rattle.report_laws.specs.Shown.{lines_behind, pulses_before, pulses_in, section_turn, sections_shown}
-use Rattle.report_laws.proofs.Ends.{section_end-after}
-use Rattle.report_laws.proofs.Bridging.{fits-same, is-first, is-here, is-later}
-use Rattle.report_laws.specs.Stands.{StandInOrder}
+use Rattle.report_laws.proofs.Bridging.{is-first, is-here, is-later}
 use Rattle.report_laws.proofs.Further.{EachFurther, IsLongFurther}
 use Rattle.report_laws.proofs.Limits.{AreSmall, KeepLimits}
-use Rattle.report_laws.proofs.Shorts.{longs, rooms_at, shorts, steps_at, told_timed}
-use Rattle.report_laws.proofs.Standing.{AreAllKinds, apart_heads, due_moves, shown_kinds, some_pulse, some_shown, stands, told_before, told_behind, uncut_told}
+use Rattle.report_laws.proofs.Shorts.{longs, rooms_at, shorts, steps_at}
+use Rattle.report_laws.proofs.Standing.{some_pulse}
 
 -- so a section that is shown starts before the last turn in which one may
 pub turn_low : (j turn : ℕ) (lines : List ReportLine) → AreLow lines → section_turn j lines ≡ Some turn → turn < start_limit
@@ -90,23 +84,6 @@ pub record IsDue (first i j n turn : ℕ) : Type 0 where
   pub from : i ≤ j
   pub inside : j < i + n
   pub late : first ≤ turn
-
-due : (m : Machine) (clocks : List Clocks) (first i ready : ℕ) (sections : List Section) (j turn : ℕ) → first ≤ ready → section_turn j (section_lines i (section_starts m clocks ready sections) sections) ≡ Some turn → IsDue first i j (length sections) turn
-due m clocks first i ready [] j turn low e = absurd (let f : None ≡ Some turn = e in cc)
-due m clocks first i ready (s ∷ sections) j turn low e =
-    let start = ready + s.dwell in
-    let end = section_end m clocks s.moves start in
-    let rest = section_turn j (section_lines (i + 1) (section_starts m clocks (end + 260) sections) sections) in
-    let after = section_end-after m clocks s.moves start in
-    let At : Bool → Type 0 = λ b. (if b then Some start else rest) ≡ Some turn in
-    elim (eqb_tells i j) [
-      | inl p ↦ (let f : Some start ≡ Some turn = subst At p.0 e in let same : start ≡ turn = cc in let is = p.1 in record { from = omega (arith, is); inside = omega (arith, is); late = omega (arith, same, low) })
-      | inr p ↦
-          let later = due m clocks first (i + 1) (end + 260) sections j turn (omega (arith, low, after)) (subst At p.0 e) in
-          let a = later.from in
-          let b = later.inside in
-          record { from = omega (arith, a); inside = omega (arith, b); late = later.late }
-    ]
 
 -- the moves of a section of a number
 few_of : (sections : List Section) (j : ℕ) → All (λ s. length s.moves ≤ 2_000_000) sections → length (moves_of sections j) ≤ 2_000_000
@@ -170,11 +147,6 @@ record AreTimed (m : Machine) (n : ℕ) (lines : List ReportLine) : Type 0 where
 abbrev pub AreNumbered : ℕ → List ReportLine → Type 0
 AreNumbered k [] = Unit {0}
 AreNumbered k (line ∷ lines) = ((turn : ℕ) × (kind : SectionKind) × (line ≡ report.Section k turn kind)) × AreNumbered (k + 1) lines
-
-numbered_lines : (k : ℕ) (starts : List ℕ) (sections : List Section) → AreNumbered k (section_lines k starts sections)
-numbered_lines k [] sections = tt
-numbered_lines k (start ∷ starts) [] = tt
-numbered_lines k (start ∷ starts) (s ∷ sections) = ((start, s.kind, refl), numbered_lines (k + 1) starts sections)
 
 pub numbered_begun : (k : ℕ) (ss : List Started) → AreNumbered k (begun_lines k ss)
 numbered_begun k [] = tt
@@ -296,44 +268,3 @@ keep_by homes m text clocks ready said valid shows low follows =
       cut = shows.cut;
       cuts = λ j turn low_j e. shows.cuts j turn e;
     }
-
--- the lines of a run of moves, of a text that has sections, stand in order
-pub shown_stands : (m : Machine) (text : List ℕ) (c : Cause) (said : List ReportLine) → IsValidMachine m → AreOfMoves (sections_over m text) → sections_over m text ≢ [] → (shows : ShowsText m text c said) → GoesThrough c → AreLow said → StandInOrder false m shows.clocks shows.ready (sections_over m text) said
-shown_stands m text c said valid moves some shows through low =
-    let sections = sections_over m text in
-    let found = some_shown m shows.clocks shows.ready sections said some (shows.all through) in
-    let at = found.1 in
-    let shown = shows.all through in
-    let told = shows.own through in
-    let apart = shows.apart 0 found.0 at in
-    let sound = shows.sound 0 found.0 at in
-    let boards = shows.boards 0 found.0 at in
-    let uncut = uncut_told m (lines_before said) (told_before false m said told) in
-    let heads = apart_heads false m shows.clocks shows.ready said apart uncut told in
-    let Numbered : List ReportLine → Type 0 = λ z. AreNumbered 0 z in
-    let Small : List ReportLine → Type 0 = λ z. AreSmall m z in
-    let facts : Facts false m sections shows.clocks shows.ready said = record {
-      due = λ j turn e. due m shows.clocks shows.ready 0 shows.ready sections j turn (omega arith) (sym (ap (section_turn j) shown) ∙ shown_turn j said ∙ e);
-      numbered = subst Numbered (sym shown) (numbered_lines 0 (section_starts m shows.clocks shows.ready sections) sections);
-      apart = apart;
-      heads = heads;
-      sound = sound;
-      boards = boards;
-      own = told;
-      cut = subst Small (sym uncut) tt;
-      cuts = λ j turn e. subst Small (sym (uncut_told m (lines_before (lines_behind j said)) (told_before false m (lines_behind j said) (told_behind false m j said told)))) tt;
-      last = shows.last;
-      first = shows.first 0 found.0 at;
-      names = shows.named 0 found.0 at;
-      timed = λ b h. (told_timed m shows.clocks shows.ready said sound.clocks_are.count boards low b h).low;
-      soon = let early = (told_timed m shows.clocks shows.ready said sound.clocks_are.count boards low 0 valid.boards_some).early in omega (arith, early);
-      further = shows.further 0 found.0 at;
-    } in
-    let short = shorts_of false m sections shows.clocks shows.ready said facts in
-    let same_plan : (j turn : ℕ) → section_turn j said ≡ Some turn → PlansAlike m short.short shows.clocks (moves_of sections j) turn = λ j turn e.
-    let over = shows.over through j turn e in
-    let after = section_end-after m shows.clocks (moves_of sections j) turn in
-    fewer m short.short shows.clocks (moves_of sections j) turn shows.last valid sound.kept (λ b h. short-lines m shows.clocks short.short (further_told (map logged said)) shows.last b (short.each b h)) (omega (arith, over, after)) (omega (arith, over)) in
-    let follows : FollowsPlanBy short.short m sections said = λ j turn s e lt. let same = same_plan j turn e in fits-same (pulses_in j s said) (same.freq s lt) (same.base s lt) (same.steps s lt) (shows.prefix j turn s e lt) in
-    let kinds = shown_kinds said (subst AreAllKinds (sym shown) (due_moves 0 (section_starts m shows.clocks shows.ready sections) sections moves)) in
-    stands false m shows.clocks shows.ready shows.last sections said valid kinds apart heads sound boards told short (keep_by false m text shows.clocks shows.ready said valid facts low follows) (λ j turn e. inl (same_plan j turn e))

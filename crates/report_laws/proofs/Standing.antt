@@ -1,17 +1,14 @@
 -- The lines of a run over links stand as a log wants them.
-use Rattle.std.proofs.Common.{◌≡◌, ◌≢◌, ◌∙◌, ℕ, ◌+◌, ◌-◌, ◌*◌, ◌^◌, ◌<◌, Bool, true, false, List, [], ◌∷◌, ◌++◌, length, ap, sym, refl, subst, arith, inl, inr, Option, Some, append_assoc, length-append}
+use Rattle.std.proofs.Common.{◌≡◌, ◌∙◌, ℕ, ◌+◌, ◌-◌, ◌*◌, ◌^◌, ◌<◌, Bool, true, false, List, [], ◌∷◌, ◌++◌, length, ap, sym, refl, subst, arith, inl, inr, Option, Some, append_assoc, length-append}
 use Rattle.std.specs.Prelude.{if◌then◌else◌, min}
 use Rattle.std.proofs.lemmas.Bool.Decides.{eqb_tells}
-use Rattle.std.proofs.lemmas.List.Elements.{All-head, All-tail}
 use Rattle.plan_types.specs.declared.machine.Machine.{Machine}
 use Rattle.plan_types.specs.declared.plan.Pulse.{Pulse}
 use Rattle.plan_types.specs.declared.plan.Section.{Section}
 use Rattle.plan_types.specs.declared.plan.SectionKind.{SectionKind}
-use Rattle.plan_types.specs.declared.plan.SectionKind.TheVariants.{Moves}
 use Rattle.plan_types.specs.Clock.{tick, turn_ns}
 use Rattle.plan_types.specs.Lines.{Clocks}
 use Rattle.plan_types.specs.Machines.{IsValidMachine, board_at}
-use Rattle.plan_types.specs.Sections.{section_end, section_starts}
 use Rattle.report_text.specs.declared.line.ReportLine.{ReportLine}
 use Rattle.report_text.specs.declared.line.ReportLine.TheVariants as report
 use Rattle.board_asking.specs.Connecting.{turn_tick}
@@ -21,10 +18,8 @@ use Rattle.report_laws.proofs.Shortening.{AreShownShort}
 use Rattle.run_plans.specs.Lines.{heads_of, pulses_of}
 use Rattle.session_laws.specs.run_ends.Boards.{boards_of, lines_at}
 use Rattle.session_laws.specs.run_headline.Told.{AreTold}
-use Rattle.session_laws.specs.run_headline.Timely.{AreOfMoves, AreSound}
+use Rattle.session_laws.specs.run_headline.Timely.{AreSound}
 use Rattle.session_laws.specs.run_lines.Due.{BoardsHave, StandApart}
-use Rattle.report_laws.specs.Body.{section_lines}
-use Rattle.report_laws.specs.Promises.{sections_by}
 use Rattle.session_laws.specs.home_headline.Cuts.{cuts_of}
 use Rattle.report_laws.specs.Cuts.{lines_before}
 use Rattle.report_laws.specs.Shown.{begins, lines_behind, section_turn, sections_shown}
@@ -53,11 +48,6 @@ pub uncut_told : (m : Machine) (lines : List ReportLine) → AreTold false m lin
 uncut_told m [] told = refl
 uncut_told m (report.Cut section board pin tick from ∷ lines) told = absurd (let e : false ≡ true = told.0 in cc)
 uncut_told m (l ∷ lines) told = uncut_told m lines told.1
-
-pub told_before : (homes : Bool) (m : Machine) (lines : List ReportLine) → AreTold homes m lines → AreTold homes m (lines_before lines)
-told_before homes m [] told = tt
-told_before homes m (report.Section i turn kind ∷ lines) told = tt
-told_before homes m (l ∷ lines) told = (told.0, told_before homes m lines told.1)
 
 pub told_behind : (homes : Bool) (m : Machine) (i : ℕ) (lines : List ReportLine) → AreTold homes m lines → AreTold homes m (lines_behind i lines)
 told_behind homes m i [] told = tt
@@ -109,11 +99,6 @@ abbrev pub AreAllKinds : List ReportLine → Type 0
 AreAllKinds [] = Unit {0}
 AreAllKinds (report.Section i turn kind ∷ lines) = IsKind kind × AreAllKinds lines
 AreAllKinds (_ ∷ lines) = AreAllKinds lines
-
-pub due_moves : (i : ℕ) (starts : List ℕ) (sections : List Section) → AreOfMoves sections → AreAllKinds (section_lines i starts sections)
-due_moves i [] sections moves = tt
-due_moves i (start ∷ starts) [] moves = tt
-due_moves i (start ∷ starts) (s ∷ sections) moves = (subst (λ (k : SectionKind). IsKind k) (sym (All-head (λ (x : Section). x.kind ≡ Moves) s sections moves)) tt, due_moves (i + 1) starts sections (All-tail (λ (x : Section). x.kind ≡ Moves) s sections moves))
 
 pub shown_kinds : (lines : List ReportLine) → AreAllKinds (sections_shown lines) → AreAllKinds lines
 shown_kinds [] h = tt
@@ -221,9 +206,3 @@ first_shown i at sort rest (report.Made seed many ∷ lines) e = first_shown i a
 first_shown i at sort rest (report.Count stepper pulses ∷ lines) e = first_shown i at sort rest lines e
 first_shown i at sort rest (report.Fit section stepper pulses planned early late ∷ lines) e = first_shown i at sort rest lines e
 first_shown i at sort rest (report.End c ∷ lines) e = first_shown i at sort rest lines e
-
-pub some_shown : (m : Machine) (clocks : List Clocks) (ready : ℕ) (sections : List Section) (said : List ReportLine) → sections ≢ [] → sections_shown said ≡ sections_by clocks m ready sections → (turn : ℕ) × (section_turn 0 said ≡ Some turn)
-some_shown m clocks ready [] said some shown = absurd (some refl)
-some_shown m clocks ready (s ∷ sections) said some shown =
-    let start = ready + s.dwell in
-    (start, first_shown 0 start s.kind (section_lines 1 (section_starts m clocks (section_end m clocks s.moves start + 260) sections) sections) said shown)

@@ -1,5 +1,5 @@
 -- A board to which no units come makes no pulses, whatever its link does with what comes.
-use Rattle.std.proofs.Common.{◌≡◌, ◌≢◌, ℕ, ◌+◌, ◌-◌, ◌≤◌, List, [], ◌∷◌, ◌++◌, All, length, map, take, refl, ap, sym, ◌∙◌, subst, arith, append-nil}
+use Rattle.std.proofs.Common.{◌≡◌, ◌≢◌, ℕ, ◌+◌, ◌-◌, ◌≤◌, List, [], ◌∷◌, ◌++◌, All, length, map, take, refl, ap, sym, ◌∙◌, subst, arith}
 use Rattle.std.proofs.lemmas.List.Elements.{All-nil}
 use Rattle.std.specs.List.{flat_map}
 use Rattle.plan_types.specs.declared.levels.Level.{Level}
@@ -22,9 +22,8 @@ use Rattle.step_feed.specs.Pacing.{units_of}
 use Rattle.run_laws.specs.Events.{AreTurnsOf}
 use Rattle.run_laws.specs.Links.{AreTold, pulses_in, steps_of, turns_told}
 use Rattle.run_laws.specs.Parts.{AreOrdersOf, AreTracked, IsControl, IsRun, MakesIn}
-use Rattle.run_laws.specs.Runs.{IsBoardRun}
 use Rattle.run_laws.specs.Timely.{AreTimely, TakesSoon}
-use Rattle.run_laws.proofs.Between.{none_between}
+use Rattle.run_laws.proofs.Unmoved as unmoved
 use Rattle.run_laws.proofs.Lasting.{controls_timely}
 use Rattle.run_laws.proofs.Linking.{first_tick, told_made, turns_are, valid_ticks}
 use Rattle.run_laws.proofs.Soon.{timely_append}
@@ -101,11 +100,7 @@ none_made b pins os steps v still turns =
     let own = board_tick (clock_of b) in
     let ticks = valid_ticks b v in
     let timely = lasting_timely b pins own (length os) os steps turns ticks (first_tick b) (still_lasting own (length os) os still) (takes_none (length os) os own 0 os steps (start b pins) turns (omega arith)) in
-    let Steps : List Step → Type 0 = λ z. (run z (start b pins)).made ≡ (start b pins).made in
-    let Orders_of : List Orders → List Step → Type 0 = λ z y. IsBoardRun b pins own (some_clocks b) 1 [] z y in
-    let r : IsBoardRun b pins own (some_clocks b) 1 [] os steps = record { ticks = ticks; first = first_tick b; run_is = still_run b own os v still; turns = turns; timely = timely } in
-    none_between b pins own (some_clocks b) 1 [] [] [] os [] [] steps []
-    (subst (λ (y : List Step). Orders_of (os ++ []) y) (sym (append-nil steps)) (subst (λ (z : List Orders). Orders_of z steps) (sym (append-nil os)) r)) refl turns refl tt tt
+    unmoved.none_made b pins own (some_clocks b) 1 os steps ticks (first_tick b) (still_run b own os v still) turns timely
 
 no_pulses : (ps : List Pulse) (states : List State) → ps ++ pulses_in states ≡ [] → (ps ≡ []) × (pulses_in states ≡ [])
 no_pulses [] states e = (refl, e)

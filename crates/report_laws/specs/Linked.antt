@@ -1,90 +1,41 @@
 -- What a run over links shows.
-use Rattle.std.specs.Prelude.{◌≡◌, ◌≢◌, ◌⊎◌, ℕ, ◌<◌, false, List, [], ◌∷◌, ◌++◌, length, Option, Some}
+use Rattle.std.specs.Prelude.{◌≡◌, ◌≢◌, ◌⊎◌, ℕ, List, [], ◌∷◌, ◌++◌, Option, Some}
 use Rattle.io_core.specs.declared.traits.Files.{Ghosts as Files}
 use Rattle.io_core.specs.declared.traits.Sink.{Ghosts as Sink}
 use Rattle.plan_types.specs.declared.cause.Cause.{Cause}
 use Rattle.plan_types.specs.declared.cause.Cause.TheVariants as cause
 use Rattle.plan_types.specs.declared.machine.Machine.{Machine}
 use Rattle.plan_types.specs.declared.plan.ReadStop.TheVariants as read
-use Rattle.plan_types.specs.Lines.{Clocks}
-use Rattle.plan_types.specs.Sections.{clocks_at, section_end}
 use Rattle.report_text.specs.declared.line.ReportLine.{ReportLine}
 use Rattle.session_lanes.specs.declared.near.LinkLog.{LinkLog}
 use Rattle.session_run.specs.Boards.{came_from}
 use Rattle.session_run.specs.Reported.{IsReported}
 use Rattle.wire_scene.specs.declared.scene.Scene.{Scene}
 use Rattle.gcode_program.specs.Programs.{program_end}
-use Rattle.session_laws.specs.run_ends.Ends.{GoesThrough}
 use Rattle.host_reactor.specs.Rows.{IsOwn}
 use Rattle.session_laws.specs.run_headline.Made.{IsMade, IsNamed, NoneSo}
 use Rattle.session_laws.specs.home_headline.Cuts.{TellAnswers, cuts_of}
 use Rattle.session_laws.specs.home_headline.Reports.{TellOfReadings}
-use Rattle.session_laws.specs.run_headline.Told.{AreTold}
 use Rattle.session_laws.specs.run_links.Links.{AreLinksIn}
 use Rattle.session_laws.specs.run_lates.Late.{AllMayTell, ComesLateIn, HasLateUnitIn}
 use Rattle.session_laws.specs.run_clocks.Printed.{TellKnownLines}
 use Rattle.session_laws.specs.run_ends.Boards.{boards_of}
 use Rattle.session_run.specs.Desks.{lines_of}
 use Rattle.motion_work.specs.Told.{Told as Heard}
-use Rattle.session_laws.specs.run_headline.Further.{AreNamed, BoardsFirst, TellsFurther}
-use Rattle.session_laws.specs.run_headline.Timely.{AllTakeNear, AreOfMoves, AreSound, HoldsNothingLong}
-use Rattle.session_laws.specs.run_lines.Due.{BoardsHave, StandApart}
 use Rattle.session_laws.specs.home_headline.Little.{AllHomeLittle, SendsOut, ShownHoldLittle}
 use Rattle.session_laws.specs.home_wholes.Own.{AllSwitchesReadTrue, AllTakeInTime, TellTriggers}
-use Rattle.session_laws.specs.clear_homes.Closes.{AllClose, MissesSwitch, TellFirst}
+use Rattle.session_laws.specs.clear_homes.Closes.{MissesSwitch, TellFirst}
 use Rattle.session_laws.specs.clear_homes.First.{IsFirstExpired, IsUnswitched}
 use Rattle.session_laws.specs.run_causes.Unanswered.{GaveNoAnswer, IsStaleSince}
 use Rattle.session_laws.specs.clear_runs.Clear.{SendsAllSoon}
 use Rattle.report_laws.specs.Body.{cause_of}
-use Rattle.report_laws.specs.Headline.{moves_of}
 use Rattle.report_laws.specs.Homes.{ShowsBegun}
 use Rattle.report_laws.specs.Read.{IsSceneFor}
 use Rattle.report_laws.specs.page.Report.{Shows}
 use Rattle.session_work.specs.declared.table.MotionTurn.{MotionTurn}
 use Rattle.session_work.specs.declared.table.ReactorTurn.{ReactorTurn}
-use Rattle.report_laws.specs.Promises.{FollowsPlanBy, IsCauseOf, IsCompleteBefore, IsCompleteBy, lines_line, sections_by, sections_over}
-use Rattle.report_laws.specs.Shown.{section_turn, sections_shown}
+use Rattle.report_laws.specs.Promises.{FollowsPlanBy, IsCauseOf, sections_over}
 use Rattle.report_laws.specs.Times.{AreTimed}
-
--- What the lines of a run over links show of a text of moves, as they were written, with those of pulses.
-pub record ShowsText (m : Machine) (text : List ℕ) (c : Cause) (said : List ReportLine) : Type 0 where
-  -- the boards' clock lines, as the planner heard them, and the turn from which on the first section may start
-  pub clocks : List Clocks
-  pub ready : ℕ
-  -- Prefix: the pulses of a stepper in a section fit the first steps of its plan
-  pub prefix : FollowsPlanBy clocks m (sections_over m text) said
-  -- Whole: they are all of them where the run went through, to the text's end, to a line that was refused, or to a stop that was
-  -- asked for
-  pub whole : GoesThrough c → IsCompleteBy clocks m (sections_over m text) said
-  -- and whatever ended it, in each section but the last ones: where behind the line of the next section any stepper of the same board
-  -- has a pulse. So a fault may have cut the last section that has its line, and those behind which its board made no more pulses.
-  pub before : IsCompleteBefore clocks m (sections_over m text) said
-  -- Sections: the section lines are the first of those of the text, in order, each with the turn in which its section starts; and
-  -- all of them where the run went through
-  pub sections : (rest : List ReportLine) × (sections_by clocks m ready (sections_over m text) ≡ sections_shown said ++ rest)
-  pub all : GoesThrough c → sections_shown said ≡ sections_by clocks m ready (sections_over m text)
-  -- Boards: where a section has its line, the boards have theirs, of these clock lines and this turn
-  pub boards : (i turn : ℕ) → section_turn i said ≡ Some turn → BoardsHave clocks ready said
-  -- Counts: a run that went through shows how many lines were accepted and how many commands were passed
-  pub counts : GoesThrough c → lines_line said ≡ Some ((program_end m text).lines, (program_end m text).passed)
-  -- Cause: a run that went through ends as the reading of the text does
-  pub cause : GoesThrough c → c ≡ cause_of (program_end m text).stop
-  -- Order: where a section has its line, the boards' lines stand before that of the first section, and no pulse does; and the clock
-  -- lines are sound
-  pub apart : (i turn : ℕ) → section_turn i said ≡ Some turn → StandApart m clocks ready said
-  pub sound : (i turn : ℕ) → section_turn i said ≡ Some turn → AreSound m clocks ready
-  -- Further lines: where a section has its line, the further clock lines of each board that are told are the first ones of these, in
-  -- order, and no board has its line behind one; the others hold from behind a turn, by which all sections ended where
-  -- the run went through
-  pub last : ℕ
-  pub further : (i turn : ℕ) → section_turn i said ≡ Some turn → (b : ℕ) → b < length m.boards →
-      TellsFurther b (clocks_at clocks b).held last said
-  pub first : (i turn : ℕ) → section_turn i said ≡ Some turn → BoardsFirst said
-  pub named : (i turn : ℕ) → section_turn i said ≡ Some turn → AreNamed m said
-  pub over : GoesThrough c → (i turn : ℕ) → section_turn i said ≡ Some turn → section_end m clocks (moves_of (sections_over m text) i) turn < last
-  -- Lines: those of a run that went through are of the machine, which is its own, of boards, of sections, of further clock lines and
-  -- of what was read, and pulses of steppers that are there, on their own boards
-  pub own : GoesThrough c → AreTold false m said
 
 -- The premise of what a run of a text shows: its scene is none, or one that was read; it did not end for want of
 -- memory; and each board holds nothing long, in all turns, of which `end` is the last.
@@ -168,9 +119,7 @@ pub record IsLinkReport {F S : Type 0} (f : Files F) (o : Sink S) (m : Machine) 
   pub ends : EndsFor m s (f.told files gcode) reported.runs.runs.0 reported.runs.runs.1 reported.runs.runs.2 c
   -- Shutdowns: no state tells of any other but of steps that came too late and the order to stop
   pub shutdowns : (text : List ℕ) → f.told files gcode ≡ Some text → (reported.told.cause ≡ cause.Memory → ⊥) →
-      AllHomeLittle m s text reported.runs.runs.0 (reported.runs.runs.1 ++ reported.runs.runs.2 ∷ [])
-      ⊎ (AreOfMoves (sections_over m text)
-      × AllTakeNear m s text reported.runs.runs.0 (reported.runs.runs.1 ++ reported.runs.runs.2 ∷ [])) →
+      AllHomeLittle m s text reported.runs.runs.0 (reported.runs.runs.1 ++ reported.runs.runs.2 ∷ []) →
       ∥ AllMayTell (reported.runs.runs.1 ++ reported.runs.runs.2 ∷ []) ∥₁
   -- Answers: a turn tells of a switch exactly where the group of the homing section that is known answers that it closed,
   -- at the tick of the answer, and not the last turn; whatever tells of readings tells of complete ones; and that tick is
@@ -195,8 +144,3 @@ pub record IsLinkReport {F S : Type 0} (f : Files F) (o : Sink S) (m : Machine) 
       ((line : ℕ) → (program_end m text).stop ≡ read.Stop line → ⊥) → s.entries ≡ [] → SendsAllSoon m text reported.runs.runs.0 →
       ∥ IsCauseOf (cause_of (program_end m text).stop) c
       ⊎ EndsUnswitched m s text reported.runs.runs.0 reported.runs.runs.1 c ∥₁
-  -- Moves: a run of moves shows its text where no line holds a command for half a round of the 32-bit clock
-  pub moves : (text : List ℕ) → f.told files gcode ≡ Some text → AreOfMoves (sections_over m text) →
-      (reported.told.cause ≡ cause.Memory → ⊥) →
-      HoldsNothingLong m s text reported.runs.runs.0 (reported.runs.runs.1 ++ reported.runs.runs.2 ∷ []) →
-      ∥ ShowsText m text c reported.said ∥₁

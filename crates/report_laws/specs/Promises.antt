@@ -1,5 +1,5 @@
 -- What the lines of a run promise, for the machine and the text that it was asked to run.
-use Rattle.std.specs.Prelude.{◌≡◌, ◌≢◌, ◌⊎◌, ℕ, ◌+◌, ◌<◌, List, [], ◌∷◌, length, Option, Some, None}
+use Rattle.std.specs.Prelude.{◌≡◌, ◌≢◌, ◌⊎◌, ℕ, ◌<◌, List, [], ◌∷◌, length, Option, Some, None}
 use Rattle.plan_types.specs.declared.cause.Cause.{Cause}
 use Rattle.plan_types.specs.declared.cause.Cause.TheVariants as cause
 use Rattle.plan_types.specs.declared.machine.Machine.{Machine}
@@ -7,16 +7,14 @@ use Rattle.plan_types.specs.declared.plan.Section.{Section}
 use Rattle.plan_types.specs.Lines.{Clocks}
 use Rattle.plan_types.specs.Machines.{stepper_at}
 use Rattle.plan_types.specs.Plan.{Fits}
-use Rattle.plan_types.specs.Sections.{base_tick, clocks_at, section_starts}
+use Rattle.plan_types.specs.Sections.{base_tick, clocks_at}
 use Rattle.report_text.specs.declared.line.ReportLine.{ReportLine}
 use Rattle.report_text.specs.declared.line.ReportLine.TheVariants as report
 use Rattle.report_text.specs.Text.{report_text}
 use Rattle.gcode_program.specs.Programs.{program_sections}
-use Rattle.report_laws.specs.Body.{section_lines}
 use Rattle.report_laws.specs.Headline.{plan_by}
 use Rattle.report_text.specs.Written.{WritesAll, WritesFront}
-use Rattle.run_plans.specs.Lines.{pulses_of}
-use Rattle.report_laws.specs.Shown.{lines_behind, pulses_in, section_turn}
+use Rattle.report_laws.specs.Shown.{pulses_in, section_turn}
 
 -- the sections of a text on a machine
 abbrev pub sections_over : Machine → List ℕ → List Section
@@ -28,23 +26,6 @@ abbrev pub FollowsPlanBy : List Clocks → Machine → List Section → List Rep
 FollowsPlanBy clocks m sections lines =
     (i turn s : ℕ) → section_turn i lines ≡ Some turn → s < length m.steppers →
     Fits (clocks_at clocks (stepper_at m s).board).first.freq (base_tick m clocks turn s) (pulses_in i s lines) (plan_by clocks m sections i turn s)
-
--- Whole: there are as many of them as planned steps.
-abbrev pub IsCompleteBy : List Clocks → Machine → List Section → List ReportLine → Type 0
-IsCompleteBy clocks m sections lines =
-    (i turn s : ℕ) → section_turn i lines ≡ Some turn → s < length m.steppers → length (pulses_in i s lines) ≡ length (plan_by clocks m sections i turn s)
-
--- Whole, of the sections before a fault: there are as many of them as planned steps where, behind the line of the next section,
--- any stepper of the same board has a pulse.
-abbrev pub IsCompleteBefore : List Clocks → Machine → List Section → List ReportLine → Type 0
-IsCompleteBefore clocks m sections lines =
-    (i turn s other : ℕ) → section_turn i lines ≡ Some turn → s < length m.steppers → other < length m.steppers → (stepper_at m other).board ≡ (stepper_at m s).board →
-    pulses_of other (lines_behind (i + 1) lines) ≢ [] → length (pulses_in i s lines) ≡ length (plan_by clocks m sections i turn s)
-
--- the section lines of some sections, of which the first may start in a turn: each section's number and kind, and the turn in
--- which it starts, by the boards' clock lines
-abbrev pub sections_by : List Clocks → Machine → ℕ → List Section → List ReportLine
-sections_by clocks m ready sections = section_lines 0 (section_starts m clocks ready sections) sections
 
 -- Causes: the run ends as the reading of the text does, but for want of memory and for faults of files and output.
 abbrev pub IsCauseOf : Cause → Cause → Type 0

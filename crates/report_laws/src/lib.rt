@@ -14,7 +14,6 @@ pub use law::{
 pub use page::printed_lines_follow_the_plan;
 pub use replays::replayed_pulses_are_meant;
 pub use runs::{
-    homing_runs_check, reports_that_follow_the_plan_check, runs_over_links_check,
-    runs_without_sections_check, what_homing_runs_write_checks, what_runs_over_links_write_checks,
-    what_runs_without_sections_write_checks,
+    homing_runs_check, runs_of_moves_over_links_hold_little, runs_without_sections_check,
+    what_homing_runs_write_checks, what_runs_without_sections_write_checks,
 };

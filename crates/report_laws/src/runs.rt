@@ -1,17 +1,12 @@
 //! The laws of reports that check.
 
-ghost use Rattle.std.specs.Prelude.{◌≡◌, ◌∷◌, ◌++◌, [], ℕ, List, Some, false};
+ghost use Rattle.std.specs.Prelude.{◌≡◌, ◌∷◌, ◌++◌, [], ℕ, List, Some};
 ghost use Rattle.cfg_text.specs.Reading.{reading};
 ghost use Rattle.report_laws.specs.Checks.{check_cause};
-ghost use Rattle.report_laws.specs.Promises.{FollowsPlanBy, IsCompleteBy, sections_by, sections_over};
+ghost use Rattle.report_laws.specs.Promises.{sections_over};
 ghost use Rattle.report_laws.specs.Linked.{IsLinkReport};
-ghost use Rattle.report_laws.specs.Shown.{sections_shown};
 ghost use Rattle.report_laws.specs.Read.{IsSceneFor};
-ghost use Rattle.report_laws.specs.Stands.{StandInOrder};
 ghost use Rattle.plan_types.specs.declared.machine.Machine.{Machine};
-ghost use Rattle.plan_types.specs.Lines.{Clocks};
-ghost use Rattle.report_laws.specs.Logged.{IsCauseOn};
-ghost use Rattle.report_laws.specs.Names.{HasNames};
 ghost use Rattle.report_text.specs.declared.line.ReportLine.{ReportLine};
 ghost use Rattle.report_text.specs.declared.line.ReportLine.TheVariants as report;
 ghost use Rattle.report_text.specs.Text.{report_text};
@@ -24,30 +19,15 @@ ghost use Rattle.wire_scene.specs.declared.scene.Scene.{Scene};
 use io_core::{Files, Sink};
 use plan_types::Cause;
 
-/// The law of reports: where the lines of a report follow the plan of a text of G-code, all of them, and stand as a log wants them,
-/// the check of the report's text against this G-code on the same machine ends with all done, whatever the cause of its end line.
-pub fn reports_that_follow_the_plan_check()
-    ensures { (m : Machine) (text : List ℕ) (clocks : List Clocks) (ready : ℕ) (said : List ReportLine) (c : Cause) → HasNames m →
-        FollowsPlanBy clocks m (sections_over m text) said → IsCompleteBy clocks m (sections_over m text) said → sections_shown said ≡ sections_by clocks m ready (sections_over m text) →
-        StandInOrder false m clocks ready (sections_over m text) said → IsCauseOn m c → check_cause m text (report_text m (said ++ report.End c ∷ [])) ≡ Cause.Done }
-{}
-
-/// The law of runs over links: where such a run of moves went through, and no line held a command for half a round of the 32-bit
-/// clock, the check of its report's text against this G-code on the same machine ends with all done.
-pub fn runs_over_links_check<F: Files, S: Sink>()
+/// The law of runs of moves: where no line of such a run held a command for half a round of the 32-bit clock
+/// (`HoldsNothingLong`), and it did not end for want of memory, each board holds nothing long (`AllHomeLittle`). So what
+/// a run over links shows of its text, and the laws below, hold of it.
+pub fn runs_of_moves_over_links_hold_little<F: Files, S: Sink>()
     ensures { (printer : List ℕ) (m : Machine) (s : Scene) (gcode : List ℕ) (files files' : F) (out out' : S) (c : Cause) (lines : List ReportLine) (counts : List ℕ) (links : List LinkLog) →
-        reading printer ≡ Ok m → (r : IsLinkReport F.Files S.Sink m s gcode files files' out out' c lines counts links) → (text : List ℕ) → F.told files gcode ≡ Some text →
-        AreOfMoves (sections_over m text) → HoldsNothingLong m s text r.reported.runs.runs.0 (r.reported.runs.runs.1 ++ r.reported.runs.runs.2 ∷ []) → GoesThrough c →
-        check_cause m text (report_text m (r.reported.said ++ report.End c ∷ [])) ≡ Cause.Done }
-{}
-
-/// The law of what runs over links write: where nothing was written before such a run, the check of what is written then ends with
-/// all done.
-pub fn what_runs_over_links_write_checks<F: Files, S: Sink>()
-    ensures { (printer : List ℕ) (m : Machine) (s : Scene) (gcode : List ℕ) (files files' : F) (out out' : S) (c : Cause) (lines : List ReportLine) (counts : List ℕ) (links : List LinkLog) →
-        reading printer ≡ Ok m → (r : IsLinkReport F.Files S.Sink m s gcode files files' out out' c lines counts links) → (text : List ℕ) → F.told files gcode ≡ Some text →
-        AreOfMoves (sections_over m text) → HoldsNothingLong m s text r.reported.runs.runs.0 (r.reported.runs.runs.1 ++ r.reported.runs.runs.2 ∷ []) → GoesThrough c →
-        (log : List ℕ) → S.written out ≡ Some [] → S.written out' ≡ Some log → check_cause m text log ≡ Cause.Done }
+        reading printer ≡ Ok m → (r : IsLinkReport F.Files S.Sink m s gcode files files' out out' c lines counts links) → (text : List ℕ) →
+        AreOfMoves (sections_over m text) → (r.reported.told.cause ≡ Cause.Memory → ⊥) →
+        HoldsNothingLong m s text r.reported.runs.runs.0 (r.reported.runs.runs.1 ++ r.reported.runs.runs.2 ∷ []) →
+        AllHomeLittle m s text r.reported.runs.runs.0 (r.reported.runs.runs.1 ++ r.reported.runs.runs.2 ∷ []) }
 {}
 
 /// The law of runs over links in which axes home: where such a run went through, of moves or homing, in a scene that was read or in none,

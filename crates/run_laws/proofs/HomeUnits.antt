@@ -134,9 +134,6 @@ pub record Goes (f : Frame) (oid : ℕ) (total : List Pulse) (k : Known) (ls : L
 waits_of : (f : Frame) (oid : ℕ) (total : List Pulse) (k : Known) (ls : List ℕ) (us : List StepUnit) → Goes f oid total k ls us → Waits f oid total k ls us
 waits_of f oid total k ls us g = record { made = g.made; chain = inr g.chain; old = []; ends = g.ends ∙ sym (append-nil ls); below = λ n h. tt; said = g.said }
 
-clock_kept : (k : Known) (o : Option ℕ) → o ≡ None → clock_after k.clock o ≡ k.clock
-clock_kept k o e = rw e refl
-
 -- its next unit
 pub unit_on : (f : Frame) (stops : ℕ → Option ℕ) (oid : ℕ) (total : List Pulse) (turn : ℕ) (c : Course) (ls : List ℕ) (u : StepUnit) (us : List StepUnit) → u.stepper ≡ oid → Goes f oid total c.known ls (u ∷ us) → IsInside f u
     → f.start ≤ turn + 250 → u.due ≤ turn + 250 → count_from (f.own turn) ls < f.slots

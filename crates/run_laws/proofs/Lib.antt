@@ -19,12 +19,11 @@ pub mod Entering
 pub mod Beginning
 pub mod Windows
 pub mod Spans
-pub mod Ending
 pub mod Wholes
 pub mod Finding
 pub mod Linking
 pub mod Sampling
-pub mod Between
+pub mod Unmoved
 pub mod Naming
 pub mod Seeking
 pub mod Stopping

@@ -1,7 +1,6 @@
 -- A link's turns as steps.
 use Rattle.std.proofs.lemmas.Int.{ints}
-use Rattle.std.proofs.lemmas.List.{append_cancel_left}
-use Rattle.std.proofs.Common.{◌≡◌, ℕ, ℤ, zero, suc, pos, negsuc, Bool, ◌+◌, ◌*◌, ◌≤◌, ◌≤ℤ◌, List, [], ◌∷◌, ◌++◌, length, refl, ap, sym, ◌∙◌, subst, arith, append_assoc, append-nil, length-append, ◌≢◌, ◌⊎◌, inl, inr, true, false, ◌↔◌}
+use Rattle.std.proofs.Common.{◌≡◌, ℕ, ℤ, zero, suc, pos, negsuc, Bool, ◌+◌, ◌*◌, ◌≤◌, ◌≤ℤ◌, List, [], ◌∷◌, ◌++◌, length, refl, ap, sym, ◌∙◌, subst, arith, append_assoc, append-nil, ◌≢◌, ◌⊎◌, inl, inr, true, false, ◌↔◌}
 use Rattle.run_laws.proofs.Windows.{quiet_made}
 use Rattle.board_sim.proofs.RigShut.{passes_left}
 use Rattle.board_sim.proofs.RigStates.{passes_state}
@@ -11,36 +10,24 @@ use Rattle.plan_types.specs.declared.plan.BoardState.TheVariants.{Running, Shut}
 use Rattle.plan_types.specs.declared.plan.BoardState.{BoardState}
 use Rattle.plan_types.specs.declared.machine.BoardDef.{BoardDef}
 use Rattle.plan_types.specs.declared.clock.BoardClock.{BoardClock}
-use Rattle.plan_types.specs.declared.levels.Level.{Level}
-use Rattle.plan_types.specs.declared.plan.Pulse.{Pulse}
 use Rattle.plan_types.specs.Clock.{board_tick, clock_of, own_tick, rate}
 use Rattle.plan_types.specs.Machines.{IsValidBoard}
 use Rattle.plan_types.proofs.OwnTicks.{rise}
 use Rattle.std.proofs.Math.Nat.{mul-le-mul_right}
-use Rattle.plan_types.specs.Lines.{Clocks}
-use Rattle.plan_types.specs.Plan.{Fits}
 use Rattle.msg_code.specs.declared.talk.State.{State}
-use Rattle.wire_scene.specs.declared.scene.Entry.{Entry}
 use Rattle.wire_scene.specs.declared.scene.Way.{Way}
 use Rattle.wire_scene.specs.declared.scene.Way.TheVariants.{Down, Up}
 use Rattle.wire_scene.specs.declared.wire.Fate.{Fate}
 use Rattle.wire_scene.specs.declared.wire.Fate.TheVariants.{Lost, Last, Stays, Garbled}
 use Rattle.wire_scene.specs.Wire.{Copy}
-use Rattle.board_sim.specs.Fair.{only}
 use Rattle.board_world.specs.declared.event.Event.TheVariants as event
 use Rattle.board_world.specs.World.{Core, Step, Do, Turn, run, start, after, happens}
 use Rattle.link_work.specs.Turn.{LinkState, Orders, after_board, after_host, after_replies, board_steps, come, comes, host_steps, resends, sends, IsTurn}
-use Rattle.link_work.specs.Stands.{first_state}
 use Rattle.link_work.specs.Runs.{AreTurns}
 use Rattle.link_work.proofs.Sending.{run_append}
 use Rattle.link_work.proofs.Steps.{AllOf, all_append, all_come, all_resent, all_sent}
 use Rattle.run_laws.specs.Events.{IsQuiet, AreOwn, AreQuiet, IsTurnOf, AreTurnsOf, AreTicks}
 use Rattle.run_laws.specs.Links.{steps_of_turn, steps_of, AreTold, pulses_in, turns_told}
-use Rattle.run_laws.specs.Runs.{IsBoardRun, IsSpan, NextAfter}
-use Rattle.section_units.specs.Sections.{BoardSection, base_of}
-use Rattle.run_laws.specs.Parts.{IsRun}
-use Rattle.run_laws.specs.Timely.{AllTimely}
-use Rattle.run_laws.proofs.Finding.{span_fits}
 
 -- two tests of one fact agree
 pub same_bool : (a b : Bool) (P : Type 0) → (a ≡ true) ↔ P → (b ≡ true) ↔ P → a ≡ b
@@ -143,9 +130,6 @@ first_tick b = omega arith
 pub own_first : (b : BoardDef) (turns : ℕ) (own : ℕ → ℕ) → AreOwn b turns own → own 0 ≡ b.start
 own_first b turns own o = o.same 0 (omega arith) ∙ first_tick b
 
-pub own_front : (b : BoardDef) (n turns : ℕ) (own : ℕ → ℕ) → n ≤ turns → AreOwn b turns own → AreOwn b n own
-own_front b n turns own h o = record { ticks = o.ticks; few = o.few; same = λ k low. o.same k (omega (arith, low, h)) }
-
 pub own_few : (b : BoardDef) (turns : ℕ) (own : ℕ → ℕ) → AreOwn b turns own → (j k : ℕ) → own (k + j) ≤ own k + 200_041 * j
 own_few b turns own o zero k = let e : k + 0 ≡ k = omega arith in rw e (omega arith)
 own_few b turns own o (suc j) k =
@@ -188,50 +172,6 @@ told_made clock turn (o ∷ os) (s ∷ states) l m t =
 pub told_both : (clock : BoardClock) (turn : ℕ) (os : List Orders) (states : List State) (l m : LinkState) → AreTold clock turn os states l m
     → AreTurns clock turn os l m × (l.core.made ++ pulses_in states ≡ m.core.made)
 told_both clock turn os states l m t = (turns_told clock turn os states l m t, told_made clock turn os states l m t)
-
--- what a link shows of a section
-pub link_shows : (b : BoardDef) (pins : List (List Level)) (board : ℕ) (entries : List Entry) (own : ℕ → ℕ) (clocks : Clocks) (ready : ℕ) (past : List BoardSection) (s : BoardSection) (later : List BoardSection)
-    (before during behind : List Orders) (l m n : LinkState) (one : AreTurns (clock_of b) 0 before (first_state b pins board entries) l) (two : AreTurns (clock_of b) (length before) during l m)
-    (three : AreTurns (clock_of b) (length before + length during) behind m n) → AreOwn b (length (before ++ (during ++ behind))) own
-    → IsRun own clocks b.freq b.slots ready (past ++ s ∷ later) (before ++ (during ++ behind))
-    → AllTimely (start b pins) (steps_of (clock_of b) 0 before (first_state b pins board entries) l one
-    ++ (steps_of (clock_of b) (length before) during l m two ++ steps_of (clock_of b) (length before + length during) behind m n three))
-    → length before + 1 ≡ s.start → NextAfter (length before + length during) later → (states : List State) → AreTold (clock_of b) (length before) during states l m
-    → (oid : ℕ) → Fits b.freq (base_of clocks s) (only oid (pulses_in states)) (s.plan oid)
-link_shows b pins board entries own clocks ready past s later before during behind l m n one two three o r timely begins ends states told oid =
-    let clock = clock_of b in
-    let turns = length (before ++ (during ++ behind)) in
-    let all = length-append before (during ++ behind) in
-    let both = length-append during behind in
-    let l0 = first_state b pins board entries in
-    let t1 = turns_are clock 0 before l0 l one in
-    let t2 = turns_are clock (length before) during l m two in
-    let t3 = turns_are clock (length before + length during) behind m n three in
-    let first = steps_of clock 0 before l0 l one in
-    let second = steps_of clock (length before) during l m two in
-    let third = steps_of clock (length before + length during) behind m n three in
-    let zero_more : length before ≡ 0 + length before = omega arith in
-    let At : ℕ → Type 0 = λ k. AreTurnsOf own k (during ++ behind) (second ++ third) in
-    let two_turns = turns_owned b own turns (length before) during second o (omega (arith, all, both)) t2.1 in
-    let three_turns = turns_owned b own turns (length before + length during) behind third o (omega (arith, all, both)) t3.1 in
-    let one_turns = turns_owned b own turns 0 before first o (omega (arith, all)) t1.1 in
-    let rest = turns_append own (length before) during behind second third two_turns three_turns in
-    let whole : IsBoardRun b pins own clocks ready (past ++ s ∷ later) (before ++ (during ++ behind)) (first ++ (second ++ third)) = record {
-      ticks = o.ticks;
-      first = own_first b turns own o;
-      run_is = r;
-      turns = turns_append own 0 before (during ++ behind) first (second ++ third) one_turns (subst At zero_more rest);
-      timely = timely;
-    } in
-    let span : IsSpan own s later before during behind first second third =
-    record { first_turns = one_turns; second_turns = two_turns; third_turns = three_turns; begins = begins; ends = ends } in
-    let (pulses, made, fits) = span_fits b pins own clocks ready past s later before during behind first second third whole span in
-    let early : l.core ≡ run first (start b pins) = t1.0 in
-    let late : m.core ≡ run (first ++ second) (start b pins) = t2.0 ∙ ap (λ h. run second h) t1.0 ∙ sym (run_append first second (start b pins)) in
-    let all : m.core.made ≡ l.core.made ++ pulses = ap (λ (h : Core). h.made) late ∙ made ∙ ap (λ (h : Core). h.made ++ pulses) (sym early) in
-    let same : pulses_in states ≡ pulses = append_cancel_left l.core.made (pulses_in states) pulses (told_made clock (length before) during states l m told ∙ all) in
-    let At : List Pulse → Type 0 = λ x. Fits b.freq (base_of clocks s) (only oid x) (s.plan oid) in
-    subst At (sym same) (fits oid)
 
 -- A turn of a link that makes a pulse leaves the board running.
 abbrev LeavesBoard : Step → Type 0
@@ -281,16 +221,3 @@ pulse_runs clock turn o l m t more =
       | inl e ↦ ap (λ (h : Core). h.board.controller.state) is ∙ ap (λ (r : Rig). r.controller.state) up_board ∙ passes_state h2.board until ∙ e
       | inr e ↦ absurd (more (ap (λ (h : Core). h.made) is ∙ up_made ∙ ap (λ x. h2.made ++ x) e ∙ append-nil h2.made ∙ down_made ∙ host_made))
     ]
-
--- a link's run
-pub link_runs : (b : BoardDef) (pins : List (List Level)) (board : ℕ) (entries : List Entry) (own : ℕ → ℕ) (clocks : Clocks) (ready : ℕ) (ss : List BoardSection) (os : List Orders) (m : LinkState)
-    (t : AreTurns (clock_of b) 0 os (first_state b pins board entries) m) → AreOwn b (length os) own → IsRun own clocks b.freq b.slots ready ss os
-    → AllTimely (start b pins) (steps_of (clock_of b) 0 os (first_state b pins board entries) m t)
-    → IsBoardRun b pins own clocks ready ss os (steps_of (clock_of b) 0 os (first_state b pins board entries) m t)
-link_runs b pins board entries own clocks ready ss os m t o r timely = record {
-  ticks = o.ticks;
-  first = own_first b (length os) own o;
-  run_is = r;
-  turns = turns_owned b own (length os) 0 os (steps_of (clock_of b) 0 os (first_state b pins board entries) m t) o (omega arith) (turns_are (clock_of b) 0 os (first_state b pins board entries) m t).1;
-  timely = timely;
-}

@@ -1,5 +1,5 @@
 -- Which unit a triple that was queued belongs to.
-use Rattle.std.proofs.Common.{◌≡◌, ℕ, Bool, false, ◌+◌, ◌⊎◌, List, [], ◌∷◌, ◌++◌, length, map, drop, All, Option, Some, None, refl, ap, sym, ◌∙◌, subst, inl, inr}
+use Rattle.std.proofs.Common.{◌≡◌, ℕ, Bool, true, false, ◌+◌, ◌⊎◌, List, [], ◌∷◌, ◌++◌, length, map, drop, All, Option, Some, None, refl, ap, sym, ◌∙◌, subst, inl, inr}
 use Rattle.std.proofs.lemmas.Bool.Decides.{eqb_tells}
 use Rattle.std.proofs.lemmas.List.{take-append-drop}
 use Rattle.std.proofs.lemmas.List.Elements.{All-head, All-tail}
@@ -22,12 +22,11 @@ use Rattle.step_feed.specs.Pacing.{Release, batch_at, units_of}
 use Rattle.link_work.specs.Turn.{Orders}
 use Rattle.link_work.specs.Runs.{queued_in}
 use Rattle.run_laws.specs.Late.{IsIn, IsStep, IsLateUnit}
-use Rattle.run_laws.specs.Runs.{IsBoardRun}
-use Rattle.section_units.specs.Sections.{AreBegunBy, AreChained, BoardSection, IsSection, base_of, of_stepper, ticks_meant}
-use Rattle.run_laws.specs.Parts.{AreOrdersOf, IsControl}
-use Rattle.run_laws.proofs.Sectioning.{units_at}
+use Rattle.section_units.specs.Sections.{AreBegunBy, AreChained, BoardSection, base_of, of_stepper, ticks_meant}
+use Rattle.run_laws.specs.Courses.{IsGoodRun}
+use Rattle.run_laws.specs.Homes.{AreOrdersIn, IsControlIn, IsHomeRun, IsSectionBy, RunSection}
 use Rattle.run_laws.proofs.Wholes.{sent_orders}
-use Rattle.run_laws.proofs.Finding.{all_fair, at_end, splits_of}
+use Rattle.run_laws.proofs.Halted.{all_fair, at_end}
 use Rattle.run_laws.proofs.Naming.{late_names}
 use Rattle.run_laws.proofs.Ticks.{orders_are}
 
@@ -64,14 +63,14 @@ among_all P x (y ∷ xs) (inl e) all = subst P (sym e) (All-head P y xs all)
 among_all P x (y ∷ xs) (inr a) all = among_all P x xs a (All-tail P y xs all)
 
 -- no control command is a triple
-not_both : (c : Cmd) → IsControl c → IsStep c → ⊥
-not_both (cmd.QueueStep oid interval count add) k s = k
-not_both _ k s = s
+not_both : (clocks : Clocks) (ss : List RunSection) (turn : ℕ) (c : Cmd) → IsControlIn clocks ss turn c → IsStep c → ⊥
+not_both clocks ss turn (cmd.QueueStep oid interval count add) k s = k
+not_both clocks ss turn _ k s = s
 
-no_control : (m : Meant) (cs : List Cmd) → Among m (map plain cs) → All IsControl cs → IsStep m.command → ⊥
-no_control m [] a h s = a
-no_control m (c ∷ cs) (inl e) h s = not_both c (All-head IsControl c cs h) (let At : Meant → Type 0 = λ x. IsStep x.command in subst At e s)
-no_control m (c ∷ cs) (inr a) h s = no_control m cs a (All-tail IsControl c cs h) s
+no_control : (clocks : Clocks) (ss : List RunSection) (turn : ℕ) (m : Meant) (cs : List Cmd) → Among m (map plain cs) → All (IsControlIn clocks ss turn) cs → IsStep m.command → ⊥
+no_control clocks ss turn m [] a h s = a
+no_control clocks ss turn m (c ∷ cs) (inl e) h s = not_both clocks ss turn c (All-head (IsControlIn clocks ss turn) c cs h) (let At : Meant → Type 0 = λ x. IsStep x.command in subst At e s)
+no_control clocks ss turn m (c ∷ cs) (inr a) h s = no_control clocks ss turn m cs a (All-tail (IsControlIn clocks ss turn) c cs h) s
 
 no_reset : (m : Meant) (oid : ℕ) (o : Option ℕ) → Among m (map plain (reset_commands oid o)) → IsStep m.command → ⊥
 no_reset m oid None a s = a
@@ -110,28 +109,33 @@ in_batch u k (r ∷ rs) a = elim (eqb_tells r.turn k) [
   | inr p ↦ let x = in_batch u k rs (rw p.0 at a) in (x.0, inr x.1, x.2)
 ]
 
-in_sections : (u : StepUnit) (k : ℕ) (ss : List BoardSection) → Among u (units_at k ss) → (s : BoardSection) × (r : Release) × Among s ss × Among r s.releases × (u ≡ r.unit)
+in_sections : (u : StepUnit) (k : ℕ) (ss : List RunSection) → Among u (flat_map (λ s. batch_at k s.section.releases) ss) → (s : RunSection) × (r : Release) × Among s ss × Among r s.section.releases × (u ≡ r.unit)
 in_sections u k [] a = absurd a
-in_sections u k (s ∷ ss) a = elim (among_split u (batch_at k s.releases) (units_at k ss) a) [
-  | inl p ↦ let x = in_batch u k s.releases p in (s, x.0, inl refl, x.1, x.2)
+in_sections u k (s ∷ ss) a = elim (among_split u (batch_at k s.section.releases) (flat_map (λ (x : RunSection). batch_at k x.section.releases) ss) a) [
+  | inl p ↦ let x = in_batch u k s.section.releases p in (s, x.0, inl refl, x.1, x.2)
   | inr p ↦ let x = in_sections u k ss p in (x.0, x.1, inr x.2, x.3, x.4)
 ]
 
-abbrev FromSection : List BoardSection → Meant → Type 0
-FromSection ss m = (s : BoardSection) × (r : Release) × Among s ss × Among r s.releases × (m.ticks ≡ ticks_meant r.unit)
+among_map : (s : RunSection) (ss : List RunSection) → Among s ss → Among s.section (map (λ x. x.section) ss)
+among_map s [] a = absurd a
+among_map s (x ∷ ss) (inl e) = inl (ap (λ (y : RunSection). y.section) e)
+among_map s (x ∷ ss) (inr a) = inr (among_map s ss a)
 
-in_turns : (m : Meant) (ss : List BoardSection) (k : ℕ) (os : List Orders) → AreOrdersOf ss k os → Among m (flat_map queued_in os) → IsStep m.command → FromSection ss m
-in_turns m ss k [] h a s = absurd a
-in_turns m ss k (o ∷ os) h a s = elim (among_split m (queued_in o) (flat_map queued_in os) a) [
+abbrev FromSection : List RunSection → Meant → Type 0
+FromSection ss m = (s : RunSection) × (r : Release) × Among s ss × Among r s.section.releases × (m.ticks ≡ ticks_meant r.unit)
+
+in_turns : (clocks : Clocks) (m : Meant) (ss : List RunSection) (k : ℕ) (os : List Orders) → AreOrdersIn clocks ss k os → Among m (flat_map queued_in os) → IsStep m.command → FromSection ss m
+in_turns clocks m ss k [] h a s = absurd a
+in_turns clocks m ss k (o ∷ os) h a s = elim (among_split m (queued_in o) (flat_map queued_in os) a) [
   | inl p ↦ elim (among_split m (map plain o.control.commands) (units_orders o.batch.units) p) [
-    | inl q ↦ absurd (no_control m o.control.commands q h.0 s)
+    | inl q ↦ absurd (no_control clocks ss k m o.control.commands q h.0 s)
     | inr q ↦
         let u = in_units m o.batch.units q s in
         let At : List StepUnit → Type 0 = λ x. Among u.0 x in
         let x = in_sections u.0 k ss (subst At h.1 u.1) in
         (x.0, x.1, x.2, x.3, u.2 ∙ ap ticks_meant x.4)
   ]
-  | inr p ↦ in_turns m ss (k + 1) os h.2 p s
+  | inr p ↦ in_turns clocks m ss (k + 1) os h.2 p s
 ]
 
 -- the first tick that a unit tells is that of its triple
@@ -156,27 +160,31 @@ tell_own r (q ∷ rs) (inl e) t =
     subst To (sym e) (elim (eqb_tells q.unit.stepper q.unit.stepper) [ inl p ↦ (rw p.0 at own).0 | inr p ↦ absurd (p.1 refl) ])
 tell_own r (q ∷ rs) (inr a) t = elim (eqb_tells q.unit.stepper r.unit.stepper) [ inl p ↦ tell_own r rs a (rw p.0 at t).1 | inr p ↦ tell_own r rs a (rw p.0 at t) ]
 
-pub late_unit : (b : BoardDef) (pins : List (List Level)) (own : ℕ → ℕ) (clocks : Clocks) (ready : ℕ) (ss : List BoardSection) (os : List Orders) (steps : List Step) (tick first : ℕ)
-    → IsBoardRun b pins own clocks ready ss os steps → (run steps (start b pins)).board.controller.state ≡ Shut 1 tick first → IsLateUnit ss tick first
+begun_by : (homes : Bool) (clocks : Clocks) (freq slots until : ℕ) (stops : ℕ → Option ℕ) (s : BoardSection) → IsSectionBy homes clocks freq slots until stops s → (oid : ℕ) → TellFirst (of_stepper oid (units_of s.releases))
+begun_by true clocks freq slots until stops s i oid = begun_tell true clocks (base_of clocks s) (of_stepper oid (units_of s.releases)) (i.begun oid)
+begun_by false clocks freq slots until stops s i oid = begun_tell false clocks (base_of clocks s) (of_stepper oid (units_of s.releases)) (i.is.begun oid)
+
+pub late_unit : (b : BoardDef) (pins : List (List Level)) (own : ℕ → ℕ) (clocks : Clocks) (ready : ℕ) (stops : ℕ → Option ℕ) (ss : List RunSection) (os : List Orders) (steps : List Step) (tick first : ℕ)
+    → IsHomeRun own clocks b.freq b.slots ready stops ss os → IsGoodRun b pins own stops os steps → (run steps (start b pins)).board.controller.state ≡ Shut 1 tick first → IsLateUnit (map (λ s. s.section) ss) tick first
 unfolding new_controller
-late_unit b pins own clocks ready ss os steps tick first r shut =
+late_unit b pins own clocks ready stops ss os steps tick first home r shut =
     let h = run steps (start b pins) in
-    let P : BoardSection → Type 0 = λ s. IsSection clocks b.freq b.slots s in
-    let n = late_names steps (start b pins) tick first (was_shut steps (start b pins) 1 tick first refl shut) (all_fair b pins own clocks ready ss os steps r) in
+    let until = home.tracked.until in
+    let P : RunSection → Type 0 = λ s. IsSectionBy s.homes clocks b.freq b.slots until stops s.section in
+    let n = late_names steps (start b pins) tick first (was_shut steps (start b pins) 1 tick first refl shut) (all_fair b pins own stops os steps r) in
     let m = n.0 in
-    let k = (at_end b pins own clocks ready ss os steps r (splits_of b pins own clocks ready ss os steps r)).2 in
+    let k = (at_end b pins own stops os steps r).1 in
     let long = length h.link.taken in
     let queued : h.taken ++ drop long h.queued ≡ flat_map queued_in os =
     ap (λ x. x ++ drop long h.queued) k.ordered.first ∙ take-append-drop long h.queued ∙ sym k.queued ∙ sent_orders 0 os in
     let At : List Meant → Type 0 = λ x. Among m x in
-    let x = in_turns m ss 0 os r.run_is.orders (subst At queued (among_first m h.taken (drop long h.queued) (among_of m h.taken n.1))) n.2.0 in
-    let i = among_all P x.0 ss x.2 r.run_is.sections in
+    let x = in_turns clocks m ss 0 os home.orders (subst At queued (among_first m h.taken (drop long h.queued) (among_of m h.taken n.1))) n.2.0 in
+    let i = among_all P x.0 ss x.2 home.sections in
     record {
-      section = x.0;
+      section = x.0.section;
       release = x.1;
-      among = is_in x.0 ss x.2;
-      within = is_in x.1 x.0.releases x.3;
-      first_is = tell_own x.1 x.0.releases x.3 (begun_tell false clocks (base_of clocks x.0) (of_stepper x.1.unit.stepper (units_of x.0.releases)) (i.begun x.1.unit.stepper))
-          ∙ ap (λ ts. slice_index ts 0) (sym x.4) ∙ n.2.1;
+      among = is_in x.0.section (map (λ s. s.section) ss) (among_map x.0 ss x.2);
+      within = is_in x.1 x.0.section.releases x.3;
+      first_is = tell_own x.1 x.0.section.releases x.3 (begun_by x.0.homes clocks b.freq b.slots until stops x.0.section i x.1.unit.stepper) ∙ ap (λ ts. slice_index ts 0) (sym x.4) ∙ n.2.1;
       late = n.2.2;
     }

@@ -4,7 +4,6 @@ use Rattle.std.proofs.lemmas.List.Elements.{All-nil, All-cons, All-head, All-tai
 use Rattle.std.proofs.lemmas.Bool.Decides.{leb_tells}
 use Rattle.std.specs.Prelude.{nat_le, if◌then◌else◌}
 use Rattle.plan_types.specs.declared.machine.BoardDef.{BoardDef}
-use Rattle.plan_types.specs.declared.plan.BoardState.{BoardState}
 use Rattle.plan_types.specs.declared.plan.Pulse.{Pulse}
 use Rattle.plan_types.specs.declared.plan.Planned.{Planned}
 use Rattle.plan_types.specs.Clock.{turn_ns}
@@ -16,10 +15,9 @@ use Rattle.link_work.specs.Turn.{Orders}
 use Rattle.link_work.specs.Runs.{queued_in}
 use Rattle.run_laws.specs.Events.{AreTicks}
 use Rattle.run_laws.specs.Known.{Sent, sent_at, sent_in, unknown, known_from, known}
-use Rattle.run_laws.specs.Ends.{MayBe}
-use Rattle.section_units.specs.Sections.{BoardSection, base_of, IsSection, section_steps, all_steps}
-use Rattle.run_laws.specs.Parts.{AreTracked, AreInARow}
-use Rattle.run_laws.specs.Runs.{Begins, NextAfter}
+use Rattle.section_units.specs.Sections.{BoardSection, base_of, IsSection, section_steps}
+use Rattle.run_laws.specs.Parts.{AreTracked}
+use Rattle.run_laws.specs.Runs.{Begins}
 use Rattle.run_laws.proofs.Taking.{IsFront, all_grow}
 use Rattle.run_laws.proofs.Lists.{cuts, known_append}
 use Rattle.run_laws.proofs.Clocks.{ticks_up, ticks_rise}
@@ -39,15 +37,6 @@ meant_front p turn sent h k oid = elim k.state [
       let e : known p.front oid ≡ known_from oid (known r.done oid) r.more = ap (λ x. known x oid) (sym r.front_is) ∙ known_append oid unknown r.done r.more in
       rw (r.meant oid, e) (all_grow oid (known r.done oid) r.more)
   | inr e ↦ e.meant oid
-]
-
-pub may_be : (p : Plan) (turn : ℕ) (sent : List Sent) (h : Core) → Holds p turn sent h → MayBe h.board.controller.state
-may_be p turn sent h k = elim k.state [
-  | inl r ↦ let At : BoardState → Type 0 = λ o. MayBe o in subst At (sym r.fits.steppers.running) tt
-  | inr e ↦
-      let (reason, tick, first, state, may) = e.shut in
-      let At : BoardState → Type 0 = λ o. MayBe o in
-      subst At (sym state) may
 ]
 
 -- Of lists of pulses, those from a tick on.
@@ -96,14 +85,6 @@ pub between_late : (low high : ℕ) (ps : List Pulse) → AreBetween low high ps
 between_late low high [] a = tt
 between_late low high (p ∷ ps) a = (a.0, between_late low high ps a.2)
 
-pub late_behind : (x : ℕ) (ps qs : List Pulse) → AreLate x (ps ++ qs) → AreLate x qs
-late_behind x [] qs a = a
-late_behind x (p ∷ ps) qs a = late_behind x ps qs a.1
-
-pub early_front : (x : ℕ) (ps qs : List Pulse) → AreEarly x (ps ++ qs) → AreEarly x ps
-early_front x [] qs a = tt
-early_front x (p ∷ ps) qs a = (a.0, early_front x ps qs a.1)
-
 pub early_behind : (x : ℕ) (ps qs : List Pulse) → AreEarly x (ps ++ qs) → AreEarly x qs
 early_behind x [] qs a = a
 early_behind x (p ∷ ps) qs a = early_behind x ps qs a.1
@@ -141,62 +122,11 @@ late_fits freq x before [] plan h f a = tt
 late_fits freq x before (p ∷ ps) [] h f a = absurd f
 late_fits freq x before (p ∷ ps) (s ∷ plan) h f a = (omega (arith, h, f.0.not_early, a.0), late_fits freq x s.tick ps plan (omega (arith, h, a.0)) f.1 a.1)
 
-pub section_late : (own : ℕ → ℕ) (clocks : Clocks) (freq slots ready n oid : ℕ) (s : BoardSection) → AreTicks own → (tracked : AreTracked own clocks ready) → IsSection clocks freq slots s → ready + 260 ≤ s.start → s.start < tracked.until → n < s.start
-    → AreLate (own n) (section_steps oid s)
-section_late own clocks freq slots ready n oid s ticks tracked i low soon before =
-    let m = s.start - 1 in
-    let e : m + 1 ≡ s.start = omega (arith, before) in
-    let behind = rw e at (tracked.behind m (omega (arith, low)) (omega (arith, soon))) in
-    late_fits freq (own n) (base_of clocks s) (section_steps oid s) (s.plan oid) (omega (arith, behind, ticks_rise own ticks n m (omega (arith, before)))) (i.fits oid) (i.spaced oid)
-
--- sections that end 260 turns before another starts
-abbrev AreEnded : ℕ → ℕ → ℕ → List BoardSection → Type 0
-AreEnded until ready x [] = Unit {0}
-AreEnded until ready x (s ∷ ss) = (ready ≤ s.end) × (s.end + 260 ≤ x) × (s.end < until) × AreEnded until ready x ss
-
-abbrev pub RowParts : ℕ → ℕ → ℕ → List BoardSection → BoardSection → List BoardSection → Type 0
-RowParts until ready e past s later = AreEnded until ready s.start past × ((end : ℕ) × (e ≤ end) × AreInARow until end (s ∷ later))
-
-pub row_parts : (until ready e : ℕ) (past : List BoardSection) (s : BoardSection) (later : List BoardSection) → ready ≤ e → AreInARow until e (past ++ s ∷ later) → RowParts until ready e past s later
-row_parts until ready e [] s later low r = (tt, (e, omega arith, r))
-row_parts until ready e (t ∷ past) s later low r =
-    let (ended, end, up, row) = flatten (row_parts until ready t.end past s later (omega (arith, low, r.0, r.1)) r.3) in
-    ((omega (arith, low, r.0, r.1), omega (arith, up, row.0), r.2, ended), (end, omega (arith, up, r.0, r.1), row))
-  where
-    flatten : RowParts until ready t.end past s later → AreEnded until ready s.start past × (end : ℕ) × (t.end ≤ end) × AreInARow until end (s ∷ later)
-    flatten x = (x.0, x.1.0, x.1.1, x.1.2)
-
-pub past_early : (own : ℕ → ℕ) (clocks : Clocks) (freq slots ready x n oid : ℕ) (past : List BoardSection) → AreTicks own → (tracked : AreTracked own clocks ready) → All (IsSection clocks freq slots) past → AreEnded tracked.until ready x past → x ≤ n + 1
-    → AreEarly (own n) (all_steps oid past)
-past_early own clocks freq slots ready x n oid [] ticks tracked i e h = tt
-past_early own clocks freq slots ready x n oid (s ∷ past) ticks tracked i e h =
-    let P : BoardSection → Type 0 = λ y. IsSection clocks freq slots y in
-    early_append (own n) (section_steps oid s) (all_steps oid past)
-    (section_early own clocks freq slots ready n oid s ticks tracked (All-head P s past i) e.0 e.2 (omega (arith, e.1, h)))
-    (past_early own clocks freq slots ready x n oid past ticks tracked (All-tail P s past i) e.3 h)
-
-pub later_late : (own : ℕ → ℕ) (clocks : Clocks) (freq slots ready e n oid : ℕ) (later : List BoardSection) → AreTicks own → (tracked : AreTracked own clocks ready) → All (IsSection clocks freq slots) later → AreInARow tracked.until e later → ready ≤ e
-    → NextAfter n later → AreLate (own n) (all_steps oid later)
-later_late own clocks freq slots ready e n oid [] ticks tracked i r low h = tt
-later_late own clocks freq slots ready e n oid (s ∷ later) ticks tracked i r low h =
-    let P : BoardSection → Type 0 = λ y. IsSection clocks freq slots y in
-    late_append (own n) (section_steps oid s) (all_steps oid later)
-    (section_late own clocks freq slots ready n oid s ticks tracked (All-head P s later i) (omega (arith, low, r.0)) (omega (arith, r.1, r.2)) h)
-    (later_late own clocks freq slots ready s.end n oid later ticks tracked (All-tail P s later i) r.3 (omega (arith, low, r.0, r.1)) (next_after n s later r.3 (omega (arith, h, r.1))))
-  where
-    next_after : (n : ℕ) (s : BoardSection) (later : List BoardSection) → AreInARow tracked.until s.end later → n ≤ s.end → NextAfter n later
-    next_after n s [] r h = tt
-    next_after n s (t ∷ later) r h = omega (arith, r.0, h)
-
 pub all_split : {X : Type 0} (P : X → Type 0) (xs ys : List X) → All P (xs ++ ys) → All P xs × All P ys
 all_split P [] ys a = (All-nil P, a)
 all_split P (x ∷ xs) ys a =
     let rest = all_split P xs ys (All-tail P x (xs ++ ys) a) in
     (All-cons P x xs (All-head P x (xs ++ ys) a) rest.0, rest.1)
-
-pub steps_split : (oid : ℕ) (xs ys : List BoardSection) → all_steps oid (xs ++ ys) ≡ all_steps oid xs ++ all_steps oid ys
-steps_split oid [] ys = refl
-steps_split oid (s ∷ xs) ys = ap (λ x. section_steps oid s ++ x) (steps_split oid xs ys) ∙ sym (append_assoc (section_steps oid s) (all_steps oid xs) (all_steps oid ys))
 
 pub sent_in_append : (turn : ℕ) (os ps : List Orders) → sent_in turn (os ++ ps) ≡ sent_in turn os ++ sent_in (turn + length os) ps
 sent_in_append turn [] ps = let e : turn + 0 ≡ turn = omega arith in rw e refl

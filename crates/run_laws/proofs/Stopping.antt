@@ -1,36 +1,27 @@
 -- A board that was never told to stop does not shut down for that.
-use Rattle.std.proofs.Common.{◌≡◌, ℕ, Bool, ◌<◌, List, [], ◌∷◌, ◌++◌, length, map, drop, All, Option, Some, None, refl, ap, sym, ◌∙◌, subst, arith, inl, inr}
-use Rattle.std.proofs.lemmas.List.{take-append-drop}
+use Rattle.std.proofs.Common.{◌≡◌, ℕ, Bool, ◌<◌, List, [], ◌∷◌, ◌++◌, map, All, Option, Some, None, sym, subst, arith, inl, inr}
 use Rattle.std.proofs.lemmas.List.Elements.{All-head, All-tail}
 use Rattle.std.specs.List.{flat_map}
-use Rattle.plan_types.specs.declared.levels.Level.{Level}
-use Rattle.plan_types.specs.declared.machine.BoardDef.{BoardDef}
-use Rattle.plan_types.specs.declared.plan.BoardState.TheVariants.{Shut}
 use Rattle.plan_types.specs.declared.plan.Triple.{Triple}
-use Rattle.plan_types.specs.Lines.{Clocks}
 use Rattle.board_step.specs.Steps.{Pending}
 use Rattle.msg_code.specs.declared.cmd.Cmd.{Cmd}
 use Rattle.msg_code.specs.declared.cmd.Cmd.TheVariants as cmd
 use Rattle.msg_code.specs.Units.{reset_commands, dir_commands, step_command}
-use Rattle.board_sim.specs.Board.{Controller, new_controller, stepper_at}
+use Rattle.board_sim.specs.Board.{Controller, stepper_at}
 use Rattle.board_sim.specs.Rig.{Rig, takes_all}
 use Rattle.board_sim.specs.Fair.{Meant, commands_of}
 use Rattle.board_world.specs.Orders.{plain, unit_orders, units_orders}
 use Rattle.board_world.specs.Shut.{IsRefused, ShutBy, Shuts, WasShut}
-use Rattle.board_world.specs.World.{Core, Step, Do, Turn, happens, in_turn, run, start, takes_in}
-use Rattle.board_world.proofs.Causes.{was_shut}
+use Rattle.board_world.specs.World.{Core, Step, Do, Turn, happens, in_turn, run, takes_in}
 use Rattle.step_feed.specs.Units.{StepUnit}
 use Rattle.link_work.specs.Turn.{Orders}
 use Rattle.link_work.specs.Runs.{queued_in}
-use Rattle.section_units.specs.Sections.{BoardSection, ticks_meant}
+use Rattle.section_units.specs.Sections.{ticks_meant}
 use Rattle.run_laws.specs.Late.{IsIn}
-use Rattle.run_laws.specs.Runs.{IsBoardRun}
 use Rattle.run_laws.specs.Stops.{IsNoStop, NeverStop}
-use Rattle.run_laws.proofs.Finding.{at_end, splits_of}
 use Rattle.run_laws.proofs.Naming.{in_more, taken_more}
-use Rattle.run_laws.proofs.Seeking.{Among, among_first, among_of, among_split}
+use Rattle.run_laws.proofs.Seeking.{Among, among_split}
 use Rattle.run_laws.proofs.Ticks.{orders_are}
-use Rattle.run_laws.proofs.Wholes.{sent_orders}
 
 -- the order to stop
 abbrev pub IsStop : Cmd → Type 0
@@ -114,17 +105,3 @@ no_turns m (o ∷ os) h a s = elim (among_split m (queued_in o) (flat_map queued
   | inl p ↦ elim (among_split m (map plain o.control.commands) (units_orders o.batch.units) p) [ inl q ↦ no_control m o.control.commands q h.0 s | inr q ↦ no_units m o.batch.units q s ]
   | inr p ↦ no_turns m os h.1 p s
 ]
-
-pub never_stopped : (b : BoardDef) (pins : List (List Level)) (own : ℕ → ℕ) (clocks : Clocks) (ready : ℕ) (ss : List BoardSection) (os : List Orders) (steps : List Step) (tick first : ℕ)
-    → IsBoardRun b pins own clocks ready ss os steps → NeverStop os → (run steps (start b pins)).board.controller.state ≡ Shut 5 tick first → ⊥
-unfolding new_controller
-never_stopped b pins own clocks ready ss os steps tick first r never shut =
-    let h = run steps (start b pins) in
-    let n = stop_taken steps (start b pins) tick first (was_shut steps (start b pins) 5 tick first refl shut) in
-    let m = n.0 in
-    let k = (at_end b pins own clocks ready ss os steps r (splits_of b pins own clocks ready ss os steps r)).2 in
-    let long = length h.link.taken in
-    let queued : h.taken ++ drop long h.queued ≡ flat_map queued_in os =
-    ap (λ x. x ++ drop long h.queued) k.ordered.first ∙ take-append-drop long h.queued ∙ sym k.queued ∙ sent_orders 0 os in
-    let At : List Meant → Type 0 = λ x. Among m x in
-    no_turns m os never (subst At queued (among_first m h.taken (drop long h.queued) (among_of m h.taken n.1))) n.2

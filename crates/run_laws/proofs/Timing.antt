@@ -1,13 +1,10 @@
 -- A board that takes soon what is queued takes no unit too late for the 32-bit clock.
-use Rattle.std.proofs.Common.{false, ◌≡◌, ℕ, ◌+◌, ◌-◌, ◌*◌, ◌^◌, ◌<◌, ◌≤◌, List, [], ◌∷◌, ◌++◌, length, map, take, drop, All, refl, ap, sym, ◌∙◌, subst, arith, append_assoc, append-nil, length-append}
+use Rattle.std.proofs.Common.{◌≡◌, ℕ, ◌+◌, ◌-◌, ◌≤◌, List, [], ◌∷◌, ◌++◌, length, map, take, drop, refl, ap, sym, ◌∙◌, subst, arith, append_assoc, append-nil, length-append}
 use Rattle.std.proofs.lemmas.List.{take-append-drop, take-append-le, length-take-le}
 use Rattle.std.proofs.lemmas.Grind.{flat_map-append}
-use Rattle.std.proofs.lemmas.List.Elements.{All-head, All-tail}
 use Rattle.std.specs.List.{flat_map}
 use Rattle.plan_types.specs.declared.levels.Level.{Level}
 use Rattle.plan_types.specs.declared.machine.BoardDef.{BoardDef}
-use Rattle.plan_types.specs.Clock.{turn_ns}
-use Rattle.plan_types.specs.Lines.{Clocks, lines_tick}
 use Rattle.board_sim.specs.Board.{new_controller}
 use Rattle.board_sim.specs.Fair.{Meant}
 use Rattle.board_world.specs.declared.event.Event.TheVariants.{Put, Control, Arrive, Repeat, Pass}
@@ -15,58 +12,13 @@ use Rattle.board_world.specs.Orders.{plain, units_orders}
 use Rattle.board_world.specs.Stands.{IsOrdered}
 use Rattle.board_world.specs.World.{Core, Step, Do, Turn, happens, in_turn, after, run, start}
 use Rattle.board_world.proofs.Runs.{ordered_by, ordered_turn, start_ordered}
-use Rattle.step_feed.specs.Units.{StepUnit}
-use Rattle.step_feed.specs.Pacing.{batch_at, units_of}
 use Rattle.link_work.specs.Turn.{Orders}
 use Rattle.link_work.specs.Runs.{queued_in}
 use Rattle.link_work.proofs.Sending.{run_append}
 use Rattle.link_work.proofs.Steps.{tick_held, tick_passed}
 use Rattle.run_laws.specs.Events.{AreTicks, AreQuiet, AreTurnsOf}
-use Rattle.run_laws.specs.Runs.{AreSpilled}
-use Rattle.section_units.specs.Sections.{BoardSection, IsSection, base_of, of_stepper, section_steps}
-use Rattle.run_laws.specs.Parts.{AreInARow, AreOrdersOf, AreTracked, IsRun}
 use Rattle.run_laws.specs.Timely.{AreTimely, AllTimely, TakesSoon}
-use Rattle.run_laws.proofs.Entering.{early_fits, begun_inside, all_inside}
-use Rattle.run_laws.proofs.Lasting.{Lasting, lasting_append, batch_lasts, units_timely, controls_timely}
-use Rattle.run_laws.proofs.Sectioning.{units_at}
-use Rattle.run_laws.proofs.Seeking.{begun_tell}
-use Rattle.run_laws.proofs.Soon.{IsSoon, quiet_soon, timely_append}
-use Rattle.run_laws.proofs.Waiting.{Frame}
-
--- the units of all sections
-sections_last : (own : ℕ → ℕ) (clocks : Clocks) (freq slots ready e n m turns turn top : ℕ) (ss : List BoardSection) → AreTicks own → (tracked : AreTracked own clocks ready) → All (IsSection clocks freq slots) ss
-    → AreInARow tracked.until e ss → ready ≤ e → AreSpilled turns m ss → turn < turns → top ≤ turn + n → ((k : ℕ) → own (k + (n + m + 2)) < own k + 2 ^ 31) → Lasting (own (top + 1)) (units_at turn ss)
-sections_last own clocks freq slots ready e n m turns turn top [] ticks tracked i row low spilled before near far = tt
-sections_last own clocks freq slots ready e n m turns turn top (s ∷ ss) ticks tracked i row low spilled before near far =
-    let P : BoardSection → Type 0 = λ x. IsSection clocks freq slots x in
-    let first = All-head P s ss i in
-    let g : Frame = record { own = own; clocks = clocks; slots = slots; ready = ready; start = s.start; end = s.end; ticks = ticks; tracked = tracked; after = omega (arith, low, row.0); order = row.1; limit = row.2 } in
-    let bound = lines_tick clocks ((s.end + 1) * turn_ns) in
-    let inside = all_inside g s.releases (λ oid. begun_inside g false oid false (of_stepper oid (units_of s.releases)) (first.begun oid)
-    (early_fits freq bound (base_of clocks s) (section_steps oid s) (s.plan oid) (first.fits oid) (first.within oid))) in
-    lasting_append (own (top + 1)) (batch_at turn s.releases) (units_at turn ss)
-    (batch_lasts g n m turns turn top s.releases inside spilled.0 before (λ oid. begun_tell false clocks (base_of clocks s) (of_stepper oid (units_of s.releases)) (first.begun oid)) near far)
-    (sections_last own clocks freq slots ready s.end n m turns turn top ss ticks tracked (All-tail P s ss i) row.3 (omega (arith, low, row.0, row.1)) spilled.1 before near far)
-
--- what is queued in some turns
-seg_timely : (own : ℕ → ℕ) (clocks : Clocks) (freq slots ready n m turns top : ℕ) (ss : List BoardSection) (all : List Orders) → AreTicks own → (r : IsRun own clocks freq slots ready ss all) → AreSpilled turns m ss
-    → ((k : ℕ) → own (k + (n + m + 2)) < own k + 2 ^ 31) → (k : ℕ) (xs : List Orders) → AreOrdersOf ss k xs → k + length xs ≤ turns → top ≤ k + n → AreTimely (own (top + 1)) (flat_map queued_in xs)
-seg_timely own clocks freq slots ready n m turns top ss all ticks r spilled far k [] h low near = tt
-seg_timely own clocks freq slots ready n m turns top ss all ticks r spilled far k (o ∷ xs) h low near =
-    let t = own (top + 1) in
-    let At : List StepUnit → Type 0 = λ us. Lasting t us in
-    let units = subst At (sym h.1) (sections_last own clocks freq slots ready ready n m turns k top ss ticks r.tracked r.sections r.row (omega arith) spilled (omega (arith, low)) near far) in
-    timely_append t (queued_in o) (flat_map queued_in xs)
-    (timely_append t (map plain o.control.commands) (units_orders o.batch.units) (controls_timely t o.control.commands h.0) (units_timely t o.batch.units units))
-    (seg_timely own clocks freq slots ready n m turns top ss all ticks r spilled far (k + 1) xs h.2 (omega (arith, low)) (omega (arith, near)))
-
-orders_behind : (ss : List BoardSection) (k : ℕ) (xs ys : List Orders) → AreOrdersOf ss k (xs ++ ys) → AreOrdersOf ss (k + length xs) ys
-orders_behind ss k [] ys h = let e : k + 0 ≡ k = omega arith in rw e h
-orders_behind ss k (x ∷ xs) ys h = let e : k + length (x ∷ xs) ≡ k + 1 + length xs = omega arith in rw e (orders_behind ss (k + 1) xs ys h.2)
-
-orders_before : (ss : List BoardSection) (k : ℕ) (xs ys : List Orders) → AreOrdersOf ss k (xs ++ ys) → AreOrdersOf ss k xs
-orders_before ss k [] ys h = tt
-orders_before ss k (x ∷ xs) ys h = (h.0, h.1, orders_before ss (k + 1) xs ys h.2)
+use Rattle.run_laws.proofs.Soon.{IsSoon, quiet_soon}
 
 -- lists of steps
 pub timely_join : (xs ys : List Step) (h : Core) → AllTimely h xs → AllTimely (run xs h) ys → AllTimely h (xs ++ ys)
@@ -145,15 +97,6 @@ turn_steps_soon own turn sofar o before rear h first others more up bq rq k took
 abbrev pub AreLasting : (ℕ → ℕ) → ℕ → List Orders → Type 0
 AreLasting own n all = (xs seg os : List Orders) (top : ℕ) → all ≡ xs ++ (seg ++ os) → top ≤ length xs + n → AreTimely (own (top + 1)) (flat_map queued_in seg)
 
-pub run_lasting : (own : ℕ → ℕ) (clocks : Clocks) (freq slots ready n m turns : ℕ) (ss : List BoardSection) (all : List Orders) → AreTicks own → IsRun own clocks freq slots ready ss all → AreSpilled turns m ss → length all ≤ turns
-    → ((k : ℕ) → own (k + (n + m + 2)) < own k + 2 ^ 31) → AreLasting own n all
-run_lasting own clocks freq slots ready n m turns ss all ticks r spilled few far xs seg os top joined near =
-    let Ordered : List Orders → Type 0 = λ x. AreOrdersOf ss 0 x in
-    let placed = orders_before ss (0 + length xs) seg os (orders_behind ss 0 xs (seg ++ os) (subst Ordered joined r.orders)) in
-    let long = ap length joined ∙ length-append xs (seg ++ os) in
-    let more = length-append seg os in
-    seg_timely own clocks freq slots ready n m turns top ss all ticks r spilled far (0 + length xs) seg placed (omega (arith, few, long, more)) (omega (arith, near))
-
 -- what was queued n turns ago or earlier, and the rest
 turns_soon : (own : ℕ → ℕ) (n : ℕ) (all : List Orders) → AreTicks own → AreLasting own n all → (os sofar : List Orders) (steps : List Step) (h : Core) (turn : ℕ) (t : AreTurnsOf own turn os steps)
     → turn ≡ length sofar → all ≡ sofar ++ os → IsBetween own turn sofar h → TakesSoon n all own turn os steps h t → AllTimely h steps
@@ -188,8 +131,3 @@ pub lasting_timely : (b : BoardDef) (pins : List (List Level)) (own : ℕ → �
 unfolding new_controller
 lasting_timely b pins own n os steps t ticks first lasting soon =
     turns_soon own n os ticks lasting os [] steps (start b pins) 0 t refl refl (record { ordered = start_ordered b pins; queued = refl; tick = sym first }) soon
-
-pub soon_timely : (b : BoardDef) (pins : List (List Level)) (own : ℕ → ℕ) (clocks : Clocks) (ready n m turns : ℕ) (ss : List BoardSection) (os : List Orders) (steps : List Step) (t : AreTurnsOf own 0 os steps) → AreTicks own → own 0 ≡ b.start
-    → IsRun own clocks b.freq b.slots ready ss os → AreSpilled turns m ss → length os ≤ turns → ((k : ℕ) → own (k + (n + m + 2)) < own k + 2 ^ 31) → TakesSoon n os own 0 os steps (start b pins) t → AllTimely (start b pins) steps
-soon_timely b pins own clocks ready n m turns ss os steps t ticks first r spilled few far soon =
-    lasting_timely b pins own n os steps t ticks first (run_lasting own clocks b.freq b.slots ready n m turns ss os ticks r spilled few far) soon

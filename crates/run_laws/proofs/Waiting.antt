@@ -79,10 +79,6 @@ pub count_append : (x : ℕ) (cs bs : List ℕ) → count_from x (cs ++ bs) ≡ 
 count_append x [] bs = omega arith
 count_append x (c ∷ cs) bs = omega (arith, count_append x cs bs)
 
-pub below_up : (x y : ℕ) (es : List ℕ) → x ≤ y → AreBelow x es → AreBelow y es
-below_up x y [] h b = tt
-below_up x y (e ∷ es) h b = (omega (arith, b.0, h), below_up x y es h b.1)
-
 -- what is known of a stepper of which these units wait, and these last ticks were released in the section: none yet, or
 -- the units that wait go on behind them
 pub record Waits (f : Frame) (oid : ℕ) (total : List Pulse) (k : Known) (ls : List ℕ) (us : List StepUnit) : Type 0 where

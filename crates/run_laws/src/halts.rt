@@ -23,11 +23,14 @@ ghost use Rattle.plan_types.specs.Clock.{clock_of};
 ghost use Rattle.plan_types.specs.Plan.{Fits};
 ghost use Rattle.section_units.specs.Sections.{base_of};
 ghost use Rattle.run_laws.specs.Ends.{MayBe};
+ghost use Rattle.run_laws.specs.Late.{IsLateUnit};
+ghost use Rattle.plan_types.specs.declared.plan.BoardState.TheVariants.{Shut};
 
 /// The law of halts: where the commands that are queued for a board are good, up to one that is queued too late, whatever its triggers do, every
 /// unit is fair when a running board takes it; the board runs, or it shut down since a unit came too late or since it was told to stop; and the
 /// pulses of each stepper are, part by part, made for the first steps that the good ones told it between two settings of its clock, none of
-/// them at or after the board's tick of the turn in which the part stops. It is asked that the stepper of the late one isn't halted then.
+/// them at or after the board's tick of the turn in which the part stops. It is asked that the stepper of the late one isn't halted then. A board
+/// that shut down since a unit came too late keeps the first tick of a unit of its sections, and a later tick at which it took that unit.
 pub fn halted_steppers_keep_fronts()
     ensures fair { (b : BoardDef) (pins : List (List Level)) (own : ℕ → ℕ) (stops : ℕ → Option ℕ) (os : List Orders) (steps : List Step) →
         IsGoodRun b pins own stops os steps → AllFair (start b pins) steps }
@@ -35,6 +38,9 @@ pub fn halted_steppers_keep_fronts()
         IsGoodRun b pins own stops os steps → MayBe (run steps (start b pins)).board.controller.state }
     ensures fronts { (b : BoardDef) (pins : List (List Level)) (own : ℕ → ℕ) (stops : ℕ → Option ℕ) (os : List Orders) (steps : List Step) →
         (r : IsGoodRun b pins own stops os steps) → (oid : ℕ) → AreMadeFor own stops (parts_of (courses r.front oid)) (only oid (run steps (start b pins)).made) }
+    ensures late { (b : BoardDef) (pins : List (List Level)) (own : ℕ → ℕ) (clocks : Clocks) (ready : ℕ) (stops : ℕ → Option ℕ) (ss : List RunSection) (os : List Orders) (steps : List Step) (tick first : ℕ) →
+        IsHomeRun own clocks b.freq b.slots ready stops ss os → IsGoodRun b pins own stops os steps → (run steps (start b pins)).board.controller.state ≡ Shut 1 tick first →
+        IsLateUnit (map (λ s. s.section) ss) tick first }
 {}
 
 /// The law of homing commands: what is queued for a board in a run in which axes home is good, up to the first unit that is left of a section

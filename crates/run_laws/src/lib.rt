@@ -5,20 +5,13 @@
 mod boards;
 mod halts;
 mod laws;
-mod passed;
 
-pub use boards::{
-    boards_keep_their_sections, boards_make_whole_sections, boards_tell_why_they_end,
-    clear_scenes_spoil_nothing, units_are_released, units_keep_their_limit,
-};
+pub use boards::{clear_scenes_spoil_nothing, units_are_released, units_keep_their_limit};
 pub use halts::{
     halted_steppers_keep_fronts, homing_boards_keep_their_sections, homing_commands_are_good,
     homing_links_are_timely, homing_sections_keep_their_turns,
 };
 pub use laws::{
-    boards_end_for_two_reasons, few_spoiled_turns_are_timely, idle_links_took_all,
-    links_make_turns, links_show_sections, one_move_is_a_section, sampled_lines_are_tracked,
-    sections_are_whole, sections_keep_their_turns, steps_go_by_sections, units_are_fair,
-    units_taken_soon_are_timely,
+    few_spoiled_turns_are_timely, idle_links_took_all, links_make_turns, one_move_is_a_section,
+    sampled_lines_are_tracked, units_taken_soon_are_timely,
 };
-pub use passed::boards_pass_whole_sections;

@@ -1,7 +1,7 @@
 -- The pulses that a report tells of a section fit the stepper's plan of it.
-use Rattle.std.proofs.Common.{◌≡◌, ℕ, zero, suc, inl, inr, ◌+◌, ◌-◌, ◌<◌, not, Bool, true, false, List, [], ◌∷◌, ◌++◌, drop, get_or, length, map, take, refl, ap, sym, ◌∙◌, subst, arith, append-nil}
+use Rattle.std.proofs.Common.{◌≡◌, ℕ, zero, suc, inl, inr, ◌+◌, ◌-◌, ◌<◌, not, Bool, true, false, List, [], ◌∷◌, ◌++◌, drop, get_or, length, take, refl, ap, sym, ◌∙◌, subst, arith, append-nil}
 use Rattle.std.proofs.lemmas.Bool.Decides.{eqb_tells}
-use Rattle.std.proofs.lemmas.List.{length-map, map-append}
+use Rattle.std.proofs.lemmas.List.{map-append}
 use Rattle.std.proofs.lemmas.List.FromFn.{length-map-range_with_len, get_or-map-range_with_len}
 use Rattle.std.specs.List.{flat_map}
 use Rattle.plan_types.specs.declared.machine.Machine.{Machine}
@@ -9,28 +9,22 @@ use Rattle.plan_types.specs.declared.plan.Move.{Move}
 use Rattle.plan_types.specs.declared.plan.Planned.{Planned}
 use Rattle.plan_types.specs.declared.plan.Pulse.{Pulse}
 use Rattle.plan_types.specs.Lines.{Clocks}
-use Rattle.plan_types.specs.Machines.{IsValidMachine, board_at, no_stepper, stepper_at}
+use Rattle.plan_types.specs.Machines.{IsValidMachine, no_stepper, stepper_at}
 use Rattle.plan_types.specs.Plan.{Fits}
-use Rattle.plan_types.specs.Sections.{base_tick, section_plans, stepper_plan}
+use Rattle.plan_types.specs.Sections.{section_plans, stepper_plan}
 use Rattle.msg_code.specs.declared.talk.State.{State}
-use Rattle.section_units.specs.Sections.{BoardSection, base_of}
 use Rattle.section_units.specs.Units.{as_sent, sent}
-use Rattle.wire_scene.specs.declared.scene.Entry.{Entry}
 use Rattle.board_sim.specs.Fair.{only}
 use Rattle.board_sim.proofs.Steps.{only-append}
-use Rattle.run_laws.specs.Boards.{AreOnBoards, IsPart, IsWindow, OnBoard, Times, told_in}
-use Rattle.run_laws.specs.Late.{IsIn}
+use Rattle.run_laws.specs.Boards.{OnBoard, told_in}
 use Rattle.run_laws.specs.Links.{pulses_in}
-use Rattle.run_laws.proofs.Each.{part_fits}
 use Rattle.host_reactor.specs.Report.{machine_line, turned}
-use Rattle.motion_work.specs.Boards.{parts_on}
 use Rattle.section_units.specs.Plans.{plans_on}
-use Rattle.motion_work.specs.Seen.{Started, part_on}
-use Rattle.motion_work.specs.Told.{Told}
+use Rattle.motion_work.specs.Seen.{Started}
 use Rattle.section_units.specs.Merged.{plan_at}
 use Rattle.session_work.specs.declared.table.ReactorTurn.{ReactorTurn}
 use Rattle.session_work.specs.Rows.{gather, item}
-use Rattle.run_plans.specs.Boards.{IsBoard, IsStepperOn, TookStates, as_told, lines_between, times_of}
+use Rattle.run_plans.specs.Boards.{TookStates, as_told, lines_between}
 use Rattle.run_plans.specs.Lines.{TellTurns, TellsTurn, pulses_of, starts_at}
 use Rattle.run_plans.proofs.Placing.{count_is, own_plan, states_pulses}
 use Rattle.run_plans.proofs.Telling.{pulses_append}
@@ -131,54 +125,3 @@ plan_is m v clocks moves start place h =
     let own : get_or plans place [] ≡ stepper_plan m clocks moves start place = get_or-map-range_with_len (stepper_plan m clocks moves start) 0 (length m.steppers) place place [] h (omega arith) in
     ap (λ n. plan_at (plans_on m clocks moves start s.board) n) ((v.steppers place h).oid ∙ count_is s.board (take place m.steppers))
     ∙ own_plan s.board m.steppers plans place no_stepper h (omega (arith, h, many)) refl ∙ ap (as_sent s.inverted) own
-
--- a section of a board, as the laws of the run's boards have it
-pub part_is : (m : Machine) (t : Told) (begun : List Started) (rs : List ReactorTurn) (entries : List Entry) (ready turns b : ℕ) (xs : List OnBoard) (x : OnBoard) (past : List Started) (s : Started)
-    (later : List Started) → begun ≡ past ++ s ∷ later → AreOnBoards 0 entries ready turns (times_of begun) xs → IsIn x xs → IsBoard m t begun b rs x
-    → IsPart entries ready turns xs x (parts_on m t.clocks past b) (part_on m t.clocks s b) (parts_on m t.clocks later b) (times_of past) (record { start = s.start; end = s.end }) (times_of later)
-part_is m t begun rs entries ready turns b xs x past s later cut boards among is =
-    let f : Started → BoardSection = λ y. part_on m t.clocks y b in
-    let g : Started → Times = λ y. record { start = y.start; end = y.end } in
-    let sections : x.sections ≡ map f past ++ f s ∷ map f later = is.sections ∙ ap (map f) cut ∙ map-append f past (s ∷ later) in
-    let times : times_of begun ≡ map g past ++ g s ∷ map g later = ap (map g) cut ∙ map-append g past (s ∷ later) in
-    let Boards : List Times → Type 0 = λ y. AreOnBoards 0 entries ready turns y xs in
-    record { boards = subst Boards times boards; among = among; sections = sections; place = length-map past f ∙ sym (length-map past g) }
-
--- a section of the report
-pub section_fits : (m : Machine) (v : IsValidMachine m) (t : Told) (begun : List Started) (rs : List ReactorTurn) (entries : List Entry) (ready turns from to place : ℕ) (xs : List OnBoard) (x : OnBoard)
-    (past : List Started) (s : Started) (later : List Started) → TellTurns m begun 1 rs → begun ≡ past ++ s ∷ later → AreOnBoards 0 entries ready turns (times_of begun) xs
-    → IsStepperOn m t begun rs xs place x → IsWindow turns from to (record { start = s.start; end = s.end }) (times_of later)
-    → Fits (board_at m (stepper_at m place).board).freq (base_tick m t.clocks s.start place) (pulses_of place (lines_between from to rs)) (stepper_plan m t.clocks s.section.moves s.start place)
-section_fits m v t begun rs entries ready turns from to place xs x past s later tells cut boards on w =
-    let b = (stepper_at m place).board in
-    let o = (stepper_at m place).oid in
-    let is = on.is in
-    let f : Started → BoardSection = λ y. part_on m t.clocks y b in
-    let part = part_is m t begun rs entries ready turns b xs x past s later cut boards on.among is in
-    let fits = part_fits entries ready turns from to xs x (parts_on m t.clocks past b) (f s) (parts_on m t.clocks later b) (times_of past) (record { start = s.start; end = s.end }) (times_of later) part w o in
-    let Plan : List Planned → Type 0 = λ y. Fits x.board.freq (base_of x.clocks (f s)) (only o (told_in from to x)) y in
-    let planned = subst Plan (plan_is m v t.clocks s.section.moves s.start place on.place_is) fits in
-    let told = fits_told m place x.board.freq (base_of x.clocks (f s)) (only o (told_in from to x)) (stepper_plan m t.clocks s.section.moves s.start place) planned in
-    let At : List Pulse → Type 0 = λ y. Fits x.board.freq (base_of x.clocks (f s)) y (stepper_plan m t.clocks s.section.moves s.start place) in
-    let pulses = subst At (sym (between m v place from to begun rs x on.place_is tells is.states)) told in
-    let Freq : ℕ → Type 0 = λ y. Fits y (base_of x.clocks (f s)) (pulses_of place (lines_between from to rs)) (stepper_plan m t.clocks s.section.moves s.start place) in
-    let Base : Clocks → Type 0 = λ y. Fits (board_at m b).freq (base_of y (f s)) (pulses_of place (lines_between from to rs)) (stepper_plan m t.clocks s.section.moves s.start place) in
-    subst Base is.clocks (subst Freq (ap (λ y. y.freq) is.board) pulses)
-
--- as many pulses as are planned steps
-pub as_many : (m : Machine) (v : IsValidMachine m) (t : Told) (begun : List Started) (rs : List ReactorTurn) (from to place : ℕ) (xs : List OnBoard) (x : OnBoard) (s : Started) → TellTurns m begun 1 rs
-    → IsStepperOn m t begun rs xs place x
-    → length (only (stepper_at m place).oid (told_in from to x)) ≡ length ((part_on m t.clocks s (stepper_at m place).board).plan (stepper_at m place).oid)
-    → length (pulses_of place (lines_between from to rs)) ≡ length (stepper_plan m t.clocks s.section.moves s.start place)
-as_many m v t begun rs from to place xs x s tells on whole =
-    let o = (stepper_at m place).oid in
-    let plan = stepper_plan m t.clocks s.section.moves s.start place in
-    ap length (between m v place from to begun rs x on.place_is tells on.is.states)
-    ∙ length-map (only o (told_in from to x)) (λ (p : Pulse). record { tick = p.tick; stepper = place; up = turned (stepper_at m place).inverted p.up }) ∙ whole
-    ∙ ap length (plan_is m v t.clocks s.section.moves s.start place on.place_is) ∙ length-map plan (λ (p : Planned). record { tick = p.tick; up = sent (stepper_at m place).inverted p.up })
-
--- what a board tells none of, no line tells
-pub none_in : (m : Machine) (v : IsValidMachine m) (t : Told) (begun : List Started) (rs : List ReactorTurn) (from to place : ℕ) (xs : List OnBoard) (x : OnBoard) → TellTurns m begun 1 rs
-    → IsStepperOn m t begun rs xs place x → told_in from to x ≡ [] → pulses_of place (lines_between from to rs) ≡ []
-none_in m v t begun rs from to place xs x tells on none =
-    between m v place from to begun rs x on.place_is tells on.is.states ∙ ap (λ y. as_told m place (only (stepper_at m place).oid y)) none

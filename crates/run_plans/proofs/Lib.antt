@@ -11,8 +11,6 @@ pub mod Spreading
 pub mod Placing
 pub mod Sitting
 pub mod Fitting
-pub mod Counting
-pub mod Reporting
 pub mod Lasting
 pub mod Cutting
 pub mod Homed

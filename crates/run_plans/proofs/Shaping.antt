@@ -51,9 +51,6 @@ pub record Shaped (lines : List ReportLine) (r : Known) (x : Reacted) : Type 0 w
 ended : (m : Machine) (r : Known) (k : ℕ) (lines : List ReportLine) (cause : Cause) → Shaped lines r (ends m r k lines cause)
 ended m r k lines cause = record { extra = []; are = sym (append-nil lines); plain = tt; begun = refl }
 
-ended_more : (m : Machine) (r : Known) (k : ℕ) (lines more : List ReportLine) (cause : Cause) → ArePlain more → Shaped lines r (ends m r k (lines ++ more) cause)
-ended_more m r k lines more cause p = record { extra = more; are = refl; plain = p; begun = refl }
-
 one_of : (b : Bool) (lines : List ReportLine) (r : Known) (x y : Reacted) → Shaped lines r x → Shaped lines r y → Shaped lines r (if b then x else y)
 one_of true lines r x y a b = a
 one_of false lines r x y a b = b
@@ -79,10 +76,6 @@ plain_cut m switches section axis (Some tick) = (tt, tt)
 
 goes_on : (m : Machine) (r : Known) (k : ℕ) (lines cut : List ReportLine) (askings : List Asking) (turn : HomingTurn) (stop : Option ℕ) → ArePlain cut → Shaped lines r (carries_on m r k (lines ++ cut) askings turn stop)
 goes_on m r k lines cut askings turn stop p = record { extra = cut; are = refl; plain = p; begun = refl }
-
-counted : (m : Machine) (r : Known) (k : ℕ) (lines cut : List ReportLine) (cause : Cause) → ArePlain cut → Shaped lines r (ends m r k ((lines ++ cut) ++ count_lines r.reading) cause)
-counted m r k lines cut cause p =
-    record { extra = cut ++ count_lines r.reading; are = append_assoc lines cut (count_lines r.reading); plain = plain_append cut (count_lines r.reading) p (plain_count r.reading); begun = refl }
 
 finishing : (s : ReadStop) (m : Machine) (r : Known) (k : ℕ) (lines cut : List ReportLine) (askings : List Asking) (turn : HomingTurn) → ArePlain cut → Shaped lines r (finishes s m r k (lines ++ cut) askings turn)
 finishing (read.Stop line) m r k lines cut askings turn p = goes_on m r k lines cut askings turn (Some line) p

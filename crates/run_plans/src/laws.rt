@@ -1,11 +1,11 @@
 //! The laws of the planner in a run.
 
-ghost use Rattle.std.specs.Prelude.{◌≡◌, ◌≢◌, ◌⊎◌, ◌+◌, ◌++◌, ◌∷◌, ◌<◌, ◌≤◌, ℕ, All, List, None, Some, length, map, take, true, []};
+ghost use Rattle.std.specs.Prelude.{◌≡◌, ◌≢◌, ◌⊎◌, ◌+◌, ◌<◌, ◌≤◌, ℕ, All, List, Some, length, map, take, []};
 ghost use Rattle.plan_types.specs.declared.machine.Machine.{Machine};
-ghost use Rattle.plan_types.specs.Machines.{board_at, stepper_at};
-ghost use Rattle.plan_types.specs.Sections.{base_tick, clocks_at, stepper_plan};
+ghost use Rattle.plan_types.specs.Machines.{board_at};
+ghost use Rattle.plan_types.specs.Sections.{clocks_at};
 ghost use Rattle.step_feed.specs.Pacing.{units_of};
-ghost use Rattle.section_units.specs.Sections.{AreReleased, IsSection, of_stepper};
+ghost use Rattle.section_units.specs.Sections.{IsSection, of_stepper};
 ghost use Rattle.link_work.specs.Turn.{Orders};
 ghost use Rattle.run_laws.specs.Parts.{AreOrdersOf, AreTracked, IsRun, MakesIn};
 ghost use Rattle.motion_work.specs.Boards.{parts_on};
@@ -19,13 +19,8 @@ ghost use Rattle.session_work.specs.Turns.{Goes};
 ghost use Rattle.run_plans.specs.Given.{EndBefore, TookBatches, TookControls};
 ghost use Rattle.run_laws.specs.Homes.{AreOrdersIn, AreSet, HasUnits, IsHomeRun, IsSectionBy, SetsAny};
 ghost use Rattle.run_plans.specs.Homed.{AreOutInTime, ArePlannedBefore, TookControlsIn, runs_on, stops_of};
-ghost use Rattle.run_plans.specs.Boards.{IsReport, IsStepperOn, lines_between, times_of};
-ghost use Rattle.run_plans.specs.Lines.{AreLinesOf, TellTurns, TookNotes, pulses_of};
-ghost use Rattle.run_laws.specs.Boards.{AreEnded, IsWindow, NextStart, OnBoard};
-ghost use Rattle.msg_code.specs.declared.talk.State.{State};
-ghost use Rattle.motion_work.specs.Seen.{AreMoves, AreSentBy, Started};
-ghost use Rattle.plan_types.specs.Plan.{Fits};
-ghost use Rattle.wire_scene.specs.declared.scene.Entry.{Entry};
+ghost use Rattle.run_plans.specs.Lines.{AreLinesOf, TellTurns, TookNotes};
+ghost use Rattle.motion_work.specs.Seen.{AreMoves, AreSentBy};
 ghost use Rattle.run_plans.specs.Planned.{AreRead, Plans, nothing_read, planning};
 ghost use Rattle.session_work.specs.declared.table.ReactorTurn.{ReactorTurn};
 ghost use Rattle.wire_scene.specs.declared.scene.Switch.{Switch};
@@ -80,43 +75,4 @@ pub fn planned_boards_home()
 pub fn lines_tell_sections()
     ensures { (m : Machine) (n : ℕ) (ts : List MotionTurn) (p : Plans m n ts) (switches : List Switch) (rs : List ReactorTurn) → TookNotes (map (λ t. t.note) p.made) rs →
         AreLinesOf m switches [] rs → TellTurns m p.seen.begun 0 rs }
-{}
-
-/// The law of the report: where the boards of a run took what the planner put for them, and the reactor took what they told and
-/// the planner's notes, the pulses that its lines tell of a stepper, from the turn of a section's start up to that before the
-/// start of the next, are made for the first steps that `plan_types` plans for it in this section, in order, each once, at most
-/// the tolerance before its planned tick and never after it. From the sixth turn behind a section's end on no line tells a
-/// pulse, up to the turn before the start of the next.
-///
-/// Place k of `rest` is the reactor's turn k + 1, so the places from `from` on and before `to` are its turns from the section's
-/// start on.
-pub fn report_lines_fit()
-    ensures section { (m : Machine) (ts : List MotionTurn) (p : Plans m (length m.boards) ts) (t : Told) (switches : List Switch) (first : ReactorTurn) (rest : List ReactorTurn)
-        (entries : List Entry) (ready turns from to place : ℕ) (xs : List OnBoard) (x : OnBoard) (past : List Started) (s : Started) (later : List Started) →
-        IsReport m switches p.made p.seen.begun first rest entries ready turns xs → IsStepperOn m t p.seen.begun rest xs place x → p.seen.begun ≡ past ++ s ∷ later →
-        IsWindow turns from to (record { start = s.start; end = s.end }) (times_of later) →
-        Fits (board_at m (stepper_at m place).board).freq (base_tick m t.clocks s.start place) (pulses_of place (lines_between from to rest))
-        (stepper_plan m t.clocks s.section.moves s.start place) }
-    ensures between { (m : Machine) (ts : List MotionTurn) (p : Plans m (length m.boards) ts) (t : Told) (switches : List Switch) (first : ReactorTurn) (rest : List ReactorTurn)
-        (entries : List Entry) (ready turns from to place : ℕ) (xs : List OnBoard) (x : OnBoard) (past later : List Started) →
-        IsReport m switches p.made p.seen.begun first rest entries ready turns xs → IsStepperOn m t p.seen.begun rest xs place x → p.seen.begun ≡ past ++ later →
-        from ≤ to → to ≤ turns → AreEnded from (times_of past) → NextStart to (times_of later) → pulses_of place (lines_between from to rest) ≡ [] }
-{}
-
-/// The law of whole sections, of the report: these pulses are as many as the planned steps where the last state of the stepper's
-/// board tells no shutdown and that the link is idle, once all units of the sections up to this one were released; or where a line
-/// behind the section's turns tells a pulse of a stepper of the same board, whatever the board told later.
-pub fn report_lines_are_whole()
-    ensures idle { (m : Machine) (ts : List MotionTurn) (p : Plans m (length m.boards) ts) (t : Told) (switches : List Switch) (first : ReactorTurn) (rest : List ReactorTurn)
-        (entries : List Entry) (ready turns from to place : ℕ) (xs : List OnBoard) (x : OnBoard) (past : List Started) (s : Started) (later : List Started) (states : List State) (last : State) →
-        IsReport m switches p.made p.seen.begun first rest entries ready turns xs → IsStepperOn m t p.seen.begun rest xs place x → p.seen.begun ≡ past ++ s ∷ later →
-        IsWindow turns from to (record { start = s.start; end = s.end }) (times_of later) → s.end + 5 ≤ to → x.states ≡ states ++ last ∷ [] → last.shut ≡ None →
-        last.idle ≡ true → AreReleased turns (parts_on m t.clocks (past ++ s ∷ []) (stepper_at m place).board) →
-        length (pulses_of place (lines_between from to rest)) ≡ length (stepper_plan m t.clocks s.section.moves s.start place) }
-    ensures passed { (m : Machine) (ts : List MotionTurn) (p : Plans m (length m.boards) ts) (t : Told) (switches : List Switch) (first : ReactorTurn) (rest : List ReactorTurn)
-        (entries : List Entry) (ready turns from to place other : ℕ) (xs : List OnBoard) (x : OnBoard) (past : List Started) (s : Started) (later : List Started) →
-        IsReport m switches p.made p.seen.begun first rest entries ready turns xs → IsStepperOn m t p.seen.begun rest xs place x → p.seen.begun ≡ past ++ s ∷ later →
-        IsWindow turns from to (record { start = s.start; end = s.end }) (times_of later) → s.end + 5 ≤ to →
-        IsStepperOn m t p.seen.begun rest xs other x → pulses_of other (lines_between to turns rest) ≢ [] →
-        length (pulses_of place (lines_between from to rest)) ≡ length (stepper_plan m t.clocks s.section.moves s.start place) }
 {}

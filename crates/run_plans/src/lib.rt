@@ -5,5 +5,4 @@ mod laws;
 
 pub use laws::{
     lines_tell_sections, planned_boards_home, planned_boards_run, planners_put_sections,
-    report_lines_are_whole, report_lines_fit,
 };

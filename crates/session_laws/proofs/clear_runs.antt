@@ -4,4 +4,3 @@ pub mod Bare
 pub mod Exact
 pub mod Through
 pub mod Stopped
-pub mod Clear

@@ -19,3 +19,4 @@ pub mod Switches
 pub mod Sections
 pub mod Before
 pub mod Read
+pub mod OfMoves

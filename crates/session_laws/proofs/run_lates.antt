@@ -4,7 +4,6 @@ pub mod Units
 pub mod Due
 pub mod Unbegun
 pub mod Boards
-pub mod Moves
 pub mod Shuts
 pub mod Ending
 pub mod Naming

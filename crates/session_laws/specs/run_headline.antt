@@ -1,6 +1,5 @@
 pub mod Near
 pub mod Made
-pub mod Whole
 pub mod Timely
 pub mod Told
 pub mod Further

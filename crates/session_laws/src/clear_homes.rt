@@ -1,7 +1,7 @@
 //! What a run in which axes home shows in a scene without entries, as laws.
 
-ghost use Rattle.std.specs.Prelude.{◌≡◌, ◌⊎◌, ◌<◌, ◌++◌, ◌∷◌, ℕ, List, [], Some, length, pos};
-ghost use Rattle.gcode_program.specs.Programs.{program_end};
+ghost use Rattle.std.specs.Prelude.{◌≡◌, ◌⊎◌, ◌<◌, ℕ, List, [], Some, length, pos};
+ghost use Rattle.gcode_program.specs.Programs.{program_end, program_sections};
 ghost use Rattle.plan_types.specs.declared.machine.Machine.{Machine};
 ghost use Rattle.plan_types.specs.declared.plan.ReadStop.TheVariants.{Stop};
 ghost use Rattle.plan_types.specs.Machines.{IsValidMachine, board_at};
@@ -16,6 +16,7 @@ ghost use Rattle.session_run.specs.Runs.{RunsOver};
 ghost use Rattle.session_laws.specs.run_ends.Ends.{GoesThrough};
 ghost use Rattle.session_laws.specs.home_headline.Little.{SendsAllInTime};
 ghost use Rattle.session_laws.specs.run_headline.Made.{IsMade};
+ghost use Rattle.session_laws.specs.run_headline.Timely.{AreOfMoves};
 ghost use Rattle.session_laws.specs.clear_homes.Closes.{AllClose, MissesSwitch};
 ghost use Rattle.session_laws.specs.clear_homes.Expiry.{IsExpired};
 ghost use Rattle.session_laws.specs.clear_homes.First.{IsFirstExpired, IsUnswitched};
@@ -59,6 +60,12 @@ pub fn clear_runs_with_switches_go_through<F: Files, S: Sink>()
         (r : RunsOver F.Files S.Sink m s name files out kept t files' out' kept') → IsValidMachine m → HaveShortDictionaries m → (text : List ℕ) → F.told files name ≡ Some text → kept.at ≡ 0 →
         s.entries ≡ [] → IsOwn t.cause → (t.cause ≡ Cause.Memory → ⊥) → ((line : ℕ) → (program_end m text).stop ≡ Stop line → ⊥) → SendsAllSoon m text r.runs.0 → AllClose m s text r.runs.0 →
         GoesThrough t.cause }
+{}
+
+/// The law of texts of moves: they have no homing sections, so that nothing is asked of their switches (`AllClose`).
+/// So a clear run of such a text goes through.
+pub fn texts_of_moves_close()
+    ensures { (m : Machine) (s : Scene) (text : List ℕ) (planned : List MotionTurn) → AreOfMoves (program_sections m text) → AllClose m s text planned }
 {}
 
 /// The law of expired boards: in whatever threads a run went that ends as a board expired in a turn, the board told so: in one of the

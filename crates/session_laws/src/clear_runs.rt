@@ -1,33 +1,22 @@
-//! What a run shows in a scene without entries, as laws.
+//! What the links of a run in a scene without entries hold, as laws.
 
-ghost use Rattle.std.specs.Prelude.{◌≡◌, ℕ, List, [], Some};
-ghost use Rattle.gcode_program.specs.Programs.{program_end, program_sections};
+ghost use Rattle.std.specs.Prelude.{◌≡◌, ℕ, List, []};
 ghost use Rattle.plan_types.specs.declared.levels.Level.{Level};
 ghost use Rattle.plan_types.specs.declared.machine.Machine.{Machine};
-ghost use Rattle.plan_types.specs.declared.plan.ReadStop.TheVariants.{Stop};
 ghost use Rattle.plan_types.specs.Machines.{IsValidMachine, board_at};
 ghost use Rattle.wire_scene.specs.declared.scene.Entry.{Entry};
 ghost use Rattle.wire_scene.specs.declared.scene.Scene.{Scene};
 ghost use Rattle.wire_scene.specs.declared.scene.Switch.{Switch};
 ghost use Rattle.link_work.specs.Stands.{first_state};
 ghost use Rattle.host_reactor.specs.declared.ordered.Phase.TheVariants.{Stopping};
-ghost use Rattle.host_reactor.specs.Reactor.{Run};
-ghost use Rattle.host_reactor.specs.Rows.{IsOwn};
 ghost use Rattle.host_reactor.specs.Runs.{Came, known_by};
 ghost use Rattle.board_runs.specs.Turns.{BoardTurn};
 ghost use Rattle.clock_runs.specs.Runs.{IsInRun, UnitsFit};
-ghost use Rattle.cause_runs.specs.Short.{HaveShortDictionaries};
 ghost use Rattle.cause_runs.specs.Causes.{IsHindered};
-ghost use Rattle.session_lanes.specs.declared.near.Told.{Told};
 ghost use Rattle.session_work.specs.declared.table.MotionTurn.{MotionTurn};
 ghost use Rattle.session_work.specs.declared.table.ReactorTurn.{ReactorTurn};
-ghost use Rattle.session_run.specs.declared.tell.Kept.{Kept};
-ghost use Rattle.session_run.specs.Runs.{RunsOver};
-ghost use Rattle.session_laws.specs.run_ends.Ends.{GoesThrough};
-ghost use Rattle.session_laws.specs.run_headline.Timely.{AreOfMoves, HoldsNothingLong};
-ghost use Rattle.session_laws.specs.clear_runs.Clear.{SendsAllSoon};
+ghost use Rattle.session_laws.specs.run_headline.Timely.{HoldsNothingLong};
 
-use io_core::{Files, Sink};
 use plan_types::Cause;
 
 /// The law of clear links: in a scene without entries no asking of a board is hindered, in any turn of a run that is not about to
@@ -43,14 +32,4 @@ pub fn clear_links_hinder_nothing()
 /// in any turns of a run.
 pub fn clear_links_hold_nothing_long()
     ensures { (m : Machine) (s : Scene) (text : List ℕ) (planned : List MotionTurn) (turns : List ReactorTurn) → s.entries ≡ [] → HoldsNothingLong m s text planned turns }
-{}
-
-/// The law of clear runs: in whatever threads a run went, in a scene without entries, of sections of moves, of a text without an
-/// order to stop, whose units are all sent soon (`SendsAllSoon`), where it ends for a cause of its own other than want of memory it
-/// went through: no board is late, none gives no answer, and none homes.
-pub fn clear_runs_go_through<F: Files, S: Sink>()
-    ensures { (m : Machine) (s : Scene) (name : List ℕ) (files files' : F) (out out' : S) (kept kept' : Kept) (t : Told Run) →
-        (r : RunsOver F.Files S.Sink m s name files out kept t files' out' kept') → IsValidMachine m → HaveShortDictionaries m → (text : List ℕ) → F.told files name ≡ Some text → kept.at ≡ 0 →
-        s.entries ≡ [] → IsOwn t.cause → (t.cause ≡ Cause.Memory → ⊥) → AreOfMoves (program_sections m text) →
-        ((line : ℕ) → (program_end m text).stop ≡ Stop line → ⊥) → SendsAllSoon m text r.runs.0 → GoesThrough t.cause }
 {}

@@ -1,6 +1,7 @@
 //! What the report of a whole run in which axes home shows of the sections that its planner begun, as laws.
 
-ghost use Rattle.std.specs.Prelude.{◌≡◌, ◌≢◌, ◌++◌, ◌∷◌, ◌<◌, ◌≤◌, ℕ, List, [], None, Some, length};
+ghost use Rattle.std.specs.Prelude.{◌≡◌, ◌≢◌, ◌++◌, ◌∷◌, ◌<◌, ℕ, List, [], None, Some, false, length};
+ghost use Rattle.gcode_program.specs.Programs.{program_sections};
 ghost use Rattle.plan_types.specs.declared.machine.Machine.{Machine};
 ghost use Rattle.plan_types.specs.Clock.{clock_of};
 ghost use Rattle.plan_types.specs.Lines.{Clocks};
@@ -24,8 +25,10 @@ ghost use Rattle.session_run.specs.Runs.{RunsOver};
 ghost use Rattle.run_plans.specs.Lines.{heads_of};
 ghost use Rattle.run_plans.specs.Planned.{Plans, Seen};
 ghost use Rattle.run_boards.specs.Boards.{IsInWhole};
+ghost use Rattle.session_laws.specs.run_ends.Ends.{GoesThrough};
 ghost use Rattle.session_laws.specs.run_headline.Made.{IsMade};
-ghost use Rattle.session_laws.specs.run_headline.Timely.{clocks_heard, link_of, ready_heard};
+ghost use Rattle.session_laws.specs.run_headline.Told.{AreTold};
+ghost use Rattle.session_laws.specs.run_headline.Timely.{AllTakeNear, AreOfMoves, HoldsNothingLong, clocks_heard, link_of, ready_heard};
 ghost use Rattle.session_laws.specs.run_lines.Due.{BoardsHave, StandApart};
 ghost use Rattle.homing_laws.specs.home_runs.Words.{TellsHomed};
 ghost use Rattle.homing_laws.specs.home_plans.Notes.{CameNotes, WasBegun};
@@ -108,6 +111,31 @@ pub fn homing_runs_show_their_sections<F: Files, S: Sink>()
         ∥ ((made : IsMade m s r.runs.0 r.runs.1) × (made.plans.seen.text ≡ text) ×
         ((t.cause ≡ Cause.Memory → ⊥) → AllHomeLittle m s text r.runs.0 (r.runs.1 ++ r.runs.2 ∷ []) →
         AllShowHomes m made.plans.seen (clocks_heard made.plans.seen.told) (ready_heard made.plans.seen.told) t.cause (r.runs.1 ++ r.runs.2 ∷ []))) ∥₁ }
+{}
+
+/// The law of runs of moves: where each board of such a run takes all near (`AllTakeNear`), each holds nothing long, as
+/// one of a run in which axes home may (`AllHomeLittle`): in all turns of a run that does not end for want of memory,
+/// and in those before the last one of any run, by what the planner made up to then. And each takes all near where no
+/// line holds a command for long (`HoldsNothingLong`).
+pub fn runs_of_moves_hold_little<F: Files, S: Sink>()
+    ensures little { (m : Machine) (s : Scene) (name : List ℕ) (files files' : F) (out out' : S) (kept kept' : Kept) (t : Told Run) →
+        (r : RunsOver F.Files S.Sink m s name files out kept t files' out' kept') → IsValidMachine m → (text : List ℕ) → AreOfMoves (program_sections m text) → (t.cause ≡ Cause.Memory → ⊥) →
+        AllTakeNear m s text r.runs.0 (r.runs.1 ++ r.runs.2 ∷ []) → AllHomeLittle m s text r.runs.0 (r.runs.1 ++ r.runs.2 ∷ []) }
+    ensures before { (m : Machine) (s : Scene) (name : List ℕ) (files files' : F) (out out' : S) (kept kept' : Kept) (t : Told Run) →
+        (r : RunsOver F.Files S.Sink m s name files out kept t files' out' kept') → IsValidMachine m → (text : List ℕ) → AreOfMoves (program_sections m text) →
+        (turns : List ReactorTurn) (last : ReactorTurn) → r.runs.1 ≡ turns ++ last ∷ [] → (front later : List MotionTurn) → r.runs.0 ≡ front ++ later → length front ≡ length turns →
+        AllTakeNear m s text front (turns ++ last ∷ []) → AllHomeLittle m s text front (turns ++ last ∷ []) }
+    ensures near { (m : Machine) (s : Scene) (name : List ℕ) (files files' : F) (out out' : S) (kept kept' : Kept) (t : Told Run) →
+        (r : RunsOver F.Files S.Sink m s name files out kept t files' out' kept') → IsValidMachine m → HaveShortDictionaries m → (text : List ℕ) → AreOfMoves (program_sections m text) →
+        (t.cause ≡ Cause.Memory → ⊥) → HoldsNothingLong m s text r.runs.0 (r.runs.1 ++ r.runs.2 ∷ []) → AllTakeNear m s text r.runs.0 (r.runs.1 ++ r.runs.2 ∷ []) }
+{}
+
+/// The law of the lines of a run of moves: where it went through, they are such as a reactor tells that homes nothing,
+/// so that none tells of a switch (`AreTold`).
+pub fn runs_of_moves_tell_no_switch<F: Files, S: Sink>()
+    ensures { (m : Machine) (s : Scene) (name : List ℕ) (files files' : F) (out out' : S) (kept kept' : Kept) (t : Told Run) →
+        (r : RunsOver F.Files S.Sink m s name files out kept t files' out' kept') → IsValidMachine m → (text : List ℕ) → F.told files name ≡ Some text → kept.at ≡ 0 →
+        AreOfMoves (program_sections m text) → GoesThrough t.cause → ∥ AreTold false m (gather (λ t. t.lines) (r.runs.1 ++ r.runs.2 ∷ [])) ∥₁ }
 {}
 
 /// The law of scenes without entries: where the planner sends those units of each section of moves that are late by four turns behind its end,

@@ -1,5 +1,5 @@
 -- Each board of a whole run in which axes home, as the laws of boards ask for it.
-use Rattle.std.proofs.Common.{◌≡◌, ℕ, ◌^◌, ◌<◌, ◌≤◌, List, [], ◌∷◌, ◌++◌, length, map, Some, refl, subst, arith, length-append}
+use Rattle.std.proofs.Common.{◌≡◌, ℕ, ◌<◌, ◌≤◌, List, [], ◌∷◌, ◌++◌, length, map, Some, refl, subst, arith, length-append}
 use Rattle.plan_types.specs.declared.cause.Cause.{Cause}
 use Rattle.plan_types.specs.declared.machine.Machine.{Machine}
 use Rattle.plan_types.specs.Clock.{clock_of}
@@ -20,12 +20,12 @@ use Rattle.run_laws.specs.Homes.{AreOut, IsHomeBoard}
 use Rattle.run_plans.specs.Homed.{runs_on}
 use Rattle.run_boards.specs.Boards.{IsInWhole, behind}
 use Rattle.run_boards.specs.Turns.{came_before}
-use Rattle.run_plans.specs.Lines.{TellTurns, TookNotes}
+use Rattle.run_plans.specs.Lines.{TookNotes}
 use Rattle.run_plans.specs.Planned.{Plans}
 use Rattle.run_plans.proofs.Running.{started_in}
 use Rattle.session_laws.specs.run_headline.Timely.{AreSound, link_of}
-use Rattle.session_laws.proofs.run_headline.Boarded.{Ready, came_cut, first_in_range, ready, sound_of, valid_at}
-use Rattle.session_laws.proofs.run_headline.Showing.{Facts, front_notes, lines_long, took_notes}
+use Rattle.session_laws.proofs.run_headline.Boarded.{Ready, came_cut, ready, sound_of, valid_at}
+use Rattle.session_laws.proofs.run_headline.Showing.{Facts, front_notes, took_notes}
 use Rattle.homing_laws.specs.home_plans.Notes.{AreInARow}
 use Rattle.homing_laws.proofs.home_plans.Noting.{begun_row}
 use Rattle.homing_laws.specs.home_parts.Answers.{ArePastConnecting, IsPlannedBy, MayHome}
@@ -46,9 +46,6 @@ module _ (m : Machine) (v : IsValidMachine m) (s : Scene) (ts : List MotionTurn)
     (little : (b : ℕ) → b < length m.boards → (w : IsInWhole m s.switches b (clock_of (board_at m b)) (link_of m s b) ts first (rest ++ end ∷ [])) → HomesLittle m s b ts first (rest ++ end ∷ []) (length p.made) t p.seen.begun w) where
   notes : TookNotes (map (λ d. d.note) p.made) (first ∷ rest)
   notes = front_notes m v s ts p end c first rest f (took_notes m v s ts p end c first rest f long)
-
-  tells : TellTurns m p.seen.begun 0 (first ∷ (rest ++ end ∷ []))
-  tells = lines_long m v s ts p end c first rest f long
 
   -- the boards, as for the lines that follow the plans
   abbrev pub turn : Ready m v s ts p t first rest end told
@@ -89,9 +86,6 @@ module _ (m : Machine) (v : IsValidMachine m) (s : Scene) (ts : List MotionTurn)
       let l = lines b h in
       let early = turn.early in
       range_all m t.clocks (Own m b (length rest)) (clocks_at t.clocks b) By t.first p.seen.begun l.tracked (on_small m b (length rest) (valid_at m.boards b h v.boards)) (omega (arith, early)) row l.over (starts_soon m (length m.boards) ts p)
-
-  pub clock : (b : ℕ) → b < length m.boards → (clocks_at t.clocks b).first.clock < 2 ^ 62
-  clock b h = first_in_range m v s ts p t first rest end told b turn h
 
   formed : MayHome m p.seen.begun
   formed = may_all m v ts p t told

@@ -1,7 +1,13 @@
 -- A whole run in which axes home, in a scene without entries, whatever threads it went in.
-use Rattle.std.proofs.Common.{◌≡◌, ◌⊎◌, ℕ, List, [], ◌∷◌, Some, refl, sym, ◌∙◌, arith, subst, inl, inr}
+use Rattle.std.proofs.Common.{All, ◌≡◌, ◌⊎◌, ℕ, List, [], ◌∷◌, ◌++◌, length, Some, refl, sym, ◌∙◌, arith, subst, inl, inr}
 use Rattle.std.proofs.Math.Logic.{∥∥₁_elim, ∥∥₁_map}
-use Rattle.gcode_program.specs.Programs.{program_end}
+use Rattle.std.proofs.lemmas.List.Elements.{All-head, All-tail}
+use Rattle.plan_types.specs.declared.plan.SectionKind.TheVariants.{Home, Moves}
+use Rattle.session_work.specs.declared.table.MotionTurn.{MotionTurn}
+use Rattle.session_laws.specs.run_headline.Timely.{AreOfMoves}
+use Rattle.session_laws.proofs.run_headline.Facts.{kinds_of}
+use Rattle.session_laws.proofs.run_headline.Joining.{of_sections}
+use Rattle.gcode_program.specs.Programs.{program_end, program_sections}
 use Rattle.plan_types.specs.declared.cause.Cause.{Cause}
 use Rattle.plan_types.specs.declared.cause.Cause.TheVariants as cause
 use Rattle.plan_types.specs.declared.machine.Machine.{Machine}
@@ -9,6 +15,7 @@ use Rattle.plan_types.specs.declared.plan.ReadStop.TheVariants as read
 use Rattle.plan_types.specs.Machines.{IsValidMachine}
 use Rattle.io_core.specs.declared.traits.Files.{Ghosts as Files}
 use Rattle.io_core.specs.declared.traits.Sink.{Ghosts as Sink}
+use Rattle.motion_work.specs.Seen.{Started}
 use Rattle.wire_scene.specs.declared.scene.Scene.{Scene}
 use Rattle.host_reactor.specs.Reactor.{Run}
 use Rattle.host_reactor.specs.Rows.{IsOwn}
@@ -25,7 +32,12 @@ use Rattle.cause_runs.specs.Short.{HaveShortDictionaries}
 use Rattle.session_laws.specs.clear_runs.Clear.{SendsAllSoon}
 use Rattle.session_laws.specs.clear_homes.Closes.{AllClose, MissesSwitch}
 use Rattle.session_laws.proofs.clear_homes.Through.{GoesOr, missed_all, through_all, through_alone}
-use Rattle.session_laws.proofs.clear_runs.Clear.{goes_prop}
+
+goes_prop : (c : Cause) → IsProp (GoesThrough c)
+goes_prop cause.Done a b = refl
+goes_prop (cause.Line line kind) a b = refl
+goes_prop (cause.Asked line) a b = refl
+goes_prop c a b = absurd a
 
 -- a switch never closed
 abbrev IsUnclosed : Cause → Type 0
@@ -98,3 +110,15 @@ module _ {F S : Type 0} (f : Files F) (o : Sink S) (m : Machine) (s : Scene) (na
     where
       bottom : IsProp ⊥
       bottom x y = absurd x
+
+-- of sections of moves none homes
+none_home : (past : List Started) (x : Started) (later : List Started) (axis : ℕ) → All (λ s. s.section.kind ≡ Moves) (past ++ x ∷ later) → x.section.kind ≡ Home axis → ⊥
+none_home [] x later axis all home = let e : Moves ≡ Home axis = sym (All-head (λ (s : Started). s.section.kind ≡ Moves) x later all) ∙ home in cc
+none_home (y ∷ past) x later axis all home = none_home past x later axis (All-tail (λ (s : Started). s.section.kind ≡ Moves) y (past ++ x ∷ later) all) home
+
+pub moves_close : (m : Machine) (s : Scene) (text : List ℕ) (planned : List MotionTurn) → AreOfMoves (program_sections m text) → AllClose m s text planned
+moves_close m s text planned moves = λ p t same told past x later axis cut home.
+    let Moves_in : List ℕ → Type 0 = λ z. AreOfMoves (program_sections m z) in
+    let Of : List Started → Type 0 = λ z. All (λ (y : Started). y.section.kind ≡ Moves) z in
+    let kinds = kinds_of p.seen.begun (program_sections m p.seen.text) (length p.seen.begun) (of_sections m planned p) (subst Moves_in (sym same) moves) in
+    absurd (none_home past x later axis (subst Of cut kinds) home)

@@ -88,7 +88,7 @@ use Rattle.homing_laws.proofs.home_plans.Knowing.{now_was}
 use Rattle.homing_laws.specs.home_parts.Cuts.{cuts_on}
 use Rattle.session_laws.specs.home_headline.Little.{HomesLittle, SendsAllInTime}
 use Rattle.session_laws.proofs.home_headline.Board.{here}
-use Rattle.session_laws.proofs.home_headline.Clear.{clear_little, time_out}
+use Rattle.session_laws.proofs.home_headline.Clear.{time_out}
 use Rattle.session_laws.proofs.home_headline.Planned.{all_notes}
 use Rattle.cause_runs.specs.Short.{HaveShortDictionaries}
 use Rattle.session_laws.specs.clear_runs.Clear.{SendsAllSoon}
@@ -183,7 +183,7 @@ module _ (m : Machine) (v : IsValidMachine m) (short : HaveShortDictionaries m) 
     -- no board holds anything long
     little : (t : Told) → p.seen.told ≡ Some t → (b : ℕ) → b < length m.boards → (x : IsInWhole m s.switches b (clock_of (board_at m b)) (link_of m s b) ts first (rest ++ end ∷ []))
         → HomesLittle m s b ts first (rest ++ end ∷ []) (length p.made) t p.seen.begun x
-    little t told b low x = clear_little m s p.seen.text ts (first ∷ (rest ++ end ∷ [])) clear (soon_all m p.seen.text ts sends) p t b refl told low x
+    little t told b low x = let out = time_out m p.seen.text ts (soon_all m p.seen.text ts sends) p t b refl told low in record { timely = inl (10_700, omega arith, out.1, inl clear); sets_up = inl (inl (clear, out.0)) }
 
     outs : (t : Told) → p.seen.told ≡ Some t → (b : ℕ) → b < length m.boards → AreOut (length p.made) (runs_on m t.clocks p.seen.begun b)
     outs t told b low = (time_out m p.seen.text ts (soon_all m p.seen.text ts sends) p t b refl told low).0

@@ -1,6 +1,5 @@
 -- Units that are released before the turn in which they are due are never late on a clear link.
-use Rattle.std.proofs.Common.{◌≡◌, ℕ, suc, ◌+◌, ◌*◌, ◌<◌, ◌≤◌, Bool, false, List, [], ◌∷◌, ◌++◌, All, length, map, take, Option, Some, None, refl, ap, sym, ◌∙◌, subst, arith, inl, inr, append_assoc, length-append}
-use Rattle.std.specs.List.{flat_map}
+use Rattle.std.proofs.Common.{◌≡◌, ℕ, suc, ◌+◌, ◌*◌, ◌<◌, ◌≤◌, Bool, List, [], ◌∷◌, ◌++◌, All, length, map, take, Option, Some, None, refl, ap, sym, ◌∙◌, subst, arith, inl, inr, append_assoc}
 use Rattle.std.specs.Prelude.{◌-◌}
 use Rattle.std.proofs.lemmas.Bool.Decides.{eqb_tells, leb_tells}
 use Rattle.std.proofs.lemmas.List.Elements.{All-head, All-tail}
@@ -14,8 +13,8 @@ use Rattle.msg_code.specs.declared.cmd.Cmd.{Cmd}
 use Rattle.msg_code.specs.declared.cmd.Cmd.TheVariants as cmd
 use Rattle.msg_code.specs.Units.{dir_commands, reset_commands, step_command}
 use Rattle.step_feed.specs.Units.{StepUnit}
-use Rattle.step_feed.specs.Pacing.{Release, batch_at, units_of}
-use Rattle.section_units.specs.Sections.{BoardSection, IsSection, base_of, of_stepper, section_steps}
+use Rattle.step_feed.specs.Pacing.{Release, batch_at}
+use Rattle.section_units.specs.Sections.{BoardSection}
 use Rattle.wire_scene.specs.declared.scene.Entry.{Entry}
 use Rattle.wire_scene.specs.declared.scene.Way.TheVariants.{Down, Up}
 use Rattle.board_sim.specs.Fair.{Meant}
@@ -28,14 +27,12 @@ use Rattle.link_work.specs.Runs.{AreTurns, queued_in}
 use Rattle.link_work.specs.Stands.{first_state}
 use Rattle.link_work.specs.Turn.{IsTurn, LinkState, Orders, after_board, after_host, come, host_steps}
 use Rattle.link_work.proofs.Shut.{unit_begins}
-use Rattle.run_laws.specs.Events.{AreOwn, AreTicks}
 use Rattle.run_laws.specs.Links.{ends_of, steps_of, steps_of_turn}
-use Rattle.run_laws.specs.Parts.{AreInARow, AreOrdersOf, AreTracked, IsControl, IsRun}
+use Rattle.run_laws.specs.Parts.{IsControl}
 use Rattle.run_laws.specs.Runs.{AreSpilled, IsSpilled}
 use Rattle.run_laws.proofs.Calm.{AllQuiet, first_clear, none_unquiet, stretch_quiet, take_quiet, turns_quiet}
-use Rattle.run_laws.proofs.Entering.{all_inside, begun_inside, early_fits}
 use Rattle.run_laws.proofs.Linking.{same_bool, turn_runs}
-use Rattle.run_laws.proofs.Releasing.{AreFrom, from_down, paced_from}
+use Rattle.run_laws.proofs.Releasing.{AreFrom}
 use Rattle.run_laws.proofs.Waiting.{AreInside, Frame}
 use Rattle.run_plans.specs.Given.{TookControls}
 use Rattle.session_laws.specs.clear_runs.Clear.{AllSoon, AreSoon}
@@ -74,10 +71,6 @@ pub led_less : (turns fewer n : ℕ) (rs : List Release) → fewer ≤ turns →
 led_less turns fewer n [] h s = tt
 led_less turns fewer n (r ∷ rs) h s = ((λ low. s.0 (omega (arith, low, h))), led_less turns fewer n rs h s.1)
 
-pub all_led_less : (turns fewer n : ℕ) (ss : List BoardSection) → fewer ≤ turns → AllLed turns n ss → AllLed fewer n ss
-all_led_less turns fewer n [] h s = tt
-all_led_less turns fewer n (x ∷ ss) h s = (led_less turns fewer n x.releases h s.0, all_led_less turns fewer n ss h s.1)
-
 -- in a run of so many turns the board's lines are at most n turns behind it
 abbrev pub AreNear : (own : ℕ → ℕ) (clocks : Clocks) (ready turns until n : ℕ) → Type 0
 AreNear own clocks ready turns until n = (k : ℕ) → ready ≤ k → k < turns → k ≤ until → own k ≤ lines_tick clocks ((k + n) * turn_ns)
@@ -99,22 +92,6 @@ ahead_in f turns n (r ∷ rs) near i s a = (λ low. here low (s.0 low), ahead_in
           | inr p ↦ omega (arith, behind, time, p.1)
         ]
 
-abbrev AllAhead : ℕ → (ℕ → ℕ) → List BoardSection → Type 0
-AllAhead turns own [] = Unit {0}
-AllAhead turns own (s ∷ ss) = AreAhead turns own s.releases × AllAhead turns own ss
-
-all_ahead : (own : ℕ → ℕ) (clocks : Clocks) (freq slots ready e turns n : ℕ) (ss : List BoardSection) → AreTicks own → (tracked : AreTracked own clocks ready) → AreNear own clocks ready turns tracked.until n → ready ≤ e
-    → All (IsSection clocks freq slots) ss → AreInARow tracked.until e ss → AllLed turns n ss → AllAhead turns own ss
-all_ahead own clocks freq slots ready e turns n [] ticks tracked near low i row s = tt
-all_ahead own clocks freq slots ready e turns n (x ∷ ss) ticks tracked near low i row s =
-    let P : BoardSection → Type 0 = λ y. IsSection clocks freq slots y in
-    let first = All-head P x ss i in
-    let f : Frame = record { own = own; clocks = clocks; slots = slots; ready = ready; start = x.start; end = x.end; ticks = ticks; tracked = tracked; after = omega (arith, low, row.0); order = row.1; limit = row.2 } in
-    let inside = all_inside f x.releases (λ oid.
-    begun_inside f false oid false (of_stepper oid (units_of x.releases)) (first.begun oid) (early_fits freq (lines_tick clocks ((x.end + 1) * turn_ns)) (base_of clocks x) (section_steps oid x) (x.plan oid) (first.fits oid) (first.within oid))) in
-    let from = from_down (ready + 1) first.from x.releases (omega (arith, low, row.0, first.exact)) (paced_from clocks slots first.from [] x.releases first.paced) in
-    (ahead_in f turns n x.releases near inside s.0 from, all_ahead own clocks freq slots ready x.end turns n ss ticks tracked near (omega (arith, low, row.0, row.1)) (All-tail P x ss i) row.3 s.1)
-
 -- so those of a turn
 abbrev pub AllFrom : ℕ → List StepUnit → Type 0
 AllFrom t [] = Unit {0}
@@ -132,10 +109,6 @@ batch_from turns own k (r ∷ rs) low a =
       | inl p ↦ let From : ℕ → Type 0 = λ n. own n ≤ r.unit.first in rw p.0 (subst From p.1 (a.0 (omega (arith, p.1, low))), rest)
       | inr p ↦ rw p.0 rest
     ]
-
-sections_from : (turns : ℕ) (own : ℕ → ℕ) (k : ℕ) (ss : List BoardSection) → k < turns → AllAhead turns own ss → AllFrom (own k) (flat_map (λ s. batch_at k s.releases) ss)
-sections_from turns own k [] low a = tt
-sections_from turns own k (s ∷ ss) low a = from_both (own k) (batch_at k s.releases) (flat_map (λ (x : BoardSection). batch_at k x.releases) ss) (batch_from turns own k s.releases low a.0) (sections_from turns own k ss low a.1)
 
 -- the steps of some commands begin at a tick or later
 abbrev pub InTime : ℕ → Meant → Type 0
@@ -170,24 +143,6 @@ units_time t (u ∷ us) a =
     time_both t (unit_orders u) (units_orders us)
     (time_both t (map plain (reset_commands u.stepper u.reset)) (dirs ++ step ∷ []) (resets_time t u.stepper u.reset) (time_both t dirs (step ∷ []) (dirs_time t u.stepper u.up) (own, tt)))
     (units_time t us a.1)
-
-one_time : (t : ℕ) (c : Cmd) → IsControl c → InTime t (plain c)
-one_time t (cmd.QueueStep oid interval count add) k = absurd k
-one_time t c k = λ s first b. absurd s
-
-controls_time : (t : ℕ) (cs : List Cmd) → All IsControl cs → AllInTime t (map plain cs)
-controls_time t [] a = tt
-controls_time t (c ∷ cs) a = (one_time t c (All-head IsControl c cs a), controls_time t cs (All-tail IsControl c cs a))
-
--- those that are queued in a turn
-orders_time : (turns : ℕ) (own : ℕ → ℕ) (ss : List BoardSection) (turn k : ℕ) (before : List Orders) (o : Orders) (more : List Orders) → AllAhead turns own ss → k < turns → turn + length before ≡ k → AreOrdersOf ss turn (before ++ o ∷ more) → AllInTime (own k) (queued_in o)
-orders_time turns own ss turn k [] o more a low e are =
-    let same : turn ≡ k = omega (arith, e) in
-    let At : ℕ → Type 0 = λ n. AllInTime (own n) (queued_in o) in
-    let From : List StepUnit → Type 0 = λ us. AllFrom (own turn) us in
-    subst At same (time_both (own turn) (map plain o.control.commands) (units_orders o.batch.units) (controls_time (own turn) o.control.commands are.0)
-    (units_time (own turn) o.batch.units (subst From (sym are.1) (sections_from turns own turn ss (omega (arith, low, same)) a))))
-orders_time turns own ss turn k (x ∷ before) o more a low e are = orders_time turns own ss (turn + 1) k before o more a low (omega (arith, e)) are.2
 
 -- turns in which the units that are taken are fair
 fair_split : (xs ys : List Step) (h : Core) → AllFair h (xs ++ ys) → AllFair h xs × AllFair (run xs h) ys
@@ -238,22 +193,6 @@ not_late b pins place entries os m t tick first e y low =
     let none = none_unquiet (up_to (length y.before) (stretch (take y.turn ends))) quiet in
     let many = y.spoiled (length y.before) low in
     omega (arith, none, many)
-
--- where each unit is released as many turns before the one in which it is due as the lines are behind
-pub soon_not_late : (b : BoardDef) (pins : List (List Level)) (place : ℕ) (entries : List Entry) (own : ℕ → ℕ) (clocks : Clocks) (ready turns n : ℕ) (ss : List BoardSection) (os : List Orders) (m : LinkState) (t : AreTurns (clock_of b) 0 os (first_state b pins place entries) m)
-    (tick first : ℕ) → entries ≡ [] → AreOwn b (length os) own → (r : IsRun own clocks b.freq b.slots ready ss os) → AreNear own clocks ready (length os) r.tracked.until n → AllLed turns n ss → length os ≤ turns
-    → AllFair (first_state b pins place entries).core (steps_of (clock_of b) 0 os (first_state b pins place entries) m t)
-    → IsLate (clock_of b) os (first_state b pins place entries) (ends_of (clock_of b) 0 os (first_state b pins place entries) m t) tick first → ⊥
-soon_not_late b pins place entries own clocks ready turns n ss os m t tick first e o r near led within fair y =
-    let clock = clock_of b in
-    let ahead = all_ahead own clocks b.freq b.slots ready ready (length os) n ss o.ticks r.tracked near (omega arith) r.sections r.row (all_led_less turns (length os) n ss within led) in
-    let Of : List Orders → Type 0 = λ x. AreOrdersOf ss 0 x in
-    let few = ap length y.turns ∙ length-append y.before (y.orders ∷ y.after) in
-    let time = orders_time (length os) own ss 0 (length y.before) y.before y.orders y.after ahead (omega (arith, few)) (omega arith) (subst Of y.turns r.orders) in
-    let Queued : List Meant → Type 0 = λ x. AllInTime (own (length y.before)) x in
-    let one = time_of (own (length y.before)) y.front y.command y.rest (subst Queued y.queued time) in
-    let soon = one y.steps first (y.own (fair_turns clock 0 os (first_state b pins place entries) m t fair)) in
-    not_late b pins place entries os m t tick first e y (omega (arith, soon, o.same (length y.before) (omega (arith, few))))
 
 -- nor is a board to which no units are sent
 abbrev pub NoUnits : List Orders → Type 0

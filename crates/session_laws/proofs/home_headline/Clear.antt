@@ -96,7 +96,7 @@ time_out m text planned sends = λ p t b same told low.
 -- where all units are sent in time, or so late at most, nothing is held long
 pub out_little : (m : Machine) (s : Scene) (text : List ℕ) (planned : List MotionTurn) (turns : List ReactorTurn) → s.entries ≡ [] → SendsAllOut m text planned → AllHomeLittle m s text planned turns
 out_little m s text planned [] e sends = tt
-out_little m s text planned (first ∷ rest) e sends = λ p t b same told low w.
+out_little m s text planned (first ∷ rest) e sends = λ p t b same told some low w.
     (let x = sends p t b same told low in record { timely = inl (10_700, omega arith, x.1, inl e); sets_up = inl (inl (e, x.0)) })
 
 pub clear_little : (m : Machine) (s : Scene) (text : List ℕ) (planned : List MotionTurn) (turns : List ReactorTurn) → s.entries ≡ [] → SendsAllInTime m text planned → AllHomeLittle m s text planned turns

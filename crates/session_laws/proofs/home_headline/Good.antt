@@ -1,7 +1,9 @@
 -- A board of a run in which axes home keeps what the laws of a run ask for, so it may shut down for two reasons alone.
-use Rattle.std.proofs.Common.{◌≡◌, ℕ, ◌+◌, ◌≤◌, List, [], ◌∷◌, length, sym, ◌∙◌, subst, arith}
+use Rattle.std.proofs.Common.{◌≡◌, ℕ, ◌+◌, ◌≤◌, List, [], ◌∷◌, length, map, ap, sym, ◌∙◌, subst, arith}
 use Rattle.plan_types.specs.declared.clock.BoardClock.{BoardClock}
+use Rattle.plan_types.specs.declared.plan.BoardState.TheVariants.{Shut}
 use Rattle.plan_types.specs.Clock.{clock_of}
+use Rattle.board_sim.specs.Board.{timer_too_close}
 use Rattle.wire_scene.specs.declared.scene.Entry.{Entry}
 use Rattle.board_world.specs.World.{Core, run, start}
 use Rattle.link_work.specs.Runs.{AreTurns}
@@ -11,8 +13,10 @@ use Rattle.run_laws.specs.Boards.{OnBoard}
 use Rattle.run_laws.specs.Courses.{IsGoodRun}
 use Rattle.run_laws.specs.Ends.{MayBe}
 use Rattle.run_laws.specs.Homes.{IsHomeBoard, RunSection}
+use Rattle.run_laws.specs.Late.{IsLateUnit}
 use Rattle.run_laws.specs.Links.{steps_of, turns_told}
 use Rattle.run_laws.proofs.Halted.{reason_is}
+use Rattle.run_laws.proofs.Seeking.{late_unit}
 use Rattle.run_laws.proofs.Linking.{own_first, turns_are, turns_owned}
 use Rattle.run_laws.proofs.HomeBoards.{settled_head, settled_owned}
 use Rattle.homing_laws.proofs.home_runs.Along.{one_end}
@@ -72,3 +76,16 @@ may_at place entries ready turns ss x end k t =
     let l = first_state x.board x.pins place entries in
     let May : LinkState → Type 0 = λ e. MayBe e.core.board.controller.state in
     subst May (same_end clock 0 x.orders l k.end end (turns_told clock 0 x.orders x.states l k.end k.told) t) (board_may place entries ready turns ss x k)
+
+-- and where it shut down since steps came too late, these were a unit's of its sections
+pub late_at : (place : ℕ) (entries : List Entry) (ready turns : ℕ) (ss : List RunSection) (x : OnBoard) (end : LinkState) (tick first : ℕ) → IsHomeBoard place entries ready turns ss x → AreTurns (clock_of x.board) 0 x.orders (first_state x.board x.pins place entries) end
+    → end.core.board.controller.state ≡ Shut timer_too_close tick first → IsLateUnit (map (λ s. s.section) ss) tick first
+late_at place entries ready turns ss x end tick first k t shut =
+    let clock = clock_of x.board in
+    let l = first_state x.board x.pins place entries in
+    let told = turns_told clock 0 x.orders x.states l k.end k.told in
+    let steps = steps_of clock 0 x.orders l k.end told in
+    let same = same_end clock 0 x.orders l k.end end told t in
+    let is : k.end.core ≡ run steps (start x.board x.pins) = (turns_are clock 0 x.orders l k.end told).0 in
+    late_unit x.board x.pins k.own x.clocks ready k.stops ss x.orders steps tick first k.run_is (board_good place entries ready turns ss x k)
+    (ap (λ (h : Core). h.board.controller.state) (sym is) ∙ ap (λ (e : LinkState). e.core.board.controller.state) same ∙ shut)

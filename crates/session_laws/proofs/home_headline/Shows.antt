@@ -49,8 +49,8 @@ use Rattle.session_laws.proofs.home_headline.Following.{follows}
 
 module _ (m : Machine) (v : IsValidMachine m) (s : Scene) (ts : List MotionTurn) (p : Plans m (length m.boards) ts) (end : ReactorTurn) (c : Cause) where
   module _ (first : ReactorTurn) (rest : List ReactorTurn) (f : Facts m s ts (first ∷ rest) end c) (short : HaveShortDictionaries m) (little : AllHomeLittle m s p.seen.text ts (first ∷ (rest ++ end ∷ []))) where
-    by_told : (t : Told) → p.seen.told ≡ Some t → FollowHomes m t p.seen first (rest ++ end ∷ [])
-    by_told t told = follows m v s ts p t first rest end c told f short (λ b h w. little p t b refl told h w)
+    by_told : (t : Told) (past : List Started) (x : Started) (later : List Started) → p.seen.told ≡ Some t → p.seen.begun ≡ past ++ x ∷ later → FollowHomes m t p.seen first (rest ++ end ∷ [])
+    by_told t past x later told cut = follows m v s ts p t first rest end c told f short (λ b h w. little p t b refl told (λ none. in_none past x later p.seen.begun none cut) h w)
 
     -- a run that went through has read on
     long : GoesThrough c → length (rest ++ end ∷ []) ≤ length p.made
@@ -68,13 +68,13 @@ module _ (m : Machine) (v : IsValidMachine m) (s : Scene) (ts : List MotionTurn)
         let b = (stepper_at m place).board in
         let low = (v.steppers place h).board in
         let freq : (board_at m b).freq ≡ (clocks_at t.clocks b).first.freq = sym (lined m v s ts p t first rest end e b r (f.boards b first rest low refl) low).freq in
-        subst At (sym (ap clocks_heard e)) (subst Freq freq ((by_told t e).fit past x later from to place cut h w))
+        subst At (sym (ap clocks_heard e)) (subst Freq freq ((by_told t past x later e cut).fit past x later from to place cut h w))
 
     none_behind : (o : Option Told) → p.seen.told ≡ o → (past : List Started) (x : Started) (later : List Started) (from to place : ℕ) → p.seen.begun ≡ past ++ x ∷ later → place < length m.steppers → from ≤ to
         → to ≤ length (rest ++ end ∷ []) → AreEnded from (times_of (past ++ x ∷ [])) → NextStart to (times_of later) → pulses_of place (lines_between from to (rest ++ end ∷ [])) ≡ []
     none_behind None e past x later from to place cut h order within ended next = absurd (in_none past x later p.seen.begun (not_told m v s ts p end c e) cut)
     none_behind (Some t) e past x later from to place cut h order within ended next =
-        (by_told t e).between (past ++ x ∷ []) later from to place (cut ∙ sym (append_assoc past (x ∷ []) later)) h order within ended next
+        (by_told t past x later e cut).between (past ++ x ∷ []) later from to place (cut ∙ sym (append_assoc past (x ∷ []) later)) h order within ended next
 
     none_early : (o : Option Told) → p.seen.told ≡ o → (x : Started) (later : List Started) (past behind : List ReactorTurn) (place : ℕ) → p.seen.begun ≡ x ∷ later → first ∷ (rest ++ end ∷ []) ≡ past ++ behind → length past ≤ x.start → place < length m.steppers
         → pulses_of place (gather (λ t. t.lines) past) ≡ []
@@ -87,7 +87,7 @@ module _ (m : Machine) (v : IsValidMachine m) (s : Scene) (ts : List MotionTurn)
         let n = length past in
         let whole : n - 0 ≡ n = omega arith in
         let many : length (rest ++ end ∷ []) ≡ n + length behind = ap length then ∙ length-append past behind in
-        let none = (by_told t e).between [] (x ∷ later) 0 n place cut h (omega arith) (omega (arith, many)) tt (omega (arith, soon)) in
+        let none = (by_told t [] x later e cut).between [] (x ∷ later) 0 n place cut h (omega arith) (omega (arith, many)) tt (omega (arith, soon)) in
         let now : pulses_of place y.lines ≡ [] = ap (λ (z : ReactorTurn). pulses_of place z.lines) (sym same) ∙ first_pulses m p.seen.begun place first (plans_spread m (length m.boards) ts p) f.turns.0.row (all_lines m v s ts p end c first rest f).0 in
         let front : lines_between 0 n (rest ++ end ∷ []) ≡ all past = ap (λ z. lines_between 0 n z) then ∙ ap (λ (k : ℕ). all (take k (past ++ behind))) whole ∙ ap all (take-append_seam past behind) in
         pulses_append place y.lines (all past) ∙ ap (λ z. z ++ pulses_of place (all past)) now ∙ ap (pulses_of place) (sym front) ∙ none
@@ -112,7 +112,7 @@ module _ (m : Machine) (v : IsValidMachine m) (s : Scene) (ts : List MotionTurn)
         let sound = sound_by m v s ts p end c first rest f p.seen.told refl (λ none. in_none past x later p.seen.begun none cut) in
         let agree = plans-agree m short clocks x.section.moves x.start turn place (sound.kept b small) (firsts b small) (omega (arith, begins, order, within, after)) in
         let Lines : List Clocks → Type 0 = λ cs. All (λ (q : Pulse). q.tick + max_error (board_at m b).freq < lines_tick (clocks_at cs b) ((to + 7) * turn_ns)) ps in
-        let early = subst Lines heard_is ((by_told t e).soon past x later from to place cut h wide) in
+        let early = subst Lines heard_is ((by_told t past x later e cut).soon past x later from to place cut h wide) in
         let Freq : ℕ → Type 0 = λ f. All (λ (q : Pulse). q.tick + max_error f < lines_tick line (turn * turn_ns)) ps in
         let up = tick_over-mono line.first 0 line.held ((to + 7) * turn_ns) (turn * turn_ns) (omega (arith, within, after)) in
         let soon : All (λ (q : Pulse). q.tick + max_error (board_at m b).freq < lines_tick line (turn * turn_ns)) ps = λ k d low. (let own = early k d low in omega (arith, own, up)) in

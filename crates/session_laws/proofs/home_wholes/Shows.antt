@@ -1,5 +1,5 @@
 -- Why the lines of a whole run in which axes home tell whole plans of sections of moves.
-use Rattle.std.proofs.Common.{◌≡◌, ℕ, ◌+◌, ◌<◌, ◌≤◌, Bool, List, [], ◌∷◌, ◌++◌, All, length, map, take, Option, None, Some, refl, ap, sym, ◌∙◌, subst, arith, inl, inr, append-nil, length-append}
+use Rattle.std.proofs.Common.{◌≡◌, ◌≢◌, ℕ, ◌+◌, ◌<◌, ◌≤◌, Bool, List, [], ◌∷◌, ◌++◌, All, length, map, take, Option, None, Some, refl, ap, sym, ◌∙◌, subst, arith, inl, inr, append-nil, length-append}
 use Rattle.std.specs.Prelude.{if◌then◌else◌}
 use Rattle.std.proofs.Math.Logic.{∥∥₁_map}
 use Rattle.std.proofs.lemmas.Bool.Decides.{eqb_tells, leb_tells}
@@ -173,9 +173,9 @@ module _ (m : Machine) (v : IsValidMachine m) (s : Scene) (ts : List MotionTurn)
         let counts = run_counts m p.seen.text s.switches p.seen.begun p.made first rest end p.put (took_notes m v s ts p end c first rest f l) in
         gone m p.seen.text p.seen.begun (length (first ∷ rest)) (length Came_all) Last_known end.states w.0 counts (omega (arith, size)) (of_sections m ts p) w.2
 
-    module _ (t : Told) (told : p.seen.told ≡ Some t) where
+    module _ (t : Told) (told : p.seen.told ≡ Some t) (some : p.seen.begun ≢ []) where
       small : (b : ℕ) → b < length m.boards → (w : IsInWhole m s.switches b (clock_of (board_at m b)) (link_of m s b) ts first (rest ++ end ∷ [])) → HomesLittle m s b ts first (rest ++ end ∷ []) (length p.made) t p.seen.begun w
-      small b h w = little p t b refl told h w
+      small b h w = little p t b refl told some h w
 
       by_told : FollowHomes m t p.seen first (rest ++ end ∷ [])
       by_told = follows m v s ts p t first rest end c told f short small
@@ -293,9 +293,9 @@ module _ (m : Machine) (v : IsValidMachine m) (s : Scene) (ts : List MotionTurn)
     wholes_by (Some t) e =
         let At : Option Told → Type 0 = λ o. WholeHomes m p.seen (clocks_heard o) c (rest ++ end ∷ []) in
         let all : At (Some t) = record {
-          whole = λ g past x later from to place cut moves h w over. whole_told t e g past x later from to place cut moves h w over;
+          whole = λ g past x later from to place cut moves h w over. whole_told t e (λ none. in_none past x later p.seen.begun none cut) g past x later from to place cut moves h w over;
           passed = λ past x later from to place other cut moves h k same w over some.
-              passed_told m v s ts p t first rest end c e f short (small t e) past x later from to place other cut moves h k same w over some;
+              passed_told m v s ts p t first rest end c e f short (small t e (λ none. in_none past x later p.seen.begun none cut)) past x later from to place other cut moves h k same w over some;
         } in
         subst At (sym e) all
 

@@ -57,9 +57,6 @@ finished r k states t =
     both_true (all_ended r.done r.reading) (nat_lt 4 (k - r.ended) && all_idle states) t.ended (both_true (nat_lt 4 (k - r.ended)) (all_idle states) late t.idle)
 
 module _ (m : Machine) (switches : List Switch) (r : Known) (k : ℕ) (states : List State) (note : Option Note) (none : (noted m note r).stopped ≡ None) where
-  abbrev Now : Known
-  Now = noted m note r
-
   abbrev End : Option Cause
   End = (reacts m switches r k states note).ordered.end
 

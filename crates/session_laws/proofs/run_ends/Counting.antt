@@ -58,9 +58,6 @@ done_few m k i (s ∷ ss) r = elim (eqb_tells s.end k) [
   | inr p ↦ let rest = done_few m k (i + 1) ss r in rw p.0 (omega (arith, rest))
 ]
 
-abbrev EndsBy : ℕ → Known → List Started → Type 0
-EndsBy k r ss = All (λ s. s.end < k → s.end ≤ r.ended) ss
-
 -- the last end told
 done_last : (m : Machine) (k i : ℕ) (ss : List Started) (r : Known) → ((told_all m (done_notes k i ss) r).ended ≡ k) ⊎ (((told_all m (done_notes k i ss) r).ended ≡ r.ended) × All (λ s. s.end ≢ k) ss)
 done_last m k i [] r = inr (refl, All-nil (λ (s : Started). s.end ≢ k))
@@ -215,25 +212,6 @@ run_counts m text switches ss made first rs last put took =
     let number : 0 + length rs + 1 ≡ length (first ∷ rs) = omega arith in
     let Number : ℕ → Type 0 = λ n. Counts m text ss n (noted m last.note (known_by m switches (came_from (came_in first ∷ []) rs))) in
     subst Number number (each_counts m text switches ss 0 made rs last (came_in first ∷ []) refl now put took.1)
-
--- where no note has news, nothing of the reading is known
-abbrev pub NoNews : Option Note → Type 0
-NoNews None = Unit {0}
-NoNews (Some note) = note.news ≡ []
-
-abbrev pub NoneNews : List ReactorTurn → Type 0
-NoneNews [] = Unit {0}
-NoneNews (t ∷ ts) = NoNews t.note × NoneNews ts
-
-pub unread_note : (m : Machine) (note : Option Note) (r : Known) → NoNews note → r.reading ≡ None → (noted m note r).reading ≡ None
-unread_note m None r n e = e
-unread_note m (Some note) r n e = ap (λ ns. (told_all m ns r).reading) n ∙ e
-
-pub unread : (m : Machine) (switches : List Switch) (before : List Came) (rs : List ReactorTurn) → NoneNews rs → (known_by m switches before).reading ≡ None → (known_by m switches (came_from before rs)).reading ≡ None
-unread m switches before [] n e = e
-unread m switches before (t ∷ rs) n e =
-    let r = known_by m switches before in
-    unread m switches (came_in t ∷ before) rs n.1 ((keeps m switches r (length before) t.states t.note).reading ∙ unread_note m t.note r n.0 e)
 
 -- what is known of the reading stays known
 abbrev pub IsRead : Option Reading → Type 0

@@ -1,5 +1,5 @@
 -- Each board of a whole run, as the law of its lines asks for it.
-use Rattle.std.proofs.Common.{◌≡◌, ◌≢◌, ℕ, zero, suc, ◌+◌, ◌*◌, ◌^◌, ◌<◌, ◌≤◌, ℤ, pos, negsuc, ◌≤ℤ◌, List, [], ◌∷◌, ◌++◌, All, get_or, map, take, length, None, Some, refl, ap, sym, ◌∙◌, subst, arith, inl, inr, append_assoc, length-append}
+use Rattle.std.proofs.Common.{◌≡◌, ℕ, zero, suc, ◌+◌, ◌*◌, ◌^◌, ◌<◌, ◌≤◌, ℤ, pos, negsuc, ◌≤ℤ◌, List, [], ◌∷◌, ◌++◌, All, get_or, map, take, length, None, Some, refl, ap, sym, ◌∙◌, subst, arith, inl, inr, append_assoc, length-append}
 use Rattle.std.proofs.lemmas.Int.{ints}
 use Rattle.std.proofs.lemmas.List.{length-map}
 use Rattle.std.proofs.lemmas.List.Elements.{All-head, All-tail}
@@ -22,8 +22,7 @@ use Rattle.link_work.specs.Stands.{orders}
 use Rattle.link_work.specs.Switches.{pins_of}
 use Rattle.link_work.specs.Turn.{Orders}
 use Rattle.clock_line.specs.Samples.{ppm_size}
-use Rattle.host_reactor.specs.declared.ordered.Phase.TheVariants.{Stopping}
-use Rattle.host_reactor.specs.Runs.{Came, GoesOn, known_by, last_turn}
+use Rattle.host_reactor.specs.Runs.{Came, known_by, last_turn}
 use Rattle.board_runs.specs.Turns.{BoardTurn, stands_after}
 use Rattle.clock_runs.specs.Runs.{IsInRun, UnitsFit, orders_in}
 use Rattle.clock_runs.proofs.Lines.{as_long, told_lines}
@@ -31,27 +30,22 @@ use Rattle.motion_work.specs.Boards.{parts_on}
 use Rattle.motion_work.specs.Seen.{AreMoves}
 use Rattle.motion_work.specs.Further.{WasHeard, noted_lines}
 use Rattle.motion_work.specs.Told.{Told, first_start, lines_in, told_of}
-use Rattle.section_units.specs.Sections.{BoardSection, of_stepper}
 use Rattle.session_work.specs.declared.table.MotionTurn.{MotionTurn}
 use Rattle.session_work.specs.declared.table.ReactorTurn.{ReactorTurn}
 use Rattle.session_work.specs.Leads.{last_words}
 use Rattle.session_work.specs.Rows.{gather}
 use Rattle.session_run.specs.Boards.{AreReactorTurns, came_from, came_in}
-use Rattle.std.specs.List.{flat_map}
 use Rattle.board_world.specs.Orders.{units_orders}
 use Rattle.board_world.specs.World.{on_wire}
-use Rattle.step_feed.specs.Pacing.{batch_at, units_of}
-use Rattle.step_feed.specs.Units.{StepUnit}
 use Rattle.link_work.specs.Limits.{bytes_in}
 use Rattle.plan_types.specs.Sections.{clocks_at}
 use Rattle.run_laws.specs.Events.{AreOwn}
-use Rattle.run_laws.specs.Parts.{AreOrdersOf, IsRun, MakesIn}
+use Rattle.run_laws.specs.Parts.{IsRun, MakesIn}
 use Rattle.run_parts.proofs.Going.{own_on}
 use Rattle.run_laws.specs.Links.{turns_told}
 use Rattle.run_laws.proofs.Calm.{calm_links}
 use Rattle.run_laws.proofs.HeededLinks.{few_heeded, ten_seconds}
 use Rattle.run_laws.specs.Timely.{ControlsKeep}
-use Rattle.run_laws.specs.Stops.{NeverStop}
 use Rattle.run_boards.specs.Boards.{IsInWhole, TookEach, behind, orders_of, states_of}
 use Rattle.run_boards.specs.Turns.{came_before}
 use Rattle.run_plans.specs.Boards.{TookStates}
@@ -63,14 +57,11 @@ use Rattle.session_laws.proofs.clock_ages.Own.{AreRenewed, Own}
 use Rattle.session_laws.specs.run_headline.Timely.{AreSound, HoldsLittle, TakesNear, link_of}
 use Rattle.session_laws.proofs.run_headline.Asked.{asked_late}
 use Rattle.session_laws.proofs.run_headline.Holding.{may_each}
-use Rattle.session_laws.specs.run_headline.Whole.{Column, IsBoardIn}
-use Rattle.session_laws.proofs.run_headline.Fronts.{Followed, IsFirst, controlled, controls_limited, first_sampled, followed, front_of, one_less, sampled_later, stepper_made}
+use Rattle.session_laws.proofs.run_headline.Fronts.{IsFirst, controlled, controls_limited, first_sampled, followed, front_of, one_less, sampled_later, stepper_made}
 use Rattle.session_laws.proofs.run_headline.Further.{EachHeld, EachTold, noted_first, noted_grown, noted_long, told_more}
 use Rattle.session_laws.proofs.run_headline.Near.{follow_clock, follows_clock}
 use Rattle.session_laws.proofs.run_headline.Noting.{AllNoted, IsNoted, all_noted, line_among, noted_between, noted_later, word_said}
-use Rattle.session_laws.specs.run_ends.Ends.{NoneHomes}
-use Rattle.session_laws.proofs.run_ends.Unstopped.{never_stop}
-use Rattle.session_laws.proofs.run_headline.Plain.{AllMoves, known_none, noted_none}
+use Rattle.session_laws.proofs.run_headline.Plain.{AllMoves}
 use Rattle.session_laws.proofs.run_headline.Steppers.{all_made}
 use Rattle.session_laws.proofs.run_headline.Words.{Among, AreNumbered, Connected, HeardIn, Said, among_either, among_left, among_right, connected, gather_words, last_tells, line_is, made_numbered, news_in, said, turns_tell}
 
@@ -118,12 +109,6 @@ abbrev pub AllFit : List Orders → Type 0
 AllFit [] = Unit {0}
 AllFit (o ∷ os) = (bytes_in (map on_wire (units_orders o.batch.units)) ≤ 210) × AllFit os
 
-pub all_fit : (turns k : ℕ) (os : List Orders) (ss : List BoardSection) → ((k : ℕ) → k < turns → bytes_in (map on_wire (units_orders (flat_map (λ s. batch_at k s.releases) ss))) ≤ 210) → k + length os ≤ turns → AreOrdersOf ss k os → AllFit os
-all_fit turns k [] ss f low a = tt
-all_fit turns k (o ∷ os) ss f low a =
-    let Few : List StepUnit → Type 0 = λ us. bytes_in (map on_wire (units_orders us)) ≤ 210 in
-    (subst Few (sym a.1) (f k (omega (arith, low))), all_fit turns (k + 1) os ss f (omega (arith, low)) a.2)
-
 fit_front : (xs ys : List Orders) → AllFit (xs ++ ys) → AllFit xs × AllFit ys
 fit_front [] ys a = (tt, a)
 fit_front (x ∷ xs) ys a = let r = fit_front xs ys a.1 in ((a.0, r.0), r.1)
@@ -133,12 +118,6 @@ fit_of [] a = tt
 fit_of (t ∷ before) a = let r = fit_front (orders_in before) (orders t.control t.batch ∷ []) a in (r.1.0, fit_of before r.0)
 
 module _ (m : Machine) (v : IsValidMachine m) (s : Scene) (ts : List MotionTurn) (p : Plans m (length m.boards) ts) (t : Told) (first : ReactorTurn) (rest : List ReactorTurn) (end : ReactorTurn) (told : p.seen.told ≡ Some t) where
-  abbrev Rs : List ReactorTurn
-  Rs = first ∷ rest
-
-  abbrev All_came : List Came
-  All_came = came_from [] (first ∷ rest)
-
   -- A note of the planner told a further clock line, in turn 1,000 or later, and not before connecting ended; and a word of the reactor told
   -- it before.
   pub record IsSaid (ready board : ℕ) (line : Line) (from : ℕ) : Type 0 where
@@ -225,10 +204,6 @@ module _ (m : Machine) (v : IsValidMachine m) (s : Scene) (ts : List MotionTurn)
                   }) (further_noted h numbered);
             }
       ]
-
-  -- what came to a board, and what it told
-  abbrev pub column : (b : ℕ) → IsInWhole m s.switches b (clock_of (board_at m b)) (link_of m s b) ts first (rest ++ end ∷ []) → Column
-  column b w = record { orders = orders_of w.made; states = states_of w.made }
 
   -- the turns of a board, as the laws of boards have them
   pub run_of : (b : ℕ) (w : IsInWhole m s.switches b (clock_of (board_at m b)) (link_of m s b) ts first (rest ++ end ∷ [])) → b < length m.boards
@@ -373,9 +348,6 @@ module _ (m : Machine) (v : IsValidMachine m) (s : Scene) (ts : List MotionTurn)
   -- what is known of a board whose clock lines are renewed in time
   record Placed (b ready : ℕ) (w : IsInWhole m s.switches b (clock_of (board_at m b)) (link_of m s b) ts first (rest ++ end ∷ [])) : Type 0 where
     count : length (orders_of w.made) ≡ length (rest ++ end ∷ [])
-    controls : TookControls (orders_of w.made)
-    lines : Followed m v s.switches (pins_of (board_at m b) b s.switches) s.entries b (length rest) (clocks_at t.clocks b) ready (parts_on m t.clocks p.seen.begun b)
-    made : ready ≤ length (orders_of w.made) → (oid : ℕ) → All (λ x. of_stepper oid (units_of x.releases) ≢ [] → MakesIn oid (take ready (orders_of w.made))) (parts_on m t.clocks p.seen.begun b)
     is : IsRun (Own m b (length rest)) (clocks_at t.clocks b) (board_at m b).freq (board_at m b).slots ready (parts_on m t.clocks p.seen.begun b) (orders_of w.made)
     run : IsInRun m s.switches (pins_of (board_at m b) b s.switches) s.entries b (came_from [] (first ∷ rest)) (behind [] w.made)
 
@@ -404,30 +376,10 @@ module _ (m : Machine) (v : IsValidMachine m) (s : Scene) (ts : List MotionTurn)
       let controls = subst (λ (os : List Orders). TookControls os) w.in_order (controlled m v s.switches pins s.entries b (came_from [] (first ∷ rest)) turns run moves) in
       let all_made_here = λ (_ : length before ≤ length (orders_of w.made)). λ (oid : ℕ). all_made m v t b (take (length before) (orders_of w.made)) made_here p.seen.begun oid (sections_are m ts p t b h told homes) in
       let is = run_is m ts p t b (length before) (Own m b (length rest)) (orders_of w.made) h told homes (omega (arith, count, goes)) w.batches controls lines.tracked r.early lines.over all_made_here in
-      record { count = count; controls = controls; lines = lines; made = all_made_here; is = is; run = run }
+      record { count = count; is = is; run = run }
 
   own_to : (b : ℕ) → b < length m.boards → AreOwn (board_at m b) (length (rest ++ end ∷ [])) (Own m b (length rest))
   own_to b h = let size = length-append rest (end ∷ []) in own_on (board_at m b) (length (rest ++ end ∷ [])) (length rest + 349) (valid_at m.boards b h v.boards) (omega (arith, size))
-
-  pub boarded : (b : ℕ) (r : Ready) (w : IsInWhole m s.switches b (clock_of (board_at m b)) (link_of m s b) ts first (rest ++ end ∷ [])) → b < length m.boards → AreMoves p.seen.begun → AllMoves (came_from [] (first ∷ rest)) → length (rest ++ end ∷ []) ≤ length p.made
-      → StayYoung m b (clocks_at t.clocks b) (length rest) → TakesNear m s b ts first (rest ++ end ∷ []) w
-      → IsBoardIn m s ts p.seen t (rest ++ end ∷ []) (length (came_from [] r.past)) b (column b w)
-  boarded b r w h homes moves goes renewed takes =
-      let x = placed b r w h homes moves goes renewed in
-      record {
-        count = x.count;
-        batches = w.batches;
-        controls = x.controls;
-        end = stands_after (link_of m s b) (behind [] w.made);
-        told = w.told;
-        states = took b (rest ++ end ∷ []) (states_of w.made) w.states;
-        own = Own m b (length rest);
-        own_is = own_to b h;
-        tracked = x.lines.tracked;
-        over = x.lines.over;
-        made = x.made;
-        timely = takes.timely;
-      }
 
   -- the control commands that are queued before the last turn keep their limits
   controls_before : (b : ℕ) (r : Ready) (w : IsInWhole m s.switches b (clock_of (board_at m b)) (link_of m s b) ts first (rest ++ end ∷ [])) → Placed b (length (came_from [] r.past)) w
@@ -451,38 +403,4 @@ module _ (m : Machine) (v : IsValidMachine m) (s : Scene) (ts : List MotionTurn)
         timely = few_heeded def pins b s.entries (Own m b (length rest)) (clocks_at t.clocks b) (length (came_from [] r.past)) 10_000 (length p.made) parts (orders_of w.made) after all (subst (λ n. AreOwn def n (Own m b (length rest))) (sym x.count) (own_to b h)) x.is (sent_on m t.clocks (length p.made) b p.seen.begun h homes (all_sent m (length m.boards) ts p t told)) (omega (arith, x.count, goes))
             (controls_before b r w x)
             (λ k. elim little.few [ inl e ↦ omega (arith, calm_links clock def pins b s.entries (orders_of w.made) after all k e) | inr f ↦ f k ]) (ten_seconds def (length (rest ++ end ∷ [])) 10_000 (Own m b (length rest)) (own_to b h) (omega arith));
-      }
-
-  homes : (came : List Came) → GoesOn m s.switches came → AllMoves came → NoneHomes m s.switches came
-  homes [] g a = tt
-  homes (c ∷ before) g a = (noted_none m c.note (known_by m s.switches before) (known_none m s.switches before g.1 a.1) a.0, homes before g.1 a.1)
-
-  -- no board was told to stop, while none homes and the reactor is not about to
-  pub never : (b : ℕ) (w : IsInWhole m s.switches b (clock_of (board_at m b)) (link_of m s b) ts first (rest ++ end ∷ [])) → b < length m.boards → AllMoves (came_from [] (first ∷ rest))
-      → ((line : ℕ) → (known_by m s.switches (came_from [] (first ∷ rest))).phase ≡ Stopping line → ⊥) → NeverStop (column b w).orders
-  never b w h moves not =
-      let run = run_of b w h in
-      let Never : List Orders → Type 0 = λ os. NeverStop os in
-      subst Never w.in_order (never_stop m s.switches (pins_of (board_at m b) b s.switches) s.entries b (came_from [] (first ∷ rest)) (behind [] w.made) run (homes (came_from [] (first ∷ rest)) run.goes_on moves) not)
-
-  -- nor in the turns before the last one, where the reactor was not about to in that
-  pub record Earlier (b : ℕ) (os : List Orders) : Type 0 where
-    pub front : List Orders
-    pub last : Orders
-    pub are : os ≡ front ++ last ∷ []
-    pub never : NeverStop front
-
-  pub earlier : (b : ℕ) (w : IsInWhole m s.switches b (clock_of (board_at m b)) (link_of m s b) ts first (rest ++ end ∷ [])) → b < length m.boards → (c : Came) (before : List Came) → came_from [] (first ∷ rest) ≡ c ∷ before
-      → AllMoves (came_from [] (first ∷ rest)) → ((line : ℕ) → (known_by m s.switches before).phase ≡ Stopping line → ⊥) → Earlier b (column b w).orders
-  earlier b w h c before cut moves not =
-      let pins = pins_of (board_at m b) b s.switches in
-      let Run : List Came → Type 0 = λ x. IsInRun m s.switches pins s.entries b x (behind [] w.made) in
-      let Moves : List Came → Type 0 = λ x. AllMoves x in
-      let all = subst Moves cut moves in
-      let l = one_less m v s.switches pins s.entries b c before (behind [] w.made) (subst Run cut (run_of b w h)) in
-      record {
-        front = orders_in l.1;
-        last = orders l.0.control l.0.batch;
-        are = sym w.in_order ∙ ap orders_in l.2;
-        never = never_stop m s.switches pins s.entries b before l.1 l.4 (homes before l.4.goes_on all.1) not;
       }

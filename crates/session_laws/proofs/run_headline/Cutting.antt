@@ -46,7 +46,7 @@ cut_at (suc k) [] h = absurd (omega (arith, h))
 cut_at (suc k) (x ∷ xs) h = let r = cut_at k xs (omega (arith, h)) in (x ∷ r.0, r.1, ap (λ z. x ∷ z) r.2, ap suc r.3)
 
 -- fronts of one list that are as long
-same_front : {A : Type 0} (xs ys us vs : List A) → xs ++ us ≡ ys ++ vs → length xs ≡ length ys → xs ≡ ys
+pub same_front : {A : Type 0} (xs ys us vs : List A) → xs ++ us ≡ ys ++ vs → length xs ≡ length ys → xs ≡ ys
 same_front [] [] us vs e l = refl
 same_front [] (y ∷ ys) us vs e l = absurd (omega (arith, l))
 same_front (x ∷ xs) [] us vs e l = absurd (omega (arith, l))

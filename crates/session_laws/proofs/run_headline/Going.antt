@@ -1,5 +1,5 @@
 -- A run that went through: all sections of its text were begun, and ended.
-use Rattle.std.proofs.Common.{◌≡◌, ◌⊎◌, ℕ, zero, suc, ◌+◌, ◌<◌, ◌≤◌, Bool, true, false, List, [], ◌∷◌, ◌++◌, All, length, map, take, Option, Some, None, refl, ap, sym, ◌∙◌, subst, arith, inl, inr}
+use Rattle.std.proofs.Common.{◌≡◌, ◌⊎◌, ℕ, zero, suc, ◌+◌, ◌<◌, ◌≤◌, Bool, true, false, List, [], ◌∷◌, ◌++◌, All, length, map, take, Option, Some, None, refl, ap, sym, ◌∙◌, arith, inl, inr}
 use Rattle.std.specs.Prelude.{◌==◌, ◌&&◌, if◌then◌else◌, nat_lt, slice_index_or}
 use Rattle.std.proofs.lemmas.Bool.{eqb-true}
 use Rattle.std.proofs.lemmas.Bool.Decides.{eqb_tells, leb_tells}
@@ -7,13 +7,10 @@ use Rattle.std.proofs.lemmas.List.{length-map, take_all}
 use Rattle.std.proofs.lemmas.List.Elements.{All-cons, All-head, All-nil, All-tail}
 use Rattle.gcode_program.specs.Programs.{program_end, program_sections}
 use Rattle.plan_types.specs.declared.cause.Cause.{Cause}
-use Rattle.plan_types.specs.declared.cause.Cause.TheVariants as cause
 use Rattle.plan_types.specs.declared.machine.Machine.{Machine}
 use Rattle.plan_types.specs.declared.plan.ReadStop.{ReadStop}
 use Rattle.plan_types.specs.declared.plan.Section.{Section}
 use Rattle.plan_types.specs.Lines.{Clocks}
-use Rattle.msg_code.specs.declared.talk.Note.{Note}
-use Rattle.msg_code.specs.declared.talk.ShutNews.{ShutNews}
 use Rattle.msg_code.specs.declared.talk.State.{State}
 use Rattle.step_feed.specs.Pacing.{Release, batch_at}
 use Rattle.step_feed.specs.Units.{StepUnit}
@@ -22,14 +19,10 @@ use Rattle.host_reactor.specs.declared.ordered.Known.{Known}
 use Rattle.host_reactor.specs.Running.{all_ended, all_idle, late, late_of, or_cause, stop_of}
 use Rattle.motion_work.specs.Boards.{parts_on}
 use Rattle.motion_work.specs.Seen.{AreOut, Started, part_on}
-use Rattle.session_work.specs.declared.table.MotionTurn.{MotionTurn}
 use Rattle.session_work.specs.declared.table.ReactorTurn.{ReactorTurn}
-use Rattle.session_work.specs.Rows.{gather, item, option_items}
+use Rattle.session_work.specs.Rows.{item}
 use Rattle.run_plans.specs.Boards.{TookStates}
-use Rattle.run_plans.specs.Planned.{AreBare}
 use Rattle.session_laws.specs.run_ends.Ends.{Counts, WentThrough, ended_by, reading_of}
-use Rattle.session_laws.proofs.run_ends.Counting.{NoNews, NoneNews}
-use Rattle.run_laws.proofs.Lists.{cons_same}
 
 -- how many ended
 by_most : (k : ℕ) (ss : List Started) → ended_by k ss ≤ length ss
@@ -134,24 +127,6 @@ gone_released m text begun k r stop clocks b turn g low inside =
     let size = length-map begun (λ (s : Started). s.section) in
     out_released m clocks b g.out.0 turn (length (program_sections m text)) begun inside (omega (arith, early, low)) (omega (arith, many, size)) g.out.2
 
--- no reading is known where no note has news
-pub bare_news : (n k : ℕ) (ts : List MotionTurn) (rs : List ReactorTurn) (left : List Note) → AreBare n k ts → gather (λ t. t.note ∷ []) ts ≡ gather (λ t. option_items t.note) rs ++ left → NoneNews rs
-bare_news n k ts [] left h e = tt
-bare_news n k ts (r ∷ rs) left h e = by r.note refl (λ j us g f. bare_news n j us rs left g f) ts h e
-  where
-    by : (o : Option Note) → r.note ≡ o → ((j : ℕ) (us : List MotionTurn) → AreBare n j us → gather (λ t. t.note ∷ []) us ≡ gather (λ t. option_items t.note) rs ++ left → NoneNews rs) → (ts : List MotionTurn) → AreBare n k ts
-        → gather (λ t. t.note ∷ []) ts ≡ (option_items r.note ++ gather (λ t. option_items t.note) rs) ++ left → NoneNews (r ∷ rs)
-    by None f rec ts h e = (subst NoNews (sym f) tt, rec k ts h (e ∙ ap (λ o. (option_items o ++ gather (λ (t : ReactorTurn). option_items t.note) rs) ++ left) f))
-    by (Some note) f rec [] h e =
-        let g : [] ≡ note ∷ (gather (λ (t : ReactorTurn). option_items t.note) rs ++ left) = e ∙ ap (λ o. (option_items o ++ gather (λ (t : ReactorTurn). option_items t.note) rs) ++ left) f in
-        absurd (let x = g in cc)
-    by (Some note) f rec (d ∷ ts) h e =
-        let others = gather (λ (t : ReactorTurn). option_items t.note) rs in
-        let g : d.note ∷ gather (λ (t : MotionTurn). t.note ∷ []) ts ≡ note ∷ (others ++ left) = e ∙ ap (λ o. (option_items o ++ others) ++ left) f in
-        let same = cons_same d.note note (gather (λ (t : MotionTurn). t.note ∷ []) ts) (others ++ left) g in
-        let news : note.news ≡ [] = ap (λ (x : Note). x.news) (sym same.0) ∙ ap (λ (x : Note). x.news) h.0.3 in
-        (subst NoNews (sym f) news, rec (k + 1) ts h.1 same.1)
-
 -- the last states of some boards
 pub record Lasts (b : ℕ) (rs : List ReactorTurn) (end : ReactorTurn) (states : List State) : Type 0 where
   pub front : List State
@@ -189,27 +164,6 @@ one_in_time i b [] s e f = absurd (let g : [] ≡ s ∷ [] = f in cc)
 one_in_time i zero (x ∷ states) s e f = let same : x ≡ s = cc in (i, ap (λ (y : State). late_of i y.shut) (sym same) ∙ (or_none (late_of i x.shut) (late (i + 1) states) e).0)
 one_in_time i (suc b) (x ∷ states) s e f = one_in_time (i + 1) b states s (or_none (late_of i x.shut) (late (i + 1) states) e).1 f
 
-some_none : (c : Cause) → Some c ≡ None → ⊥
-some_none c e = cc
-
-pub shut_none : (j : ℕ) (o : Option ShutNews) → late_of j o ≡ None → ((n : ShutNews) → o ≡ Some n → n.reason ≡ 1) → o ≡ None
-shut_none j None e late = refl
-shut_none j (Some n) e late =
-    let one = late n refl in
-    let At : Bool → Type 0 = λ b. (if b then Some (cause.Late j n.first n.tick n.spoiled n.spill) else None) ≡ None in
-    absurd (elim (eqb_tells n.reason 1) [ inl p ↦ some_none (cause.Late j n.first n.tick n.spoiled n.spill) (subst At p.0 e) | inr p ↦ p.1 one ])
-
--- the units of the first sections
-pub released_front : (m : Machine) (clocks : List Clocks) (b turn : ℕ) (past : List Started) (s : Started) (later : List Started) → AreReleased turn (parts_on m clocks (past ++ s ∷ later) b) → AreReleased turn (parts_on m clocks (past ++ s ∷ []) b)
-released_front m clocks b turn [] s later h = (h.0, tt)
-released_front m clocks b turn (x ∷ past) s later h = (h.0, released_front m clocks b turn past s later h.1)
-
 pub released_here : (m : Machine) (clocks : List Clocks) (b turn : ℕ) (past : List Started) (s : Started) (later : List Started) → AreReleased turn (parts_on m clocks (past ++ s ∷ later) b) → AreBefore turn (part_on m clocks s b).releases
 released_here m clocks b turn [] s later h = h.0
 released_here m clocks b turn (x ∷ past) s later h = released_here m clocks b turn past s later h.1
-
-pub soon_over : (k : ℕ) (ss : List Started) → All (λ s. s.end + 5 ≤ k) ss → All (λ s. s.end + 0 < k) ss
-soon_over k [] a = All-nil (λ (s : Started). s.end + 0 < k)
-soon_over k (s ∷ ss) a =
-    let here = All-head (λ (x : Started). x.end + 5 ≤ k) s ss a in
-    All-cons (λ (x : Started). x.end + 0 < k) s ss (omega (arith, here)) (soon_over k ss (All-tail (λ (x : Started). x.end + 5 ≤ k) s ss a))

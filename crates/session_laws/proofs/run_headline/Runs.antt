@@ -1,6 +1,5 @@
 -- What a whole run shows, whatever threads it went in.
 use Rattle.std.proofs.Common.{◌≡◌, ◌⊎◌, ℕ, ◌<◌, List, [], ◌∷◌, ◌++◌, length, Some, refl, sym, ◌∙◌, subst, arith, inl, inr}
-use Rattle.std.proofs.Math.Logic.{∥∥₁_map}
 use Rattle.plan_types.specs.declared.cause.Cause.{Cause}
 use Rattle.plan_types.specs.declared.cause.Cause.TheVariants as cause
 use Rattle.plan_types.specs.declared.machine.Machine.{Machine}
@@ -39,12 +38,12 @@ use Rattle.session_laws.specs.run_ends.Ends.{EndsSo, order}
 use Rattle.session_laws.proofs.run_ends.Coming.{first_comes, none_comes}
 use Rattle.session_laws.proofs.run_ends.Ending.{ends_so}
 use Rattle.cause_runs.specs.Short.{HaveShortDictionaries}
-use Rattle.session_laws.specs.run_headline.Made.{IsMade, IsNamed, NoneSo}
-use Rattle.session_laws.specs.run_headline.Timely.{AllShowPlans, AllTakeNear, AreOfMoves, HoldsNothingLong, clocks_heard, link_of, ready_heard}
+use Rattle.session_laws.specs.run_headline.Made.{IsNamed, NoneSo}
+use Rattle.session_laws.specs.run_headline.Timely.{AllTakeNear, AreOfMoves, HoldsNothingLong, link_of}
 use Rattle.session_laws.proofs.run_headline.Faults as faults
 use Rattle.session_laws.proofs.run_headline.Heard.{stops_left}
-use Rattle.session_laws.proofs.run_headline.Making.{put_is, run_made, run_turns}
-use Rattle.session_laws.proofs.run_headline.Showing.{Ended, Facts, came_long, ends_own, first_at, go_on, near_little, none_told, shown, shown_alone, shows_link, turns_cut}
+use Rattle.session_laws.proofs.run_headline.Making.{put_is, run_turns}
+use Rattle.session_laws.proofs.run_headline.Showing.{Ended, Facts, came_long, ends_own, first_at, go_on, near_little, none_told, shows_link, turns_cut}
 
 pub row_full : (n k : ℕ) (t : ReactorTurn) → 0 < k → IsRow n k t.states t.note → length t.states ≡ n
 row_full n k t h (inl a) = absurd (omega (arith, h, a.0))
@@ -126,16 +125,6 @@ module _ {F S : Type 0} (f : Files F) (o : Sink S) (m : Machine) (s : Scene) (na
       let parts = turns_cut m s.switches [] past (turn ∷ later) (subst Turns cut (run_turns f o m s name files files' out out' kept kept' t r)) in
       none_comes m s.switches (known_by m s.switches (came_from [] past)) (length (came_from [] past)) turn.states turn.note parts.1.0.goes_on c so
 
-  shows : (v : IsValidMachine m) → HaveShortDictionaries m → (rs : List ReactorTurn) (made : IsMade m s r.runs.0 r.runs.1) → rs ≡ r.runs.1 → (t.cause ≡ cause.Memory → ⊥) → AreOfMoves (program_sections m made.plans.seen.text)
-      → AllTakeNear m s made.plans.seen.text r.runs.0 (rs ++ r.runs.2 ∷ [])
-      → AllShowPlans m made.plans.seen (clocks_heard made.plans.seen.told) (ready_heard made.plans.seen.told) t.cause (rs ++ r.runs.2 ∷ [])
-  shows v short [] made e other moves near =
-      let Of : List ReactorTurn → Type 0 = λ z. Facts m s r.runs.0 z r.runs.2 t.cause in
-      shown_alone m v s r.runs.0 made.plans r.runs.2 t.cause (subst Of (sym e) (facts other))
-  shows v short (first ∷ rest) made e other moves near =
-      let Of : List ReactorTurn → Type 0 = λ z. Facts m s r.runs.0 z r.runs.2 t.cause in
-      shown m v s r.runs.0 made.plans r.runs.2 t.cause first rest (subst Of (sym e) (facts other)) moves short near
-
   -- a run that holds nothing long takes all near
   takes : (v : IsValidMachine m) → HaveShortDictionaries m → (rs : List ReactorTurn) (text : List ℕ) → rs ≡ r.runs.1 → (t.cause ≡ cause.Memory → ⊥) → AreOfMoves (program_sections m text) → HoldsNothingLong m s text r.runs.0 (rs ++ r.runs.2 ∷ [])
       → AllTakeNear m s text r.runs.0 (rs ++ r.runs.2 ∷ [])
@@ -149,19 +138,3 @@ module _ {F S : Type 0} (f : Files F) (o : Sink S) (m : Machine) (s : Scene) (na
 
   pub run_near : IsValidMachine m → HaveShortDictionaries m → (text : List ℕ) → (t.cause ≡ cause.Memory → ⊥) → AreOfMoves (program_sections m text) → HoldsNothingLong m s text r.runs.0 (r.runs.1 ++ r.runs.2 ∷ []) → AllTakeNear m s text r.runs.0 (r.runs.1 ++ r.runs.2 ∷ [])
   run_near v short text other moves holds = takes v short r.runs.1 text refl other moves holds
-
-  pub run_fits : IsValidMachine m → HaveShortDictionaries m → (text : List ℕ) → f.told files name ≡ Some text → kept.at ≡ 0 → ∥ ((made : IsMade m s r.runs.0 r.runs.1) × (made.plans.seen.text ≡ text)
-      × ((t.cause ≡ cause.Memory → ⊥) → AreOfMoves (program_sections m text) → AllTakeNear m s text r.runs.0 (r.runs.1 ++ r.runs.2 ∷ []) →
-      AllShowPlans m made.plans.seen (clocks_heard made.plans.seen.told) (ready_heard made.plans.seen.told) t.cause (r.runs.1 ++ r.runs.2 ∷ []))) ∥₁
-  run_fits v short text told at =
-      ∥∥₁_map (run_made f o m s name files files' out out' kept kept' t r text told at) (λ w.
-      let made = w.0 in
-      let Moves : List ℕ → Type 0 = λ z. AreOfMoves (program_sections m z) in
-      let Near : List ℕ → Type 0 = λ z. AllTakeNear m s z r.runs.0 (r.runs.1 ++ r.runs.2 ∷ []) in
-      (made, w.1, λ other moves near. shows v short r.runs.1 made refl other (subst Moves (sym w.1) moves) (subst Near (sym w.1) near)))
-
-  pub run_shows : IsValidMachine m → HaveShortDictionaries m → (text : List ℕ) → f.told files name ≡ Some text → kept.at ≡ 0 → ∥ ((made : IsMade m s r.runs.0 r.runs.1) × (made.plans.seen.text ≡ text)
-      × ((t.cause ≡ cause.Memory → ⊥) → AreOfMoves (program_sections m text) → HoldsNothingLong m s text r.runs.0 (r.runs.1 ++ r.runs.2 ∷ [])
-      → AllShowPlans m made.plans.seen (clocks_heard made.plans.seen.told) (ready_heard made.plans.seen.told) t.cause (r.runs.1 ++ r.runs.2 ∷ []))) ∥₁
-  run_shows v short text told at =
-      ∥∥₁_map (run_fits v short text told at) (λ w. (w.0, w.1, λ other moves holds. w.2 other moves (run_near v short text other moves holds)))

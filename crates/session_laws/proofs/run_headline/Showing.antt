@@ -1,21 +1,17 @@
 -- What a whole run shows of the sections that its planner begun.
-use Rattle.std.proofs.Common.{◌≡◌, ◌≢◌, ℕ, suc, ◌+◌, ◌-◌, ◌<◌, ◌≤◌, ◌⊎◌, false, List, [], ◌∷◌, ◌++◌, All, map, take, length, Option, Some, None, refl, ap, sym, ◌∙◌, subst, arith, inl, inr, append_assoc, append-nil, length-append}
+use Rattle.std.proofs.Common.{◌≡◌, ◌≢◌, ℕ, suc, ◌+◌, ◌-◌, ◌<◌, ◌≤◌, ◌⊎◌, List, [], ◌∷◌, ◌++◌, All, map, length, Option, Some, None, refl, ap, sym, ◌∙◌, subst, arith, inl, inr, append_assoc, append-nil, length-append}
 use Rattle.std.proofs.lemmas.Bool.Decides.{leb_tells}
-use Rattle.std.proofs.lemmas.Grind.{flat_map-append}
 use Rattle.std.proofs.lemmas.List.{length-map}
-use Rattle.std.proofs.Math.Seq.{take-append_seam}
 use Rattle.gcode_program.specs.Programs.{program_end, program_sections}
 use Rattle.plan_types.specs.declared.cause.Cause.{Cause}
 use Rattle.plan_types.specs.declared.cause.Cause.TheVariants as cause
 use Rattle.plan_types.specs.declared.machine.Machine.{Machine}
 use Rattle.plan_types.specs.declared.plan.ReadStop.TheVariants as read
 use Rattle.plan_types.specs.declared.plan.SectionKind.TheVariants.{Moves}
-use Rattle.plan_types.specs.Lines.{Clocks, one_line}
-use Rattle.plan_types.specs.Machines.{IsValidMachine, board_at, stepper_at}
-use Rattle.plan_types.specs.Plan.{Fits}
-use Rattle.plan_types.specs.Sections.{base_tick, clocks_at, stepper_plan}
+use Rattle.plan_types.specs.Lines.{one_line}
+use Rattle.plan_types.specs.Machines.{IsValidMachine, board_at}
+use Rattle.plan_types.specs.Sections.{clocks_at}
 use Rattle.msg_code.specs.declared.talk.Note.{Note}
-use Rattle.msg_code.specs.declared.talk.ShutNews.{ShutNews}
 use Rattle.msg_code.specs.declared.talk.WordMsg.{WordMsg}
 use Rattle.msg_code.specs.declared.talk.WordNews.TheVariants as word
 use Rattle.plan_types.specs.declared.plan.Line.{Line}
@@ -30,9 +26,7 @@ use Rattle.clock_runs.proofs.Lines.{noted_phase}
 use Rattle.cause_runs.specs.Short.{HaveShortDictionaries}
 use Rattle.session_laws.specs.clock_ages.Renewed.{StayYoung}
 use Rattle.session_laws.proofs.clock_ages.Renews.{renews}
-use Rattle.host_reactor.specs.Reactor.{reacts}
 use Rattle.host_reactor.specs.Runs.{Came, known_by, last_turn}
-use Rattle.motion_work.specs.Boards.{parts_on}
 use Rattle.motion_work.specs.Seen.{AreStarted, Started}
 use Rattle.motion_work.specs.Told.{Told}
 use Rattle.session_work.specs.declared.table.MotionTurn.{MotionTurn}
@@ -40,25 +34,18 @@ use Rattle.session_work.specs.declared.table.ReactorTurn.{ReactorTurn}
 use Rattle.session_work.specs.Leads.{last_words}
 use Rattle.session_work.specs.Rows.{gather, option_items}
 use Rattle.session_run.specs.Boards.{AreReactorTurns, came_from, came_in}
-use Rattle.section_units.specs.Sections.{AreReleased}
-use Rattle.run_laws.specs.Boards.{IsWindow}
-use Rattle.run_laws.specs.Stops.{NeverStop}
-use Rattle.run_plans.specs.Boards.{TookStates, lines_between, times_of}
-use Rattle.run_plans.specs.Lines.{AreLinesOf, TellTurns, TookNotes, pulse_in, pulses_of}
+use Rattle.run_plans.specs.Lines.{AreLinesOf, TellTurns, TookNotes}
 use Rattle.run_plans.specs.Planned.{AreBare, AreToldBy, LastHomes, Plans, put_of, puts_of}
 use Rattle.run_plans.proofs.Heard.{heard_few}
 use Rattle.run_plans.proofs.Beginning.{Spread}
 use Rattle.run_plans.proofs.Spreading.{IsLate, plans_spread, turns_late}
-use Rattle.run_plans.proofs.Telling.{all_tell, begin_snoc, notes_tell, pulses_append, put_begin}
+use Rattle.run_plans.proofs.Telling.{all_tell, begin_snoc, notes_tell, put_begin}
 use Rattle.plan_types.specs.Clock.{clock_of}
 use Rattle.run_boards.specs.Boards.{IsInWhole}
-use Rattle.session_laws.specs.run_headline.Timely.{AllTakeNear, AreHeard, AreOfMoves, AreSound, AreThrough, HoldsLittle, ShowPlans, TakesNear, TellBoards, clocks_heard, link_of, ready_heard}
-use Rattle.session_laws.specs.run_headline.Told.{AreTold}
+use Rattle.session_laws.specs.run_headline.Timely.{AreHeard, AreOfMoves, AreSound, AreThrough, HoldsLittle, TakesNear, TellBoards, clocks_heard, link_of, ready_heard}
 use Rattle.session_laws.specs.run_headline.Further.{TellFurther}
 use Rattle.session_laws.proofs.run_headline.Reporting.{told_further}
-use Rattle.session_laws.specs.run_headline.Whole.{Column, FollowPlans, IsBoardIn}
 use Rattle.session_laws.specs.run_ends.Ends.{EndsSo, GoesThrough, WentThrough, reading_of}
-use Rattle.report_text.specs.declared.line.ReportLine.{ReportLine}
 use Rattle.report_text.specs.declared.line.ReportLine.TheVariants as report
 use Rattle.host_reactor.specs.Report.{count_lines}
 use Rattle.host_reactor.proofs.Blames.{blames}
@@ -68,14 +55,12 @@ use Rattle.session_laws.proofs.run_ends.Counted.{counts_append}
 use Rattle.session_laws.proofs.run_ends.Connecting.{after_boards, as_clocks, before_boards, boards_append, tells_boards}
 use Rattle.session_laws.proofs.run_ends.Counting.{IsRead, read_note, read_turn, run_counts}
 use Rattle.session_laws.proofs.run_ends.Ending.{AtLast, AtStop, ends_so, own_cause, stops_so, went}
-use Rattle.session_laws.proofs.run_headline.Boarded.{Earlier, Ready, among_turn, boarded, came_split, column, earlier, lined, few_near, never, ready, sound_of}
-use Rattle.session_laws.proofs.run_headline.Earlier.{board_less, column_of, ended_all, ends_late, lines_before, lines_last, lines_up_to, next_sooner, over_at}
-use Rattle.session_laws.proofs.run_headline.Going.{Gone, Lasts, gone, gone_released, lasts, one_idle, one_in_time, released_front, shut_none}
+use Rattle.session_laws.proofs.run_headline.Boarded.{among_turn, came_split, few_near, ready, sound_of}
+use Rattle.session_laws.proofs.run_headline.Going.{Gone, gone}
 use Rattle.session_laws.proofs.run_headline.Heard.{long_or_none, notes_cut}
-use Rattle.session_laws.proofs.run_headline.Joining.{follow, lines_are, of_sections, row_none, unstopped}
+use Rattle.session_laws.proofs.run_headline.Joining.{lines_are, of_sections, row_none}
 use Rattle.session_laws.proofs.run_headline.Plain.{all_moves}
 use Rattle.session_laws.proofs.run_headline.Further.{noted_boards}
-use Rattle.session_laws.proofs.run_headline.Telling.{turns_told}
 use Rattle.session_laws.proofs.run_headline.Words.{Among, among_left, gather_words, last_tells, made_numbered, news_in, turns_tell}
 pub use Rattle.session_laws.proofs.run_headline.Facts.{shows_link, first_at, go_on, notes_of, EachNoted, some_note, noted_so, goes_noted, took_noted, none_out, front_each, each_front, notes_both, no_turns, starts_late, none_begun, in_none, kinds_of, none_homes, lines_all, came_long, turns_cut, cut_last, ended_read, over_later, none_at, first_pulses, homes_never, ends_own, last_boards, Ended, Facts}
 
@@ -415,249 +400,12 @@ module _ (m : Machine) (v : IsValidMachine m) (s : Scene) (ts : List MotionTurn)
       pub long : (length (rest ++ end ∷ []) ≤ length p.made) ⊎ Unread
       long = long_moves (homes_never (length p.made) p.seen.begun kinds)
 
-      module _ (t : Told) (told : p.seen.told ≡ Some t) (short : HaveShortDictionaries m) (near : AllTakeNear m s p.seen.text ts (first ∷ (rest ++ end ∷ []))) (l : length (rest ++ end ∷ []) ≤ length p.made) where
-        pub column_at : (b : ℕ) → (b < length m.boards) ⊎ (length m.boards ≤ b) → Column
-        column_at b (inl h) = column m v s ts p t first rest end told b (f.boards b first rest h refl)
-        column_at b (inr h) = record { orders = []; states = [] }
-
-        pub turn : Ready m v s ts p t first rest end told
-        turn = ready m v s ts p t first rest end told f.ahead f.words_left f.turns f.words
-
-        pub board_at_place : (b : ℕ) (q : (b < length m.boards) ⊎ (length m.boards ≤ b)) → b < length m.boards
-            → IsBoardIn m s ts p.seen t (rest ++ end ∷ []) (length (came_from [] turn.past)) b (column_at b q)
-        unfolding column_at
-        board_at_place b (inl h) low =
-            let w = f.boards b first rest h refl in
-            boarded m v s ts p t first rest end told b turn w h (none_homes p.seen.begun kinds) (all_moves m p.seen.text p.seen.begun p.made first rest kinds p.put (front_notes (took_notes l))) l (renews_by t told short l b h) (near p t b refl told h l w)
-        board_at_place b (inr h) low = absurd (omega (arith, h, low))
-
-        follows : FollowPlans m t p.seen (λ b. column_at b (place b)) first (rest ++ end ∷ [])
-        follows = follow m v s ts p t (rest ++ end ∷ []) (length (came_from [] turn.past)) (λ b. column_at b (place b)) told (none_homes p.seen.begun kinds) l turn.early (λ b h. board_at_place b (place b) h) first (took_notes l) are_lines
-
-      through : GoesThrough c → AreThrough m p.seen c (length (rest ++ end ∷ []))
-      through g = elim long [ inl l ↦ through_long g l | inr z ↦ absurd (z.never (own_cause c g)) ]
-
-      module _ (w_all : At_last) (t : Told) (told : p.seen.told ≡ Some t) (short : HaveShortDictionaries m) (near : AllTakeNear m s p.seen.text ts (first ∷ (rest ++ end ∷ []))) (l : length (rest ++ end ∷ []) ≤ length p.made) where
-        not_stopping : (line : ℕ) → (known_by m s.switches (came_from [] (first ∷ rest))).phase ≡ Stopping line → ⊥
-        not_stopping line e =
-            let f : Running ≡ Stopping line = sym w_all.2.running ∙ noted_phase m end.note (known_by m s.switches (came_from [] (first ∷ rest))) ∙ e in cc
-
-        never_told : (b : ℕ) (q : (b < length m.boards) ⊎ (length m.boards ≤ b)) → b < length m.boards → NeverStop (column_at t told short near l b q).orders
-        unfolding column_at
-        never_told b (inl h) low =
-            never m v s ts p t first rest end told b (f.boards b first rest h refl) h (all_moves m p.seen.text p.seen.begun p.made first rest kinds p.put (front_notes (took_notes l))) not_stopping
-        never_told b (inr h) low = absurd (omega (arith, h, low))
-
-        counted : (past : List Started) (x : Started) (later : List Started) (from to spot : ℕ) → p.seen.begun ≡ past ++ x ∷ later → spot < length m.steppers
-            → IsWindow (length (rest ++ end ∷ [])) from to (record { start = x.start; end = x.end }) (times_of later) → x.end + 5 ≤ to
-            → length (pulses_of spot (lines_between from to (rest ++ end ∷ []))) ≡ length (stepper_plan m t.clocks x.section.moves x.start spot)
-        counted past x later from to spot cut h w over =
-            let b = (stepper_at m spot).board in
-            let low : b < length m.boards = (v.steppers spot h).board in
-            let r = turn t told short near l in
-            let ready = length (came_from [] r.past) in
-            let columns : ℕ → Column = λ i. column_at t told short near l i (place i) in
-            let are = λ (i : ℕ). λ (hi : i < length m.boards). board_at_place t told short near l i (place i) hi in
-            let homes = none_homes p.seen.begun kinds in
-            let last = lasts b rest end (columns b).states (are b low).states in
-            let idle = one_idle b end.states last.last w_all.2.through.idle last.at in
-            let in_order = one_in_time 0 b end.states last.last w_all.2.none_late last.at in
-            let late = λ (n : ShutNews). λ (e : last.last.shut ≡ Some n).
-            unstopped m v s ts p t (rest ++ end ∷ []) ready columns told homes l r.early are b low last.front last.last n last.are e (never_told b (place b) low) in
-            let shut = shut_none in_order.0 last.last.shut in_order.1 late in
-            let released = gone_released m p.seen.text p.seen.begun (length (first ∷ rest)) Last_known w_all.0 t.clocks b (length (rest ++ end ∷ [])) (gone_by w_all l) (omega (arith, size)) low in
-            let Released : List Started → Type 0 = λ y. AreReleased (length (rest ++ end ∷ [])) (parts_on m t.clocks y b) in
-            (follows t told short near l).whole past x later from to spot last.front last.last cut h w over last.are shut idle (released_front m t.clocks b (length (rest ++ end ∷ [])) past x later (subst Released cut released))
-
-      -- where it was asked to stop, by the turns before the last one
-      module _ (x : Stopped) (t : Told) (told : p.seen.told ≡ Some t) (short : HaveShortDictionaries m) (near : AllTakeNear m s p.seen.text ts (first ∷ (rest ++ end ∷ []))) (l : length (rest ++ end ∷ []) ≤ length p.made) where
-        not_about : (line : ℕ) → (known_by m s.switches (came_from [] (first ∷ x.front))).phase ≡ Stopping line → ⊥
-        not_about line e = let f : Running ≡ Stopping line = sym x.went.running ∙ noted_phase m x.turn.note (known_by m s.switches (came_from [] (first ∷ x.front))) ∙ e in cc
-
-        orders_at : (b : ℕ) (h : b < length m.boards) → Earlier m v s ts p t first rest end told b (column_at t told short near l b (inl h)).orders
-        unfolding column_at
-        orders_at b h =
-            earlier m v s ts p t first rest end told b (f.boards b first rest h refl) h (came_in x.turn) (came_from [] (first ∷ x.front)) x.came
-            (all_moves m p.seen.text p.seen.begun p.made first rest kinds p.put (front_notes (took_notes l))) not_about
-
-        states_at : (b : ℕ) (h : b < length m.boards) → Lasts b rest end (column_at t told short near l b (inl h)).states
-        states_at b h = lasts b rest end (column_at t told short near l b (inl h)).states (board_at_place t told short near l b (inl h) h).states
-
-        before_at : (b : ℕ) → (b < length m.boards) ⊎ (length m.boards ≤ b) → Column
-        before_at b (inl h) = column_of (orders_at b h).front (states_at b h).front
-        before_at b (inr h) = record { orders = []; states = [] }
-
-        board_before : (b : ℕ) (q : (b < length m.boards) ⊎ (length m.boards ≤ b)) → b < length m.boards
-            → IsBoardIn m s ts p.seen t rest (length (came_from [] (turn t told short near l).past)) b (before_at b q)
-        unfolding before_at
-        board_before b (inl h) low =
-            let o = orders_at b h in
-            board_less m s ts p.seen t rest end (length (came_from [] (turn t told short near l).past)) b (column_at t told short near l b (inl h)) o.front o.last o.are (states_at b h) (board_at_place t told short near l b (inl h) h)
-        board_before b (inr h) low = absurd (omega (arith, h, low))
-
-        never_before : (b : ℕ) (q : (b < length m.boards) ⊎ (length m.boards ≤ b)) → b < length m.boards → NeverStop (before_at b q).orders
-        unfolding before_at
-        never_before b (inl h) low = (orders_at b h).never
-        never_before b (inr h) low = absurd (omega (arith, h, low))
-
-        goes_before : length rest ≤ length p.made
-        goes_before = omega (arith, l, size)
-
-        follows_before : FollowPlans m t p.seen (λ b. before_at b (place b)) first rest
-        follows_before = follow m v s ts p t rest (length (came_from [] (turn t told short near l).past)) (λ b. before_at b (place b)) told (none_homes p.seen.begun kinds) goes_before (turn t told short near l).early
-            (λ b h. board_before b (place b) h) first (front_notes (took_notes l)) (lines_are m s.switches [] (first ∷ rest) f.turns)
-
-        counted_before : (past : List Started) (y : Started) (later : List Started) (from to spot : ℕ) → p.seen.begun ≡ past ++ y ∷ later → spot < length m.steppers
-            → IsWindow (length rest) from to (record { start = y.start; end = y.end }) (times_of later) → y.end + 5 ≤ to
-            → length (pulses_of spot (lines_between from to rest)) ≡ length (stepper_plan m t.clocks y.section.moves y.start spot)
-        counted_before past y later from to spot cut h w over =
-            let b = (stepper_at m spot).board in
-            let low : b < length m.boards = (v.steppers spot h).board in
-            let r = turn t told short near l in
-            let ready = length (came_from [] r.past) in
-            let columns : ℕ → Column = λ i. before_at i (place i) in
-            let are = λ (i : ℕ). λ (hi : i < length m.boards). board_before i (place i) hi in
-            let homes = none_homes p.seen.begun kinds in
-            let Took : List ReactorTurn → Type 0 = λ z. TookStates b z (columns b).states in
-            let last = lasts b x.front x.turn (columns b).states (subst Took x.are (are b low).states) in
-            let idle = one_idle b x.turn.states last.last x.went.through.idle last.at in
-            let in_order = one_in_time 0 b x.turn.states last.last x.went.none_late last.at in
-            let late = λ (n : ShutNews). λ (e : last.last.shut ≡ Some n).
-            unstopped m v s ts p t rest ready columns told homes goes_before r.early are b low last.front last.last n last.are e (never_before b (place b) low) in
-            let shut = shut_none in_order.0 last.last.shut in_order.1 late in
-            let released = gone_released m p.seen.text p.seen.begun (length rest) (noted m x.turn.note (known_by m s.switches (came_from [] (first ∷ x.front)))) (read.Stop x.line) t.clocks b (length rest) (gone_before x l) (omega arith) low in
-            let Released : List Started → Type 0 = λ z. AreReleased (length rest) (parts_on m t.clocks z b) in
-            follows_before.whole past y later from to spot last.front last.last cut h w over last.are shut idle (released_front m t.clocks b (length rest) past y later (subst Released cut released))
-
-        -- the last turn has no pulses
-        none_last : (spot : ℕ) → spot < length m.steppers → pulses_of spot end.lines ≡ []
-        none_last spot h =
-            let n = length rest in
-            let over = ended_all n p.seen.begun (gone_before x l).over in
-            ap (pulses_of spot) (sym (lines_last (n + 1) rest end refl))
-            ∙ (follows t told short near l).between p.seen.begun [] n (n + 1) spot (sym (append-nil p.seen.begun)) h (omega arith) (omega (arith, size)) over tt
-
-        counted_stop : (past : List Started) (y : Started) (later : List Started) (from to spot : ℕ) → p.seen.begun ≡ past ++ y ∷ later → spot < length m.steppers
-            → IsWindow (length (rest ++ end ∷ [])) from to (record { start = y.start; end = y.end }) (times_of later) → y.end + 5 ≤ to
-            → length (pulses_of spot (lines_between from to (rest ++ end ∷ []))) ≡ length (stepper_plan m t.clocks y.section.moves y.start spot)
-        counted_stop past y later from to spot cut h w over = elim (leb_tells to (length rest)) [
-          | inl q ↦ ap (λ (z : List ReportLine). length (pulses_of spot z)) (lines_before from to rest end w.order q.1)
-              ∙ counted_before past y later from to spot cut h (record { begins = w.begins; order = w.order; within = q.1; next = w.next }) over
-          | inr q ↦
-              let n = length rest in
-              let within = w.within in
-              let begins = w.begins in
-              let last : to ≡ n + 1 = omega (arith, q.1, within, size) in
-              let Over : List Started → Type 0 = λ z. All (λ (s : Started). s.end + 5 ≤ n) z in
-              let ended = over_at n past y later (subst Over cut (gone_before x l).over) in
-              let Starts : List Started → Type 0 = λ z. AreStarted m (clocks_heard p.seen.told) (ready_heard p.seen.told) z in
-              let late = ends_late m (clocks_heard p.seen.told) (ready_heard p.seen.told) past y later (subst Starts cut (started p.seen.told refl).1) in
-              let order : from ≤ n = omega (arith, begins, ended, late) in
-              let cut_lines = lines_up_to from to rest end order last in
-              let lines = lines_between from n rest in
-              let both : pulses_of spot (lines ++ end.lines) ≡ pulses_of spot lines = flat_map-append (pulse_in spot) lines end.lines ∙ ap (λ z. pulses_of spot lines ++ z) (none_last spot h) ∙ append-nil (pulses_of spot lines) in
-              ap (λ (z : List ReportLine). length (pulses_of spot z)) cut_lines ∙ ap length both
-              ∙ counted_before past y later from n spot cut h (record { begins = w.begins; order = order; within = omega arith; next = next_sooner n to (times_of later) (omega (arith, last)) w.next }) ended
-        ]
-
       -- a run that holds nothing long takes all near
       pub near_little : HaveShortDictionaries m → (t : Told) → p.seen.told ≡ Some t → (b : ℕ) → b < length m.boards → length (rest ++ end ∷ []) ≤ length p.made → (w : IsInWhole m s.switches b (clock_of (board_at m b)) (link_of m s b) ts first (rest ++ end ∷ []))
           → HoldsLittle m s b ts first (rest ++ end ∷ []) w → TakesNear m s b ts first (rest ++ end ∷ []) w
       near_little short t told b h l w little =
           few_near m v s ts p t first rest end told b (ready m v s ts p t first rest end told f.ahead f.words_left f.turns f.words) w h (none_homes p.seen.begun kinds)
           (all_moves m p.seen.text p.seen.begun p.made first rest kinds p.put (front_notes (took_notes l))) l (renews_by t told short l b h) little
-
-      pub shown : HaveShortDictionaries m → AllTakeNear m s p.seen.text ts (first ∷ (rest ++ end ∷ [])) → ShowPlans m p.seen (clocks_heard p.seen.told) (ready_heard p.seen.told) c first (rest ++ end ∷ [])
-      shown short near = record {
-        heard = heard;
-        of_text = of_sections m ts p;
-        late = (started p.seen.told refl).0;
-        started = (started p.seen.told refl).1;
-        boards = boards_told p.seen.told refl;
-        through = through;
-        counts = λ g. elim long [ inl l ↦ counts_so g l | inr z ↦ absurd (z.never (own_cause c g)) ];
-        whole = λ g past x later from to place cut h w over. elim long [
-          | inr z ↦ absurd (z.never (own_cause c g))
-          | inl l ↦ whole_by p.seen.told refl g past x later from to place cut h w over l
-        ];
-        passed = λ past x later from to place other cut h k same w over some. elim long [
-          | inr z ↦ absurd (in_none past x later p.seen.begun z.none cut)
-          | inl l ↦ passed_by p.seen.told refl past x later from to place other cut h k same w over some l
-        ];
-        lines = all_lines;
-        fit = λ past x later from to place cut h w. elim long [
-          | inr z ↦ absurd (in_none past x later p.seen.begun z.none cut)
-          | inl l ↦ by_told p.seen.told refl past x later from to place cut h w l
-        ];
-        early = λ x later past behind place cut are soon h. elim long [
-          | inr z ↦ absurd (in_none [] x later p.seen.begun z.none cut)
-          | inl l ↦ early_by p.seen.told refl x later past behind place cut are soon h l
-        ];
-        own = λ g. elim long [ inl l ↦ own_by g l | inr z ↦ absurd (z.never (own_cause c g)) ];
-        sound = sound_by p.seen.told refl;
-        further = further_by p.seen.told refl;
-      }
-        where
-          early_by : (o : Option Told) → p.seen.told ≡ o → (x : Started) (later : List Started) (past behind : List ReactorTurn) (place : ℕ) → p.seen.begun ≡ x ∷ later → first ∷ (rest ++ end ∷ []) ≡ past ++ behind
-              → length past ≤ x.start → place < length m.steppers → length (rest ++ end ∷ []) ≤ length p.made → pulses_of place (gather (λ t. t.lines) past) ≡ []
-          early_by None e x later past behind place cut are soon h l = absurd (in_none [] x later p.seen.begun (not_told e) cut)
-          early_by (Some t) e x later [] behind place cut are soon h l = refl
-          early_by (Some t) e x later (y ∷ past) behind place cut are soon h l =
-              let lines = λ (zs : List ReactorTurn). gather (λ (z : ReactorTurn). z.lines) zs in
-              let same : first ≡ y = cc in
-              let then : rest ++ end ∷ [] ≡ past ++ behind = cc in
-              let n = length past in
-              let whole : n - 0 ≡ n = omega arith in
-              let many : length (rest ++ end ∷ []) ≡ n + length behind = ap length then ∙ length-append past behind in
-              let none = (follows t e short near l).between [] (x ∷ later) 0 n place cut h (omega arith) (omega (arith, many)) tt (omega (arith, soon)) in
-              let now : pulses_of place y.lines ≡ [] = ap (λ (z : ReactorTurn). pulses_of place z.lines) (sym same) ∙ first_pulses m p.seen.begun place first spread f.turns.0.row tells.0 in
-              let front : lines_between 0 n (rest ++ end ∷ []) ≡ lines past = ap (λ z. lines_between 0 n z) then ∙ ap (λ (k : ℕ). lines (take k (past ++ behind))) whole ∙ ap lines (take-append_seam past behind) in
-              pulses_append place y.lines (lines past) ∙ ap (λ z. z ++ pulses_of place (lines past)) now ∙ ap (pulses_of place) (sym front) ∙ none
-            where
-              tells : TellTurns m p.seen.begun 0 (first ∷ (rest ++ end ∷ []))
-              tells = all_lines
-
-          passed_by : (o : Option Told) → p.seen.told ≡ o → (past : List Started) (x : Started) (later : List Started) (from to place other : ℕ) → p.seen.begun ≡ past ++ x ∷ later → place < length m.steppers → other < length m.steppers
-              → (stepper_at m other).board ≡ (stepper_at m place).board → IsWindow (length (rest ++ end ∷ [])) from to (record { start = x.start; end = x.end }) (times_of later) → x.end + 5 ≤ to
-              → pulses_of other (lines_between to (length (rest ++ end ∷ [])) (rest ++ end ∷ [])) ≢ [] → length (rest ++ end ∷ []) ≤ length p.made
-              → length (pulses_of place (lines_between from to (rest ++ end ∷ []))) ≡ length (stepper_plan m (clocks_heard p.seen.told) x.section.moves x.start place)
-          passed_by None e past x later from to place other cut h k same w over some l = absurd (in_none past x later p.seen.begun (not_told e) cut)
-          passed_by (Some t) e past x later from to place other cut h k same w over some l =
-              let At : List Clocks → Type 0 = λ y. length (pulses_of place (lines_between from to (rest ++ end ∷ []))) ≡ length (stepper_plan m y x.section.moves x.start place) in
-              subst At (sym (ap clocks_heard e)) ((follows t e short near l).passed past x later from to place other cut h k same w over some)
-
-          by_told : (o : Option Told) → p.seen.told ≡ o → (past : List Started) (x : Started) (later : List Started) (from to place : ℕ) → p.seen.begun ≡ past ++ x ∷ later → place < length m.steppers
-              → IsWindow (length (rest ++ end ∷ [])) from to (record { start = x.start; end = x.end }) (times_of later) → length (rest ++ end ∷ []) ≤ length p.made
-              → Fits (clocks_at (clocks_heard p.seen.told) (stepper_at m place).board).first.freq (base_tick m (clocks_heard p.seen.told) x.start place) (pulses_of place (lines_between from to (rest ++ end ∷ [])))
-              (stepper_plan m (clocks_heard p.seen.told) x.section.moves x.start place)
-          by_told None e past x later from to place cut h w l = absurd (in_none past x later p.seen.begun (not_told e) cut)
-          by_told (Some t) e past x later from to place cut h w l =
-              let At : List Clocks → Type 0 = λ c. Fits (clocks_at c (stepper_at m place).board).first.freq (base_tick m c x.start place) (pulses_of place (lines_between from to (rest ++ end ∷ []))) (stepper_plan m c x.section.moves x.start place) in
-              let Freq : ℕ → Type 0 = λ n. Fits n (base_tick m t.clocks x.start place) (pulses_of place (lines_between from to (rest ++ end ∷ []))) (stepper_plan m t.clocks x.section.moves x.start place) in
-              let r = turn t e short near l in
-              let b = (stepper_at m place).board in
-              let low = (v.steppers place h).board in
-              let freq : (board_at m b).freq ≡ (clocks_at t.clocks b).first.freq = sym (lined m v s ts p t first rest end e b r (f.boards b first rest low refl) low).freq in
-              subst At (sym (ap clocks_heard e)) (subst Freq freq ((follows t e short near l).fit past x later from to place cut h w))
-
-          own_by : GoesThrough c → length (rest ++ end ∷ []) ≤ length p.made → AreTold false m (gather (λ t. t.lines) (first ∷ (rest ++ end ∷ [])))
-          own_by g l =
-              let own = f.own (own_cause c g) in
-              let before = came_from [] (first ∷ rest) in
-              let is = f.lines_are ∙ ap (λ (k : Known). (reacts m s.switches k (length before) end.states end.note).ordered.lines) own.0 in
-              turns_told m s.switches [] (first ∷ rest) end f.turns tt (all_moves m p.seen.text p.seen.begun p.made first (rest ++ end ∷ []) kinds p.put (took_notes l)) is
-
-          whole_by : (o : Option Told) → p.seen.told ≡ o → GoesThrough c → (past : List Started) (x : Started) (later : List Started) (from to place : ℕ) → p.seen.begun ≡ past ++ x ∷ later → place < length m.steppers
-              → IsWindow (length (rest ++ end ∷ [])) from to (record { start = x.start; end = x.end }) (times_of later) → x.end + 5 ≤ to → length (rest ++ end ∷ []) ≤ length p.made
-              → length (pulses_of place (lines_between from to (rest ++ end ∷ []))) ≡ length (stepper_plan m (clocks_heard p.seen.told) x.section.moves x.start place)
-          whole_by None e g past x later from to place cut h w over l = absurd (in_none past x later p.seen.begun (not_told e) cut)
-          whole_by (Some t) e g past x later from to place cut h w over l =
-              let At : List Clocks → Type 0 = λ y. length (pulses_of place (lines_between from to (rest ++ end ∷ []))) ≡ length (stepper_plan m y x.section.moves x.start place) in
-              let by : At t.clocks = elim (through_so g) [
-                | inl w_all ↦ counted w_all t e short near l past x later from to place cut h w over
-                | inr a ↦ counted_stop (stopped a) t e short near l past x later from to place cut h w over
-              ] in
-              subst At (sym (ap clocks_heard e)) by
 
   -- a run of one turn
   pub none_told : (t : Told) → p.seen.told ≡ Some t → Facts m s ts [] end c → ⊥
@@ -679,32 +427,3 @@ module _ (m : Machine) (v : IsValidMachine m) (s : Scene) (ts : List MotionTurn)
     | inl w ↦ let e : Connecting ≡ Running = sym (noted_phase m end.note (known_by m s.switches [])) ∙ w.2.running in cc
     | inr a ↦ let e : Connecting ≡ Stopping a.0 = sym (noted_phase m end.note (known_by m s.switches [])) ∙ a.2 in cc
   ]
-
-  pub shown_alone : Facts m s ts [] end c → ShowPlans m p.seen (clocks_heard p.seen.told) (ready_heard p.seen.told) c end []
-  shown_alone f = record {
-    heard = heard;
-    of_text = of_sections m ts p;
-    late = (started p.seen.told refl).0;
-    started = (started p.seen.told refl).1;
-    boards = λ some. absurd (untold_alone p.seen.told refl f some);
-    through = λ g. absurd (alone_ends f g);
-    counts = λ g. absurd (alone_ends f g);
-    whole = λ g past x later from to place cut h w over. absurd (alone_ends f g);
-    passed = λ past x later from to place other cut h k same w over some.
-        let late = starts_late 260 past x later (subst (Spread 260) cut spread) in
-        let begins = w.begins in
-        let order = w.order in
-        let within = w.within in
-        absurd (omega arith);
-    lines = all_tell m s.switches p.seen.text p.seen.begun 260 p.made (end ∷ []) spread (omega arith) p.put (row_none (length m.boards) end f.row, tt) (lines_all m s.switches [] [] end tt (f.known, f.begun, f.lines_are));
-    fit = λ past x later from to place cut h w.
-        let late = starts_late 260 past x later (subst (Spread 260) cut spread) in
-        let begins = w.begins in
-        let order = w.order in
-        let within = w.within in
-        absurd (omega arith);
-    early = λ x later past behind place cut are soon h. absurd (untold_alone p.seen.told refl f (λ e. in_none [] x later p.seen.begun e cut));
-    own = λ g. absurd (alone_ends f g);
-    sound = λ some. absurd (untold_alone p.seen.told refl f some);
-    further = λ some. absurd (untold_alone p.seen.told refl f some);
-  }

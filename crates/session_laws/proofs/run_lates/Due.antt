@@ -14,7 +14,7 @@ use Rattle.link_work.specs.Held.{AllDue, AreDue, lead_of}
 use Rattle.link_work.specs.Turn.{Orders}
 use Rattle.run_laws.specs.Events.{AreTicks}
 use Rattle.run_laws.specs.Homes.{AreInTurn, AreOrdersIn, IsSectionBy, RunSection}
-use Rattle.run_laws.specs.Parts.{AreInARow, AreOrdersOf, AreTracked}
+use Rattle.run_laws.specs.Parts.{AreTracked}
 use Rattle.run_laws.proofs.Entering.{all_inside, begun_inside, early_fits}
 use Rattle.run_laws.proofs.Waiting.{AreInside, Frame}
 
@@ -135,29 +135,3 @@ module _ (clock : BoardClock) (top turns : ℕ) (far : turns + 250 ≤ top + 1) 
     orders_due clocks ss turn (o ∷ os) low a are =
         let Due : List StepUnit → Type 0 = λ us. AreDue clock us in
         (subst Due (sym are.1) (units_due turn ss (omega (arith, low)) a), orders_due clocks ss (turn + 1) os (omega (arith, low)) a are.2)
-
-    -- so in a run of moves
-    abbrev pub AllDueOf : List BoardSection → Type 0
-    AllDueOf [] = Unit {0}
-    AllDueOf (s ∷ ss) = AreDueIn s.releases × AllDueOf ss
-
-    pub parts_due : (own : ℕ → ℕ) (clocks : Clocks) (freq slots ready e : ℕ) (ss : List BoardSection) → AreTicks own → (tracked : AreTracked own clocks ready) → AreNearBy clocks ready tracked.until → ready ≤ e
-        → All (IsSection clocks freq slots) ss → AreInARow tracked.until e ss → AllDueOf ss
-    parts_due own clocks freq slots ready e [] ticks tracked near low i row = tt
-    parts_due own clocks freq slots ready e (x ∷ ss) ticks tracked near low i row =
-        let P : BoardSection → Type 0 = λ y. IsSection clocks freq slots y in
-        let after = row.0 in
-        let order = row.1 in (
-          moves_due own clocks freq slots ready x ticks tracked near (All-head P x ss i) row.2 (omega (arith, low, after)) order,
-          parts_due own clocks freq slots ready x.end ss ticks tracked near (omega (arith, low, after, order)) (All-tail P x ss i) row.3,
-        )
-
-    units_of_due : (k : ℕ) (ss : List BoardSection) → k < turns → AllDueOf ss → AreDue clock (flat_map (λ s. batch_at k s.releases) ss)
-    units_of_due k [] low a = tt
-    units_of_due k (s ∷ ss) low a = due_both (batch_at k s.releases) (flat_map (λ (x : BoardSection). batch_at k x.releases) ss) (batch_due k s.releases low a.0) (units_of_due k ss low a.1)
-
-    pub orders_of_due : (ss : List BoardSection) (turn : ℕ) (os : List Orders) → turn + length os ≤ turns → AllDueOf ss → AreOrdersOf ss turn os → AllDue clock os
-    orders_of_due ss turn [] low a are = tt
-    orders_of_due ss turn (o ∷ os) low a are =
-        let Due : List StepUnit → Type 0 = λ us. AreDue clock us in
-        (subst Due (sym are.1) (units_of_due turn ss (omega (arith, low)) a), orders_of_due ss (turn + 1) os (omega (arith, low)) a are.2)

@@ -1,5 +1,5 @@
 -- The boards of a whole run end for two reasons alone.
-use Rattle.std.proofs.Common.{All, ◌≡◌, ℕ, ◌<◌, List, [], ◌∷◌, ◌++◌, length, Option, Some, None, refl, sym, subst, arith, inl, inr}
+use Rattle.std.proofs.Common.{All, ◌≡◌, ◌≢◌, ℕ, ◌<◌, List, [], ◌∷◌, ◌++◌, length, Option, Some, None, refl, sym, subst, arith, inl, inr}
 use Rattle.std.proofs.Math.Logic.{∥∥₁_map}
 use Rattle.std.proofs.lemmas.List.Elements.{All-cons, All-nil}
 use Rattle.io_core.specs.declared.traits.Files.{Ghosts as Files}
@@ -36,8 +36,7 @@ use Rattle.run_plans.specs.Planned.{Plans}
 use Rattle.homing_laws.specs.home_parts.Cuts.{cuts_on}
 use Rattle.cause_runs.specs.Short.{HaveShortDictionaries}
 use Rattle.session_laws.specs.home_headline.Little.{AllHomeLittle}
-use Rattle.gcode_program.specs.Programs.{program_sections}
-use Rattle.session_laws.specs.run_headline.Timely.{AllTakeNear, AreOfMoves, link_of}
+use Rattle.session_laws.specs.run_headline.Timely.{link_of}
 use Rattle.session_laws.proofs.clear_runs.Punctual.{NoUnits}
 use Rattle.session_laws.proofs.home_headline.Board.{here_by}
 use Rattle.session_laws.proofs.home_headline.Good.{may_at}
@@ -47,10 +46,9 @@ use Rattle.session_laws.proofs.run_headline.Cutting.{run_front}
 use Rattle.session_laws.proofs.run_headline.Making.{front_made, run_made}
 use Rattle.session_laws.proofs.run_headline.Plain.{AllMoves, all_moves}
 use Rattle.session_laws.proofs.run_headline.Runs.{facts}
-use Rattle.session_laws.proofs.run_headline.Showing.{Facts, long, not_told, notes_before}
+use Rattle.session_laws.proofs.run_headline.Showing.{Facts, in_none, long, not_told, notes_before}
 use Rattle.session_laws.specs.run_lates.Late.{AllMayTell, MayTell}
 use Rattle.session_laws.proofs.run_lates.Boards as boards
-use Rattle.session_laws.proofs.run_lates.Moves as of_moves
 use Rattle.session_laws.proofs.run_lates.Unbegun.{unbegun}
 use Rattle.session_laws.proofs.run_lates.Shuts.{all_may, controls_may, each_may, few_more, row_few, rows_few}
 
@@ -80,15 +78,16 @@ module _ (m : Machine) (v : IsValidMachine m) (s : Scene) (ts : List MotionTurn)
     none_may e Running is = tt
     none_may e (Shut reason tick at) is = inr (controls_may (board_at m b) (pins_of (board_at m b) b s.switches) b s.entries (behind [] w.made) reason tick at w.turns_are (none_sent e) (none_controls e) is)
 
-    told_may : HaveShortDictionaries m → AllHomeLittle m s p.seen.text ts (first ∷ (rest ++ end ∷ [])) → (t : Told) → p.seen.told ≡ Some t → MayBe End_state
-    told_may short little t told =
-        let k = boards.on m v s ts p t first rest end c told f short b low w (little p t b refl told low w) in
+    told_may : HaveShortDictionaries m → AllHomeLittle m s p.seen.text ts (first ∷ (rest ++ end ∷ [])) → (t : Told) → p.seen.told ≡ Some t → p.seen.begun ≢ [] → MayBe End_state
+    told_may short little t told some =
+        let k = boards.on m v s ts p t first rest end c told f short b low w (little p t b refl told some low w) in
         may_at b s.entries (boards.By m v s ts p t first rest end c told f short) (length (rest ++ end ∷ [])) (cuts_on m t.clocks (length p.made) p.seen.begun b) (here_by m v s ts p t first rest end told (length p.made) b w) (stands_after (link_of m s b) (behind [] w.made)) k
         (turns_in_order (clock_of (board_at m b)) (link_of m s b) (behind [] w.made) w.turns_are)
 
-    pub may : HaveShortDictionaries m → AllHomeLittle m s p.seen.text ts (first ∷ (rest ++ end ∷ [])) → (o : Option Told) → p.seen.told ≡ o → MayBe End_state
-    may short little None e = none_may (not_told m v s ts p end c e) End_state refl
-    may short little (Some t) e = told_may short little t e
+    pub may : HaveShortDictionaries m → AllHomeLittle m s p.seen.text ts (first ∷ (rest ++ end ∷ [])) → (o : Option Told) (begun : List Started) → p.seen.told ≡ o → p.seen.begun ≡ begun → MayBe End_state
+    may short little None begun e are = none_may (not_told m v s ts p end c e) End_state refl
+    may short little (Some t) [] e are = none_may are End_state refl
+    may short little (Some t) (x ∷ begun) e are = told_may short little t e (λ none. in_none [] x begun p.seen.begun none are)
 
   -- so each of their states tells of none but these
   pub all_tell : ((b : ℕ) → b < length m.boards → (w : IsInWhole m s.switches b (clock_of (board_at m b)) (link_of m s b) ts first (rest ++ end ∷ [])) → MayBe (stands_after (link_of m s b) (behind [] w.made)).core.board.controller.state) → AllMayTell (first ∷ (rest ++ end ∷ []))
@@ -105,26 +104,11 @@ alone_tell m s ts end c f =
     let States : List State → Type 0 = λ xs. All (λ s. MayTell s) xs in
     All-cons (λ (t : ReactorTurn). All (λ s. MayTell s) t.states) end [] (subst States (sym none) (All-nil (λ (s : State). MayTell s))) (All-nil (λ (t : ReactorTurn). All (λ s. MayTell s) t.states))
 
--- in a run of moves
-module _ (m : Machine) (v : IsValidMachine m) (s : Scene) (ts : List MotionTurn) (p : Plans m (length m.boards) ts) (end : ReactorTurn) (c : Cause) (first : ReactorTurn) (rest : List ReactorTurn) (f : Facts m s ts (first ∷ rest) end c) (short : HaveShortDictionaries m)
-    (moves : AreOfMoves (program_sections m p.seen.text)) (near : AllTakeNear m s p.seen.text ts (first ∷ (rest ++ end ∷ []))) (b : ℕ) (low : b < length m.boards) (w : IsInWhole m s.switches b (clock_of (board_at m b)) (link_of m s b) ts first (rest ++ end ∷ [])) where
-  near_may : (o : Option Told) → p.seen.told ≡ o → MayBe (stands_after (link_of m s b) (behind [] w.made)).core.board.controller.state
-  near_may None e = none_may m v s ts p end c first rest f b low w (not_told m v s ts p end c e) (stands_after (link_of m s b) (behind [] w.made)).core.board.controller.state refl
-  near_may (Some t) e = elim (long m v s ts p end c first rest f moves) [
-    | inl l ↦ of_moves.may m v s ts p t first rest end c e f short moves near l b low w
-    | inr z ↦ none_may m v s ts p end c first rest f b low w z.none (stands_after (link_of m s b) (behind [] w.made)).core.board.controller.state refl
-  ]
-
 -- in any run, by what is known of it
 home_tells : (m : Machine) (v : IsValidMachine m) (s : Scene) (ts : List MotionTurn) (p : Plans m (length m.boards) ts) (end : ReactorTurn) (c : Cause) (rs : List ReactorTurn) → Facts m s ts rs end c → HaveShortDictionaries m
     → AllHomeLittle m s p.seen.text ts (rs ++ end ∷ []) → AllMayTell (rs ++ end ∷ [])
 home_tells m v s ts p end c [] g short little = alone_tell m s ts end c g
-home_tells m v s ts p end c (first ∷ rest) g short little = all_tell m v s ts p end c first rest g (λ b low w. may m v s ts p end c first rest g b low w short little p.seen.told refl)
-
-near_tells : (m : Machine) (v : IsValidMachine m) (s : Scene) (ts : List MotionTurn) (p : Plans m (length m.boards) ts) (end : ReactorTurn) (c : Cause) (rs : List ReactorTurn) → Facts m s ts rs end c → HaveShortDictionaries m
-    → AreOfMoves (program_sections m p.seen.text) → AllTakeNear m s p.seen.text ts (rs ++ end ∷ []) → AllMayTell (rs ++ end ∷ [])
-near_tells m v s ts p end c [] g short moves near = alone_tell m s ts end c g
-near_tells m v s ts p end c (first ∷ rest) g short moves near = all_tell m v s ts p end c first rest g (λ b low w. near_may m v s ts p end c first rest g short moves near b low w p.seen.told refl)
+home_tells m v s ts p end c (first ∷ rest) g short little = all_tell m v s ts p end c first rest g (λ b low w. may m v s ts p end c first rest g b low w short little p.seen.told p.seen.begun refl refl)
 
 module _ {F S : Type 0} (f : Files F) (o : Sink S) (m : Machine) (s : Scene) (name : List ℕ) (files files' : F) (out out' : S) (kept kept' : Kept) (t : near.Told Run) (r : RunsOver f o m s name files out kept t files' out' kept') (v : IsValidMachine m) (short : HaveShortDictionaries m)
     (text : List ℕ) (told : f.told files name ≡ Some text) (at : kept.at ≡ 0) where
@@ -134,27 +118,16 @@ module _ {F S : Type 0} (f : Files F) (o : Sink S) (m : Machine) (s : Scene) (na
       let Little : List ℕ → Type 0 = λ z. AllHomeLittle m s z r.runs.0 (r.runs.1 ++ r.runs.2 ∷ []) in
       home_tells m v s r.runs.0 w.0.plans r.runs.2 t.cause r.runs.1 (facts f o m s name files files' out out' kept kept' t r other) short (subst Little (sym w.1) little))
 
-  pub run_near_tells : (t.cause ≡ cause.Memory → ⊥) → AreOfMoves (program_sections m text) → AllTakeNear m s text r.runs.0 (r.runs.1 ++ r.runs.2 ∷ []) → ∥ AllMayTell (r.runs.1 ++ r.runs.2 ∷ []) ∥₁
-  run_near_tells other moves near =
-      ∥∥₁_map (run_made f o m s name files files' out out' kept kept' t r text told at) (λ w.
-      let Of : List ℕ → Type 0 = λ z. AreOfMoves (program_sections m z) in
-      let Near : List ℕ → Type 0 = λ z. AllTakeNear m s z r.runs.0 (r.runs.1 ++ r.runs.2 ∷ []) in
-      near_tells m v s r.runs.0 w.0.plans r.runs.2 t.cause r.runs.1 (facts f o m s name files files' out out' kept kept' t r other) short (subst Of (sym w.1) moves) (subst Near (sym w.1) near))
-
   -- so before its last turn, whatever ended it
   pub run_front_tells : (turns : List ReactorTurn) (last : ReactorTurn) → r.runs.1 ≡ turns ++ last ∷ [] → ∥ ((front : List MotionTurn) × (later : List MotionTurn) × (r.runs.0 ≡ front ++ later) × (length front ≡ length turns)
-      × (AllHomeLittle m s text front (turns ++ last ∷ []) → AllMayTell (turns ++ last ∷ []))
-      × (AreOfMoves (program_sections m text) → AllTakeNear m s text front (turns ++ last ∷ []) → AllMayTell (turns ++ last ∷ []))) ∥₁
+      × (AllHomeLittle m s text front (turns ++ last ∷ []) → AllMayTell (turns ++ last ∷ []))) ∥₁
   run_front_tells turns last cut =
       let part = run_front f o m s name files files' out out' kept kept' t r turns last cut in
       ∥∥₁_map (front_made f o m s name files files' out out' kept kept' t r text told at part.planned part.later part.are) (λ w.
-      let Little : List ℕ → Type 0 = λ z. AllHomeLittle m s z part.planned (turns ++ last ∷ []) in
-      let Of : List ℕ → Type 0 = λ z. AreOfMoves (program_sections m z) in
-      let Near : List ℕ → Type 0 = λ z. AllTakeNear m s z part.planned (turns ++ last ∷ []) in (
+      let Little : List ℕ → Type 0 = λ z. AllHomeLittle m s z part.planned (turns ++ last ∷ []) in (
         part.planned,
         part.later,
         part.are,
         part.long,
         λ little. home_tells m v s part.planned w.0 last cause.ReadFault turns part.facts short (subst Little (sym w.1) little),
-        λ moves near. near_tells m v s part.planned w.0 last cause.ReadFault turns part.facts short (subst Of (sym w.1) moves) (subst Near (sym w.1) near),
       ))

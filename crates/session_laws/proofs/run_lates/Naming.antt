@@ -1,5 +1,5 @@
 -- The unit that came too late to a board, in a whole run in which axes home.
-use Rattle.std.proofs.Common.{◌≡◌, ℕ, zero, suc, pos, negsuc, ◌+◌, ◌-◌, ◌*◌, ◌<◌, ◌≤◌, List, [], ◌∷◌, ◌++◌, length, map, Option, Some, None, refl, ap, sym, ◌∙◌, subst, arith, inl, inr, length-append}
+use Rattle.std.proofs.Common.{◌≡◌, ◌⊎◌, ℕ, zero, suc, pos, negsuc, ◌+◌, ◌-◌, ◌*◌, ◌<◌, ◌≤◌, List, [], ◌∷◌, ◌++◌, length, map, Option, Some, None, refl, ap, sym, ◌∙◌, subst, arith, inl, inr, length-append}
 use Rattle.std.specs.Prelude.{ℤ}
 use Rattle.std.proofs.Math.Logic.{∥∥₁_map}
 use Rattle.io_core.specs.declared.traits.Files.{Ghosts as Files}
@@ -32,7 +32,7 @@ use Rattle.link_work.specs.Told.{IsShutNews}
 use Rattle.link_work.specs.Turn.{IsTurn, LinkState, Orders}
 use Rattle.link_work.proofs.Spilled.{told_cause}
 use Rattle.board_runs.specs.Turns.{AreBoardTurns, BoardTurn, stands_after}
-use Rattle.clock_runs.specs.Runs.{IsInRun, UnitsFit, ends_in, orders_in}
+use Rattle.clock_runs.specs.Runs.{UnitsFit, ends_in, orders_in}
 use Rattle.clock_runs.proofs.Orders.{ends_in_order, last_stands, order_length, turns_in_order}
 use Rattle.clock_runs.specs.Samples.{IsSampled}
 use Rattle.link_work.specs.Limits.{AllKeepLimits}
@@ -40,7 +40,7 @@ use Rattle.run_parts.specs.Renewed.{AreSampled}
 use Rattle.session_laws.proofs.clock_ages.Own.{Own}
 use Rattle.motion_work.specs.Boards.{parts_on}
 use Rattle.motion_work.specs.Seen.{Started}
-use Rattle.run_laws.specs.Parts.{AreOrdersOf, AreTracked, IsRun}
+use Rattle.run_laws.specs.Parts.{AreTracked}
 use Rattle.motion_work.specs.Told.{Told}
 use Rattle.host_reactor.specs.Reactor.{Run}
 use Rattle.session_lanes.specs.declared.near.Told as near
@@ -58,33 +58,29 @@ use Rattle.run_laws.proofs.Seeking.{Among}
 use Rattle.run_parts.proofs.Going.{own_on}
 use Rattle.homing_laws.proofs.home_runs.Along.{one_end}
 use Rattle.homing_laws.specs.home_parts.Cuts.{cuts_on}
-use Rattle.run_boards.specs.Boards.{behind, orders_of}
+use Rattle.run_boards.specs.Boards.{behind}
 use Rattle.run_plans.specs.Homed.{runs_on}
 use Rattle.run_plans.specs.Planned.{Plans}
 use Rattle.cause_runs.specs.Short.{HaveShortDictionaries}
 use Rattle.session_laws.specs.home_headline.Little.{AllHomeLittle, HomesLittle, SendsOut}
 use Rattle.session_laws.specs.run_headline.Made.{IsMade}
-use Rattle.session_laws.specs.run_headline.Timely.{AllTakeNear, AreOfMoves, link_of}
+use Rattle.session_laws.specs.run_headline.Timely.{link_of}
 use Rattle.session_laws.proofs.run_headline.Fronts.{limited}
-use Rattle.host_reactor.specs.Runs.{Came}
-use Rattle.section_units.specs.Sections.{BoardSection}
-use Rattle.gcode_program.specs.Programs.{program_sections}
 use Rattle.session_laws.proofs.run_headline.Making.{run_made}
 use Rattle.session_laws.proofs.run_headline.Runs.{facts}
 use Rattle.session_laws.proofs.clear_runs.Exact.{not_behind}
 use Rattle.session_laws.proofs.clear_runs.Punctual.{end_so, fair_turns}
 use Rattle.session_laws.proofs.home_headline.Board.{Homing, here_by}
-use Rattle.session_laws.proofs.home_headline.Good.{board_good}
-use Rattle.session_laws.proofs.run_headline.Boarded.{came_cut, valid_at}
-use Rattle.session_laws.proofs.run_headline.Showing.{Facts, long, not_told}
+use Rattle.session_laws.proofs.home_headline.Good.{board_good, late_at}
+use Rattle.session_laws.proofs.run_headline.Boarded.{valid_at}
+use Rattle.session_laws.proofs.run_headline.Showing.{Facts, in_none, not_told}
 use Rattle.session_laws.specs.run_lates.Late.{ComesLate, ComesLateIn, HasFewUnits, HasLateUnit, HasLateUnitIn, held_by, spoiled_by}
 use Rattle.session_laws.proofs.run_lates.Boards as boards
-use Rattle.session_laws.proofs.run_lates.Due.{AreNearBy, orders_due, orders_of_due, parts_due, sections_due}
-use Rattle.session_laws.proofs.run_lates.Moves as of_moves
+use Rattle.session_laws.proofs.run_lates.Due.{AreNearBy, orders_due, sections_due}
 use Rattle.session_laws.proofs.run_lates.Ending.{none_controls, none_sent}
 use Rattle.session_laws.proofs.run_lates.Late.{run_late}
 use Rattle.session_laws.proofs.run_lates.Shuts.{controls_may}
-use Rattle.session_laws.proofs.run_lates.Units.{IsReleasedBy, found, in_sections, is_in, of_parts, queued_in_turn, units_of_parts, units_put}
+use Rattle.session_laws.proofs.run_lates.Units.{IsReleasedBy, found, in_sections, is_in, late_parts, of_parts, queued_in_turn, units_put}
 
 -- in a turn that goes so the units that are taken are fair
 abbrev FairIn : (clock : BoardClock) (turn : ℕ) (o : Orders) (l m : LinkState) → IsTurn clock turn o l m → Type 0
@@ -224,7 +220,7 @@ lines_near m v b there lasts turns ready far clocks all tracked kept first held 
 
 -- in a run in which axes home
 module _ (m : Machine) (v : IsValidMachine m) (s : Scene) (ts : List MotionTurn) (p : Plans m (length m.boards) ts) (t : Told) (first : ReactorTurn) (rest : List ReactorTurn) (end : ReactorTurn) (c : Cause) (told : p.seen.told ≡ Some t) (f : Facts m s ts (first ∷ rest) end c)
-    (short : HaveShortDictionaries m) (b due arrival spoiled spill : ℕ) (x : ComesLate m s b due arrival spoiled spill ts first (rest ++ end ∷ [])) (little : HomesLittle m s b ts first (rest ++ end ∷ []) (length p.made) t p.seen.begun x.w) (out : AreOut (length p.made) (runs_on m t.clocks p.seen.begun b)) where
+    (short : HaveShortDictionaries m) (b due arrival spoiled spill : ℕ) (x : ComesLate m s b due arrival spoiled spill ts first (rest ++ end ∷ [])) (little : HomesLittle m s b ts first (rest ++ end ∷ []) (length p.made) t p.seen.begun x.w) where
   abbrev By : ℕ
   By = boards.By m v s ts p t first rest end c told f short
 
@@ -251,9 +247,22 @@ module _ (m : Machine) (v : IsValidMachine m) (s : Scene) (ts : List MotionTurn)
       (sections_due clock (length rest + 349) (length (rest ++ end ∷ [])) far few _ lines (board_at m b).freq (board_at m b).slots By By _ Sections (own_on (board_at m b) (length rest) (length rest + 349) valid (omega arith)).ticks r.tracked near (omega arith) r.sections r.row)
       r.orders
 
-  pub home_unit : HasLateUnit m s b due arrival spoiled spill ts first (rest ++ end ∷ []) t.clocks p.seen.begun x
-  home_unit = has_unit m s ts first rest end b due arrival spoiled spill x t.clocks p.seen.begun (record {
-    limits = sent.limits out (orders_in x.past) (orders x.turn.control x.turn.batch) [] (ap orders_in x.are);
+  -- the steps that came too late were a unit's of its sections
+  pub late_unit : IsLateUnit (parts_on m t.clocks p.seen.begun b) arrival due
+  late_unit =
+      let k = boards.on m v s ts p t first rest end c told f short b x.there x.w little in
+      let Is : List BoardTurn → Type 0 = λ z. (stands_after (link_of m s b) z).core.board.controller.state ≡ Shut timer_too_close arrival due in
+      late_parts m t.clocks (length p.made) b p.seen.begun arrival due
+      (late_at b s.entries By (length (rest ++ end ∷ [])) Sections (here_by m v s ts p t first rest end told (length p.made) b x.w) (stands_after (link_of m s b) (behind [] x.w.made)) arrival due k
+      (turns_in_order (clock_of (board_at m b)) (link_of m s b) (behind [] x.w.made) x.w.turns_are) (subst Is (sym x.are) x.shut))
+
+  limits : AreOut (length p.made) (runs_on m t.clocks p.seen.begun b) ⊎ UnitsFit (behind [] x.w.made) → (done : List Orders) (o : Orders) (more : List Orders) → orders_in (behind [] x.w.made) ≡ done ++ (o ∷ more) → AllKeepLimits done
+  limits (inl out) = sent.limits out
+  limits (inr fits) = limited m v s.switches (pins_of (board_at m b) b s.switches) s.entries b (came_from [] (first ∷ rest)) (behind [] x.w.made) sent.run fits
+
+  pub home_unit : AreOut (length p.made) (runs_on m t.clocks p.seen.begun b) ⊎ UnitsFit (behind [] x.w.made) → HasLateUnit m s b due arrival spoiled spill ts first (rest ++ end ∷ []) t.clocks p.seen.begun x
+  home_unit small = has_unit m s ts first rest end b due arrival spoiled spill x t.clocks p.seen.begun (record {
+    limits = limits small (orders_in x.past) (orders x.turn.control x.turn.batch) [] (ap orders_in x.are);
     fair = board_fair b s.entries By (length (rest ++ end ∷ [])) Sections (here_by m v s ts p t first rest end told (length p.made) b x.w) (boards.on m v s ts p t first rest end c told f short b x.there x.w little);
     all_due = all_due;
     units = λ before o after u cut a.
@@ -262,57 +271,6 @@ module _ (m : Machine) (v : IsValidMachine m) (s : Scene) (ts : List MotionTurn)
         let Of : List StepUnit → Type 0 = λ z. Among u z in
         of_parts m t.clocks (length p.made) b p.seen.begun u (0 + length before) (in_sections u (0 + length before) (map (λ (z : RunSection). z.section) Sections) (subst Of units a));
   })
-
--- in a run of moves
-module _ (m : Machine) (v : IsValidMachine m) (s : Scene) (ts : List MotionTurn) (p : Plans m (length m.boards) ts) (t : Told) (first : ReactorTurn) (rest : List ReactorTurn) (end : ReactorTurn) (c : Cause) (told : p.seen.told ≡ Some t) (f : Facts m s ts (first ∷ rest) end c)
-    (short : HaveShortDictionaries m) (moves : AreOfMoves (program_sections m p.seen.text)) (near : AllTakeNear m s p.seen.text ts (first ∷ (rest ++ end ∷ []))) (long : length (rest ++ end ∷ []) ≤ length p.made)
-    (b due arrival spoiled spill : ℕ) (x : ComesLate m s b due arrival spoiled spill ts first (rest ++ end ∷ [])) (fits : UnitsFit (behind [] x.w.made)) where
-  abbrev Ready_by : ℕ
-  Ready_by = of_moves.By m v s ts p t first rest end c told f short moves near long
-
-  abbrev Parts : List BoardSection
-  Parts = parts_on m t.clocks p.seen.begun b
-
-  run_so : IsRun (Own m b (length rest)) (clocks_at t.clocks b) (board_at m b).freq (board_at m b).slots Ready_by Parts (orders_of x.w.made)
-  run_so = of_moves.run_so m v s ts p t first rest end c told f short moves near long b x.there x.w
-
-  run_in : IsInRun m s.switches (pins_of (board_at m b) b s.switches) s.entries b (came_from [] (first ∷ rest)) (behind [] x.w.made)
-  run_in =
-      let w = x.w in
-      let In : List Came → Type 0 = λ z. IsInRun m s.switches (pins_of (board_at m b) b s.switches) s.entries b z (behind [] w.made) in
-      subst In (came_cut [] first rest end) (record { board = x.there; goes_on = w.goes_on; turns_are = w.turns_are; both = w.both; in_range = w.in_range })
-
-  due_so : AllDue (clock_of (board_at m b)) (orders_of x.w.made)
-  due_so =
-      let few = lead_most (board_at m b).drift in
-      let size = length-append rest (end ∷ []) in
-      let far : length (rest ++ end ∷ []) + 250 ≤ length rest + 349 + 1 = omega (arith, size) in
-      let count = of_moves.count m v s ts p t first rest end c told f short moves near long b x.there x.w in
-      let r = run_so in
-      let valid = valid_at m.boards b x.there v.boards in
-      let y = of_moves.sampled m v s ts p t first rest end c told f short moves near long b x.there x.w in
-      let clock = clock_of (board_at m b) in
-      let lines = clocks_at t.clocks b in
-      let near_by = lines_near m v b x.there (length rest) (length (rest ++ end ∷ [])) Ready_by far lines (behind [] x.w.made) r.tracked y.kept y.line.sampled y.sampled y.line.early in
-      orders_of_due clock (length rest + 349) (length (rest ++ end ∷ [])) far few Parts 0 (orders_of x.w.made) (omega (arith, count))
-      (parts_due clock (length rest + 349) (length (rest ++ end ∷ [])) far few _ lines (board_at m b).freq (board_at m b).slots Ready_by Ready_by Parts (own_on (board_at m b) (length rest) (length rest + 349) valid (omega arith)).ticks r.tracked near_by (omega arith) r.sections r.row)
-      r.orders
-
-  pub moves_unit : HasLateUnit m s b due arrival spoiled spill ts first (rest ++ end ∷ []) t.clocks p.seen.begun x
-  moves_unit =
-      let in_order = sym x.w.in_order in
-      let Due : List Orders → Type 0 = λ z. AllDue (clock_of (board_at m b)) z in
-      let Fair : List Orders → Type 0 = λ z. (ends : List Ended) × EndSo (clock_of (board_at m b)) 0 z (link_of m s b) ends × AreFairTurns (clock_of (board_at m b)) 0 z (link_of m s b) ends in
-      let Of : List Orders → Type 0 = λ z. AreOrdersOf Parts 0 z in
-      has_unit m s ts first rest end b due arrival spoiled spill x t.clocks p.seen.begun (record {
-        limits = limited m v s.switches (pins_of (board_at m b) b s.switches) s.entries b (came_from [] (first ∷ rest)) (behind [] x.w.made) run_in fits (orders_in x.past) (orders x.turn.control x.turn.batch) [] (ap orders_in x.are);
-        fair = subst Fair in_order (of_moves.fair m v s ts p t first rest end c told f short moves near long b x.there x.w);
-        all_due = subst Due in_order due_so;
-        units = λ before o after u cut a.
-            let units = units_of_parts Parts 0 before o after (subst Of cut (subst Of in_order run_so.orders)) in
-            let In : List StepUnit → Type 0 = λ z. Among u z in
-            in_sections u (0 + length before) Parts (subst In units a);
-      })
 
 -- where no section was begun nothing comes too late
 late_none : (m : Machine) (v : IsValidMachine m) (s : Scene) (ts : List MotionTurn) (p : Plans m (length m.boards) ts) (end : ReactorTurn) (c : Cause) (first : ReactorTurn) (rest : List ReactorTurn) (f : Facts m s ts (first ∷ rest) end c) (b due arrival spoiled spill : ℕ)
@@ -325,24 +283,20 @@ late_none m v s ts p end c first rest f b due arrival spoiled spill x none =
 
 module _ {F S : Type 0} (f : Files F) (o : Sink S) (m : Machine) (s : Scene) (name : List ℕ) (files files' : F) (out out' : S) (kept kept' : Kept) (t : near.Told Run) (r : RunsOver f o m s name files out kept t files' out' kept') (v : IsValidMachine m) (short : HaveShortDictionaries m)
     (b due arrival spoiled spill : ℕ) where
-  home_units : (p : Plans m (length m.boards) r.runs.0) (told : Option Told) → p.seen.told ≡ told → (rs : List ReactorTurn) → Facts m s r.runs.0 rs r.runs.2 t.cause → AllHomeLittle m s p.seen.text r.runs.0 (rs ++ r.runs.2 ∷ []) → SendsOut m p.seen.text r.runs.0 → (c : ComesLateIn m s b due arrival spoiled spill r.runs.0 rs r.runs.2)
-      → (heard : Told) × (p.seen.told ≡ Some heard) × HasLateUnitIn m s b due arrival spoiled spill r.runs.0 rs r.runs.2 heard.clocks p.seen.begun c
-  home_units p told is [] g little sends c = absurd c
-  home_units p None is (first ∷ rest) g little sends c = absurd (late_none m v s r.runs.0 p r.runs.2 t.cause first rest g b due arrival spoiled spill c (not_told m v s r.runs.0 p r.runs.2 t.cause is))
-  home_units p (Some heard) is (first ∷ rest) g little sends c =
-      (heard, is, home_unit m v s r.runs.0 p heard first rest r.runs.2 t.cause is g short b due arrival spoiled spill c (little p heard b refl is c.there c.w) (sends p heard b refl is c.there))
-
-  near_units : (p : Plans m (length m.boards) r.runs.0) (told : Option Told) → p.seen.told ≡ told → (rs : List ReactorTurn) → Facts m s r.runs.0 rs r.runs.2 t.cause → AreOfMoves (program_sections m p.seen.text) → AllTakeNear m s p.seen.text r.runs.0 (rs ++ r.runs.2 ∷ [])
-      → (c : ComesLateIn m s b due arrival spoiled spill r.runs.0 rs r.runs.2)
-      → (heard : Told) × (p.seen.told ≡ Some heard) × IsLateUnit (parts_on m heard.clocks p.seen.begun b) arrival due × (HasFewUnits m s b due arrival spoiled spill r.runs.0 rs r.runs.2 c → HasLateUnitIn m s b due arrival spoiled spill r.runs.0 rs r.runs.2 heard.clocks p.seen.begun c)
-  near_units p told is [] g moves near c = absurd c
-  near_units p None is (first ∷ rest) g moves near c = absurd (late_none m v s r.runs.0 p r.runs.2 t.cause first rest g b due arrival spoiled spill c (not_told m v s r.runs.0 p r.runs.2 t.cause is))
-  near_units p (Some heard) is (first ∷ rest) g moves near c = elim (long m v s r.runs.0 p r.runs.2 t.cause first rest g moves) [
-    | inl l ↦
-        let Is : List BoardTurn → Type 0 = λ z. (stands_after (link_of m s b) z).core.board.controller.state ≡ Shut timer_too_close arrival due in
-        (heard, is, of_moves.names m v s r.runs.0 p heard first rest r.runs.2 t.cause is g short moves near l b c.there c.w arrival due (subst Is (sym c.are) c.shut), λ fits. moves_unit m v s r.runs.0 p heard first rest r.runs.2 t.cause is g short moves near l b due arrival spoiled spill c fits)
-    | inr z ↦ absurd (late_none m v s r.runs.0 p r.runs.2 t.cause first rest g b due arrival spoiled spill c z.none)
-  ]
+  home_units : (p : Plans m (length m.boards) r.runs.0) (told : Option Told) (begun : List Started) → p.seen.told ≡ told → p.seen.begun ≡ begun → (rs : List ReactorTurn) → Facts m s r.runs.0 rs r.runs.2 t.cause → AllHomeLittle m s p.seen.text r.runs.0 (rs ++ r.runs.2 ∷ [])
+      → (c : ComesLateIn m s b due arrival spoiled spill r.runs.0 rs r.runs.2) → (heard : Told) × (p.seen.told ≡ Some heard) × IsLateUnit (parts_on m heard.clocks p.seen.begun b) arrival due
+      × (SendsOut m p.seen.text r.runs.0 ⊎ HasFewUnits m s b due arrival spoiled spill r.runs.0 rs r.runs.2 c → HasLateUnitIn m s b due arrival spoiled spill r.runs.0 rs r.runs.2 heard.clocks p.seen.begun c)
+  home_units p told begun is are [] g little c = absurd c
+  home_units p None begun is are (first ∷ rest) g little c = absurd (late_none m v s r.runs.0 p r.runs.2 t.cause first rest g b due arrival spoiled spill c (not_told m v s r.runs.0 p r.runs.2 t.cause is))
+  home_units p (Some heard) [] is are (first ∷ rest) g little c = absurd (late_none m v s r.runs.0 p r.runs.2 t.cause first rest g b due arrival spoiled spill c are)
+  home_units p (Some heard) (x ∷ begun) is are (first ∷ rest) g little c =
+      let own = little p heard b refl is (λ none. in_none [] x begun p.seen.begun none are) c.there c.w in
+      let unit = home_unit m v s r.runs.0 p heard first rest r.runs.2 t.cause is g short b due arrival spoiled spill c own in (
+        heard,
+        is,
+        late_unit m v s r.runs.0 p heard first rest r.runs.2 t.cause is g short b due arrival spoiled spill c own,
+        λ small. elim small [ inl sends ↦ unit (inl (sends p heard b refl is c.there)) | inr fits ↦ unit (inr fits) ],
+      )
 
   module _ (text : List ℕ) (told : f.told files name ≡ Some text) (at : kept.at ≡ 0) (e : t.cause ≡ cause.Late b due arrival spoiled spill) where
     other : t.cause ≡ cause.Memory → ⊥
@@ -354,18 +308,12 @@ module _ {F S : Type 0} (f : Files F) (o : Sink S) (m : Machine) (s : Scene) (na
     late : Late_in
     late = run_late f o m s name files files' out out' kept kept' t r v b due arrival spoiled spill e
 
-    pub run_home_units : AllHomeLittle m s text r.runs.0 (r.runs.1 ++ r.runs.2 ∷ []) → SendsOut m text r.runs.0 → ∥ ((made : IsMade m s r.runs.0 r.runs.1) × (made.plans.seen.text ≡ text) × (c : Late_in)
-        × ((heard : Told) × (made.plans.seen.told ≡ Some heard) × HasLateUnitIn m s b due arrival spoiled spill r.runs.0 r.runs.1 r.runs.2 heard.clocks made.plans.seen.begun c)) ∥₁
-    run_home_units little sends =
+    pub run_home_units : AllHomeLittle m s text r.runs.0 (r.runs.1 ++ r.runs.2 ∷ []) → ∥ ((made : IsMade m s r.runs.0 r.runs.1) × (made.plans.seen.text ≡ text) × (c : Late_in)
+        × ((heard : Told) × (made.plans.seen.told ≡ Some heard) × IsLateUnit (parts_on m heard.clocks made.plans.seen.begun b) arrival due × (SendsOut m text r.runs.0 ⊎ HasFewUnits m s b due arrival spoiled spill r.runs.0 r.runs.1 r.runs.2 c
+        → HasLateUnitIn m s b due arrival spoiled spill r.runs.0 r.runs.1 r.runs.2 heard.clocks made.plans.seen.begun c))) ∥₁
+    run_home_units little =
         ∥∥₁_map (run_made f o m s name files files' out out' kept kept' t r text told at) (λ w.
         let Little : List ℕ → Type 0 = λ z. AllHomeLittle m s z r.runs.0 (r.runs.1 ++ r.runs.2 ∷ []) in
-        (w.0, w.1, late, home_units w.0.plans w.0.plans.seen.told refl r.runs.1 (facts f o m s name files files' out out' kept kept' t r other) (subst Little (sym w.1) little) (let Sends : List ℕ → Type 0 = λ z. SendsOut m z r.runs.0 in subst Sends (sym w.1) sends) late))
-
-    pub run_near_units : AreOfMoves (program_sections m text) → AllTakeNear m s text r.runs.0 (r.runs.1 ++ r.runs.2 ∷ []) → ∥ ((made : IsMade m s r.runs.0 r.runs.1) × (made.plans.seen.text ≡ text) × (c : Late_in)
-        × ((heard : Told) × (made.plans.seen.told ≡ Some heard) × IsLateUnit (parts_on m heard.clocks made.plans.seen.begun b) arrival due × (HasFewUnits m s b due arrival spoiled spill r.runs.0 r.runs.1 r.runs.2 c
-        → HasLateUnitIn m s b due arrival spoiled spill r.runs.0 r.runs.1 r.runs.2 heard.clocks made.plans.seen.begun c))) ∥₁
-    run_near_units moves near =
-        ∥∥₁_map (run_made f o m s name files files' out out' kept kept' t r text told at) (λ w.
-        let Of : List ℕ → Type 0 = λ z. AreOfMoves (program_sections m z) in
-        let Near : List ℕ → Type 0 = λ z. AllTakeNear m s z r.runs.0 (r.runs.1 ++ r.runs.2 ∷ []) in
-        (w.0, w.1, late, near_units w.0.plans w.0.plans.seen.told refl r.runs.1 (facts f o m s name files files' out out' kept kept' t r other) (subst Of (sym w.1) moves) (subst Near (sym w.1) near) late))
+        let Sends : List ℕ → Type 0 = λ z. SendsOut m z r.runs.0 in
+        let x = home_units w.0.plans w.0.plans.seen.told w.0.plans.seen.begun refl refl r.runs.1 (facts f o m s name files files' out out' kept kept' t r other) (subst Little (sym w.1) little) late in
+        (w.0, w.1, late, (x.0, x.1, x.2, λ small. elim small [ inl sends ↦ x.3 (inl (subst Sends (sym w.1) sends)) | inr fits ↦ x.3 (inr fits) ])))

@@ -16,9 +16,8 @@ use Rattle.motion_work.specs.Boards.{parts_on}
 use Rattle.motion_work.specs.Homes.{before_turn}
 use Rattle.motion_work.specs.Seen.{Started, part_on}
 use Rattle.run_laws.specs.Homes.{AreOrdersIn, RunSection}
-use Rattle.run_laws.specs.Late.{IsIn}
-use Rattle.run_laws.specs.Parts.{AreOrdersOf}
-use Rattle.run_laws.proofs.Seeking.{Among, among_split}
+use Rattle.run_laws.specs.Late.{IsIn, IsLateUnit}
+use Rattle.run_laws.proofs.Seeking.{Among, among_of, among_split}
 use Rattle.homing_laws.specs.home_parts.Cuts.{cuts_on}
 
 both_true : (a b : Bool) → (a && b) ≡ true → a ≡ true
@@ -167,10 +166,16 @@ is_in x [] a = absurd a
 is_in x (y ∷ xs) (inl e) = ([], xs, ap (λ t. t ∷ xs) (sym e))
 is_in x (y ∷ xs) (inr a) = let i = is_in x xs a in (y ∷ i.0, i.1, ap (λ t. y ∷ t) i.2)
 
-pub units_of_parts : (ss : List BoardSection) (turn : ℕ) (before : List Orders) (o : Orders) (after : List Orders) → AreOrdersOf ss turn (before ++ o ∷ after) → o.batch.units ≡ flat_map (λ s. batch_at (turn + length before) s.releases) ss
-units_of_parts ss turn [] o after a =
-    let here : turn ≡ turn + 0 = omega arith in
-    a.1 ∙ ap (λ n. flat_map (λ (s : BoardSection). batch_at n s.releases) ss) here
-units_of_parts ss turn (x ∷ before) o after a =
-    let there : turn + 1 + length before ≡ turn + suc (length before) = omega arith in
-    units_of_parts ss (turn + 1) before o after a.2 ∙ ap (λ n. flat_map (λ (s : BoardSection). batch_at n s.releases) ss) there
+-- and so a late one
+pub late_parts : (m : Machine) (clocks : List Clocks) (turn b : ℕ) (begun : List Started) (tick first : ℕ) → IsLateUnit (map (λ s. s.section) (cuts_on m clocks turn begun b)) tick first → IsLateUnit (parts_on m clocks begun b) tick first
+late_parts m clocks turn b begun tick first l =
+    let cuts = map (λ (s : RunSection). s.section) (cuts_on m clocks turn begun b) in
+    let y = of_parts m clocks turn b begun l.release.unit l.release.turn (record { section = l.section; release = l.release; among = among_of l.section cuts l.among; within = among_of l.release l.section.releases l.within; unit_is = refl; turn_is = refl }) in
+    record {
+      section = y.section;
+      release = y.release;
+      among = is_in y.section (parts_on m clocks begun b) y.among;
+      within = is_in y.release y.section.releases y.within;
+      first_is = ap (λ (u : StepUnit). u.first) (sym y.unit_is) ∙ l.first_is;
+      late = l.late;
+    }

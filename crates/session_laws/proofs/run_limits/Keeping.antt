@@ -24,7 +24,8 @@ use Rattle.session_laws.specs.run_ends.Boards.{board_in, boards_of, counts_of}
 use Rattle.session_laws.specs.run_ends.Ends.{GoesThrough}
 use Rattle.session_laws.proofs.run_ends.Ending.{own_cause}
 use Rattle.session_laws.specs.run_headline.Further.{TellFurther}
-use Rattle.session_laws.specs.run_headline.Timely.{ShowPlans, clocks_heard, ready_heard}
+use Rattle.session_laws.specs.run_headline.Timely.{clocks_heard, ready_heard}
+use Rattle.session_laws.specs.home_headline.Follow.{ShowBegun}
 use Rattle.session_laws.proofs.run_headline.Boarded.{ready}
 use Rattle.session_laws.proofs.run_headline.Showing.{Facts, long_own}
 use Rattle.session_laws.specs.run_limits.Limits.{AreLow, DriftsLow, greatest_tick, start_limit}
@@ -64,7 +65,7 @@ none_of (s ∷ begun) some e = cc
 
 module _ (m : Machine) (v : IsValidMachine m) (s : Scene) (ts : List MotionTurn) (p : Plans m (length m.boards) ts) (end : ReactorTurn) (c : Cause) (through : GoesThrough c) (sections : program_sections m p.seen.text ≢ []) where
   -- a run of one turn doesn't go through
-  pub none_alone : ShowPlans m p.seen (clocks_heard p.seen.told) (ready_heard p.seen.told) c end [] → ⊥
+  pub none_alone : ShowBegun m p.seen (clocks_heard p.seen.told) (ready_heard p.seen.told) c end [] → ⊥
   none_alone shows =
       let th = shows.through through in
       by p.seen.begun (none_of p.seen.begun (λ e. sections (sym th.all ∙ e))) th.over
@@ -73,7 +74,7 @@ module _ (m : Machine) (v : IsValidMachine m) (s : Scene) (ts : List MotionTurn)
       by [] some over = some refl
       by (x ∷ begun) some over = (let late = over 0 x (omega arith) in absurd (omega (arith, late)))
 
-  module _ (first : ReactorTurn) (rest : List ReactorTurn) (f : Facts m s ts (first ∷ rest) end c) (shows : ShowPlans m p.seen (clocks_heard p.seen.told) (ready_heard p.seen.told) c first (rest ++ end ∷ [])) where
+  module _ (first : ReactorTurn) (rest : List ReactorTurn) (f : Facts m s ts (first ∷ rest) end c) (shows : ShowBegun m p.seen (clocks_heard p.seen.told) (ready_heard p.seen.told) c first (rest ++ end ∷ [])) where
     some : p.seen.begun ≢ []
     some = none_of p.seen.begun (λ e. sections (sym (shows.through through).all ∙ e))
 

@@ -23,12 +23,10 @@ use Rattle.run_plans.specs.Lines.{TellTurns, TellsTurn, head_in, heads_of, pulse
 use Rattle.run_plans.specs.Planned.{Seen}
 use Rattle.run_plans.proofs.Beginning.{Spread, spread_of}
 use Rattle.session_laws.specs.run_ends.Boards.{boards_of, lines_at}
-use Rattle.session_laws.specs.run_ends.Ends.{GoesThrough}
 use Rattle.session_laws.proofs.run_ends.Connecting.{boards_append}
-use Rattle.session_laws.specs.run_headline.Further.{TellFurther}
-use Rattle.session_laws.specs.run_headline.Timely.{AreOfMoves, AreSound, ShowPlans, TellBoards}
-use Rattle.session_laws.proofs.run_lines.Further.{Reach, further_front}
+use Rattle.session_laws.specs.run_headline.Timely.{AreOfMoves, TellBoards}
 use Rattle.session_laws.proofs.run_headline.Showing.{none_at}
+use Rattle.session_laws.specs.home_headline.Follow.{HaveBegunLines}
 use Rattle.session_laws.specs.run_lines.Due.{AreFirst, BoardsHave, HaveTheirLines, StandApart, begun_lines, due_lines}
 
 -- the lines of the sections that start before a turn
@@ -179,42 +177,22 @@ starts_early n ready m clocks (s ∷ ss) a o =
     let order = planned_late s.section.kind m clocks s a.0.planned in
     All-cons (λ (y : Started). y.start < n + 1) s ss (omega (arith, here, order)) (starts_early n (s.end + 260) m clocks ss a.1 (All-tail (λ (y : Started). y.end + 5 ≤ n) s ss o))
 
--- the lines of a whole run
-pub shown_heads : (m : Machine) (seen : Seen) (clocks : List Clocks) (ready : ℕ) (c : Cause) (first : ReactorTurn) (rest : List ReactorTurn) → ShowPlans m seen clocks ready c first rest
-    → AreOfMoves (program_sections m seen.text) → HaveTheirLines m seen.text clocks ready c (gather (λ t. t.lines) (first ∷ rest))
-shown_heads m seen clocks ready c first rest h moves = record { front = front; all = all }
-  where
-    lines : heads_of (gather (λ t. t.lines) (first ∷ rest)) ≡ lines_by (length (first ∷ rest)) 0 seen.begun
-    lines = all_heads m seen.begun (first ∷ rest) (spread_of m clocks ready 260 seen.begun h.started h.late) h.lines
+-- the lines of a whole run of moves
+pub due_heads : (m : Machine) (text : List ℕ) (clocks : List Clocks) (ready : ℕ) (c : Cause) (lines : List ReportLine) → HaveBegunLines m text clocks ready c lines → AreOfMoves (program_sections m text) → HaveTheirLines m text clocks ready c lines
+due_heads m text clocks ready c lines h moves =
+    let Of : List Section → Type 0 = λ z. AreOfMoves z in
+    record {
+      front = first_first (heads_of lines) (begun_lines 0 h.begun) (due_lines m clocks ready 0 (program_sections m text)) h.front (are_due m clocks ready 0 h.begun (program_sections m text) h.started moves h.of_text);
+      all = λ g. let is = (h.all g).0 in (h.all g).1 ∙ all_due m clocks ready 0 h.begun h.started (subst Of (sym is) moves) ∙ ap (due_lines m clocks ready 0) is;
+    }
 
-    front : AreFirst (heads_of (gather (λ t. t.lines) (first ∷ rest))) (due_lines m clocks ready 0 (program_sections m seen.text))
-    front =
-        let all_due = due_lines m clocks ready 0 (program_sections m seen.text) in
-        let Of : List ReportLine → Type 0 = λ z. AreFirst z all_due in
-        subst Of (sym lines)
-        (first_first (lines_by (length (first ∷ rest)) 0 seen.begun) (begun_lines 0 seen.begun) all_due (by_first (length (first ∷ rest)) 0 seen.begun)
-        (are_due m clocks ready 0 seen.begun (program_sections m seen.text) h.started moves h.of_text))
-
-    all : GoesThrough c → heads_of (gather (λ t. t.lines) (first ∷ rest)) ≡ due_lines m clocks ready 0 (program_sections m seen.text)
-    all g =
-        let t = h.through g in
-        let is : map (λ (s : Started). s.section) seen.begun ≡ program_sections m seen.text = t.all in
-        let Of : List Section → Type 0 = λ z. AreOfMoves z in
-        let early = starts_early (length rest) ready m clocks seen.begun h.started t.over in
-        let number : length rest + 1 ≡ length (first ∷ rest) = omega arith in
-        let By : ℕ → Type 0 = λ n. All (λ s. s.start < n) seen.begun in
-        lines ∙ by_all (length (first ∷ rest)) 0 seen.begun (subst By number early) ∙ all_due m clocks ready 0 seen.begun h.started (subst Of (sym is) moves) ∙ ap (due_lines m clocks ready 0) is
-
--- What a run of moves or of homing shows of the lines of boards and sections.
+-- What a run shows of the lines of boards and sections.
 pub record ShowStarts (m : Machine) (seen : Seen) (clocks : List Clocks) (ready : ℕ) (first : ReactorTurn) (rest : List ReactorTurn) : Type 0 where
   pub late : 260 ≤ ready
   pub started : AreStarted m clocks ready seen.begun
   pub boards : seen.begun ≢ [] → TellBoards clocks ready (first ∷ rest)
   pub lines : TellTurns m seen.begun 0 (first ∷ rest)
   pub early : (s : Started) (later : List Started) (past behind : List ReactorTurn) (place : ℕ) → seen.begun ≡ s ∷ later → first ∷ rest ≡ past ++ behind → length past ≤ s.start → place < length m.steppers → pulses_of place (gather (λ t. t.lines) past) ≡ []
-
-pub starts_of : (m : Machine) (seen : Seen) (clocks : List Clocks) (ready : ℕ) (c : Cause) (first : ReactorTurn) (rest : List ReactorTurn) → ShowPlans m seen clocks ready c first rest → ShowStarts m seen clocks ready first rest
-starts_of m seen clocks ready c first rest h = record { late = h.late; started = h.started; boards = h.boards; lines = h.lines; early = h.early }
 
 -- the lines of the first sections that were begun
 pub heads_first : (m : Machine) (clocks : List Clocks) (ready : ℕ) (begun : List Started) (turns : List ReactorTurn) → 260 ≤ ready → AreStarted m clocks ready begun → TellTurns m begun 0 turns → AreFirst (heads_of (gather (λ t. t.lines) turns)) (begun_lines 0 begun)
@@ -286,14 +264,6 @@ boards_first m clocks ready begun turns said more late started lines boards are 
           ap boards_of p.1 ∙ boards_append (gather (λ (x : ReactorTurn). x.lines) t.past) p.0 ∙ ap (λ z. boards_of (gather (λ (x : ReactorTurn). x.lines) t.past) ++ z) none
           ∙ append-nil (boards_of (gather (λ (x : ReactorTurn). x.lines) t.past)) ∙ t.lines
     ]
-
-start_boards : (m : Machine) (seen : Seen) (clocks : List Clocks) (ready : ℕ) (first : ReactorTurn) (rest : List ReactorTurn) (said more : List ReportLine) → ShowStarts m seen clocks ready first rest
-    → gather (λ t. t.lines) (first ∷ rest) ≡ said ++ more → heads_of said ≢ [] → BoardsHave clocks ready said
-start_boards m seen clocks ready first rest said more h are some = boards_first m clocks ready seen.begun (first ∷ rest) said more h.late h.started h.lines h.boards are some
-
-pub shown_boards : (m : Machine) (seen : Seen) (clocks : List Clocks) (ready : ℕ) (c : Cause) (first : ReactorTurn) (rest : List ReactorTurn) (said more : List ReportLine) → ShowPlans m seen clocks ready c first rest
-    → gather (λ t. t.lines) (first ∷ rest) ≡ said ++ more → heads_of said ≢ [] → BoardsHave clocks ready said
-shown_boards m seen clocks ready c first rest said more h are some = start_boards m seen clocks ready first rest said more (starts_of m seen clocks ready c first rest h) are some
 
 -- they stand before the line of the first section
 machine_later : (m : Machine) (k : ℕ) → 0 < k → machine_line m k ≡ []
@@ -375,9 +345,9 @@ module _ (m : Machine) (seen : Seen) (clocks : List Clocks) (ready : ℕ) (first
         let one : gather (λ (x : ReactorTurn). x.lines) (first ∷ rest) ≡ (head ++ line ∷ []) ++ after = whole ∙ sym (append_assoc head (line ∷ []) after) in
         let one_some : heads_of (head ++ line ∷ []) ≢ [] = (λ f.
         let g : line ∷ [] ≡ [] = ap (λ z. z ++ line ∷ []) (sym none) ∙ sym (heads_append head (line ∷ [])) ∙ f in cc) in
-        let front = start_boards m seen clocks ready first rest (head ++ line ∷ []) after h one one_some in
+        let front = boards_first m clocks ready seen.begun (first ∷ rest) (head ++ line ∷ []) after h.late h.started h.lines h.boards one one_some in
         let told : boards_of head ≡ lines_at ready 0 clocks = sym (append-nil (boards_of head)) ∙ sym (boards_append head (line ∷ [])) ∙ front in
-        let all = start_boards m seen clocks ready first rest said more h are some in
+        let all = boards_first m clocks ready seen.begun (first ∷ rest) said more h.late h.started h.lines h.boards are some in
         behind s line head after none told all late (λ place low. h.early s later t.past (t.turn ∷ t.behind) place e t.are (omega (arith, long)) low) refl (split said more head (line ∷ after) (sym are ∙ whole))
   ]
     where
@@ -405,21 +375,3 @@ module _ (m : Machine) (seen : Seen) (clocks : List Clocks) (ready : ℕ) (first
 
   pub starts_apart : StandApart m clocks ready said
   starts_apart = apart seen.begun refl
-
-pub stand_apart : (m : Machine) (seen : Seen) (clocks : List Clocks) (ready : ℕ) (c : Cause) (first : ReactorTurn) (rest : List ReactorTurn) → ShowPlans m seen clocks ready c first rest
-    → (said more : List ReportLine) → gather (λ t. t.lines) (first ∷ rest) ≡ said ++ more → heads_of said ≢ [] → StandApart m clocks ready said
-stand_apart m seen clocks ready c first rest h said more are some = starts_apart m seen clocks ready first rest (starts_of m seen clocks ready c first rest h) said more are some
-
--- where a section has its line, one was begun
-start_some : (m : Machine) (seen : Seen) (clocks : List Clocks) (ready : ℕ) (first : ReactorTurn) (rest : List ReactorTurn) (said more : List ReportLine) → ShowStarts m seen clocks ready first rest → gather (λ t. t.lines) (first ∷ rest) ≡ said ++ more
-    → heads_of said ≢ [] → seen.begun ≢ []
-start_some m seen clocks ready first rest said more h are some = some_first m clocks ready seen.begun (first ∷ rest) said more h.late h.started h.lines are some
-
-pub shown_sound : (m : Machine) (seen : Seen) (clocks : List Clocks) (ready : ℕ) (c : Cause) (first : ReactorTurn) (rest : List ReactorTurn) (said more : List ReportLine) → ShowPlans m seen clocks ready c first rest
-    → gather (λ t. t.lines) (first ∷ rest) ≡ said ++ more → heads_of said ≢ [] → AreSound m clocks ready
-shown_sound m seen clocks ready c first rest said more h are some = h.sound (start_some m seen clocks ready first rest said more (starts_of m seen clocks ready c first rest h) are some)
-
-pub shown_further : (m : Machine) (seen : Seen) (clocks : List Clocks) (ready : ℕ) (c : Cause) (first : ReactorTurn) (rest : List ReactorTurn) (said more : List ReportLine) → ShowPlans m seen clocks ready c first rest
-    → gather (λ t. t.lines) (first ∷ rest) ≡ said ++ more → (r : Reach (first ∷ rest) said more) → heads_of said ≢ [] → TellFurther m clocks (r.n + 271) said
-shown_further m seen clocks ready c first rest said more h are r some =
-    further_front m clocks (first ∷ rest) said more r are (h.further (start_some m seen clocks ready first rest said more (starts_of m seen clocks ready c first rest h) are some))

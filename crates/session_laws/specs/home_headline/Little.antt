@@ -1,5 +1,5 @@
 -- When no line of a board holds a command for long, in a whole run in which axes home.
-use Rattle.std.specs.Prelude.{◌≡◌, ◌⊎◌, ◌+◌, ◌-◌, ◌<◌, ◌≤◌, ℕ, List, [], ◌∷◌, ◌++◌, Some, length, take}
+use Rattle.std.specs.Prelude.{◌≡◌, ◌≢◌, ◌⊎◌, ◌+◌, ◌-◌, ◌<◌, ◌≤◌, ℕ, List, [], ◌∷◌, ◌++◌, Some, length, take}
 use Rattle.plan_types.specs.declared.cause.Cause.{Cause}
 use Rattle.plan_types.specs.declared.cause.Cause.TheVariants as cause
 use Rattle.plan_types.specs.declared.machine.Machine.{Machine}
@@ -59,11 +59,12 @@ pub record HomesLittle (m : Machine) (s : Scene) (b : ℕ) (planned : List Motio
       (turns_told (clock_of (board_at m b)) 0 (orders_of w.made) (states_of w.made) (link_of m s b) (stands_after (link_of m s b) (behind [] w.made)) w.told))
   pub sets_up : SetsUp m s b planned first rest turns t begun w
 
--- so each board of a whole run of a text, of which the planner made some turns and the reactor these
+-- so each board of a whole run of a text, of which the planner made some turns and the reactor these, where a section
+-- was begun
 abbrev pub AllHomeLittle : Machine → Scene → List ℕ → List MotionTurn → List ReactorTurn → Type 0
 AllHomeLittle m s text planned [] = Unit {0}
 AllHomeLittle m s text planned (first ∷ rest) =
-    (p : Plans m (length m.boards) planned) (t : Told) (b : ℕ) → p.seen.text ≡ text → p.seen.told ≡ Some t → b < length m.boards →
+    (p : Plans m (length m.boards) planned) (t : Told) (b : ℕ) → p.seen.text ≡ text → p.seen.told ≡ Some t → p.seen.begun ≢ [] → b < length m.boards →
     (w : IsInWhole m s.switches b (clock_of (board_at m b)) (link_of m s b) planned first rest) → HomesLittle m s b planned first rest (length p.made) t p.seen.begun w
 
 -- The planner of a run of a text sends those units of a section of moves that are sent behind the turn in which they

@@ -1,5 +1,5 @@
 -- When no line of a whole run holds a command for long, and what the report then shows.
-use Rattle.std.specs.Prelude.{◌≡◌, ◌≢◌, ◌⊎◌, ℕ, ◌+◌, ◌^◌, ◌<◌, ◌≤◌, true, false, All, List, [], ◌∷◌, ◌++◌, Option, None, Some, length, map, take}
+use Rattle.std.specs.Prelude.{◌≡◌, ◌⊎◌, ℕ, ◌+◌, ◌^◌, ◌<◌, ◌≤◌, true, All, List, [], ◌∷◌, ◌++◌, Option, None, Some, length, map, take}
 use Rattle.gcode_program.specs.Programs.{program_end, program_sections}
 use Rattle.plan_types.specs.declared.cause.Cause.{Cause}
 use Rattle.plan_types.specs.declared.machine.Machine.{Machine}
@@ -10,35 +10,27 @@ use Rattle.plan_types.specs.declared.plan.Held.{Held}
 use Rattle.plan_types.specs.Lines.{Clocks, one_line}
 use Rattle.clock_line.specs.Fits.{may_hold}
 use Rattle.clock_line.specs.Kept.{AreKept, added}
-use Rattle.plan_types.specs.Machines.{board_at, stepper_at}
-use Rattle.plan_types.specs.Plan.{Fits}
-use Rattle.plan_types.specs.Sections.{base_tick, clocks_at, stepper_plan}
+use Rattle.plan_types.specs.Machines.{board_at}
+use Rattle.plan_types.specs.Sections.{clocks_at}
 use Rattle.wire_scene.specs.declared.scene.Scene.{Scene}
 use Rattle.link_work.specs.Ends.{spoiled}
 use Rattle.link_work.specs.Stands.{first_state}
 use Rattle.link_work.specs.Switches.{pins_of}
 use Rattle.link_work.specs.Turn.{LinkState}
 use Rattle.host_reactor.specs.Running.{text_end}
-use Rattle.motion_work.specs.Seen.{AreBoardClocks, AreStarted, Started}
+use Rattle.motion_work.specs.Seen.{AreBoardClocks}
 use Rattle.motion_work.specs.Told.{Told}
 use Rattle.board_runs.specs.Turns.{stands_after}
 use Rattle.session_work.specs.declared.table.MotionTurn.{MotionTurn}
 use Rattle.session_work.specs.declared.table.ReactorTurn.{ReactorTurn}
-use Rattle.run_laws.specs.Boards.{IsWindow}
 use Rattle.run_parts.specs.Renewed.{NoneBefore}
 use Rattle.run_laws.specs.Links.{ends_of, steps_of, turns_told}
 use Rattle.run_laws.specs.Timely.{AllTimely}
 use Rattle.board_world.specs.World.{start}
 use Rattle.run_boards.specs.Boards.{IsInWhole, behind, orders_of, states_of}
-use Rattle.run_plans.specs.Boards.{lines_between, times_of}
-use Rattle.run_plans.specs.Lines.{TellTurns, pulses_of}
 use Rattle.run_plans.specs.Planned.{Plans, Seen}
 use Rattle.session_work.specs.Rows.{gather}
-use Rattle.report_text.specs.declared.line.ReportLine.TheVariants as report
-use Rattle.session_laws.specs.run_ends.Boards.{boards_of, counts_of, lines_at}
-use Rattle.session_laws.specs.run_ends.Ends.{GoesThrough}
-use Rattle.session_laws.specs.run_headline.Told.{AreTold}
-use Rattle.session_laws.specs.run_headline.Further.{TellFurther}
+use Rattle.session_laws.specs.run_ends.Boards.{boards_of, lines_at}
 use Rattle.session_laws.specs.run_headline.Near.{FollowsClock}
 
 -- the link of a board of a scene, before turn 0
@@ -112,52 +104,6 @@ pub record AreThrough (m : Machine) (seen : Seen) (c : Cause) (turn : ℕ) : Typ
   pub all : map (λ s. s.section) seen.begun ≡ program_sections m seen.text
   pub over : All (λ s. s.end + 5 ≤ turn) seen.begun
   pub cause_is : c ≡ text_end (program_end m seen.text).stop
-
--- What the reactor's turns in a whole run show of the sections that its planner begun. Place k of `rest` is turn k + 1.
-pub record ShowPlans (m : Machine) (seen : Seen) (clocks : List Clocks) (ready : ℕ) (c : Cause) (first : ReactorTurn) (rest : List ReactorTurn) : Type 0 where
-  -- the clock lines are those that the planner heard
-  pub heard : AreHeard clocks seen
-  -- the sections are the first ones of the text
-  pub of_text : map (λ s. s.section) seen.begun ≡ take (length seen.begun) (program_sections m seen.text)
-  -- each starts 260 turns behind the end of the one before, and as many later as the dwells before it have milliseconds
-  pub late : 260 ≤ ready
-  pub started : AreStarted m clocks ready seen.begun
-  -- the boards have their lines before any section may start
-  pub boards : seen.begun ≢ [] → TellBoards clocks ready (first ∷ rest)
-  -- the line of each stands in the turn of its start, and behind it the pulses that the boards told
-  pub lines : TellTurns m seen.begun 0 (first ∷ rest)
-  -- of each stepper the pulses from the line of a section on and before that of the next are made for the first steps of its plan
-  pub fit : (past : List Started) (s : Started) (later : List Started) (from to place : ℕ) → seen.begun ≡ past ++ s ∷ later → place < length m.steppers →
-      IsWindow (length rest) from to (record { start = s.start; end = s.end }) (times_of later) →
-      Fits (clocks_at clocks (stepper_at m place).board).first.freq (base_tick m clocks s.start place) (pulses_of place (lines_between from to rest)) (stepper_plan m clocks s.section.moves s.start place)
-  -- a run that went through begun all sections of its text, and they ended
-  pub through : GoesThrough c → AreThrough m seen c (length rest)
-  -- the numbers of accepted lines and of passed commands stand in its lines once
-  pub counts : GoesThrough c → counts_of (gather (λ t. t.lines) (first ∷ rest)) ≡ report.Lines (program_end m seen.text).lines (program_end m seen.text).passed ∷ []
-  -- and these pulses are as many as the steps of the plan
-  pub whole : GoesThrough c → (past : List Started) (s : Started) (later : List Started) (from to place : ℕ) → seen.begun ≡ past ++ s ∷ later → place < length m.steppers →
-      IsWindow (length rest) from to (record { start = s.start; end = s.end }) (times_of later) → s.end + 5 ≤ to →
-      length (pulses_of place (lines_between from to rest)) ≡ length (stepper_plan m clocks s.section.moves s.start place)
-  -- and so they are, whatever ended the run, where any pulse of a stepper of the same board is told behind them
-  pub passed : (past : List Started) (s : Started) (later : List Started) (from to place other : ℕ) → seen.begun ≡ past ++ s ∷ later → place < length m.steppers → other < length m.steppers →
-      (stepper_at m other).board ≡ (stepper_at m place).board → IsWindow (length rest) from to (record { start = s.start; end = s.end }) (times_of later) → s.end + 5 ≤ to →
-      pulses_of other (lines_between to (length rest) rest) ≢ [] →
-      length (pulses_of place (lines_between from to rest)) ≡ length (stepper_plan m clocks s.section.moves s.start place)
-  -- no pulse is told before the turn in which the first section starts
-  pub early : (s : Started) (later : List Started) (past behind : List ReactorTurn) (place : ℕ) → seen.begun ≡ s ∷ later → first ∷ rest ≡ past ++ behind → length past ≤ s.start → place < length m.steppers →
-      pulses_of place (gather (λ t. t.lines) past) ≡ []
-  -- all lines of a run that went through are such as a reactor tells that homes nothing
-  pub own : GoesThrough c → AreTold false m (gather (λ t. t.lines) (first ∷ rest))
-  -- where a section was begun, the clock lines are sound, and the lines of the first turns tell the further ones: those
-  -- that are left untold hold from behind the 271st turn behind these on
-  pub sound : seen.begun ≢ [] → AreSound m clocks ready
-  pub further : seen.begun ≢ [] → (front later : List ReactorTurn) → first ∷ rest ≡ front ++ later →
-      TellFurther m clocks (length front + 271) (gather (λ t. t.lines) front)
-
--- so the turns of a whole run, which ended for a cause
-abbrev pub AllShowPlans : Machine → Seen → List Clocks → ℕ → Cause → List ReactorTurn → Type 0
-AllShowPlans m seen clocks ready c [] = Unit {0}
-AllShowPlans m seen clocks ready c (first ∷ rest) = ShowPlans m seen clocks ready c first rest
 
 -- the boards' clock lines, where the planner heard any
 abbrev pub clocks_heard : Option Told → List Clocks

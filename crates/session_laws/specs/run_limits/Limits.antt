@@ -1,4 +1,4 @@
--- The limits that the lines of a run of moves keep.
+-- The limits that the lines of a run keep.
 use Rattle.std.specs.Prelude.{ℕ, ◌+◌, ◌*◌, ◌^◌, ◌<◌, ◌≤◌, List, [], ◌∷◌}
 use Rattle.report_text.specs.declared.line.ReportLine.{ReportLine}
 use Rattle.report_text.specs.declared.line.ReportLine.TheVariants as report
@@ -12,7 +12,7 @@ start_limit = 2 ^ 42 + 260
 abbrev pub greatest_tick : ℕ → ℕ
 greatest_tick turn = 2 ^ 40 + (turn + 3) * 200_040
 
--- A line keeps the limits of a run of moves: a section starts before the last turn in which one may, and has no greater number than
+-- A line keeps the limits of a run: a section starts before the last turn in which one may, and has no greater number than
 -- its turn; a board tells a tick that it may have, as does each of its further clock lines; and no more was read than the first 2^30 bytes.
 abbrev pub IsLow : ReportLine → Type 0
 IsLow (report.Board board freq turn tick) = (turn < start_limit) × (tick ≤ greatest_tick turn)

@@ -98,12 +98,11 @@ use Rattle.session_laws.proofs.run_causes.Answering as answering
 use Rattle.session_laws.proofs.clear_homes.Through.{soon_all}
 use Rattle.cause_runs.specs.Short.{HaveShortDictionaries}
 use Rattle.session_laws.specs.clear_runs.Clear.{SendsAllSoon}
-use Rattle.session_laws.proofs.clear_runs.Clear.{run_through}
 use Rattle.session_laws.proofs.clear_runs.Stopped.{run_is_for}
 use Rattle.report_laws.specs.Promises.{FollowsPlanBy, IsCauseOf, lines_line, sections_over}
 use Rattle.report_laws.specs.Homes.{ShowsBegun}
 use Rattle.report_laws.proofs.Homes.{IsCompleteOfMovesBefore, IsCompleteOfMovesBy, ShowsHomes}
-use Rattle.report_laws.specs.Linked.{EndsFor, IsLinkReport, MeetPremise}
+use Rattle.report_laws.specs.Linked.{EndsFor, EndsUnswitched, IsLinkReport, MeetPremise}
 use Rattle.report_laws.specs.page.Report.{Shows}
 use Rattle.report_laws.specs.Cuts.{HaveCuts}
 use Rattle.report_laws.specs.Shown.{lines_behind, pulses_before, pulses_in, section_turn, sections_shown}
@@ -818,8 +817,8 @@ module _ {F S : Type 0} (f : Files F) (o : Sink S) (m : Machine) (s : Scene) (gc
   cause_ends r (cause.Late board first arrival spoiled spill) e =
       let is = of_late r board first arrival spoiled spill e in (
         run_late f o m s gcode files files' out r.behind r.kept r.kept' r.told r.runs v board first arrival spoiled spill is,
-        λ text told little sends. ∥∥₁_map (run_home_units f o m s gcode files files' out r.behind r.kept r.kept' r.told r.runs v short board first arrival spoiled spill text told r.fresh.at is little (inl sends))
-            (λ w. record { made = w.0; of_text = w.1; late = w.2; heard = w.3.0; known = w.3.1; unit = w.3.2 }),
+        λ text told little sends. ∥∥₁_map (run_home_units f o m s gcode files files' out r.behind r.kept r.kept' r.told r.runs v short board first arrival spoiled spill text told r.fresh.at is little)
+            (λ w. record { made = w.0; of_text = w.1; late = w.2; heard = w.3.0; known = w.3.1; unit = w.3.3 (inl sends) }),
       )
   cause_ends r (cause.Expired board turn) e = run_first f o m s gcode files files' out r.behind r.kept r.kept' r.told r.runs board turn
       (of_run r (cause.Expired board turn) (λ g. let h : cause.Expired board turn ≡ cause.Memory = g in cc) (λ g. let h : cause.Expired board turn ≡ cause.WriteFault = g in cc) e)

@@ -106,7 +106,7 @@ use Rattle.session_laws.proofs.clear_runs.Through.{sends_hold}
 use Rattle.report_laws.specs.Promises.{FollowsPlanBy, IsCauseOf, IsCompleteBefore, IsCompleteBy, lines_line, sections_over}
 use Rattle.report_laws.specs.Homes.{ShowsBegun}
 use Rattle.report_laws.proofs.Homes.{IsCompleteOfMovesBefore, IsCompleteOfMovesBy, ShowsHomes}
-use Rattle.report_laws.specs.Linked.{EndsFor, IsLinkReport, MeetPremise, ShowsText}
+use Rattle.report_laws.specs.Linked.{EndsFor, EndsUnswitched, IsLinkReport, MeetPremise, ShowsText}
 use Rattle.report_laws.specs.page.Report.{Shows}
 use Rattle.report_laws.specs.Cuts.{HaveCuts}
 use Rattle.report_laws.specs.Shown.{lines_behind, pulses_before, pulses_in, section_turn, sections_shown}

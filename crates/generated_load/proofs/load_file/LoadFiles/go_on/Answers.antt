@@ -1,7 +1,7 @@
 use Rattle.std.proofs.Common.{◌-◌, ◌∙◌, ap, arith}
 use Rattle.generated_load.specs.Text.{load_text, move_line}
 use Rattle.generated_load.proofs.Reading.{next_line}
-use Rattle.generated_load.proofs.LoadFiles.go_on.Goals as goal
+use Rattle.generated_load.proofs.load_file.LoadFiles.go_on.Goals as goal
 
 pub invariant_of-self : goal.invariant_of-self
 invariant_of-self c =

@@ -2,7 +2,7 @@ use Rattle.std.proofs.Common.{◌≡◌, ◌∙◌, ◌-◌, ℕ, List, ◌++◌
 use Rattle.std.proofs.lemmas.List.{take_rest}
 use Rattle.generated_load.specs.Text.{load_text}
 use Rattle.generated_load.proofs.Reading.{read_in_line}
-use Rattle.generated_load.proofs.LoadFiles.read_line.Goals as goal
+use Rattle.generated_load.proofs.load_file.LoadFiles.read_line.Goals as goal
 
 pub returns-clause-read : goal.returns-clause-read
 returns-clause-read c =

@@ -1,5 +1,5 @@
 use Rattle.std.proofs.Common.{◌≡◌, ◌≤◌}
-use Rattle.generated_load.proofs.LoadFiles.seek.Given as goal
+use Rattle.generated_load.proofs.load_file.LoadFiles.seek.Given as goal
 
 abbrev pub invariant-lines : goal.invariant-lines
 invariant-lines l = record {

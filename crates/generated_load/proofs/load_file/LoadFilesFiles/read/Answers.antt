@@ -1,7 +1,7 @@
 use Rattle.std.proofs.Common.{◌≡◌, ◌∙◌, rules, refl}
 use Rattle.generated_load.specs.Text.{load_text}
 use Rattle.generated_load.proofs.Reading.{read_on}
-use Rattle.generated_load.proofs.LoadFilesFiles.read.Goals as goal
+use Rattle.generated_load.proofs.load_file.LoadFilesFiles.read.Goals as goal
 
 pub lines-preserved : goal.lines-preserved
 lines-preserved c =

@@ -1,7 +1,7 @@
 use Rattle.std.proofs.Common.{◌≡◌, ◌-◌, length}
 use Rattle.generated_load.specs.Text.{load_text}
 use Rattle.generated_load.specs.Places.{IsRead}
-use Rattle.generated_load.proofs.LoadFilesFiles.read.Given as goal
+use Rattle.generated_load.proofs.load_file.LoadFilesFiles.read.Given as goal
 
 abbrev pub invariant-lines : goal.invariant-lines
 invariant-lines l = record {

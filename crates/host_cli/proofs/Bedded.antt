@@ -19,7 +19,7 @@ use Rattle.session_run.specs.Ends.{IsBare}
 use Rattle.host_cli.specs.Meshes.{IsMeshIn, IsTableFault, ShowsMarked, WritesMarked, marked}
 use Rattle.bed_mesh.specs.Files.{mesh_code, mesh_end}
 use Rattle.plan_types.specs.declared.plan.ReadEnd.{ReadEnd}
-use Rattle.report_laws.specs.Body.{cause_of}
+use Rattle.laws_report.specs.reports.Body.{cause_of}
 use Rattle.host_cli.proofs.Scened.{NoMachine}
 
 -- a table that is too long is told by one byte more

@@ -1,8 +1,8 @@
 -- The summary of a run of a load.
 use Rattle.std.proofs.Common.{◌≡◌, ◌≢◌, ◌⊎◌, ◌∙◌, ℕ, zero, suc, List, Option, Some, inl, inr, ap, refl, subst, sym, arith}
 use Rattle.board_sim.specs.Board.{new_controller}
-use Rattle.cause_runs.specs.Short.{HaveShortDictionaries}
-use Rattle.cause_runs.proofs.DictionaryText.{AreShort, short_text}
+use Rattle.laws_board.specs.causes.Short.{HaveShortDictionaries}
+use Rattle.laws_board.proofs.causes.DictionaryText.{AreShort, short_text}
 use Rattle.json.specs.Print.{escape_byte}
 use Rattle.generated_load.specs.Printer.{load_board, load_machine}
 use Rattle.generated_load.specs.Text.{load_text}
@@ -18,11 +18,11 @@ use Rattle.session_run.specs.declared.ended.Report.{Report}
 use Rattle.session_run.specs.Reported.{EndsOver}
 use Rattle.wire_scene.specs.declared.scene.Scene.{Scene}
 use Rattle.host_cli.specs.declared.answer.Answer.{Answer}
-use Rattle.report_laws.specs.Read.{no_scene}
-use Rattle.report_laws.specs.Promises.{WritesText}
+use Rattle.laws_report.specs.reports.Read.{no_scene}
+use Rattle.laws_report.specs.reports.Promises.{WritesText}
 use Rattle.host_cli.specs.Promises.{EndsAs}
-use Rattle.report_laws.specs.Linked.{IsLinkReport}
-use Rattle.report_laws.proofs.Reported.{planned}
+use Rattle.laws_report.specs.reports.Linked.{IsLinkReport}
+use Rattle.laws_report.proofs.reports.Reported.{planned}
 use Rattle.host_cli.proofs.Whole.{end-shown, given-for}
 use Rattle.host_cli.specs.Counts.{summary}
 use Rattle.host_cli.specs.Loads.{AreCounts, IsLoadAnswer, ShowsLoad}

@@ -10,10 +10,10 @@ use Rattle.wire_scene.specs.declared.scene.Scene.{Scene}
 use Rattle.session_run.specs.declared.ended.Ended.{Ended}
 use Rattle.session_run.specs.declared.ended.Report.{Report}
 use Rattle.session_run.specs.Reported.{EndsOver, IsNotBegun}
-use Rattle.cause_runs.specs.Short.{HaveShortDictionaries}
+use Rattle.laws_board.specs.causes.Short.{HaveShortDictionaries}
 use Rattle.host_cli.specs.Promises.{EndsAlone}
 use Rattle.host_cli.specs.Scenes.{ShowsRun}
-use Rattle.report_laws.proofs.Reported.{planned}
+use Rattle.laws_report.proofs.reports.Reported.{planned}
 
 -- none was begun
 not_begun : {F S : Type 0} (f : Files F) (o : Sink S) (m : Machine) (files files' : F) (out out' : S) (c : Cause) (shown : Report) → IsNotBegun f o m files files' out out' c shown → EndsAlone cause.Memory (o.written out) (o.written out') c shown

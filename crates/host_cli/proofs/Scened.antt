@@ -16,8 +16,8 @@ use Rattle.wire_scene.specs.declared.scene.Scene.{Scene}
 use Rattle.wire_scene.specs.Reading as scenes
 use Rattle.wire_scene.specs.Valid.{IsValidEntry, IsValidScene, IsValidSwitch}
 use Rattle.host_cli.specs.Answers.{IsMachineFault}
-use Rattle.report_laws.specs.Read.{no_scene}
-use Rattle.report_laws.specs.Promises.{IsCauseOf}
+use Rattle.laws_report.specs.reports.Read.{no_scene}
+use Rattle.laws_report.specs.reports.Promises.{IsCauseOf}
 use Rattle.host_cli.specs.Promises.{EndsAlone, EndsFor, IsCut, IsRefused}
 use Rattle.host_cli.specs.Scenes.{IsSceneFault, ShowsRun}
 

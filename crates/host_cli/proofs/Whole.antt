@@ -9,7 +9,7 @@ use Rattle.report_text.specs.Written.{WritesAll, WritesFront}
 use Rattle.io_core.specs.Faults.{Rose}
 use Rattle.host_cli.specs.Answers.{EndsWith, IsAnswer, IsCutShort, IsEnd, IsRefusal, IsRunCause}
 use Rattle.host_cli.specs.declared.answer.Answer.{Answer}
-use Rattle.report_laws.specs.Promises.{IsCauseOf, WritesText}
+use Rattle.laws_report.specs.reports.Promises.{IsCauseOf, WritesText}
 use Rattle.host_cli.specs.Promises.{EndsAlone, EndsAs, EndsFor, IsAlone, IsCut, IsRefused, ShowsAnswer}
 use Rattle.host_cli.specs.Traffic.{EndsCleanly}
 use Rattle.session_run.specs.declared.ended.Report.{Report}

@@ -33,10 +33,10 @@ use Rattle.wire_scene.specs.declared.scene.Scene.{Scene}
 use Rattle.wire_scene.specs.Reading as scene_text
 use Rattle.host_cli.specs.declared.traffic.Task.{Task}
 use Rattle.host_cli.specs.declared.traffic.Task.TheVariants.{Dump, Replay}
-use Rattle.report_laws.specs.Body.{cause_of}
+use Rattle.laws_report.specs.reports.Body.{cause_of}
 use Rattle.host_cli.specs.Checks.{ShowsCheck}
 use Rattle.host_cli.specs.Fans.{ShowsFan}
-use Rattle.report_laws.specs.Read.{no_scene}
+use Rattle.laws_report.specs.reports.Read.{no_scene}
 use Rattle.host_cli.specs.Meshes.{ShowsMesh}
 use Rattle.host_cli.specs.Promises.{EndsFor, IsRefused}
 use Rattle.host_cli.specs.Scenes.{ShowsRun}

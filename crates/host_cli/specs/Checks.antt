@@ -6,7 +6,7 @@ use Rattle.session_run.specs.declared.ended.Report.{Report}
 use Rattle.host_cli.specs.declared.answer.Answer.{Answer}
 use Rattle.host_cli.specs.Answers.{IsAnswer}
 use Rattle.host_cli.specs.Promises.{ShowsAnswer}
-use Rattle.report_laws.specs.Checks.{check_cause, check_lines}
+use Rattle.laws_report.specs.reports.Checks.{check_cause, check_lines}
 
 -- the answer of a check, before it is written
 abbrev pub IsCheckAnswer : Machine → List ℕ → List ℕ → Answer → Type 0

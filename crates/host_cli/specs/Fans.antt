@@ -11,7 +11,7 @@ use Rattle.report_text.specs.declared.line.ReportLine.TheVariants as report
 use Rattle.session_run.specs.declared.ended.Report.{Report}
 use Rattle.host_cli.specs.declared.answer.Answer.{Answer}
 use Rattle.host_cli.specs.Answers.{IsAnswer}
-use Rattle.report_laws.specs.Body.{cause_of}
+use Rattle.laws_report.specs.reports.Body.{cause_of}
 use Rattle.host_cli.specs.Promises.{ShowsAnswer}
 
 -- the line of a switching

@@ -11,9 +11,9 @@ use Rattle.session_run.specs.declared.ended.Report.{Report}
 use Rattle.host_cli.specs.declared.answer.Answer.{Answer}
 use Rattle.host_cli.specs.Answers.{EndsWith}
 use Rattle.host_cli.specs.Counts.{summary}
-use Rattle.report_laws.specs.Read.{no_scene}
+use Rattle.laws_report.specs.reports.Read.{no_scene}
 use Rattle.host_cli.specs.Promises.{EndsAlone, ShowsLines}
-use Rattle.report_laws.specs.Linked.{IsLinkReport}
+use Rattle.laws_report.specs.reports.Linked.{IsLinkReport}
 
 -- Counts and links of a run over links: the counts are those of the pulses that its lines show, as they were written to an output that
 -- keeps none. It is a run of the text of a load on its own printer, in the scene without entries and without switches.

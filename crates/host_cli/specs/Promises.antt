@@ -9,7 +9,7 @@ use Rattle.report_text.specs.declared.line.ReportLine.TheVariants as report
 use Rattle.session_run.specs.declared.ended.Report.{Report}
 use Rattle.session_run.specs.Ends.{IsBare}
 use Rattle.session_run.specs.Reported.{GivenFor, with_failure}
-use Rattle.report_laws.specs.Promises.{WritesText}
+use Rattle.laws_report.specs.reports.Promises.{WritesText}
 
 -- nothing but the end line of a cause; or nothing at all, for want of memory for it
 abbrev pub IsAlone : Cause → List ReportLine → Type 0

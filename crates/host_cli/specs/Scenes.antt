@@ -10,7 +10,7 @@ use Rattle.wire_scene.specs.declared.fault.SceneFault.TheVariants as fault
 use Rattle.wire_scene.specs.declared.scene.Scene.{Scene}
 use Rattle.wire_scene.specs.Reading as scenes
 use Rattle.host_cli.specs.Promises.{IsCut}
-use Rattle.report_laws.specs.Linked.{IsLinkReport}
+use Rattle.laws_report.specs.reports.Linked.{IsLinkReport}
 
 -- Links: the report is that of a run of the planner, a link for each board and the reactor, over this file of G-code; or there is
 -- an end line alone, of want of memory or of a file that can't be read.

@@ -9,7 +9,7 @@ ghost use Rattle.plan_types.specs.declared.cause.CfgKind.{CfgKind};
 ghost use Rattle.plan_types.specs.declared.machine.Machine.{Machine};
 ghost use Rattle.plan_types.specs.Machines.{IsValidMachine};
 ghost use Rattle.host_cli.specs.Answers.{IsRefusal, IsRun};
-ghost use Rattle.report_laws.specs.Checks.{check_cause, check_lines};
+ghost use Rattle.laws_report.specs.reports.Checks.{check_cause, check_lines};
 ghost use Rattle.host_cli.specs.Checks.{IsCheckAnswer, ShowsCheck};
 ghost use Rattle.host_cli.specs.Promises.{IsRefused};
 ghost use Rattle.host_cli.specs.Traffic.{EndsCleanly};

@@ -10,7 +10,7 @@ ghost use Rattle.plan_types.specs.declared.machine.FanDef.{FanDef};
 ghost use Rattle.plan_types.specs.declared.machine.Machine.{Machine};
 ghost use Rattle.plan_types.specs.Machines.{IsValidMachine, board_at};
 ghost use Rattle.host_cli.specs.Answers.{EndsWith, IsRefusal, IsRun};
-ghost use Rattle.report_laws.specs.Body.{cause_of};
+ghost use Rattle.laws_report.specs.reports.Body.{cause_of};
 ghost use Rattle.host_cli.specs.Fans.{IsFanAnswer, ShowsFan, fan_lines, out_line};
 ghost use Rattle.host_cli.specs.Promises.{IsRefused};
 ghost use Rattle.host_cli.specs.Traffic.{EndsCleanly};

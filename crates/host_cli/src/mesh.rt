@@ -14,7 +14,7 @@ ghost use Rattle.plan_types.specs.declared.machine.Machine.{Machine};
 ghost use Rattle.plan_types.specs.Machines.{IsValidMachine};
 ghost use Rattle.report_text.specs.Written.{WritesAll, WritesFront};
 ghost use Rattle.bed_mesh.specs.Files.{mesh_code, mesh_end};
-ghost use Rattle.report_laws.specs.Body.{cause_of};
+ghost use Rattle.laws_report.specs.reports.Body.{cause_of};
 ghost use Rattle.host_cli.specs.Meshes.{IsMeshIn, IsTableFault, ShowsMarked, WritesMarked, mark, marked};
 ghost use Rattle.host_cli.specs.Traffic.{EndsCleanly};
 ghost use Rattle.session_run.specs.Ends.{status_of};

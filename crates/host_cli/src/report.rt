@@ -1,7 +1,7 @@
 //! The cause at the end of a report.
 
 ghost use Rattle.std.specs.Prelude.{◌≡◌};
-ghost use Rattle.report_laws.specs.Body.{cause_of};
+ghost use Rattle.laws_report.specs.reports.Body.{cause_of};
 
 use plan_types::{Cause, ReadStop};
 

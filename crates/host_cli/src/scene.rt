@@ -4,9 +4,9 @@
 ghost use Rattle.std.specs.Prelude.{◌≡◌, ◌≢◌, ◌⊎◌, ℕ, List, Some, Ok, Err, IfOk, IfErr, IfSome, OnOk, OnErr, map, string_bytes};
 ghost use Rattle.cfg_lines.specs.declared.fault.CfgFault.TheVariants.{At};
 ghost use Rattle.cfg_text.specs.Reading.{reading};
-ghost use Rattle.cause_runs.specs.Short.{HaveShortDictionaries};
+ghost use Rattle.laws_board.specs.causes.Short.{HaveShortDictionaries};
 ghost use Rattle.host_cli.specs.Answers.{IsRunCause};
-ghost use Rattle.report_laws.specs.Read.{no_scene};
+ghost use Rattle.laws_report.specs.reports.Read.{no_scene};
 ghost use Rattle.host_cli.specs.Promises.{EndsFor, IsRefused};
 ghost use Rattle.host_cli.specs.Scenes.{IsSceneFault, IsSceneIn, ShowsRun};
 ghost use Rattle.io_core.specs.Faults.{Rose};

@@ -1,6 +1,6 @@
 use Rattle.log_check.proofs.Judged.{judged}
-use Rattle.report_laws.specs.Promises.{sections_over}
-use Rattle.report_laws.specs.Checks.{check_cause}
+use Rattle.laws_report.specs.reports.Promises.{sections_over}
+use Rattle.laws_report.specs.reports.Checks.{check_cause}
 use Rattle.host_cli.proofs.Checked.{judged-read, judged-run, judged-write}
 use Rattle.host_cli.proofs.check.check_text.Goals as goal
 

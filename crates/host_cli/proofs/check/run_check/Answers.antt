@@ -1,5 +1,5 @@
 use Rattle.plan_types.specs.declared.cause.Cause.TheVariants as cause
-use Rattle.report_laws.specs.Checks.{check_cause, check_lines}
+use Rattle.laws_report.specs.reports.Checks.{check_cause, check_lines}
 use Rattle.host_cli.proofs.Whole.{answer-shown, cleanly, refusal-shown, written-text}
 use Rattle.host_cli.proofs.check.run_check.Goals as goal
 

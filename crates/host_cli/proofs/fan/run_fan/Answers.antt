@@ -1,6 +1,6 @@
 use Rattle.plan_types.specs.declared.cause.Cause.TheVariants as cause
 use Rattle.gcode_program.specs.Programs.{program_end}
-use Rattle.report_laws.specs.Body.{cause_of}
+use Rattle.laws_report.specs.reports.Body.{cause_of}
 use Rattle.host_cli.specs.Fans.{fan_lines}
 use Rattle.host_cli.proofs.Whole.{answer-shown, cleanly, refusal-shown, written-text}
 use Rattle.host_cli.proofs.fan.run_fan.Goals as goal

@@ -1,6 +1,6 @@
 use Rattle.std.proofs.Common.{◌∙◌, ℕ, List, inl, subst}
 use Rattle.bed_mesh.specs.Files.{mesh_code, mesh_end}
-use Rattle.report_laws.specs.Body.{cause_of}
+use Rattle.laws_report.specs.reports.Body.{cause_of}
 use Rattle.host_cli.proofs.Bedded.{shown-file}
 use Rattle.host_cli.proofs.Cuts.{text-cut}
 use Rattle.host_cli.proofs.mesh.over_bed.Goals as goal

@@ -2,7 +2,7 @@ use Rattle.std.proofs.Common.{◌≡◌, ◌∙◌, inl, inr, refl, sym, subst}
 use Rattle.plan_types.specs.declared.cause.Cause.{Cause}
 use Rattle.plan_types.specs.declared.cause.Cause.TheVariants as cause
 use Rattle.host_cli.specs.Answers.{IsRunCause}
-use Rattle.report_laws.specs.Promises.{IsCauseOf}
+use Rattle.laws_report.specs.reports.Promises.{IsCauseOf}
 use Rattle.host_cli.proofs.Scened.{shows-from, stop-shows}
 use Rattle.host_cli.proofs.Whole.{fault-machine, for-cause}
 use Rattle.host_cli.proofs.scene.run_on.Goals as goal

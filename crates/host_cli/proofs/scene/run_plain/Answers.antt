@@ -3,9 +3,9 @@ use Rattle.plan_types.specs.declared.cause.Cause.TheVariants as cause
 use Rattle.plan_types.specs.declared.machine.Machine.{Machine}
 use Rattle.wire_scene.specs.declared.scene.Scene.{Scene}
 use Rattle.host_cli.specs.Answers.{IsRunCause}
-use Rattle.report_laws.specs.Read.{no_scene}
-use Rattle.cause_runs.specs.Short.{HaveShortDictionaries}
-use Rattle.cause_runs.proofs.ShortNames.{short_dictionaries}
+use Rattle.laws_report.specs.reports.Read.{no_scene}
+use Rattle.laws_board.specs.causes.Short.{HaveShortDictionaries}
+use Rattle.laws_board.proofs.causes.ShortNames.{short_dictionaries}
 use Rattle.host_cli.specs.Scenes.{ShowsRun}
 use Rattle.host_cli.proofs.Scened.{config-machine, config-refused, empty-scene, machine-named, machine-shows, machine-unwritten, no-machine, one-machine, shows-from, valid-empty}
 use Rattle.host_cli.proofs.Whole.{for-cause}

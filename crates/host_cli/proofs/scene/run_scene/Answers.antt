@@ -3,8 +3,8 @@ use Rattle.plan_types.specs.declared.cause.Cause.TheVariants as cause
 use Rattle.plan_types.specs.declared.machine.Machine.{Machine}
 use Rattle.wire_scene.specs.declared.fault.SceneFault.TheVariants as fault
 use Rattle.wire_scene.specs.Reading as scenes
-use Rattle.cause_runs.specs.Short.{HaveShortDictionaries}
-use Rattle.cause_runs.proofs.ShortNames.{short_dictionaries}
+use Rattle.laws_board.specs.causes.Short.{HaveShortDictionaries}
+use Rattle.laws_board.proofs.causes.ShortNames.{short_dictionaries}
 use Rattle.host_cli.specs.Scenes.{ShowsRun}
 use Rattle.host_cli.proofs.Scened.{config-refused, machine-named, machine-shows, machine-unread, machine-unwritten, no-machine, one-machine, shows-from}
 use Rattle.host_cli.proofs.Whole.{for-cause}

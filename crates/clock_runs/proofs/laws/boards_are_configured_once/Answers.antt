@@ -1,9 +1,0 @@
-use Rattle.clock_runs.proofs.Configured.{all_configured, configured_before, some_configured}
-use Rattle.clock_runs.proofs.laws.boards_are_configured_once.Goals as goal
-
-pub returns : goal.returns
-returns c = record {
-  front = some_configured;
-  before = configured_before;
-  whole = all_configured;
-}

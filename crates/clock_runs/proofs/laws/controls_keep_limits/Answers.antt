@@ -1,9 +1,0 @@
-use Rattle.clock_runs.proofs.Limits.{control_bytes, control_closing, plain_bytes}
-use Rattle.clock_runs.proofs.laws.controls_keep_limits.Goals as goal
-
-pub returns : goal.returns
-returns c = record {
-  plain = plain_bytes;
-  all = control_bytes;
-  closing = control_closing;
-}

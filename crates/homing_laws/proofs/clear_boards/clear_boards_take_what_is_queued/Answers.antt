@@ -1,5 +1,0 @@
-use Rattle.homing_laws.proofs.clear_boards.Taking.{takes_in_turn}
-use Rattle.homing_laws.proofs.clear_boards.clear_boards_take_what_is_queued.Goals as goal
-
-pub returns : goal.returns
-returns c = λ b pins place entries t before e are limits. takes_in_turn b pins place entries t before e are limits

@@ -1,5 +1,0 @@
-use Rattle.homing_laws.proofs.home_runs.Spelled.{same_kind, state_told}
-use Rattle.homing_laws.proofs.clear_boards.told_states_are_said.Goals as goal
-
-pub returns : goal.returns
-returns c = record { kind = λ c told t. same_kind c told t; same = λ a b r k oid can reason clock la lb lr lk t. state_told a b r k oid can reason clock la lb lr lk t }

@@ -1,5 +1,0 @@
-use Rattle.homing_laws.proofs.clear_groups.Noted.{states_of_turn}
-use Rattle.homing_laws.proofs.clear_groups.states_come_a_turn_later.Goals as goal
-
-pub returns : goal.returns
-returns g = λ m switches pins entries c before all have runs. states_of_turn m switches pins entries c before all have runs

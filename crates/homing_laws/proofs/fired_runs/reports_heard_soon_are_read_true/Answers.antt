@@ -1,5 +1,0 @@
-use Rattle.homing_laws.proofs.fired_runs.Heard.{soon_true}
-use Rattle.homing_laws.proofs.fired_runs.reports_heard_soon_are_read_true.Goals as goal
-
-pub returns : goal.returns
-returns g = soon_true

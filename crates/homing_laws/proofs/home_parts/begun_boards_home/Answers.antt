@@ -1,5 +1,0 @@
-use Rattle.homing_laws.proofs.home_parts.Cut.{cuts_soon, home_run}
-use Rattle.homing_laws.proofs.home_parts.begun_boards_home.Goals as goal
-
-pub returns : goal.returns
-returns c = record { run = home_run; released = cuts_soon }

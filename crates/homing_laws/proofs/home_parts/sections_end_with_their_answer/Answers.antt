@@ -1,5 +1,0 @@
-use Rattle.homing_laws.proofs.home_parts.Ends.{ends_low, ends_told, waits_silent}
-use Rattle.homing_laws.proofs.home_parts.sections_end_with_their_answer.Goals as goal
-
-pub returns : goal.returns
-returns c = record { known = ends_low; answer = ends_told; before = waits_silent }

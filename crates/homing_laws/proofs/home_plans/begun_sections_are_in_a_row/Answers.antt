@@ -1,5 +1,0 @@
-use Rattle.homing_laws.proofs.home_plans.Noting.{begun_row}
-use Rattle.homing_laws.proofs.home_plans.begun_sections_are_in_a_row.Goals as goal
-
-pub returns : goal.returns
-returns c = begun_row

@@ -1,5 +1,0 @@
-use Rattle.homing_laws.proofs.home_runs.Clocking.{clocks_set}
-use Rattle.homing_laws.proofs.home_runs.clocks_are_set_in_time.Goals as goal
-
-pub returns : goal.returns
-returns c = clocks_set

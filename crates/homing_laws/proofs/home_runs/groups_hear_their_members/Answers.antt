@@ -1,5 +1,0 @@
-use Rattle.homing_laws.proofs.home_runs.Grouped.{answered_told}
-use Rattle.homing_laws.proofs.home_runs.groups_hear_their_members.Goals as goal
-
-pub returns : goal.returns
-returns c = answered_told

@@ -1,5 +1,0 @@
-use Rattle.homing_laws.proofs.home_runs.Resting.{rests_set_up}
-use Rattle.homing_laws.proofs.home_runs.links_that_rest_take_the_set_up.Goals as goal
-
-pub returns : goal.returns
-returns c = rests_set_up

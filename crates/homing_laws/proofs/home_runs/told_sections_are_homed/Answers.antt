@@ -1,5 +1,0 @@
-use Rattle.homing_laws.proofs.home_runs.Homed.{told_homed}
-use Rattle.homing_laws.proofs.home_runs.told_sections_are_homed.Goals as goal
-
-pub returns : goal.returns
-returns c = told_homed

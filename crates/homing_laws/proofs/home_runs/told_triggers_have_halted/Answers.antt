@@ -1,5 +1,0 @@
-use Rattle.homing_laws.proofs.home_runs.Windows.{told_halts}
-use Rattle.homing_laws.proofs.home_runs.told_triggers_have_halted.Goals as goal
-
-pub returns : goal.returns
-returns c = told_halts

@@ -1,0 +1,50 @@
+-- The dictionaries of a configuration's boards are short: nothing in a pin's name is escaped.
+use Rattle.std.proofs.Common.{◌≡◌, ℕ, ◌<◌, ◌≤◌, ◌++◌, ◌&&◌, nat_lt, nat_le, true, false, List, [], ◌∷◌, length, Ok, refl, sym, ap, ◌∙◌, inl, inr, arith, length-append}
+use Rattle.std.specs.List.{list_all}
+use Rattle.std.proofs.lemmas.Bool.{agree_below_at, and_parts, cases_lt, false≢true, leb-true}
+use Rattle.json.specs.Print.{escape, escape_byte, quoted}
+use Rattle.json.proofs.Printed.Strings.{escape_byte_plain}
+use Rattle.plan_types.specs.declared.machine.Machine.{Machine}
+use Rattle.plan_types.specs.Machines.{board_at}
+use Rattle.board_sim.specs.Board.{new_controller}
+use Rattle.cfg_lines.specs.Values.{is_pin_byte, is_pin_name}
+use Rattle.cfg_text.specs.Reading.{reading}
+use Rattle.laws_board.specs.causes.Short.{HaveShortDictionaries}
+use Rattle.laws_board.proofs.causes.ConfiguredBoards.{AreShortNames, boards_small}
+use Rattle.laws_board.proofs.causes.DictionaryText.{AreShort, short_text}
+
+-- a pin's byte stands for itself
+none_below : (b : ℕ) → is_pin_byte b ≡ true → b < 45 → ⊥
+none_below b e below = false≢true (sym (agree_below_at is_pin_byte (λ _. false) 45 b refl below) ∙ e)
+
+no_backslash : (b : ℕ) → is_pin_byte b ≡ true → b ≡ 92 → ⊥
+no_backslash b e same = false≢true (sym (ap is_pin_byte same) ∙ e)
+
+byte_kept : (b : ℕ) → is_pin_byte b ≡ true → escape_byte b ≡ b ∷ []
+byte_kept b e = elim (cases_lt b 45) [
+  | inl below ↦ absurd (none_below b e below)
+  | inr above ↦ escape_byte_plain b (λ same. omega arith) (no_backslash b e) (omega arith)
+]
+
+name_kept : (name : List ℕ) → list_all is_pin_byte name ≡ true → escape name ≡ name
+name_kept [] e = refl
+name_kept (b ∷ name) e =
+    let parts = and_parts (is_pin_byte b) (list_all is_pin_byte name) e in
+    ap (λ (l : List ℕ). l ++ escape name) (byte_kept b parts.0) ∙ ap (λ (l : List ℕ). b ∷ l) (name_kept name parts.1)
+
+name_short : (name : List ℕ) → is_pin_name name ≡ true → length (quoted name) ≤ 18
+name_short name e =
+    let parts = and_parts (nat_lt 0 (length name) && nat_le (length name) 16) (list_all is_pin_byte name) e in
+    let few = leb-true (length name) 16 (and_parts (nat_lt 0 (length name)) (nat_le (length name) 16) parts.0).1 in
+    let kept = ap length (name_kept name parts.1) in
+    omega (arith, few, kept, length-append (escape name) (34 ∷ []))
+
+names_short : (names : List (List ℕ)) → AreShortNames names → AreShort names
+names_short [] h = tt
+names_short (name ∷ names) h = (name_short name h.0, names_short names h.1)
+
+pub short_dictionaries : (text : List ℕ) (m : Machine) → reading text ≡ Ok m → HaveShortDictionaries m
+unfolding new_controller
+short_dictionaries text m e b below =
+    let small = boards_small text m e b below in
+    short_text (board_at m b) small.freq small.few (names_short (board_at m b).pins small.short)

@@ -1,0 +1,53 @@
+-- The clock lines of a board that a planner was told.
+use Rattle.std.proofs.Common.{◌≡◌, ℕ, zero, suc, ◌+◌, ◌^◌, ◌<◌, List, [], ◌∷◌, length, set, get_or, Option, None, Some, refl, sym, ◌∙◌, subst, arith}
+use Rattle.plan_types.specs.declared.machine.Machine.{Machine}
+use Rattle.plan_types.specs.declared.plan.Line.{Line}
+use Rattle.plan_types.specs.Lines.{Clocks, last_from}
+use Rattle.plan_types.specs.Sections.{clocks_at}
+use Rattle.clock_line.specs.Kept.{AreKept, added}
+use Rattle.msg_code.specs.declared.talk.NoteNews.{NoteNews}
+use Rattle.msg_code.specs.declared.talk.NoteNews.TheVariants as news
+use Rattle.section_feed.specs.Boards.{most_ns}
+use Rattle.motion_work.specs.Further.{noted_line, noted_lines, told_on}
+use Rattle.motion_work.specs.Told.{Told}
+use Rattle.session_work.specs.declared.table.MotionTurn.{MotionTurn}
+use Rattle.laws_board.specs.plans.Planned.{AllInRange, AreKnown, BeginInRange, Plans, heard_in, told_of}
+
+-- The clock lines of a board hold one after the other, from times of the next 500 years on.
+pub record AreLasting (clocks : List Clocks) (b : ℕ) : Type 0 where
+  pub inside : b < length clocks
+  pub kept : AreKept (clocks_at clocks b)
+  pub soon : last_from 0 (clocks_at clocks b).held < most_ns
+
+-- a further line leaves the first line of each board
+first_set : (clocks : List Clocks) (k b : ℕ) (x d : Clocks) → x.first ≡ (get_or clocks k d).first → (get_or (set clocks k x) b d).first ≡ (get_or clocks b d).first
+first_set [] k b x d same = refl
+first_set (c ∷ clocks) zero zero x d same = same
+first_set (c ∷ clocks) zero (suc b) x d same = refl
+first_set (c ∷ clocks) (suc k) zero x d same = refl
+first_set (c ∷ clocks) (suc k) (suc b) x d same = first_set clocks k b x d same
+
+first_noted : (ns : List NoteNews) (clocks : List Clocks) (b : ℕ) → (clocks_at (noted_lines ns clocks) b).first ≡ (clocks_at clocks b).first
+first_noted [] clocks b = refl
+first_noted (news.Line board line from ∷ ns) clocks b = first_noted ns (noted_line board line from clocks) b ∙ first_set clocks board b (added (clocks_at clocks board) from line) _ refl
+first_noted (n ∷ ns) clocks b = first_noted ns clocks b
+
+range_on : (m : Machine) (ns : List NoteNews) (o : Option Told) → BeginInRange m o → BeginInRange m (told_on ns o)
+range_on m ns None h = h
+range_on m ns (Some t) h = λ b low. subst (λ (x : Line). x.clock < 2 ^ 62) (sym (first_noted ns t.clocks b)) (h b low)
+
+range_of : (m : Machine) (k : ℕ) (ts : List MotionTurn) (o : Option Told) → BeginInRange m o → AllInRange m k ts o → BeginInRange m (told_of m k ts o)
+range_of m k [] o h all = h
+range_of m k (t ∷ ts) o h all = range_of m (k + 1) ts (told_on t.note.news (heard_in m k t.words o)) (range_on m t.note.news (heard_in m k t.words o) all.0) all.1
+
+pub lines_last : (m : Machine) (n : ℕ) (ts : List MotionTurn) (p : Plans m n ts) (t : Told) (b : ℕ) → p.seen.told ≡ Some t → b < length m.boards → AreLasting t.clocks b
+lines_last m n ts p t b told small =
+    let known = subst (AreKnown m) told p.known in
+    let count = known.0.count in
+    let range = subst (BeginInRange m) (sym p.told_is ∙ told) (range_of m 0 p.made None tt p.in_range) in
+    let early = range b small in
+    record {
+      inside = omega (arith, count, small);
+      kept = known.1 b small early;
+      soon = (known.0.lasting b small early).soon;
+    }

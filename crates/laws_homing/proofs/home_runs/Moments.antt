@@ -1,0 +1,491 @@
+-- What a board tells of triggers that can trigger is of moments at which they could.
+use Rattle.std.proofs.Common.{◌≡◌, ℕ, zero, suc, ◌+◌, ◌-◌, ◌*◌, ◌/◌, ◌%◌, ◌^◌, ◌<◌, ◌≤◌, ◌==◌, Bool, true, false, List, [], ◌∷◌, get_or, set, Option, Some, None, refl, ap, sym, ◌∙◌, subst, arith, ◌⊎◌, inl, inr}
+use Rattle.std.specs.Prelude.{if◌then◌else◌, slice_index_or, nat_lt}
+use Rattle.std.proofs.lemmas.List.{get_or-set_same}
+use Rattle.std.proofs.lemmas.Bool.Decides.{nat_tests}
+use Rattle.plan_types.specs.declared.levels.Level.{Level}
+use Rattle.plan_types.specs.declared.plan.BoardState.{BoardState}
+use Rattle.plan_types.specs.declared.plan.BoardState.TheVariants.{Running, Shut}
+use Rattle.plan_types.specs.Board.{nearest}
+use Rattle.board_step.specs.Steps.{Pending}
+use Rattle.board_trig.specs.declared.sampling.Homing.{Homing}
+use Rattle.board_trig.specs.declared.trigger.Trigger.{Trigger}
+use Rattle.board_trig.specs.declared.trigger.Happening.{Happening}
+use Rattle.board_trig.specs.declared.trigger.Happening.TheVariants.{Nothing, Expires, Switches, Reports}
+use Rattle.board_trig.specs.Trigger as trig
+use Rattle.board_trig.specs.Kept.{MovesOn}
+use Rattle.board_trig.specs.Nexts.{ExpiresAt, IsNextOf, SwitchesAt}
+use Rattle.board_trig.proofs.Nexts.{is_next}
+use Rattle.msg_code.specs.declared.cmd.Cmd.{Cmd}
+use Rattle.msg_code.specs.declared.cmd.Cmd.TheVariants as cmd
+use Rattle.board_sim.specs.Board.{bit, stepper_at}
+use Rattle.board_sim.specs.Rig.{Passed, Rig, Slot, acts, acts_running, all_left, at_of, becomes, bind, earliest, expires_at_once, goes_on, happens, happens_to, home, make_endstop, make_trigger, pass, passes_by, rested, rests_to, runs_to, set_timeout, slot_at, start, takes, told, trigger}
+use Rattle.board_sim.specs.RigRuns.{AllSound, IsSound}
+use Rattle.board_sim.proofs.Bound.{map_at, one_slot, same_or_not, set_other, slot_range}
+use Rattle.board_sim.proofs.Halting.{quiet_moves, quiet_switch}
+use Rattle.board_sim.proofs.Passing.{finishes}
+use Rattle.board_sim.proofs.RigStates.{all_tick}
+use Rattle.board_sim.proofs.Sound.{sound_regular}
+use Rattle.laws_board.proofs.clocks.Answers.{Each, each_both}
+use Rattle.laws_homing.specs.home_runs.Moments.{CouldAt}
+use Rattle.laws_homing.proofs.clear_boards.Held.{at_set, rested_is}
+use Rattle.laws_homing.proofs.clear_boards.Reports.{reports_told}
+
+-- A trigger, while time passes: if it triggers, then at this tick or later; and its next report is at another one or
+-- later.
+pub record IsLate (x low : ℕ) (pins : List (List Level)) (s : Slot) : Type 0 where
+  pub told : s.trigger.untold ≡ None
+  pub moves : MovesOn s.trigger.sampling
+  pub timeout : (y : ℕ) → ExpiresAt s.trigger y → x ≤ y
+  pub switch : (y : ℕ) → SwitchesAt (slice_index_or pins s.pin []) s.trigger y → x ≤ y
+  pub fired : s.trigger.can ≡ false → x ≤ s.trigger.tick
+  pub due : (y : ℕ) → s.trigger.report ≡ Some y → low ≤ y
+
+-- an answer that tells of a trigger that it can trigger tells of a tick of which this holds
+abbrev pub IsMoment : (ℕ → ℕ → Type 0) → Cmd → Type 0
+IsMoment P (cmd.TrsyncState oid can reason clock) = (can ≡ 0 → ⊥) → (x : ℕ) × P oid x × (clock ≡ x % 2 ^ 32)
+IsMoment P c = Unit {0}
+
+moments_more : (P Q : ℕ → ℕ → Type 0) (cs : List Cmd) → ((o x : ℕ) → P o x → Q o x) → Each (IsMoment P) cs
+    → Each (IsMoment Q) cs
+moments_more P Q [] f k = tt
+moments_more P Q (c ∷ cs) f k = (one c k.0, moments_more P Q cs f k.1)
+  where
+    one : (c : Cmd) → IsMoment P c → IsMoment Q c
+    one (cmd.TrsyncState oid can reason clock) m = λ able. let y = m able in (y.0, f oid y.0 y.1, y.2)
+    one c m = tt
+
+abbrev then_of : Slot → List (List Level) → ℕ → Happening → Slot
+then_of s pins until e = record s { trigger = (trig.happened (slice_index_or pins s.pin []) until e s.trigger).trigger }
+
+happened_late : (x low until : ℕ) (pins : List (List Level)) (e : Happening) (s : Slot)
+    → IsNextOf (slice_index_or pins s.pin []) until s.trigger e
+    → IsLate x low pins s → IsLate x low pins (then_of s pins until e)
+happened_late x low until pins Nothing s next k = record {
+  told = k.told;
+  moves = quiet_moves s.trigger.sampling (slice_index_or pins s.pin []) until k.moves;
+  timeout = k.timeout;
+  switch = λ y (z, can, is, at). let old = quiet_switch s.trigger.sampling (slice_index_or pins s.pin []) until z y is at in k.switch y (old.0, can, old.1, old.2);
+  fired = k.fired;
+  due = k.due;
+}
+happened_late x low until pins (Expires at) s next k = record {
+  told = k.told;
+  moves = tt;
+  timeout = λ y e. absurd (cc);
+  switch = λ y (z, can, is, there). absurd (cc);
+  fired = λ f. k.timeout at next.0;
+  due = k.due;
+}
+happened_late x low until pins (Switches at) s next k = record {
+  told = k.told;
+  moves = tt;
+  timeout = λ y e. absurd (cc);
+  switch = λ y (z, can, is, there). absurd (cc);
+  fired = λ f. k.switch at next.0;
+  due = k.due;
+}
+happened_late x low until pins (Reports at) s next k = record {
+  told = k.told;
+  moves = k.moves;
+  timeout = k.timeout;
+  switch = k.switch;
+  fired = k.fired;
+  due = λ y e. (let same : at + s.trigger.every ≡ y = cc in let far = k.due at next.0 in omega (arith, same, far));
+}
+
+-- what is told then
+bit_one : (b : Bool) → (bit b ≡ 0 → ⊥) → b ≡ true
+bit_one true n = refl
+bit_one false n = absurd (n refl)
+
+clock_there : (can : Bool) (at tick : ℕ) → can ≡ true → (if can then at else tick) % 2 ^ 32 ≡ at % 2 ^ 32
+clock_there true at tick e = refl
+clock_there false at tick e = cc
+
+abbrev SaidThen : ℕ → ℕ → ℕ → List (List Level) → Slot → (ℕ → ℕ → Type 0)
+SaidThen oid low until pins s o x = (o ≡ oid) × (low ≤ x) × (x < until) × IsLate x low pins s
+
+happened_says : (oid low until : ℕ) (pins : List (List Level)) (e : Happening) (s : Slot)
+    → IsNextOf (slice_index_or pins s.pin []) until s.trigger e → IsLate 0 low pins s
+    → Each (IsMoment (SaidThen oid low until pins (then_of s pins until e)))
+    (told oid (trig.happened (slice_index_or pins s.pin []) until e s.trigger).event)
+happened_says oid low until pins Nothing s next k = tt
+happened_says oid low until pins (Expires at) s next k = ((λ no. absurd (no refl)), tt)
+happened_says oid low until pins (Switches at) s next k = ((λ no. absurd (no refl)), tt)
+happened_says oid low until pins (Reports at) s next k = (
+  λ able. (
+      let can = bit_one s.trigger.can able in
+      let from = k.due at next.0 in
+      let now : IsLate at low pins (then_of s pins until (Reports at)) = record {
+        told = k.told;
+        moves = k.moves;
+        timeout = λ y e. (let far = next.2 y e in omega (arith, far));
+        switch = λ y e. (let far = next.3 y e in omega (arith, far));
+        fired = λ f. absurd (let bad : true ≡ false = sym can ∙ f in cc);
+        due = λ y e. (let same : at + s.trigger.every ≡ y = cc in omega (arith, same, from));
+      } in (at, (refl, from, next.1, now), clock_there s.trigger.can at s.trigger.tick can)),
+  tt,
+)
+
+-- all that is told is told at once
+abbrev next_of : Slot → List (List Level) → ℕ → Slot
+next_of s pins until = record s { trigger = (trig.advanced (slice_index_or pins s.pin []) until s.trigger).trigger }
+
+told_late : (o : Option ℕ) (x low until : ℕ) (pins : List (List Level)) (s : Slot) → s.trigger.untold ≡ o
+    → IsLate x low pins s
+    → IsLate x low pins (record s { trigger = (trig.tells o (slice_index_or pins s.pin []) until s.trigger).trigger })
+told_late None x low until pins s e k =
+    let levels = slice_index_or pins s.pin [] in
+    happened_late x low until pins (trig.next levels until s.trigger) s (is_next levels until s.trigger k.moves) k
+told_late (Some n) x low until pins s e k = absurd (let bad : None ≡ Some n = sym k.told ∙ e in cc)
+
+told_says : (o : Option ℕ) (oid low until : ℕ) (pins : List (List Level)) (s : Slot) → s.trigger.untold ≡ o
+    → IsLate 0 low pins s
+    → Each (IsMoment (SaidThen oid low until pins (record s { trigger = (trig.tells o (slice_index_or pins s.pin []) until s.trigger).trigger })))
+    (told oid (trig.tells o (slice_index_or pins s.pin []) until s.trigger).event)
+told_says None oid low until pins s e k =
+    let levels = slice_index_or pins s.pin [] in
+    happened_says oid low until pins (trig.next levels until s.trigger) s (is_next levels until s.trigger k.moves) k
+told_says (Some n) oid low until pins s e k = absurd (let bad : None ≡ Some n = sym k.told ∙ e in cc)
+
+-- the trigger at an id; and all of a board
+pub record LateAt (o x low : ℕ) (r : Rig) : Type 0 where
+  slot : Slot
+  is : slot_at r o ≡ Some slot
+  late : IsLate x low r.pins slot
+
+abbrev pub AllLate : ℕ → Rig → Type 0
+AllLate low r = (oid : ℕ) (s : Slot) → slot_at r oid ≡ Some s → IsLate 0 low r.pins s
+
+happens_late : (o x low until k : ℕ) (r : Rig) (c : Option Slot) → slot_at r k ≡ c → LateAt o x low r
+    → LateAt o x low (happens_to r until k c).rig
+happens_late o x low until k r None e h = h
+happens_late o x low until k r (Some s) e h =
+    let q = becomes r k s (trig.advanced (slice_index_or r.pins s.pin []) until s.trigger).trigger in
+    elim (same_or_not k o) [
+      | inl same ↦
+          let own : h.slot ≡ s = one_slot (slot_at r o) h.slot s h.is (subst (λ (n : ℕ). slot_at r n ≡ Some s) same e) in
+          record {
+            slot = next_of s r.pins until;
+            is = subst (λ (n : ℕ). slot_at q n ≡ Some (next_of s r.pins until)) same (get_or-set_same r.triggers k (Some (next_of s r.pins until)) None (slot_range r.triggers k s e));
+            late = told_late s.trigger.untold x low until r.pins s refl (subst (IsLate x low r.pins) own h.late);
+          }
+      | inr other ↦ record { slot = h.slot; is = set_other r q o k (Some (next_of s r.pins until)) refl other ∙ h.is; late = h.late }
+    ]
+
+one_late : (low : ℕ) (pins : List (List Level)) (u s : Slot) (before : Option Slot) → IsLate 0 low pins u
+    → (before ≡ Some s → IsLate 0 low pins s) → (s ≡ u) ⊎ (before ≡ Some s) → IsLate 0 low pins s
+one_late low pins u s before here others (inl e) = subst (IsLate 0 low pins) (sym e) here
+one_late low pins u s before here others (inr e) = others e
+
+happens_all : (low until k : ℕ) (r : Rig) (c : Option Slot) → slot_at r k ≡ c → AllLate low r
+    → AllLate low (happens_to r until k c).rig
+happens_all low until k r None e all = all
+happens_all low until k r (Some s) e all = λ oid u at.
+    let next = next_of s r.pins until in
+    one_late low r.pins next u (get_or r.triggers oid None) (told_late s.trigger.untold 0 low until r.pins s refl (all k s e)) (all oid u) (at_set r.triggers k oid next u at (same_or_not oid k))
+
+happens_says : (low until k : ℕ) (r : Rig) (c : Option Slot) → slot_at r k ≡ c → AllLate low r
+    → Each (IsMoment (λ o x. (low ≤ x) × (x < until) × LateAt o x low (happens_to r until k c).rig))
+    (happens_to r until k c).answers
+happens_says low until k r None e all = tt
+happens_says low until k r (Some s) e all =
+    let next = next_of s r.pins until in
+    let q = becomes r k s (trig.advanced (slice_index_or r.pins s.pin []) until s.trigger).trigger in
+    let Then : ℕ → ℕ → Type 0 = λ o x. (low ≤ x) × (x < until) × LateAt o x low q in
+    moments_more (SaidThen k low until r.pins next) Then (told k (trig.advanced (slice_index_or r.pins s.pin []) until s.trigger).event)
+    (λ o x y. (
+      y.1,
+      y.2,
+      record {
+        slot = next;
+        is = subst (λ (n : ℕ). slot_at q n ≡ Some next) (sym y.0) (get_or-set_same r.triggers k (Some next) None (slot_range r.triggers k s e));
+        late = y.3;
+      },
+    ))
+    (told_says s.trigger.untold k low until r.pins s refl (all k s e))
+
+rests_late : (o x low t : ℕ) (r : Rig) → LateAt o x low r → LateAt o x low (rests_to r t).rig
+rests_late o x low t r h = record {
+  slot = then_of h.slot r.pins t Nothing;
+  is = map_at (rested r.pins t) r.triggers o refl ∙ ap (λ (c : Option Slot). rested r.pins t c) h.is;
+  late = quiet_late x low t r.pins h.slot h.late;
+}
+  where
+    quiet_late : (x low t : ℕ) (pins : List (List Level)) (s : Slot) → IsLate x low pins s
+        → IsLate x low pins (then_of s pins t Nothing)
+    quiet_late x low t pins s k = record {
+      told = k.told;
+      moves = quiet_moves s.trigger.sampling (slice_index_or pins s.pin []) t k.moves;
+      timeout = k.timeout;
+      switch = λ y (z, can, is, at). let old = quiet_switch s.trigger.sampling (slice_index_or pins s.pin []) t z y is at in k.switch y (old.0, can, old.1, old.2);
+      fired = k.fired;
+      due = k.due;
+    }
+
+goes_by : (P : Passed → Type 0) (c : Option (ℕ × ℕ)) (x y : Passed) → P x → P y → P (goes_on c x y)
+goes_by P None x y k l = k
+goes_by P (Some at) x y k l = l
+
+pass_late : (n o x low t : ℕ) (r : Rig) → LateAt o x low r → LateAt o x low (pass n r t).rig
+pass_late zero o x low t r h = h
+pass_late (suc n) o x low t r h =
+    let next = earliest r t 0 r.triggers in
+    let ran = (runs_to r ((at_of next).0 / 3)).rig in
+    let first = happens r t (at_of next) in
+    let on : LateAt o x low ran = record { slot = h.slot; is = h.is; late = h.late } in
+    goes_by (λ (p : Passed). LateAt o x low p.rig) next (rests_to r t) (passes_by first (pass n first.rig t)) (rests_late o x low t r h)
+    (pass_late n o x low t first.rig (happens_late o x low t (at_of next).1 ran (slot_at ran (at_of next).1) refl on))
+
+pub pass_says : (n low t : ℕ) (r : Rig) → AllLate low r
+    → Each (IsMoment (λ o x. (low ≤ x) × (x < t) × LateAt o x low (pass n r t).rig)) (pass n r t).answers
+pass_says zero low t r all = tt
+pass_says (suc n) low t r all =
+    let next = earliest r t 0 r.triggers in
+    let at = (at_of next).1 in
+    let ran = (runs_to r ((at_of next).0 / 3)).rig in
+    let first = happens r t (at_of next) in
+    let rest = pass n first.rig t in
+    let Then : Rig → ℕ → ℕ → Type 0 = λ q o x. (low ≤ x) × (x < t) × LateAt o x low q in
+    let now = moments_more (Then first.rig) (Then rest.rig) first.answers (λ o x y. (y.0, y.1, pass_late n o x low t first.rig y.2)) (happens_says low t at ran (slot_at ran at) refl all) in
+    let more = pass_says n low t first.rig (happens_all low t at ran (slot_at ran at) refl all) in
+    goes_by (λ (p : Passed). Each (IsMoment (Then p.rig)) p.answers) next (rests_to r t) (passes_by first rest) tt (each_both (IsMoment (Then rest.rig)) first.answers rest.answers now more)
+
+-- a board at a tick: a trigger that can't trigger can't since another tick or a later one; its next report is not before now
+abbrev Since : ℕ → Trigger → Type 0
+Since x t = t.can ≡ false → x ≤ t.tick
+
+abbrev DueFrom : ℕ → Trigger → Type 0
+DueFrom now t = (y : ℕ) → t.report ≡ Some y → now ≤ y
+
+abbrev pub AllDueNow : Rig → Type 0
+AllDueNow r = (oid : ℕ) (s : Slot) → slot_at r oid ≡ Some s → DueFrom r.controller.tick s.trigger
+
+-- what a command makes of a trigger, and of a board's triggers
+record Steps (now : ℕ) (t u : Trigger) : Type 0 where
+  since : (x : ℕ) → x ≤ now → Since x t → Since x u
+  due : DueFrom now t → DueFrom now u
+
+data Changed (r q : Rig) : Type 0 where
+  Same : q.triggers ≡ r.triggers → Changed r q
+  Made : (oid : ℕ) → slot_at r oid ≡ None → q.triggers ≡ set r.triggers oid (Some (record { trigger = trig.new_trigger; pin = 0; bound = [] })) → Changed r q
+  Turned : (oid : ℕ) (s u : Slot) → slot_at r oid ≡ Some s → q.triggers ≡ set r.triggers oid (Some u) → Steps r.controller.tick s.trigger u.trigger → Changed r q
+
+stays : (now : ℕ) (t : Trigger) → Steps now t t
+stays now t = record { since = λ x l k. k; due = λ k. k }
+
+ceiling : (a step : ℕ) → 0 < step → a ≤ (a + (step - 1)) / step * step
+ceiling a step some =
+    let q = (a + (step - 1)) / step in
+    let less : a + (step - 1) < ((a + (step - 1)) / step + 1) * step = omega (arith, some) in
+    let one : ((a + (step - 1)) / step + 1) * step ≡ (a + (step - 1)) / step * step + step = omega arith in
+    omega (arith, less, one, some)
+
+report_from : (b : Bool) (now clock every y : ℕ) → (every == 0) ≡ b
+    → (if b then None else Some (trig.first_from now (nearest now clock) every)) ≡ Some y → now ≤ y
+report_from true now clock every y e is = absurd (cc)
+report_from false now clock every y e is =
+    let some : 0 < every = grind (arith, nat_tests) in
+    let same : trig.first_from now (nearest now clock) every ≡ y = cc in
+    let whole = ceiling (now - nearest now clock) every some in
+    omega (arith, whole, same)
+
+started_steps : (now clock every expire : ℕ) (t : Trigger) → Steps now t (trig.started now clock every expire t)
+started_steps now clock every expire t = record { since = λ x l k f. absurd (cc); due = λ k y e. report_from (every == 0) now clock every y refl e }
+
+timed_steps : (can early : Bool) (now tick : ℕ) (t : Trigger) → t.can ≡ can
+    → Steps now t (if can then (if early then record t { timeout = Some tick } else record (trig.fired now t.expire t) { untold = Some now }) else t)
+timed_steps true true now tick t e = record { since = λ x l k f. k f; due = λ k. k }
+timed_steps true false now tick t e = record { since = λ x l k f. l; due = λ k. k }
+timed_steps false early now tick t e = stays now t
+
+triggered_steps : (can : Bool) (now reason : ℕ) (t : Trigger) → Steps now t (if can then trig.fired now reason t else t)
+triggered_steps true now reason t = record { since = λ x l k f. l; due = λ k. k }
+triggered_steps false now reason t = stays now t
+
+expires_changed : (o : Option ℕ) (r : Rig) (oid : ℕ) (s : Slot) (t : Trigger) → slot_at r oid ≡ Some s
+    → Steps r.controller.tick s.trigger t → Changed r (expires_at_once r oid s t o).rig
+expires_changed None r oid s t e k = Turned oid s (record s { trigger = t }) e refl k
+expires_changed (Some n) r oid s t e k = Turned oid s (record s { trigger = record t { untold = None } }) e refl (record { since = k.since; due = k.due })
+
+made_changed : (r : Rig) (oid : ℕ) (o : Option Slot) → slot_at r oid ≡ o → Changed r (make_trigger r oid o)
+made_changed r oid None e = Made oid e refl
+made_changed r oid (Some s) e = Same refl
+
+start_changed : (r : Rig) (oid : ℕ) (o : Option Slot) (clock every reason : ℕ) → slot_at r oid ≡ o
+    → Changed r (start r oid o clock every reason)
+start_changed r oid None clock every reason e = Same refl
+start_changed r oid (Some s) clock every reason e =
+    Turned oid s (record s { trigger = trig.started r.controller.tick clock every reason s.trigger }) e refl (started_steps r.controller.tick clock every reason s.trigger)
+
+set_changed : (r : Rig) (oid clock : ℕ) (o : Option Slot) → slot_at r oid ≡ o
+    → Changed r (set_timeout r oid o clock).rig
+set_changed r oid clock None e = Same refl
+set_changed r oid clock (Some s) e =
+    let now = r.controller.tick in
+    let t = trig.with_timeout now clock s.trigger in
+    expires_changed t.untold r oid s t e (timed_steps s.trigger.can (nat_lt now (nearest now clock)) now (nearest now clock) s.trigger refl)
+
+trigger_changed : (r : Rig) (oid reason : ℕ) (o : Option Slot) → slot_at r oid ≡ o
+    → Changed r (trigger r oid o reason).rig
+trigger_changed r oid reason None e = Same refl
+trigger_changed r oid reason (Some s) e =
+    Turned oid s (record s { trigger = trig.triggered r.controller.tick reason s.trigger }) e refl (triggered_steps s.trigger.can r.controller.tick reason s.trigger)
+
+bind_changed : (r : Rig) (oid other : ℕ) (q : Option Pending) (o : Option Slot) → slot_at r other ≡ o
+    → Changed r (bind r oid q other o)
+bind_changed r oid other None o e = Same refl
+bind_changed r oid other (Some q) None e = Same refl
+bind_changed r oid other (Some q) (Some s) e = Turned other s (record s { bound = oid ∷ s.bound }) e refl (stays r.controller.tick s.trigger)
+
+endstop_changed : (r : Rig) (oid pin : ℕ) (o : Option ℕ) → Changed r (make_endstop r oid pin o)
+endstop_changed r oid pin None = Same refl
+endstop_changed r oid pin (Some p) = Same refl
+
+home_changed : (r : Rig) (other : ℕ) (p : Option ℕ) (o : Option Slot) (g : Homing) → slot_at r other ≡ o
+    → Changed r (home r p other o g)
+home_changed r other None o g e = Same refl
+home_changed r other (Some pin) None g e = Same refl
+home_changed r other (Some pin) (Some s) g e =
+    Turned other s (record s { trigger = trig.sampling r.controller.tick g s.trigger; pin = pin }) e refl (record { since = λ x l k. k; due = λ k. k })
+
+acts_changed : (r : Rig) (c : Cmd) → Changed r (acts r c).rig
+acts_changed r (cmd.ConfigTrsync oid) = made_changed r oid (slot_at r oid) refl
+acts_changed r (cmd.TrsyncStart oid clock every reason) = start_changed r oid (slot_at r oid) clock every reason refl
+acts_changed r (cmd.TrsyncSetTimeout oid clock) = set_changed r oid clock (slot_at r oid) refl
+acts_changed r (cmd.TrsyncTrigger oid reason) = trigger_changed r oid reason (slot_at r oid) refl
+acts_changed r (cmd.StepperStopOnTrigger oid other) = bind_changed r oid other (stepper_at r.controller oid) (slot_at r other) refl
+acts_changed r (cmd.ConfigEndstop oid pin pull) = endstop_changed r oid pin (slice_index_or r.endstops oid None)
+acts_changed r (cmd.EndstopHome oid clock sample count rest value other reason) =
+    home_changed r other (slice_index_or r.endstops oid None) (slot_at r other)
+    (record { clock = clock; sample_ticks = sample; sample_count = count; rest_ticks = rest; pin_value = value; reason = reason }) refl
+acts_changed r c = Same refl
+
+takes_changed : (r : Rig) (c : Cmd) → Changed r (takes r c).rig
+takes_changed r c = by r.controller.state
+  where
+    by : (o : BoardState) → Changed r (acts_running o r c).rig
+    by Running = acts_changed r c
+    by (Shut reason tick first) = Same refl
+
+could_by : (o x : ℕ) (r q : Rig) → q.controller.tick ≡ r.controller.tick → Changed r q → CouldAt o x r → CouldAt o x q
+could_by o x r q t (Same e) k =
+    record { came = (let l = k.came in omega (arith, l, t)); slot = k.slot; is = ap (λ (xs : List (Option Slot)). get_or xs o None) e ∙ k.is; fired = k.fired }
+could_by o x r q t (Made oid none e) k = record {
+  came = (let l = k.came in omega (arith, l, t));
+  slot = k.slot;
+  is = set_other r q o oid _ e (λ same. let bad : None ≡ Some k.slot = sym none ∙ ap (λ (n : ℕ). slot_at r n) same ∙ k.is in cc) ∙ k.is;
+  fired = k.fired;
+}
+could_by o x r q t (Turned oid s u at e steps) k = elim (same_or_not oid o) [
+  | inl same ↦
+      let own : k.slot ≡ s = one_slot (slot_at r o) k.slot s k.is (subst (λ (n : ℕ). slot_at r n ≡ Some s) same at) in
+      let there : slot_at q oid ≡ Some u = ap (λ (xs : List (Option Slot)). get_or xs oid None) e ∙ get_or-set_same r.triggers oid (Some u) None (slot_range r.triggers oid s at) in
+      record {
+        came = (let l = k.came in omega (arith, l, t));
+        slot = u;
+        is = subst (λ (n : ℕ). slot_at q n ≡ Some u) same there;
+        fired = steps.since x k.came (subst (λ (z : Slot). Since x z.trigger) own k.fired);
+      }
+  | inr other ↦ record { came = (let l = k.came in omega (arith, l, t)); slot = k.slot; is = set_other r q o oid (Some u) e other ∙ k.is; fired = k.fired }
+]
+
+due_one : (now : ℕ) (u s : Slot) (before : Option Slot) → DueFrom now u.trigger
+    → (before ≡ Some s → DueFrom now s.trigger) → (s ≡ u) ⊎ (before ≡ Some s) → DueFrom now s.trigger
+due_one now u s before here others (inl e) = subst (λ (z : Slot). DueFrom now z.trigger) (sym e) here
+due_one now u s before here others (inr e) = others e
+
+due_set : (now : ℕ) (r q : Rig) (k : ℕ) (u : Slot) → q.triggers ≡ set r.triggers k (Some u)
+    → ((oid : ℕ) (s : Slot) → slot_at r oid ≡ Some s → DueFrom now s.trigger) → DueFrom now u.trigger
+    → (oid : ℕ) (s : Slot) → slot_at q oid ≡ Some s → DueFrom now s.trigger
+due_set now r q k u e all here oid s at =
+    let there : get_or (set r.triggers k (Some u)) oid None ≡ Some s = subst (λ (xs : List (Option Slot)). get_or xs oid None ≡ Some s) e at in
+    due_one now u s (get_or r.triggers oid None) here (all oid s) (at_set r.triggers k oid u s there (same_or_not oid k))
+
+due_by : (now : ℕ) (r q : Rig) → r.controller.tick ≡ now → Changed r q → AllDueNow r → (oid : ℕ) (s : Slot)
+    → slot_at q oid ≡ Some s → DueFrom now s.trigger
+due_by now r q t (Same e) all = λ oid s at. subst (λ (n : ℕ). DueFrom n s.trigger) t (all oid s (subst (λ (xs : List (Option Slot)). get_or xs oid None ≡ Some s) e at))
+due_by now r q t (Made oid none e) all = due_set now r q oid _ e (λ o s at. subst (λ (n : ℕ). DueFrom n s.trigger) t (all o s at)) (λ y is. absurd (cc))
+due_by now r q t (Turned oid s u at e steps) all =
+    due_set now r q oid u e (λ o z is. subst (λ (n : ℕ). DueFrom n z.trigger) t (all o z is)) (subst (λ (n : ℕ). DueFrom n u.trigger) t (steps.due (all oid s at)))
+
+pub takes_could : (o x : ℕ) (r : Rig) (c : Cmd) → CouldAt o x r → CouldAt o x (takes r c).rig
+takes_could o x r c k = could_by o x r (takes r c).rig (all_tick r (c ∷ [])) (takes_changed r c) k
+
+pub takes_due : (r : Rig) (c : Cmd) → AllDueNow r → AllDueNow (takes r c).rig
+takes_due r c all = λ oid s at y is.
+    let far = due_by r.controller.tick r (takes r c).rig refl (takes_changed r c) all oid s at y is in
+    let t = all_tick r (c ∷ []) in
+    omega (arith, far, t)
+
+-- over time
+late_of : (x low now : ℕ) (pins : List (List Level)) (s : Slot) → IsSound now pins s → x ≤ now → Since x s.trigger
+    → DueFrom low s.trigger → IsLate x low pins s
+late_of x low now pins s k l since due = record {
+  told = k.told;
+  moves = k.moves;
+  timeout = λ y e. (let far = k.timeout y e in omega (arith, far, l));
+  switch = λ y (z, can, is, at). let far = k.switch z y is at in omega (arith, far, l);
+  fired = since;
+  due = due;
+}
+
+pub pass_could : (n o x t : ℕ) (r : Rig) → AllSound r → r.controller.tick ≤ t → all_left t r.triggers < n
+    → CouldAt o x r → CouldAt o x (pass n r t).rig
+pass_could n o x t r sound l enough k =
+    let h = pass_late n o x 0 t r (record { slot = k.slot; is = k.is; late = late_of x 0 r.controller.tick r.pins k.slot (sound o k.slot k.is) k.came k.fired (λ y e. omega arith) }) in
+    let tick = finishes n r t (sound_regular r sound) l enough in
+    record { came = (let c = k.came in omega (arith, c, l, tick)); slot = h.slot; is = h.is; fired = h.late.fired }
+
+pub pass_tells : (n t : ℕ) (r : Rig) → AllSound r → AllDueNow r → r.controller.tick ≤ t → all_left t r.triggers < n
+    → Each (IsMoment (λ o x. (r.controller.tick ≤ x) × CouldAt o x (pass n r t).rig)) (pass n r t).answers
+pass_tells n t r sound due l enough =
+    let now = r.controller.tick in
+    let tick = finishes n r t (sound_regular r sound) l enough in
+    moments_more (λ o x. (now ≤ x) × (x < t) × LateAt o x now (pass n r t).rig) (λ o x. (now ≤ x) × CouldAt o x (pass n r t).rig) (pass n r t).answers
+    (λ o x y. (y.0, record { came = (let early = y.1 in omega (arith, early, tick)); slot = y.2.slot; is = y.2.is; fired = y.2.late.fired }))
+    (pass_says n now t r (λ oid s at. late_of 0 now now r.pins s (sound oid s at) (omega arith) (λ f. omega arith) (due oid s at)))
+
+-- a slot behind a stretch of time stood before it
+happens_back : (until k oid : ℕ) (r : Rig) (c : Option Slot) (u : Slot) → slot_at r k ≡ c
+    → slot_at (happens_to r until k c).rig oid ≡ Some u → (s : Slot) × (slot_at r oid ≡ Some s)
+happens_back until k oid r None u e at = (u, at)
+happens_back until k oid r (Some s) u e at = elim (same_or_not oid k) [
+  | inl same ↦ (s, subst (λ (n : ℕ). slot_at r n ≡ Some s) (sym same) e)
+  | inr other ↦ (u, sym (set_other r (happens_to r until k (Some s)).rig oid k (Some (next_of s r.pins until)) refl (λ same. other (sym same))) ∙ at)
+]
+
+pass_back : (n t oid : ℕ) (r : Rig) (u : Slot) → slot_at (pass n r t).rig oid ≡ Some u
+    → (s : Slot) × (slot_at r oid ≡ Some s)
+pass_back zero t oid r u at = (u, at)
+pass_back (suc n) t oid r u at =
+    let next = earliest r t 0 r.triggers in
+    let ran = (runs_to r ((at_of next).0 / 3)).rig in
+    let first = happens r t (at_of next) in
+    goes_by (λ (p : Passed). slot_at p.rig oid ≡ Some u → (s : Slot) × (slot_at r oid ≡ Some s)) next (rests_to r t) (passes_by first (pass n first.rig t))
+    (λ is. let x = rested_is r.pins t (slot_at r oid) u (sym (map_at (rested r.pins t) r.triggers oid refl) ∙ is) in (x.0, x.1))
+    (λ is. let x = pass_back n t oid first.rig u is in happens_back t (at_of next).1 oid ran (slot_at ran (at_of next).1) x.0 refl x.1) at
+
+pub pass_due : (n t : ℕ) (r : Rig) → AllSound r → r.controller.tick ≤ t → all_left t r.triggers < n
+    → AllDueNow (pass n r t).rig
+pass_due n t r sound l enough = λ oid u at.
+    let tick = finishes n r t (sound_regular r sound) l enough in
+    let old = pass_back n t oid r u at in
+    let far = by old.0 (old.0.trigger.report) oid u old.1 refl at in
+    λ y e. let d = far y e in omega (arith, d, tick)
+  where
+    by : (s : Slot) (o : Option ℕ) (oid : ℕ) (u : Slot) → slot_at r oid ≡ Some s → s.trigger.report ≡ o
+        → slot_at (pass n r t).rig oid ≡ Some u → DueFrom t u.trigger
+    by s None oid u here none at =
+        let k = late_of 0 t r.controller.tick r.pins s (sound oid s here) (omega arith) (λ f. omega arith) (λ y e. absurd (let bad : None ≡ Some y = sym none ∙ e in cc)) in
+        let h = pass_late n oid 0 t t r (record { slot = s; is = here; late = k }) in
+        subst (λ (z : Slot). DueFrom t z.trigger) (one_slot (slot_at (pass n r t).rig oid) h.slot u h.is at) h.late.due
+    by s (Some report) oid u here some at =
+        let x = reports_told n oid t report r s here (sound_regular r sound) l enough some in
+        let same = one_slot (slot_at (pass n r t).rig oid) x.0.slot u x.0.is at in
+        λ y e.
+        let is : Some x.0.next ≡ Some y = sym x.0.report_is ∙ ap (λ (z : Slot). z.trigger.report) same ∙ e in
+        let one : x.0.next ≡ y = cc in
+        let far = x.1 in
+        omega (arith, one, far)

@@ -1,0 +1,131 @@
+-- Which bytes are an answer that tells of a trigger: that it can't trigger, and whatever it tells.
+use Rattle.std.proofs.Common.{◌≡◌, ℕ, ◌%◌, ◌^◌, ◌<◌, List, [], ◌∷◌, ◌++◌, refl, ap, sym, ◌∙◌, subst, arith}
+use Rattle.vlq_code.specs.Spelling.{Spells, spelling}
+use Rattle.vlq_code.proofs.Lengths.{spelling_spells}
+use Rattle.vlq_code.proofs.Spelled.{joined_alike, one_number}
+use Rattle.msg_dict.specs.declared.row.Row.{Row}
+use Rattle.msg_dict.specs.declared.row.Row.TheVariants as row
+use Rattle.msg_dict.specs.Own.{own_formats}
+use Rattle.msg_dict.specs.Table.{own_id}
+use Rattle.msg_code.specs.declared.Param.{Param}
+use Rattle.msg_code.specs.declared.Param.TheVariants as param
+use Rattle.msg_code.specs.declared.cmd.Cmd.{Cmd}
+use Rattle.msg_code.specs.declared.cmd.Cmd.TheVariants as cmd
+use Rattle.msg_code.specs.Table.{command, kinds, params_of, row_of}
+use Rattle.msg_code.specs.Text.{IsText, SpellsAll, params_text}
+use Rattle.msg_code.proofs.Sizes.{own_text}
+use Rattle.msg_code.proofs.Texts.{is_text, one_text}
+use Rattle.board_world.specs.World.{text_of}
+use Rattle.laws_board.proofs.clocks.Uptimes.{own_row, row_back, same_row, small}
+
+-- the row of an answer, and how its parameters are spelled
+record Alike (c : Cmd) (told : Cmd) : Type 0 where
+  params : List Param
+  rest : List ℕ
+  spelled : SpellsAll (kinds (row_of c)) params rest
+  same : rest ≡ params_text (params_of c)
+  says : told ≡ command (row_of c) params
+
+cancel : (a b x y : List ℕ) → a ≡ b → a ++ x ≡ b ++ y → x ≡ y
+cancel [] [] x y e f = f
+cancel [] (q ∷ b) x y e f = absurd (cc)
+cancel (p ∷ a) [] x y e f = absurd (cc)
+cancel (p ∷ a) (q ∷ b) x y e f = cancel a b x y (cc) (cc)
+
+alike : (c told : Cmd) → IsText own_formats told (text_of c) → Alike c told
+alike c told t =
+    let i = t.spelled in
+    let id = own_id (row_of c) in
+    let mine : Spells (spelling id) id = spelling_spells id (small (row_of c)) in
+    let whole : i.first ++ i.rest ≡ spelling id ++ params_text (params_of c) = sym i.joined ∙ own_text c in
+    let first : i.first ≡ spelling id = joined_alike i.first (spelling id) i.rest (params_text (params_of c)) i.is_first.joined mine.joined whole in
+    let same : t.id ≡ id = one_number i.first (spelling id) t.id id i.is_first mine first in
+    let is : t.row ≡ row_of c = same_row t.id id t.row (row_of c) same t.known (own_row (row_of c)) in
+    record {
+      params = t.params;
+      rest = i.rest;
+      spelled = subst (λ (r : Row). SpellsAll (kinds r) t.params i.rest) is i.is_rest;
+      same = cancel i.first (spelling id) i.rest (params_text (params_of c)) first whole;
+      says = t.says ∙ ap (λ (r : Row). command r t.params) is;
+    }
+
+-- the first two numbers of an answer
+two : (ps : List Param) (rest : List ℕ) (a b : ℕ) (more : List ℕ) → a < 2 ^ 32 → b < 2 ^ 32 → SpellsAll (kinds row.TrsyncState) ps rest → rest ≡ spelling a ++ (spelling b ++ more)
+    → (x : ℕ) × (y : ℕ) × (qs : List Param) × (ps ≡ param.Number x ∷ param.Number y ∷ qs) × (x ≡ a) × (y ≡ b)
+two [] rest a b more k l s e = absurd s
+two (param.Bytes bytes ∷ ps) rest a b more k l s e = absurd s.0
+two (param.Number x ∷ []) rest a b more k l s e = absurd s.1.is_rest
+two (param.Number x ∷ param.Bytes bytes ∷ ps) rest a b more k l s e = absurd s.1.is_rest.0
+two (param.Number x ∷ param.Number y ∷ qs) rest a b more k l s e =
+    let j = s.1 in
+    let i = j.is_rest.1 in
+    let mine = spelling_spells a k in
+    let other = spelling_spells b l in
+    let whole : j.first ++ j.rest ≡ spelling a ++ (spelling b ++ more) = sym j.joined ∙ e in
+    let first : j.first ≡ spelling a = joined_alike j.first (spelling a) j.rest (spelling b ++ more) j.is_first.joined mine.joined whole in
+    let left : j.rest ≡ spelling b ++ more = cancel j.first (spelling a) j.rest (spelling b ++ more) first whole in
+    let second : i.first ≡ spelling b = joined_alike i.first (spelling b) i.rest more i.is_first.joined other.joined (sym i.joined ∙ left) in
+    (x, y, qs, refl, one_number j.first (spelling a) x a j.is_first mine first, one_number i.first (spelling b) y b i.is_first other second)
+
+same_state : (a b c d e f g h : ℕ) → cmd.TrsyncState a b c d ≡ cmd.TrsyncState e f g h → (a ≡ e) × (b ≡ f) × (c ≡ g) × (d ≡ h)
+same_state a b c d e f g h s = (cc, cc, cc, cc)
+
+by_params : (ps : List Param) (x y : ℕ) (qs : List Param) (j reason clock : ℕ) → ps ≡ param.Number x ∷ param.Number y ∷ qs → cmd.TrsyncState j 0 reason clock ≡ command row.TrsyncState ps → x < 2 ^ 8 → y < 2 ^ 8 → (x ≡ j) × (y ≡ 0)
+by_params ps x y qs j reason clock e s k l =
+    let t : cmd.TrsyncState j 0 reason clock ≡ command row.TrsyncState (param.Number x ∷ param.Number y ∷ qs) = s ∙ ap (λ (p : List Param). command row.TrsyncState p) e in
+    let both = same_state j 0 reason clock _ _ _ _ t in
+    let p : j ≡ x % 2 ^ 8 = both.0 in
+    let q : 0 ≡ y % 2 ^ 8 = both.1 in
+    (omega (arith, p, k), omega (arith, q, l))
+
+-- an answer that tells of a trigger is about this one, and tells that it can't trigger
+pub state_is : (a b r k j reason clock : ℕ) → a < 2 ^ 8 → b < 2 ^ 8 → IsText own_formats (cmd.TrsyncState j 0 reason clock) (text_of (cmd.TrsyncState a b r k)) → (a ≡ j) × (b ≡ 0)
+state_is a b r k j reason clock l m t =
+    let s = alike (cmd.TrsyncState a b r k) (cmd.TrsyncState j 0 reason clock) t in
+    let n = two s.params s.rest a b (params_text (param.Number r ∷ param.Number k ∷ [])) (omega (arith, l)) (omega (arith, m)) s.spelled s.same in
+    let x : n.0 < 2 ^ 8 = omega (arith, n.4, l) in
+    let y : n.1 < 2 ^ 8 = omega (arith, n.5, m) in
+    let both = by_params s.params n.0 n.1 n.2 j reason clock n.3 s.says x y in
+    (sym n.4 ∙ both.0, sym n.5 ∙ both.1)
+
+-- a command that has the bytes of another has its row
+pub same_kind : (c told : Cmd) → IsText own_formats told (text_of c) → row_of told ≡ row_of c
+same_kind c told t = let s = alike c told t in ap row_of s.says ∙ row_back (row_of c) s.params
+
+whole_state : (a b r k x y z : ℕ) → x ≡ a → y ≡ b → z ≡ r → cmd.TrsyncState x y z k ≡ cmd.TrsyncState a b r k
+whole_state a b r k x y z e f g = cc
+
+-- the bytes of an answer that tells of a trigger, whose numbers fit, are its own
+pub own_state : (a b r k : ℕ) → a < 2 ^ 8 → b < 2 ^ 8 → r < 2 ^ 8 → k < 2 ^ 32 → IsText own_formats (cmd.TrsyncState a b r k) (text_of (cmd.TrsyncState a b r k))
+own_state a b r k la lb lr lk =
+    let c = cmd.TrsyncState a b r k in
+    let text = params_text (params_of c) in
+    is_text own_formats c (own_id row.TrsyncState) (spelling (own_id row.TrsyncState)) text (text_of c) (own_row row.TrsyncState)
+    (spelling_spells (own_id row.TrsyncState) (small row.TrsyncState))
+    (record {
+      first = spelling a;
+      rest = params_text (param.Number b ∷ param.Number r ∷ param.Number k ∷ []);
+      is_first = spelling_spells a (omega (arith, la));
+      is_rest = record {
+        first = spelling b;
+        rest = params_text (param.Number r ∷ param.Number k ∷ []);
+        is_first = spelling_spells b (omega (arith, lb));
+        is_rest = record {
+          first = spelling r;
+          rest = params_text (param.Number k ∷ []);
+          is_first = spelling_spells r (omega (arith, lr));
+          is_rest = record { first = spelling k; rest = []; is_first = spelling_spells k lk; is_rest = refl; joined = refl };
+          joined = refl;
+        };
+        joined = refl;
+      };
+      joined = refl;
+    }) (own_text c) (whole_state a b r k (a % 2 ^ 8) (b % 2 ^ 8) (r % 2 ^ 8) (omega (arith, la)) (omega (arith, lb)) (omega (arith, lr)))
+
+-- and no other answer has them
+pub state_told : (a b r k oid can reason clock : ℕ) → a < 2 ^ 8 → b < 2 ^ 8 → r < 2 ^ 8 → k < 2 ^ 32 → IsText own_formats (cmd.TrsyncState oid can reason clock) (text_of (cmd.TrsyncState a b r k))
+    → (oid ≡ a) × (can ≡ b) × (reason ≡ r) × (clock ≡ k)
+state_told a b r k oid can reason clock la lb lr lk t =
+    let c = cmd.TrsyncState a b r k in
+    let same = one_text own_formats (cmd.TrsyncState oid can reason clock) c (text_of c) (text_of c) [] [] t (own_state a b r k la lb lr lk) refl in
+    same_state oid can reason clock a b r k same.1

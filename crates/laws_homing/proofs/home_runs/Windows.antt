@@ -1,0 +1,113 @@
+-- Turns of a board behind the set-up of a homing section.
+use Rattle.std.proofs.Common.{◌≡◌, ℕ, suc, ◌≤◌, List, [], ◌∷◌, ◌++◌, length, refl, ap, sym, ◌∙◌, subst, arith}
+use Rattle.plan_types.specs.declared.clock.BoardClock.{BoardClock}
+use Rattle.plan_types.specs.declared.levels.Level.{Level}
+use Rattle.plan_types.specs.declared.machine.BoardDef.{BoardDef}
+use Rattle.plan_types.specs.Clock.{clock_of}
+use Rattle.msg_code.specs.declared.cmd.Cmd.{Cmd}
+use Rattle.msg_code.specs.declared.cmd.Cmd.TheVariants as cmd
+use Rattle.wire_scene.specs.declared.scene.Entry.{Entry}
+use Rattle.link_core.specs.Core.{Reply}
+use Rattle.board_sim.specs.Board.{stepper_at}
+use Rattle.board_sim.specs.Fair.{commands_of}
+use Rattle.board_sim.specs.Rig.{Rig, takes, takes_all}
+use Rattle.board_sim.specs.RigRuns.{IsHalted}
+use Rattle.board_world.specs.declared.event.Event.{Event}
+use Rattle.board_world.specs.declared.event.Event.TheVariants as event
+use Rattle.board_world.specs.Stands.{IsOrdered}
+use Rattle.board_world.specs.World.{Core, Step, Do, Turn, does, happens, in_turn, run, takes_in}
+use Rattle.board_world.proofs.Runs.{ordered, start_ordered}
+use Rattle.link_work.specs.Stands.{first_state, orders}
+use Rattle.link_work.specs.Turn.{LinkState}
+use Rattle.link_work.proofs.Turns.{turns_are_steps}
+use Rattle.laws_board.specs.turns.Turns.{AreBoardTurns, BoardTurn, stands_after}
+use Rattle.laws_homing.specs.home_runs.Guards.{IsCalm}
+use Rattle.laws_homing.specs.home_runs.Windows.{BringCalm, IsSetUp, IsWatched, TellFired}
+use Rattle.laws_homing.proofs.home_runs.Guarding.{guard_halts, guard_next, passes_next, takes_next}
+use Rattle.laws_homing.proofs.home_runs.Firing.{EachFires}
+use Rattle.laws_homing.proofs.home_runs.Watching.{Watch, watched}
+
+-- the places of triggers are as many as they were
+calm_for : (c : Cmd) → (i : ℕ) × (j : ℕ) × IsCalm i j c
+calm_for (cmd.TrsyncStart oid clock every reason) = (0, suc oid, λ e. omega (arith, e))
+calm_for (cmd.ResetStepClock oid clock) = (suc oid, 0, λ e. omega (arith, e))
+calm_for (cmd.ConfigTrsync oid) = (0, oid, refl)
+calm_for c = (0, 0, tt)
+
+pub takes_places : (r : Rig) (c : Cmd) → length (takes r c).rig.triggers ≡ length r.triggers
+takes_places r c = let x = calm_for c in (takes_next x.0 x.1 r c x.2).places
+
+all_places : (r : Rig) (cs : List Cmd) → length (takes_all r cs).rig.triggers ≡ length r.triggers
+all_places r [] = refl
+all_places r (c ∷ cs) = all_places (takes r c).rig cs ∙ takes_places r c
+
+does_places : (h : Core) (e : Event) → length (does h e).board.triggers ≡ length h.board.triggers
+does_places h (event.Pass t) = (passes_next 0 0 h.board t).places
+does_places h event.Arrive = all_places h.board (commands_of (takes_in h event.Arrive))
+does_places h event.Repeat = all_places h.board (commands_of (takes_in h event.Repeat))
+does_places h (event.Put c) = refl
+does_places h (event.Control c) = refl
+does_places h event.Send = refl
+does_places h event.Resend = refl
+does_places h event.Lose = refl
+does_places h event.Garble = refl
+does_places h event.Reply = refl
+does_places h event.LoseReply = refl
+
+run_places : (steps : List Step) (h : Core) → length (run steps h).board.triggers ≡ length h.board.triggers
+run_places [] h = refl
+run_places (Do e ∷ steps) h = run_places steps (happens h e) ∙ does_places h e
+run_places (Turn turn ∷ steps) h = run_places steps (in_turn h turn)
+
+-- a link over turns
+record Stands (l : LinkState) : Type 0 where
+  ordered : IsOrdered l.core
+  few : length l.core.board.triggers ≤ 256
+
+stands : (b : BoardDef) (pins : List (List Level)) (board : ℕ) (entries : List Entry) (turns : List BoardTurn) → AreBoardTurns (clock_of b) (first_state b pins board entries) turns → Stands (stands_after (first_state b pins board entries) turns)
+stands b pins board entries [] are = record { ordered = start_ordered b pins; few = omega arith }
+stands b pins board entries (t ∷ before) are =
+    let first = first_state b pins board entries in
+    let old = stands b pins board entries before are.1 in
+    let l = stands_after first before in
+    let steps = turns_are_steps (clock_of b) (length before) (orders t.control t.batch ∷ []) l t.after (t.after, are.0.0, refl) in
+    let few = old.few in
+    record {
+      ordered = subst IsOrdered (sym steps.1) (ordered steps.0 l.core old.ordered);
+      few = omega (arith, few, run_places steps.0 l.core, ap (λ (h : Core). length h.board.triggers) steps.1);
+    }
+
+pub ordered_after : (b : BoardDef) (pins : List (List Level)) (board : ℕ) (entries : List Entry) (turns : List BoardTurn) → AreBoardTurns (clock_of b) (first_state b pins board entries) turns
+    → IsOrdered (stands_after (first_state b pins board entries) turns).core
+ordered_after b pins board entries turns are = (stands b pins board entries turns are).ordered
+
+pub begun : (clock : BoardClock) (first : LinkState) (window past : List BoardTurn) → AreBoardTurns clock first (window ++ past) → AreBoardTurns clock first past
+begun clock first [] past are = are
+begun clock first (t ∷ window) past are = begun clock first window past are.1
+
+-- a link that is watched from some turns on
+pub watch_after : (b : BoardDef) (pins : List (List Level)) (board : ℕ) (entries : List Entry) (past : List BoardTurn) (i j : ℕ) → AreBoardTurns (clock_of b) (first_state b pins board entries) past
+    → IsWatched i j (stands_after (first_state b pins board entries) past).core → Watch i j (stands_after (first_state b pins board entries) past).core
+watch_after b pins board entries past i j are u =
+    let s = stands b pins board entries past are in
+    let core = (stands_after (first_state b pins board entries) past).core in
+    record {
+      ordered = s.ordered;
+      sole = u.sole;
+      few = s.few;
+      left = u.left;
+      rest = u.rest;
+      calm = u.calm;
+      fires = subst (λ (rs : List Reply). EachFires j core.board rs) (sym u.heard) tt;
+    }
+
+pub told_halts : (b : BoardDef) (pins : List (List Level)) (board : ℕ) (entries : List Entry) (window past : List BoardTurn) (i j : ℕ) → AreBoardTurns (clock_of b) (first_state b pins board entries) (window ++ past)
+    → IsSetUp i j (stands_after (first_state b pins board entries) past).core → BringCalm i j window → TellFired window
+    → IsHalted (stepper_at (stands_after (first_state b pins board entries) (window ++ past)).core.board.controller i)
+told_halts b pins board entries window past i j are set calm told =
+    let first = first_state b pins board entries in
+    let from = (stands_after first past).core.board in
+    let now = (stands_after first (window ++ past)).core.board in
+    let start : IsWatched i j (stands_after first past).core = record { sole = set.sole; left = set.left; rest = set.rest; calm = set.calm; heard = set.heard } in
+    let w = watched (clock_of b) first i j window past are calm (watch_after b pins board entries past i j (begun (clock_of b) first window past are) start) in
+    guard_halts now i j (guard_next i j from now w.next set.guarded) (w.fired told)

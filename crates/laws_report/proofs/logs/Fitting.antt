@@ -1,0 +1,111 @@
+-- Pulses that fit, one by one.
+use Rattle.std.proofs.Common.{◌≡◌, ◌∙◌, ℕ, zero, suc, ◌+◌, ◌<◌, ◌≤◌, Bool, true, false, List, [], ◌∷◌, ◌++◌, length, get_or, ap, sym, refl, subst, arith, Option, Some, None, length-append}
+use Rattle.std.specs.Prelude.{nat_lt, if◌then◌else◌, slice_index_or}
+use Rattle.std.proofs.lemmas.Bool.Decides.{nat_tests}
+use Rattle.plan_types.specs.declared.cause.MisfitKind.{MisfitKind}
+use Rattle.plan_types.specs.declared.cause.MisfitKind.TheVariants as misfit
+use Rattle.plan_types.specs.declared.plan.Planned.{Planned}
+use Rattle.plan_types.specs.declared.plan.Pulse.{Pulse}
+use Rattle.plan_types.specs.Plan.{Fits, IsPulseOf, opposite, window}
+use Rattle.log_check.specs.Pulses.{no_step, pulse_fault, step_fault, tick_before}
+use Rattle.laws_report.specs.logs.Follows.{in_order}
+
+pub length-in_order : {A : Type 0} (xs : List A) → length (in_order xs) ≡ length xs
+length-in_order [] = refl
+length-in_order (x ∷ xs) = (let long = length-append (in_order xs) (x ∷ []) in let rest = length-in_order xs in omega arith)
+
+-- one pulse more
+pub fits-more : (freq before : ℕ) (ps : List Pulse) (plan : List Planned) (i : ℕ) (p : Pulse) → Fits freq before ps plan → i ≡ length ps → i < length plan → IsPulseOf freq (tick_before before plan i) (slice_index_or plan i no_step) p
+    → Fits freq before (ps ++ p ∷ []) plan
+fits-more freq before ps [] i p fits at inside is = absurd (omega arith)
+fits-more freq before [] (s ∷ plan) i p fits at inside is =
+    let G : ℕ → Type 0 = λ n. IsPulseOf freq (tick_before before (s ∷ plan) n) (slice_index_or (s ∷ plan) n no_step) p in
+    (subst G at is, tt)
+fits-more freq before (q ∷ ps) (s ∷ plan) zero p fits at inside is = absurd (omega (arith, at))
+fits-more freq before (q ∷ ps) (s ∷ plan) (suc i) p fits at inside is = (fits.0, fits-more freq s.tick ps plan i p fits.1 (omega (arith, at)) (omega (arith, inside)) (behind-first before s plan i is)) where
+  behind-first : (before : ℕ) (s : Planned) (plan : List Planned) (i : ℕ) → IsPulseOf freq (tick_before before (s ∷ plan) (suc i)) (slice_index_or (s ∷ plan) (suc i) no_step) p → IsPulseOf freq (tick_before s.tick plan i) (slice_index_or plan i no_step) p
+  behind-first before s plan zero h = h
+  behind-first before s plan (suc i) h = h
+
+-- no more pulses fit than there are planned steps
+pub fits-few : (freq before : ℕ) (ps : List Pulse) (plan : List Planned) → Fits freq before ps plan → length ps ≤ length plan
+fits-few freq before [] plan fits = omega arith
+fits-few freq before (p ∷ ps) [] fits = absurd fits
+fits-few freq before (p ∷ ps) (s ∷ plan) fits = (let h = fits-few freq s.tick ps plan fits.1 in omega arith)
+
+-- where nothing is planned the clocks don't matter
+pub fits-none : (f b f' b' : ℕ) (ps : List Pulse) → Fits f b ps [] → Fits f' b' ps []
+fits-none f b f' b' [] fits = tt
+fits-none f b f' b' (p ∷ ps) fits = fits
+
+same-way : (a b : Bool) → opposite a b ≡ false → b ≡ a
+same-way true true e = refl
+same-way true false e = cc
+same-way false true e = cc
+same-way false false e = refl
+
+by-tests : (a b c : Bool) → (if a then Some misfit.Direction else (if b then Some misfit.Early else (if c then Some misfit.Late else None))) ≡ None → (a ≡ false) × (b ≡ false) × (c ≡ false)
+by-tests true b c e = cc
+by-tests false true c e = cc
+by-tests false false true e = cc
+by-tests false false false e = (refl, refl, refl)
+
+pub made-for : (freq before : ℕ) (step : Planned) (s tick : ℕ) (up : Bool) → step_fault freq before step tick up ≡ None → IsPulseOf freq before step (record { tick = tick; stepper = s; up = up })
+made-for freq before step s tick up fits =
+    let tests = by-tests (opposite step.up up) (nat_lt tick (window freq before step.tick)) (nat_lt step.tick tick) fits in
+    let early : nat_lt tick (window freq before step.tick) ≡ false = tests.1 in
+    let late : nat_lt step.tick tick ≡ false = tests.2 in
+    record {
+      direction = same-way step.up up tests.0;
+      not_early = grind (arith, nat_tests);
+      not_late = grind (arith, nat_tests);
+    }
+
+inside-by : (b : Bool) (x : Option MisfitKind) → (if b then x else Some misfit.Extra) ≡ None → (b ≡ true) × (x ≡ None)
+inside-by true x e = (refl, e)
+inside-by false x e = cc
+
+-- what a pulse that fits shows
+pub pulse-fits : (freq base : ℕ) (plan : List Planned) (i s tick : ℕ) (up : Bool) → pulse_fault freq base plan i tick up ≡ None → (i < length plan) × IsPulseOf freq (tick_before base plan i) (slice_index_or plan i no_step) (record { tick = tick; stepper = s; up = up })
+pulse-fits freq base plan i s tick up fits =
+    let h = inside-by (nat_lt i (length plan)) (step_fault freq (tick_before base plan i) (slice_index_or plan i no_step) tick up) fits in
+    let low : nat_lt i (length plan) ≡ true = h.0 in
+    (grind (arith, nat_tests), made-for freq (tick_before base plan i) (slice_index_or plan i no_step) s tick up h.1)
+
+-- the last pulse of those that fit
+pub fits-last : (freq before : ℕ) (ps : List Pulse) (plan : List Planned) (i : ℕ) (p : Pulse) → i ≡ length ps → Fits freq before (ps ++ p ∷ []) plan → (i < length plan) × IsPulseOf freq (tick_before before plan i) (slice_index_or plan i no_step) p
+fits-last freq before [] [] i p at fits = absurd fits
+fits-last freq before (q ∷ ps) [] i p at fits = absurd fits
+fits-last freq before [] (s ∷ plan) i p at fits =
+    let G : ℕ → Type 0 = λ n. IsPulseOf freq (tick_before before (s ∷ plan) n) (slice_index_or (s ∷ plan) n no_step) p in
+    let none : i ≡ 0 = at in
+    (omega (arith, at), subst G (sym none) fits.0)
+fits-last freq before (q ∷ ps) (s ∷ plan) zero p at fits = absurd (omega (arith, at))
+fits-last freq before (q ∷ ps) (s ∷ plan) (suc i) p at fits = later (fits-last freq s.tick ps plan i p (omega (arith, at)) fits.1) where
+  later : (i < length plan) × IsPulseOf freq (tick_before s.tick plan i) (slice_index_or plan i no_step) p → (suc i < length (s ∷ plan)) × IsPulseOf freq (tick_before before (s ∷ plan) (suc i)) (slice_index_or (s ∷ plan) (suc i) no_step) p
+  later h = (omega (arith, h.0), behind-first before s plan i h.1) where
+    behind-first : (before : ℕ) (s : Planned) (plan : List Planned) (i : ℕ) → IsPulseOf freq (tick_before s.tick plan i) (slice_index_or plan i no_step) p → IsPulseOf freq (tick_before before (s ∷ plan) (suc i)) (slice_index_or (s ∷ plan) (suc i) no_step) p
+    behind-first before s plan zero h = h
+    behind-first before s plan (suc i) h = h
+
+way-same : (a : Bool) → opposite a a ≡ false
+way-same true = refl
+way-same false = refl
+
+from-tests : (a b c : Bool) → a ≡ false → b ≡ false → c ≡ false → (if a then Some misfit.Direction else (if b then Some misfit.Early else (if c then Some misfit.Late else None))) ≡ None
+from-tests a b c e f g = rw (e, f, g) refl
+
+pub none-wrong : (freq before : ℕ) (step : Planned) (p : Pulse) → IsPulseOf freq before step p → step_fault freq before step p.tick p.up ≡ None
+none-wrong freq before step p is =
+    let low = is.not_early in
+    let high = is.not_late in
+    let early : nat_lt p.tick (window freq before step.tick) ≡ false = grind (arith, nat_tests) in
+    let late : nat_lt step.tick p.tick ≡ false = grind (arith, nat_tests) in
+    let way : opposite step.up p.up ≡ false = ap (opposite step.up) is.direction ∙ way-same step.up in
+    from-tests (opposite step.up p.up) (nat_lt p.tick (window freq before step.tick)) (nat_lt step.tick p.tick) way early late
+
+pub no-pulse-fault : (freq base : ℕ) (plan : List Planned) (i : ℕ) (p : Pulse) → i < length plan → IsPulseOf freq (tick_before base plan i) (slice_index_or plan i no_step) p → pulse_fault freq base plan i p.tick p.up ≡ None
+no-pulse-fault freq base plan i p inside is =
+    let low : nat_lt i (length plan) ≡ true = grind (arith, nat_tests) in
+    let here = none-wrong freq (tick_before base plan i) (slice_index_or plan i no_step) p is in
+    rw (low, here) refl

@@ -1,0 +1,333 @@
+-- The cut lines of a run have numbers of 64 bits.
+use Rattle.std.proofs.Common.{◌≡◌, ◌∙◌, ◌⊎◌, inl, inr, ℕ, suc, ◌+◌, ◌<◌, ◌^◌, Bool, true, false, cond, All, List, [], ◌∷◌, ◌++◌, length, map, ap, sym, refl, subst, arith, Option, Some, None}
+use Rattle.std.specs.Prelude.{◌&&◌, ◌==◌, if◌then◌else◌, nat_le, nat_lt}
+use Rattle.std.proofs.lemmas.Bool.Decides.{leb_tells}
+use Rattle.std.proofs.lemmas.List.Elements.{All-head, All-tail}
+use Rattle.plan_types.specs.declared.cause.Cause.{Cause}
+use Rattle.plan_types.specs.declared.machine.AxisDef.{AxisDef}
+use Rattle.plan_types.specs.declared.machine.Machine.{Machine}
+use Rattle.plan_types.specs.declared.plan.ReadStop.{ReadStop}
+use Rattle.plan_types.specs.declared.plan.ReadStop.TheVariants as read
+use Rattle.plan_types.specs.declared.plan.SectionKind.{SectionKind}
+use Rattle.plan_types.specs.declared.plan.SectionKind.TheVariants.{Home, Moves}
+use Rattle.plan_types.specs.declared.plan.TrigState.{TrigState}
+use Rattle.plan_types.specs.Board.{nearest}
+use Rattle.plan_types.specs.Lines.{Clocks, lines_turn}
+use Rattle.plan_types.specs.Machines.{axis_at}
+use Rattle.clock_line.specs.Early.{is_in_run, turn_tick}
+use Rattle.msg_code.specs.declared.cmd.Cmd.{Cmd}
+use Rattle.msg_code.specs.declared.cmd.Cmd.TheVariants as cmd
+use Rattle.msg_code.specs.declared.talk.News.{News}
+use Rattle.msg_code.specs.declared.talk.Note.{Note}
+use Rattle.msg_code.specs.declared.talk.NoteNews.{NoteNews}
+use Rattle.msg_code.specs.declared.talk.NoteNews.TheVariants as news
+use Rattle.msg_code.specs.declared.talk.State.{State}
+use Rattle.report_text.specs.declared.line.ReportLine.{ReportLine}
+use Rattle.report_text.specs.declared.line.ReportLine.TheVariants as report
+use Rattle.wire_scene.specs.declared.scene.Switch.{Switch}
+use Rattle.wire_scene.specs.Scenes.{is_of, last_where, line_of, or_earlier}
+use Rattle.trigger_group.specs.declared.order.End.{End}
+use Rattle.trigger_group.specs.declared.order.End.TheVariants as end
+use Rattle.trigger_group.specs.declared.order.Member.{Member}
+use Rattle.trigger_group.specs.declared.round.Phase.TheVariants.{Goes, Rests, Sends}
+use Rattle.trigger_group.specs.declared.round.Phase.{Phase as GroupPhase}
+use Rattle.trigger_group.specs.declared.seen.Fired.{Fired}
+use Rattle.trigger_group.specs.declared.seen.Seen.{Seen}
+use Rattle.trigger_group.specs.Group.{GroupState, after_in, all_fired, answer, came, ended, expired, first, first_expired, first_switched, hears_from, later, new_group, or_else, or_none, phase, switched, unseen}
+use Rattle.trigger_group.specs.Kept.{may_be}
+use Rattle.axis_homing.specs.declared.homing.Homing.{Homing}
+use Rattle.axis_homing.specs.declared.homing.HomingTurn.{HomingTurn}
+use Rattle.axis_homing.specs.Homing.{answer_in, came_at, goes_on_homing, hears_all, hears_answer, hears_news, hears_report, hears_state, hears_states, homing_after, homing_of, homing_turn, homing_with, members_from}
+use Rattle.board_asking.specs.declared.asking.Asking.{Asking}
+use Rattle.board_asking.specs.Connecting.{all_connected, board_lines, connected_lines, giving_up, listen_all, ready_all}
+use Rattle.board_asking.specs.Drift.{stale}
+use Rattle.host_reactor.specs.declared.ordered.Known.{Known}
+use Rattle.host_reactor.specs.declared.ordered.Phase.{Phase}
+use Rattle.host_reactor.specs.declared.ordered.Phase.TheVariants.{Connecting, Running, Stopping}
+use Rattle.host_reactor.specs.declared.ordered.Reading.{Reading}
+use Rattle.host_reactor.specs.Notes.{is_out, news_of, noted, told, told_all}
+use Rattle.host_reactor.specs.Reactor.{Reacted, after_homing, asks_boards, by_phase, carries_on, cut_line, finishes, is_connected_now, reacts, unless_ended, unless_given_up, unless_homing_ends, unless_late_stale, unless_stale}
+use Rattle.host_reactor.specs.Report.{count_lines, first_lines}
+use Rattle.host_reactor.specs.Running.{first_cause, is_finished, stop_of}
+use Rattle.host_reactor.specs.Runs.{Came, GoesOn, known_by}
+use Rattle.laws_board.proofs.clocks.Turning as turning
+use Rattle.session_work.specs.declared.table.ReactorTurn.{ReactorTurn}
+use Rattle.session_work.specs.Rows.{gather}
+use Rattle.session_run.specs.Boards.{AreReactorTurns, came_from, came_in}
+use Rattle.laws_run.specs.run_headline.Told.{AreTold}
+use Rattle.laws_run.proofs.run_headline.Telling.{boards_told, first_told}
+use Rattle.laws_run.proofs.home_headline.Cuts.{answer_of}
+use Rattle.laws_report.proofs.reports.Limits.{HaveLongCuts}
+
+-- the ticks at which members of a group triggered are of 64 bits
+abbrev HasSmall : Option Fired → Type 0
+HasSmall None = Unit {0}
+HasSmall (Some f) = f.tick < 2 ^ 64
+
+abbrev AllSmall : List Seen → Type 0
+AllSmall [] = Unit {0}
+AllSmall (m ∷ ms) = HasSmall m.fired × AllSmall ms
+
+unseen_small : (ms : List Member) → AllSmall (map unseen ms)
+unseen_small [] = tt
+unseen_small (m ∷ ms) = (tt, unseen_small ms)
+
+first_small : (o : Option Fired) (f : Fired) → HasSmall o → f.tick < 2 ^ 64 → HasSmall (Some (first o f))
+first_small None f h low = low
+first_small (Some g) f h low = h
+
+hears_small : (board : ℕ) (s : TrigState) (tick turn : ℕ) (m : Seen) → tick < 2 ^ 64 → HasSmall m.fired → HasSmall (hears_from board s tick turn m).fired
+hears_small board s tick turn m low h = by (m.member.board == board) s.can
+  where
+    by : (a b : Bool) → HasSmall (if a then (if b then record m { heard = Some (later m.heard turn) } else record m { fired = Some (first m.fired (record { reason = s.reason; tick = tick; turn = turn })) }) else m).fired
+    by false b = h
+    by true true = h
+    by true false = first_small m.fired (record { reason = s.reason; tick = tick; turn = turn }) h low
+
+all_hear : (board : ℕ) (s : TrigState) (tick turn : ℕ) (ms : List Seen) → tick < 2 ^ 64 → AllSmall ms → AllSmall (map (hears_from board s tick turn) ms)
+all_hear board s tick turn [] low h = tt
+all_hear board s tick turn (m ∷ ms) low h = (hears_small board s tick turn m low h.0, all_hear board s tick turn ms low h.1)
+
+came_small : (board : ℕ) (s : TrigState) (tick turn : ℕ) (g : GroupState) → tick < 2 ^ 64 → AllSmall g.members → AllSmall (came board s tick turn g).members
+came_small board s tick turn g low h = by (nat_lt turn g.start)
+  where
+    by : (b : Bool) → AllSmall (if b then g.members else map (hears_from board s tick turn) g.members)
+    by true = h
+    by false = all_hear board s tick turn g.members low h
+
+first_true : (a b : Bool) → (a && b) ≡ true → a ≡ true
+first_true true b e = refl
+first_true false b e = cc
+
+less_than : (a b : ℕ) → nat_lt a b ≡ true → a < b
+less_than a b e = elim (leb_tells (suc a) b) [ inl p ↦ let low = p.1 in omega (arith, low) | inr p ↦ absurd (let f : false ≡ true = sym p.0 ∙ e in cc) ]
+
+-- a report counts only where its tick is one of the run
+report_small : (clocks : Clocks) (b turn : ℕ) (s : TrigState) (g : GroupState) → AllSmall g.members → AllSmall (hears_report clocks b turn s g).members
+report_small clocks b turn s g h = by (is_in_run clocks (nearest (turn_tick clocks turn) s.clock)) refl
+  where
+    by : (c : Bool) → is_in_run clocks (nearest (turn_tick clocks turn) s.clock) ≡ c
+        → AllSmall (came_at b s (nearest (turn_tick clocks turn) s.clock) (if c then Some (lines_turn clocks (nearest (turn_tick clocks turn) s.clock)) else None) g).members
+    by true e = came_small b s (nearest (turn_tick clocks turn) s.clock) (lines_turn clocks (nearest (turn_tick clocks turn) s.clock)) g (less_than (nearest (turn_tick clocks turn) s.clock) (2 ^ 64) (first_true _ _ e)) h
+    by false e = h
+
+answer_small : (clocks : Clocks) (b turn : ℕ) (c : Cmd) (g : GroupState) → AllSmall g.members → AllSmall (hears_answer clocks b turn c g).members
+answer_small clocks b turn (cmd.TrsyncState oid can_trigger reason clock) g h = report_small clocks b turn _ g h
+answer_small clocks b turn c g h = h
+
+news_small : (clocks : Clocks) (b turn : ℕ) (ns : List News) (g : GroupState) → AllSmall g.members → AllSmall (hears_news clocks b turn ns g).members
+news_small clocks b turn [] g h = h
+news_small clocks b turn (n ∷ ns) g h = news_small clocks b turn ns (hears_answer clocks b turn n.answer g) (answer_small clocks b turn n.answer g h)
+
+state_small : (clocks : Clocks) (b start : ℕ) (s : State) (g : GroupState) → AllSmall g.members → AllSmall (hears_state clocks b start s g).members
+state_small clocks b start s g h = by (nat_le start (s.turn + 1))
+  where
+    by : (c : Bool) → AllSmall (if c then hears_news clocks b s.turn s.news g else g).members
+    by true = news_small clocks b s.turn s.news g h
+    by false = h
+
+states_small : (clocks : List Clocks) (b start : ℕ) (states : List State) (g : GroupState) → AllSmall g.members → AllSmall (hears_states clocks b start states g).members
+states_small [] b start states g h = h
+states_small (c ∷ clocks) b start [] g h = h
+states_small (c ∷ clocks) b start (s ∷ states) g h = states_small clocks (b + 1) start states (hears_state c b start s g) (state_small c b start s g h)
+
+-- the homing section that is known
+abbrev IsSmallHoming : Option Homing → Type 0
+IsSmallHoming None = Unit {0}
+IsSmallHoming (Some h) = AllSmall h.group.members
+
+with_small : (c : Bool) (section at turn start last : ℕ) (ms : List Member) → IsSmallHoming (homing_with section at turn (cond c (Some (new_group ms start last)) None))
+with_small true section at turn start last ms = unseen_small ms
+with_small false section at turn start last ms = tt
+
+begun_small : (m : Machine) (section : ℕ) (what : SectionKind) (turn last moving : ℕ) → IsSmallHoming (homing_of m section what turn last moving)
+begun_small m section Moves turn last moving = tt
+begun_small m section (Home axis) turn last moving =
+    let ms = members_from m (axis_at m axis) moving 0 m.boards in
+    with_small (may_be (map unseen ms) turn last) section axis turn turn last ms
+
+told_small : (m : Machine) (r : Known) (n : NoteNews) → IsSmallHoming r.homing → IsSmallHoming (told m r n).homing
+told_small m r (news.Start section kind turn last moving) h = begun_small m section kind turn last moving
+told_small m r (news.Done section turn) h = h
+told_small m r (news.Read x sections) h = h
+told_small m r (news.Line board line from) h = h
+
+all_small : (m : Machine) (ns : List NoteNews) (r : Known) → IsSmallHoming r.homing → IsSmallHoming (told_all m ns r).homing
+all_small m [] r h = h
+all_small m (n ∷ ns) r h = all_small m ns (told m r n) (told_small m r n h)
+
+noted_small : (m : Machine) (note : Option Note) (r : Known) → IsSmallHoming r.homing → IsSmallHoming (noted m note r).homing
+noted_small m None r h = h
+noted_small m (Some note) r h = all_small m note.news r h
+
+group_either : (c : Bool) (x g : GroupState) → AllSmall x.members → AllSmall g.members → AllSmall (cond c g x).members
+group_either true x g a b = b
+group_either false x g a b = a
+
+in_small : (p : GroupPhase) (g : GroupState) (turn : ℕ) → AllSmall g.members → AllSmall (after_in p g turn).members
+in_small (Sends round) g turn h = h
+in_small Goes g turn h = group_either (all_fired g.members) _ g h h
+in_small Rests g turn h = h
+
+goes_small : (k : ℕ) (h : Homing) (o : Option End) → AllSmall h.group.members → IsSmallHoming (goes_on_homing k h o)
+goes_small k h None s = in_small (phase h.group.start h.group.last k) h.group k s
+goes_small k h (Some end) s = tt
+
+after_small : (clocks : List Clocks) (k : ℕ) (states : List State) (o : Option Homing) → IsSmallHoming o → IsSmallHoming (homing_after clocks k states o)
+after_small clocks k states None s = tt
+after_small clocks k states (Some h) s =
+    let g = hears_all clocks states h in
+    goes_small k g (answer_in k g.start g.group) (states_small clocks 0 h.start states h.group s)
+
+known_small : (m : Machine) (switches : List Switch) (came : List Came) → GoesOn m switches came → IsSmallHoming (known_by m switches came).homing
+known_small m switches [] g = tt
+known_small m switches (c ∷ before) g =
+    let known = known_by m switches before in
+    let n = noted m c.note known in
+    let was = noted_small m c.note known (known_small m switches before g.1) in
+    let So : Reacted → Type 0 = λ y. IsSmallHoming y.known.homing in
+    elim (turning.goes m switches known (length before) c.states c.note g.0) [
+      | inl x ↦ subst So (sym x.is) was
+      | inr more ↦ elim more [ inl x ↦ subst So (sym x.is) was | inr x ↦ subst So (sym x.is) (after_small n.clocks (length before) c.states n.homing was) ]
+    ]
+
+-- the tick of an answer
+not_expired : (last : ℕ) (ms : List Seen) (tick : ℕ) → first_expired last ms ≡ Some (end.Endstop tick) → ⊥
+not_expired last [] tick e = cc
+not_expired last (m ∷ ms) tick e = by m.fired (λ f. not_expired last ms tick f) e
+  where
+    inner : (f : Fired) (b : Bool) → (first_expired last ms ≡ Some (end.Endstop tick) → ⊥) → or_else (if b then Some (end.Expired m.member.board f.turn) else None) (first_expired last ms) ≡ Some (end.Endstop tick) → ⊥
+    inner f true rec e = cc
+    inner f false rec e = rec e
+
+    by : (o : Option Fired) → (first_expired last ms ≡ Some (end.Endstop tick) → ⊥) → or_else (expired last m.member.board o) (first_expired last ms) ≡ Some (end.Endstop tick) → ⊥
+    by None rec e = rec e
+    by (Some f) rec e = inner f ((f.reason == 2) && nat_le f.turn last) rec e
+
+switch_small : (ms : List Seen) (tick : ℕ) → AllSmall ms → first_switched ms ≡ Some (end.Endstop tick) → tick < 2 ^ 64
+switch_small [] tick h e = absurd (let f : None ≡ Some (end.Endstop tick) = e in cc)
+switch_small (m ∷ ms) tick h e = by m.fired h.0 (λ f. switch_small ms tick h.1 f) e
+  where
+    inner : (f : Fired) (b : Bool) → f.tick < 2 ^ 64 → (first_switched ms ≡ Some (end.Endstop tick) → tick < 2 ^ 64) → or_else (if b then Some (end.Endstop f.tick) else None) (first_switched ms) ≡ Some (end.Endstop tick) → tick < 2 ^ 64
+    inner f true low rec e = let same : f.tick ≡ tick = cc in omega (arith, low, same)
+    inner f false low rec e = rec e
+
+    by : (o : Option Fired) → HasSmall o → (first_switched ms ≡ Some (end.Endstop tick) → tick < 2 ^ 64) → or_else (switched m.member.endstop o) (first_switched ms) ≡ Some (end.Endstop tick) → tick < 2 ^ 64
+    by None low rec e = rec e
+    by (Some f) low rec e = inner f (m.member.endstop && (f.reason == 1)) low rec e
+
+either_end : (o p : Option End) (tick : ℕ) → or_none (or_else o p) ≡ end.Endstop tick → (o ≡ Some (end.Endstop tick)) ⊎ (p ≡ Some (end.Endstop tick))
+either_end None None tick e = cc
+either_end None (Some x) tick e = inr (ap (λ (z : End). Some z) e)
+either_end (Some x) p tick e = inl (ap (λ (z : End). Some z) e)
+
+ended_small : (g : GroupState) (tick : ℕ) → AllSmall g.members → ended g ≡ Some (end.Endstop tick) → tick < 2 ^ 64
+ended_small g tick h e = by (all_fired g.members) e
+  where
+    by : (b : Bool) → (if b then Some (answer g) else None) ≡ Some (end.Endstop tick) → tick < 2 ^ 64
+    by true f =
+        let same : answer g ≡ end.Endstop tick = cc in
+        elim (either_end (first_expired g.last g.members) (first_switched g.members) tick same) [ inl x ↦ absurd (not_expired g.last g.members tick x) | inr x ↦ switch_small g.members tick h x ]
+    by false f = absurd (let z : None ≡ Some (end.Endstop tick) = f in cc)
+
+in_end : (k start : ℕ) (g : GroupState) (tick : ℕ) → answer_in k start g ≡ Some (end.Endstop tick) → ended g ≡ Some (end.Endstop tick)
+in_end k start g tick e = by (nat_le start k) e
+  where
+    by : (b : Bool) → (if b then ended g else None) ≡ Some (end.Endstop tick) → ended g ≡ Some (end.Endstop tick)
+    by true f = f
+    by false f = absurd (let z : None ≡ Some (end.Endstop tick) = f in cc)
+
+turn_small : (clocks : List Clocks) (k : ℕ) (states : List State) (o : Option Homing) (tick : ℕ) → IsSmallHoming o → (homing_turn clocks k states o).cut ≡ Some tick → tick < 2 ^ 64
+turn_small clocks k states o tick small cut =
+    let a = answer_of clocks k states o tick cut in
+    let h = a.0 in
+    let own : AllSmall h.group.members = subst (λ (z : Option Homing). IsSmallHoming z) a.1 small in
+    let g = hears_all clocks states h in
+    ended_small g.group tick (states_small clocks 0 h.start states h.group own) (in_end k h.start g.group tick a.2)
+
+-- the lines of the scene
+where_low : (test : Switch → Bool) (switches : List Switch) → All (λ w. w.line < 2 ^ 64) switches → line_of (last_where test switches) < 2 ^ 64
+where_low test [] all = omega arith
+where_low test (w ∷ switches) all = by (last_where test switches) (test w) (where_low test switches (All-tail (λ (x : Switch). x.line < 2 ^ 64) w switches all)) (All-head (λ (x : Switch). x.line < 2 ^ 64) w switches all)
+  where
+    by : (o : Option Switch) (b : Bool) → line_of o < 2 ^ 64 → w.line < 2 ^ 64 → line_of (or_earlier o (if b then Some w else None)) < 2 ^ 64
+    by (Some x) b low own = low
+    by None true low own = own
+    by None false low own = omega arith
+
+-- lines of which the cut lines have long numbers
+long_both : (xs ys : List ReportLine) → HaveLongCuts xs → HaveLongCuts ys → HaveLongCuts (xs ++ ys)
+long_both [] ys a b = b
+long_both (report.Cut i board pin tick from ∷ xs) ys a b = (a.0, a.1, long_both xs ys a.2 b)
+long_both (report.Section i turn kind ∷ xs) ys a b = long_both xs ys a b
+long_both (x ∷ xs) ys a b = long_both xs ys a b
+
+pub long_uncut : (m : Machine) (lines : List ReportLine) → AreTold false m lines → HaveLongCuts lines
+long_uncut m [] told_lines = tt
+long_uncut m (report.Cut i board pin tick from ∷ lines) told_lines = absurd (let e : false ≡ true = told_lines.0 in cc)
+long_uncut m (report.Section i turn kind ∷ lines) told_lines = long_uncut m lines told_lines.1
+long_uncut m (x ∷ lines) told_lines = long_uncut m lines told_lines.1
+
+long_counts : (o : Option Reading) → HaveLongCuts (count_lines o)
+long_counts None = tt
+long_counts (Some r) = tt
+
+module _ (m : Machine) (switches : List Switch) (scene : All (λ w. w.line < 2 ^ 64) switches) where
+  cut_long : (section : ℕ) (axis : AxisDef) (cut : Option ℕ) → ((tick : ℕ) → cut ≡ Some tick → tick < 2 ^ 64) → HaveLongCuts (cut_line m switches section axis cut)
+  cut_long section axis None low = tt
+  cut_long section axis (Some tick) low = (low tick refl, where_low (λ s. is_of axis.board axis.pin s && nat_le s.tick tick) switches scene, tt)
+
+  finishes_long : (o : ReadStop) (r : Known) (k : ℕ) (lines : List ReportLine) (askings : List Asking) (turn : HomingTurn) → HaveLongCuts lines → HaveLongCuts (finishes o m r k lines askings turn).ordered.lines
+  finishes_long (read.Stop line) r k lines askings turn long = long
+  finishes_long read.End r k lines askings turn long = long_both lines (count_lines r.reading) long (long_counts r.reading)
+  finishes_long (read.Refused line kind) r k lines askings turn long = long_both lines (count_lines r.reading) long (long_counts r.reading)
+
+  homing_long : (o : Option Cause) (r : Known) (k : ℕ) (states : List State) (lines cut : List ReportLine) (askings : List Asking) (turn : HomingTurn) → HaveLongCuts lines → HaveLongCuts cut → HaveLongCuts (unless_homing_ends o m r k states lines cut askings turn).ordered.lines
+  homing_long (Some cause) r k states lines cut askings turn long own = long
+  homing_long None r k states lines cut askings turn long own = by (is_finished r k states)
+    where
+      by : (b : Bool) → HaveLongCuts (cond b (finishes (stop_of r.reading) m r k (lines ++ cut) askings turn) (carries_on m r k (lines ++ cut) askings turn None)).ordered.lines
+      by true = finishes_long (stop_of r.reading) r k (lines ++ cut) askings turn (long_both lines cut long own)
+      by false = long_both lines cut long own
+
+  stale_long : (o : Option Cause) (r : Known) (k : ℕ) (states : List State) (lines : List ReportLine) (askings : List Asking) → IsSmallHoming r.homing → HaveLongCuts lines → HaveLongCuts (unless_stale o m switches r k states lines askings).ordered.lines
+  stale_long (Some cause) r k states lines askings small long = long
+  stale_long None r k states lines askings small long =
+      let turn = homing_turn r.clocks k states r.homing in
+      homing_long turn.end (after_homing r k states) k states lines (cut_line m switches turn.section (axis_at m turn.axis) turn.cut) askings turn long (cut_long turn.section (axis_at m turn.axis) turn.cut (λ tick e. turn_small r.clocks k states r.homing tick small e))
+
+  given_long : (o : Option Cause) (r : Known) (k : ℕ) (lines : List ReportLine) (askings : List Asking) → HaveLongCuts lines → HaveLongCuts (unless_given_up o m r k lines askings).ordered.lines
+  given_long (Some cause) r k lines askings long = long
+  given_long None r k lines askings long = by (all_connected askings)
+    where
+      by : (b : Bool) → HaveLongCuts (cond b (is_connected_now m r k lines askings) (asks_boards m r k lines askings)).ordered.lines
+      by true = let ls = board_lines m 0 askings in long_both lines (connected_lines k 0 ls) long (long_uncut m (connected_lines k 0 ls) (boards_told false m k 0 ls))
+      by false = long
+
+  late_long : (o : Option Cause) (r : Known) (k : ℕ) (lines : List ReportLine) (line : ℕ) → HaveLongCuts lines → HaveLongCuts (unless_late_stale o m r k lines line).ordered.lines
+  late_long (Some cause) r k lines line long = long
+  late_long None r k lines line long = long_both lines (count_lines r.reading) long (long_counts r.reading)
+
+  phase_long : (p : Phase) (r : Known) (k : ℕ) (states : List State) (lines : List ReportLine) → IsSmallHoming r.homing → HaveLongCuts lines → HaveLongCuts (by_phase p m switches r k states lines).ordered.lines
+  phase_long Connecting r k states lines small long = let askings = ready_all m 0 (listen_all r.askings.items states) in given_long (giving_up k 0 askings) r k lines askings long
+  phase_long Running r k states lines small long = let askings = listen_all r.askings.items states in stale_long (stale k 0 askings) r k states lines askings small long
+  phase_long (Stopping line) r k states lines small long = late_long (stale k 0 (listen_all r.askings.items states)) r k lines line long
+
+  ended_long : (o : Option Cause) (r : Known) (k : ℕ) (states : List State) (lines : List ReportLine) → IsSmallHoming r.homing → HaveLongCuts lines → HaveLongCuts (unless_ended o m switches r k states lines).ordered.lines
+  ended_long (Some cause) r k states lines small long = long
+  ended_long None r k states lines small long = phase_long r.phase r k states lines small long
+
+  reacts_long : (r : Known) (k : ℕ) (states : List State) (note : Option Note) → IsSmallHoming r.homing → HaveLongCuts (reacts m switches r k states note).ordered.lines
+  reacts_long r k states note small =
+      let s = noted m note r in
+      let lines = first_lines m s k (news_of note) states in
+      ended_long (first_cause (is_out note) s.stopped states) s k states lines (noted_small m note r small) (long_uncut m lines (first_told false m s k (news_of note) states))
+
+  pub turn_long : (before : List Came) (t : ReactorTurn) → GoesOn m switches before → t.lines ≡ (reacts m switches (known_by m switches before) (length before) t.states t.note).ordered.lines → HaveLongCuts t.lines
+  turn_long before t g e = subst (λ (z : List ReportLine). HaveLongCuts z) (sym e) (reacts_long (known_by m switches before) (length before) t.states t.note (known_small m switches before g))
+
+  pub turns_long : (before : List Came) (rs : List ReactorTurn) (end : ReactorTurn) → GoesOn m switches before → AreReactorTurns m switches before rs
+      → (GoesOn m switches (came_from before rs) → HaveLongCuts end.lines) → HaveLongCuts (gather (λ t. t.lines) (rs ++ end ∷ []))
+  turns_long before [] end g turns last = long_both end.lines [] (last g) tt
+  turns_long before (r ∷ rs) end g turns last =
+      long_both r.lines (gather (λ (t : ReactorTurn). t.lines) (rs ++ end ∷ [])) (turn_long before r g turns.0.lines_are) (turns_long (came_in r ∷ before) rs end (turns.0.goes_on, g) turns.1 last)

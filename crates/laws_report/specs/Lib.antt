@@ -1,0 +1,4 @@
+pub mod logs
+pub mod meshes
+pub mod reports
+pub mod page

@@ -1,0 +1,22 @@
+-- The plan that the pulses of a report follow.
+use Rattle.std.specs.Prelude.{ℕ, List, slice_index_or}
+use Rattle.plan_types.specs.declared.machine.Machine.{Machine}
+use Rattle.plan_types.specs.declared.plan.Move.{Move}
+use Rattle.plan_types.specs.declared.plan.Planned.{Planned}
+use Rattle.plan_types.specs.declared.plan.Section.{Section}
+use Rattle.plan_types.specs.declared.plan.SectionKind.{SectionKind}
+use Rattle.plan_types.specs.Lines.{Clocks}
+use Rattle.plan_types.specs.Sections.{stepper_plan}
+use Rattle.laws_report.specs.reports.Body.{no_section}
+
+-- the moves of a section of a number
+abbrev pub moves_of : List Section → ℕ → List Move
+moves_of sections i = (slice_index_or sections i no_section).moves
+
+-- what the section of a number does
+abbrev pub kind_of : List Section → ℕ → SectionKind
+kind_of sections i = (slice_index_or sections i no_section).kind
+
+-- the planned steps of a stepper in a section of a number that starts in a turn, by the boards' clock lines
+abbrev pub plan_by : List Clocks → Machine → List Section → ℕ → ℕ → ℕ → List Planned
+plan_by clocks m sections i turn s = stepper_plan m clocks (moves_of sections i) turn s

@@ -1,0 +1,44 @@
+-- The clock lines of a board in a run in which axes home: they track it until any turn before that up to which they do, and turns begin by those that the
+-- reactor knows as by all.
+use Rattle.std.proofs.Common.{◌≡◌, ℕ, ◌+◌, ◌<◌, ◌≤◌, List, [], ◌∷◌, length, map, refl, ap, sym, ◌∙◌, subst, arith}
+use Rattle.std.proofs.lemmas.List.{length-map}
+use Rattle.plan_types.specs.declared.machine.Machine.{Machine}
+use Rattle.plan_types.specs.Lines.{Clocks}
+use Rattle.plan_types.specs.Sections.{clocks_at}
+use Rattle.clock_line.specs.Kept.{AreKept}
+use Rattle.wire_scene.specs.declared.scene.Switch.{Switch}
+use Rattle.host_reactor.specs.Notes.{noted}
+use Rattle.host_reactor.specs.Runs.{Came, known_by}
+use Rattle.laws_board.specs.sections.Parts.{AreTracked}
+use Rattle.laws_homing.specs.home_parts.Known.{KnowsLately}
+use Rattle.motion_work.specs.Known.{lines_by}
+use Rattle.laws_homing.proofs.home_parts.Held.{clocks_by, kept_by, tick_known}
+use Rattle.laws_homing.specs.clear_groups.Sections.{KnowsLines}
+
+pub tracked_by : (own : ℕ → ℕ) (clocks : Clocks) (ready until : ℕ) (k : AreTracked own clocks ready) → until ≤ k.until → (x : AreTracked own clocks ready) × (x.until ≡ until)
+tracked_by own clocks ready until k far =
+    let x : AreTracked own clocks ready = record {
+      until = until;
+      kept = k.kept;
+      behind = λ n low soon. k.behind n low (omega (arith, soon, far));
+      ahead = λ n low soon. k.ahead n low (omega (arith, soon, far));
+    } in
+    (x, refl)
+
+pub lines_known : (m : Machine) (switches : List Switch) (clocks : List Clocks) (start : ℕ) (came : List Came) → length clocks ≡ length m.boards → ((b : ℕ) → b < length m.boards → AreKept (clocks_at clocks b)) → KnowsLately m switches clocks came
+    → KnowsLines m switches start (λ b. clocks_at clocks b) came
+lines_known m switches clocks start [] count kept k = tt
+lines_known m switches clocks start (c ∷ before) count kept k = (
+  λ past h is at b low.
+      let n = length before + 276 in
+      let same = k.0 past in
+      let size : length (map (lines_by n) clocks) ≡ length clocks = length-map clocks (lines_by n) in
+      let all = kept b low in (
+        subst (λ (cs : List Clocks). b < length cs) (sym same) (omega (arith, low, count, size)),
+        record {
+          kept = subst AreKept (sym (ap (λ (cs : List Clocks). clocks_at cs b) same ∙ clocks_by n clocks b)) (kept_by n (clocks_at clocks b) all);
+          ticks = λ turn soon. tick_known (noted m c.note (known_by m switches before)).clocks clocks n b turn same all soon;
+        },
+      ),
+  lines_known m switches clocks start before count kept k.1,
+)

@@ -1,0 +1,72 @@
+-- A board of a run in which axes home runs in all its turns, where it isn't told to stop and no unit comes too late to it.
+use Rattle.std.proofs.Common.{◌≡◌, ℕ, List, [], ◌∷◌, ◌++◌, Option, Some, None, ap, sym, ◌∙◌, subst}
+use Rattle.std.specs.List.{flat_map}
+use Rattle.plan_types.specs.declared.levels.Level.{Level}
+use Rattle.plan_types.specs.declared.machine.BoardDef.{BoardDef}
+use Rattle.plan_types.specs.declared.plan.BoardState.{BoardState}
+use Rattle.plan_types.specs.declared.plan.BoardState.TheVariants.{Running, Shut}
+use Rattle.plan_types.specs.Clock.{clock_of}
+use Rattle.msg_code.specs.declared.talk.ShutNews.{ShutNews}
+use Rattle.msg_code.specs.declared.talk.State.{State}
+use Rattle.wire_scene.specs.declared.scene.Entry.{Entry}
+use Rattle.board_sim.specs.Fair.{commands_of}
+use Rattle.board_world.specs.World.{Core, run, start}
+use Rattle.link_work.specs.Limits.{AllKeepLimits}
+use Rattle.link_work.specs.Runs.{queued_in}
+use Rattle.link_work.specs.Stands.{first_state, orders}
+use Rattle.link_work.specs.Told.{IsShutNews}
+use Rattle.link_work.proofs.Late.{limits_split}
+use Rattle.laws_board.specs.turns.Turns.{AreBoardTurns, BoardTurn, latest_state, stands_after}
+use Rattle.laws_board.specs.clocks.Runs.{orders_in}
+use Rattle.laws_board.specs.sections.Boards.{OnBoard}
+use Rattle.laws_board.specs.sections.Homes.{IsHomeBoard, RunSection}
+use Rattle.laws_board.specs.sections.Links.{AreTold, steps_of, turns_told}
+use Rattle.laws_board.specs.sections.Stops.{NeverStop}
+use Rattle.laws_board.proofs.sections.Boarding.{last_told, runs_on}
+use Rattle.laws_board.proofs.sections.Halted.{at_end}
+use Rattle.laws_board.proofs.sections.Linking.{turns_are}
+use Rattle.laws_board.proofs.sections.Wholes.{sent_orders}
+use Rattle.laws_run.proofs.home_headline.Good.{board_good, board_may}
+use Rattle.laws_run.proofs.home_headline.Stop.{never_shut, runs_so}
+use Rattle.laws_homing.proofs.clear_boards.Standing.{runs_through}
+use Rattle.laws_homing.proofs.clear_boards.Turned.{ran}
+use Rattle.laws_homing.specs.clear_groups.Sections.{ShutNone}
+
+none_told : (o : BoardState) (news : Option ShutNews) → IsShutNews o news → o ≡ Running → news ≡ None
+none_told o news is e = let At : BoardState → Type 0 = λ z. IsShutNews z news in subst At e is
+
+-- what it tells last is no shutdown
+pub end_none : (place : ℕ) (entries : List Entry) (ready turns : ℕ) (ss : List RunSection) (x : OnBoard) (k : IsHomeBoard place entries ready turns ss x) (front : List State) (last : State) → x.states ≡ front ++ last ∷ [] → NeverStop x.orders
+    → ((n : ShutNews) → last.shut ≡ Some n → n.reason ≡ 1 → ⊥) → last.shut ≡ None
+end_none place entries ready turns ss x k front last are never late =
+    let clock = clock_of x.board in
+    let l = first_state x.board x.pins place entries in
+    let t = turns_told clock 0 x.orders x.states l k.end k.told in
+    let steps = steps_of clock 0 x.orders l k.end t in
+    let good = board_good place entries ready turns ss x k in
+    let is : k.end.core ≡ run steps (start x.board x.pins) = (turns_are clock 0 x.orders l k.end t).0 in
+    let may = board_may place entries ready turns ss x k in
+    let keeps = (at_end x.board x.pins k.own k.stops x.orders steps good).1 in
+    let queue : (run steps (start x.board x.pins)).queued ≡ flat_map queued_in x.orders = sym keeps.queued ∙ sent_orders 0 x.orders in
+    let stop = λ (tick first : ℕ) (shut : k.end.core.board.controller.state ≡ Shut 5 tick first).
+    never_shut x.board x.pins x.orders steps tick first keeps.ordered queue never (ap (λ (h : Core). h.board.controller.state) (sym is) ∙ shut) in
+    let Told : List State → Type 0 = λ y. AreTold clock 0 x.orders y l k.end in
+    let ends = last_told clock 0 x.orders front last l k.end (subst Told are k.told) in
+    none_told k.end.core.board.controller.state last.shut ends.1 (runs_so k.end.core.board.controller.state last.shut may ends.1 late stop)
+
+-- a board that runs behind some turns ran in each of them
+none_before : (b : BoardDef) (pins : List (List Level)) (place : ℕ) (entries : List Entry) (turns : List BoardTurn) → entries ≡ [] → AreBoardTurns (clock_of b) (first_state b pins place entries) turns → AllKeepLimits (orders_in turns)
+    → (stands_after (first_state b pins place entries) turns).core.board.controller.state ≡ Running → ShutNone turns
+none_before b pins place entries [] clear are limits runs = tt
+none_before b pins place entries (t ∷ before) clear are limits runs =
+    let first = first_state b pins place entries in
+    let shut = none_told t.after.core.board.controller.state t.state.shut are.0.1.shut runs in
+    let past = ran (stands_after first before).core.board (commands_of (queued_in (orders t.control t.batch))) (runs_through b pins place entries t before clear are limits shut) in
+    (shut, none_before b pins place entries before clear are.1 (limits_split (orders_in before) (orders t.control t.batch ∷ []) limits).0 past)
+
+pub all_none : (b : BoardDef) (pins : List (List Level)) (place : ℕ) (entries : List Entry) (turns : List BoardTurn) (last : State) → entries ≡ [] → AreBoardTurns (clock_of b) (first_state b pins place entries) turns → AllKeepLimits (orders_in turns)
+    → latest_state turns ≡ last ∷ [] → last.shut ≡ None → ShutNone turns
+all_none b pins place entries [] last clear are limits at shut = tt
+all_none b pins place entries (t ∷ before) last clear are limits at shut =
+    let same : t.state ≡ last = cc in
+    none_before b pins place entries (t ∷ before) clear are limits (runs_on t.after.core.board.controller.state t.state.shut are.0.1.shut (ap (λ (y : State). y.shut) same ∙ shut))

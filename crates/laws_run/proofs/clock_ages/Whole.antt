@@ -1,0 +1,56 @@
+-- The clock lines of a whole run come in time.
+use Rattle.std.proofs.Common.{◌≡◌, ◌≢◌, ℕ, ℤ, zero, suc, pos, negsuc, ◌+◌, ◌<◌, ◌≤◌, List, [], ◌++◌, length, Some, None, refl, sym, ◌∙◌, subst, arith}
+use Rattle.std.proofs.lemmas.List.{length-map}
+use Rattle.plan_types.specs.declared.machine.Machine.{Machine}
+use Rattle.plan_types.specs.Clock.{clock_of}
+use Rattle.plan_types.specs.Machines.{IsValidMachine, board_at}
+use Rattle.plan_types.specs.Sections.{clocks_at}
+use Rattle.clock_line.specs.Kept.{AreKept}
+use Rattle.clock_line.specs.Samples.{ppm_size}
+use Rattle.msg_code.specs.declared.talk.WordMsg.{WordMsg}
+use Rattle.laws_board.specs.turns.Turns.{BoardTurn}
+use Rattle.motion_work.specs.Told.{Told}
+use Rattle.session_work.specs.declared.table.MotionTurn.{MotionTurn}
+use Rattle.laws_board.specs.orders.Renewed.{ComeInTime}
+use Rattle.laws_board.specs.plans.Planned.{AreKnown, Plans, put_of, words_in}
+use Rattle.laws_run.proofs.clock_ages.Saying.{TellsAgain}
+use Rattle.laws_run.proofs.run_headline.Boarded.{drift_few, valid_at}
+use Rattle.laws_run.proofs.run_limits.Own.{sample_small}
+use Rattle.laws_run.proofs.clock_ages.Ages.{Goes, IsDrifting, young_all}
+
+drift_some : (d : ℤ) → d ≢ pos 0 → 0 < ppm_size d
+drift_some (pos zero) n = absurd (n refl)
+drift_some (pos (suc k)) n = omega arith
+drift_some (negsuc k) n = omega arith
+
+module _ (m : Machine) (n : ℕ) (ts : List MotionTurn) (p : Plans m n ts) (t : Told) (b ended running : ℕ) (turns : List BoardTurn) (ws more : List WordMsg) (valid : IsValidMachine m) (told : p.seen.told ≡ Some t) (inside : b < length m.boards)
+    (drift : (board_at m b).drift ≢ pos 0) (are : words_in p.made ++ more ≡ ws) (a : TellsAgain m b ended running turns ws (clocks_at t.clocks b).first) where
+  drifting : IsDrifting m b
+  drifting =
+      let board = valid_at m.boards b inside valid.boards in
+      record { board = board; few = drift_few (board_at m b).drift board.drift_low board.drift_high; some = drift_some (board_at m b).drift drift; inside = inside }
+
+  known : AreKnown m (Some t)
+  known = subst (AreKnown m) told p.known
+
+  kept : AreKept (clocks_at t.clocks b)
+  kept = known.1 b inside (sample_small (clock_of (board_at m b)) turns (clocks_at t.clocks b).first drifting.board.start drifting.board.freq.high drifting.few a.few a.first_sampled)
+
+  goes : Goes m b ended running turns ws t drifting kept known.0.count a p.seen.text p.seen.begun 0 0 [] p.made None
+  goes =
+      let small = p.small in
+      let size = length-map p.made put_of in
+      record {
+        more = more;
+        words = are;
+        long = refl;
+        ahead = p.ahead;
+        lines = p.lines;
+        put = p.put;
+        small = omega (arith, small, size);
+        told_is = sym p.told_is ∙ told;
+        in_time = p.in_time;
+      }
+
+  pub plan_young : (until : ℕ) → length turns ≤ length p.made + 1 → until ≤ length turns + 400 → ComeInTime (board_at m b).drift (clocks_at t.clocks b).first (clocks_at t.clocks b).held until
+  plan_young until long high = young_all m b ended running turns ws t drifting kept known.0.count a p.seen.text p.seen.begun p.made until goes long high

@@ -1,0 +1,41 @@
+-- A board in a run in which axes home that was never told to stop does not shut down for that.
+use Rattle.std.proofs.Common.{◌≡◌, ℕ, List, ◌++◌, length, drop, Option, Some, refl, ap, ◌∙◌, subst, inl, inr}
+use Rattle.std.proofs.lemmas.List.{take-append-drop}
+use Rattle.std.specs.List.{flat_map}
+use Rattle.plan_types.specs.declared.levels.Level.{Level}
+use Rattle.plan_types.specs.declared.machine.BoardDef.{BoardDef}
+use Rattle.plan_types.specs.declared.plan.BoardState.{BoardState}
+use Rattle.plan_types.specs.declared.plan.BoardState.TheVariants.{Running, Shut}
+use Rattle.msg_code.specs.declared.talk.ShutNews.{ShutNews}
+use Rattle.board_sim.specs.Board.{new_controller}
+use Rattle.board_sim.specs.Fair.{Meant}
+use Rattle.board_world.specs.Stands.{IsOrdered}
+use Rattle.board_world.specs.World.{Step, run, start}
+use Rattle.board_world.proofs.Causes.{was_shut}
+use Rattle.link_work.specs.Turn.{Orders}
+use Rattle.link_work.specs.Runs.{queued_in}
+use Rattle.link_work.specs.Told.{IsShutNews}
+use Rattle.laws_board.specs.sections.Ends.{MayBe}
+use Rattle.laws_board.specs.sections.Stops.{NeverStop}
+use Rattle.laws_board.proofs.sections.Seeking.{Among, among_first, among_of}
+use Rattle.laws_board.proofs.sections.Stopping.{no_turns, stop_taken}
+
+pub never_shut : (b : BoardDef) (pins : List (List Level)) (os : List Orders) (steps : List Step) (tick first : ℕ) → IsOrdered (run steps (start b pins)) → (run steps (start b pins)).queued ≡ flat_map queued_in os → NeverStop os
+    → (run steps (start b pins)).board.controller.state ≡ Shut 5 tick first → ⊥
+unfolding new_controller
+never_shut b pins os steps tick first ordered queue never shut =
+    let h = run steps (start b pins) in
+    let n = stop_taken steps (start b pins) tick first (was_shut steps (start b pins) 5 tick first refl shut) in
+    let m = n.0 in
+    let long = length h.link.taken in
+    let queued : h.taken ++ drop long h.queued ≡ flat_map queued_in os = ap (λ x. x ++ drop long h.queued) ordered.first ∙ take-append-drop long h.queued ∙ queue in
+    let At : List Meant → Type 0 = λ x. Among m x in
+    no_turns m os never (subst At queued (among_first m h.taken (drop long h.queued) (among_of m h.taken n.1))) n.2
+
+-- a board runs that tells no shutdown that it may have
+pub runs_so : (o : BoardState) (news : Option ShutNews) → MayBe o → IsShutNews o news → ((t : ShutNews) → news ≡ Some t → t.reason ≡ 1 → ⊥) → ((tick first : ℕ) → o ≡ Shut 5 tick first → ⊥) → o ≡ Running
+runs_so Running news may is late stop = refl
+runs_so (Shut reason tick first) news may is late stop = elim may [
+  | inl e ↦ absurd (late is.0 is.1 (is.2 ∙ e))
+  | inr e ↦ absurd (stop tick first (ap (λ r. Shut r tick first) e))
+]

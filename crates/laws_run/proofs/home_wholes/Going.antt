@@ -1,0 +1,135 @@
+-- A board of a run in which axes home runs while the reactor goes on, and stays shut once it is.
+use Rattle.std.proofs.Common.{◌≡◌, ℕ, zero, suc, ◌+◌, Bool, true, false, cond, List, [], ◌∷◌, ◌++◌, length, Option, Some, None, refl, ap, sym, ◌∙◌, subst, inl, inr}
+use Rattle.std.specs.Prelude.{◌||◌, if◌then◌else◌}
+use Rattle.std.proofs.lemmas.Bool.Decides.{eqb_tells}
+use Rattle.std.specs.List.{flat_map}
+use Rattle.plan_types.specs.declared.cause.Cause.{Cause}
+use Rattle.plan_types.specs.declared.cause.Cause.TheVariants as cause
+use Rattle.plan_types.specs.declared.clock.BoardClock.{BoardClock}
+use Rattle.plan_types.specs.declared.levels.Level.{Level}
+use Rattle.plan_types.specs.declared.machine.BoardDef.{BoardDef}
+use Rattle.plan_types.specs.declared.machine.Machine.{Machine}
+use Rattle.plan_types.specs.declared.plan.BoardState.TheVariants.{Running, Shut}
+use Rattle.plan_types.specs.Clock.{clock_of}
+use Rattle.plan_types.specs.Machines.{board_at}
+use Rattle.msg_code.specs.declared.talk.ShutNews.{ShutNews}
+use Rattle.msg_code.specs.declared.talk.State.{State}
+use Rattle.wire_scene.specs.declared.scene.Entry.{Entry}
+use Rattle.wire_scene.specs.declared.scene.Switch.{Switch}
+use Rattle.board_sim.specs.Board.{Controller, is_shut, new_controller}
+use Rattle.board_sim.specs.Fair.{commands_of}
+use Rattle.board_sim.proofs.RigShut.{all_left_by}
+use Rattle.board_sim.proofs.RigStates.{passes_state}
+use Rattle.board_world.specs.declared.event.Event.{Event}
+use Rattle.board_world.specs.declared.event.Event.TheVariants as event
+use Rattle.board_world.specs.Stands.{IsOrdered}
+use Rattle.board_world.specs.World.{Core, Step, Do, Turn, happens, in_turn, run, start, takes_in}
+use Rattle.board_world.proofs.Runs.{all_orders}
+use Rattle.link_work.specs.Runs.{queued_in}
+use Rattle.link_work.specs.Stands.{first_state, orders}
+use Rattle.link_work.specs.Turn.{LinkState}
+use Rattle.link_work.proofs.Turns.{turns_are_steps}
+use Rattle.host_reactor.specs.Notes.{is_out, noted}
+use Rattle.host_reactor.specs.Running.{any_out, first_cause, late, late_of, or_cause}
+use Rattle.host_reactor.specs.Runs.{Came, known_by, last_turn, state_at}
+use Rattle.host_reactor.proofs.Ends.{first-ends}
+use Rattle.laws_board.specs.turns.Turns.{AreBoardTurns, BoardTurn, latest_state, stands_after}
+use Rattle.laws_board.specs.clocks.Runs.{IsInRun, orders_in}
+use Rattle.laws_board.proofs.clocks.Orders.{turns_in_order}
+use Rattle.laws_board.specs.sections.Ends.{MayBe}
+use Rattle.laws_board.specs.sections.Stops.{NeverStop}
+use Rattle.laws_homing.proofs.home_runs.Windows.{ordered_after}
+use Rattle.laws_run.proofs.home_headline.Stop.{never_shut, runs_so}
+use Rattle.laws_run.proofs.home_headline.Unasked.{never_stop}
+use Rattle.laws_run.proofs.run_ends.Unstopped.{not_before}
+
+-- a turn that goes on finds no board late
+some_none : (c : Cause) → Some c ≡ None → ⊥
+some_none c e = cc
+
+second_none : (x y : Option Cause) → or_cause x y ≡ None → (x ≡ None) × (y ≡ None)
+second_none None y e = (refl, e)
+second_none (Some c) y e = absurd (some_none c e)
+
+memory_none : (b : Bool) (o : Option Cause) → cond b (Some cause.Memory) o ≡ None → o ≡ None
+memory_none true o e = absurd (some_none cause.Memory e)
+memory_none false o e = e
+
+none_first : (m : Machine) (switches : List Switch) (c : Came) (before : List Came) (o : Option Cause) → (last_turn m switches c before).ordered.end ≡ None
+    → first_cause (is_out c.note) (noted m c.note (known_by m switches before)).stopped c.states ≡ o → o ≡ None
+none_first m switches c before None e f = refl
+none_first m switches c before (Some x) e f = absurd (some_none x (sym (first-ends m switches (known_by m switches before) (length before) c.states c.note x f) ∙ e))
+
+none_late : (m : Machine) (switches : List Switch) (c : Came) (before : List Came) → (last_turn m switches c before).ordered.end ≡ None → late 0 c.states ≡ None
+none_late m switches c before e =
+    let stopped = (noted m c.note (known_by m switches before)).stopped in
+    let first = none_first m switches c before (first_cause (is_out c.note) stopped c.states) e refl in
+    (second_none stopped (late 0 c.states) (memory_none (is_out c.note || any_out c.states) (or_cause stopped (late 0 c.states)) first)).1
+
+not_late : (j : ℕ) (n : ShutNews) → late_of j (Some n) ≡ None → n.reason ≡ 1 → ⊥
+not_late j n e one =
+    let At : Bool → Type 0 = λ b. (if b then Some (cause.Late j n.first n.tick n.spoiled n.spill) else None) ≡ None in
+    elim (eqb_tells n.reason 1) [ inl p ↦ some_none (cause.Late j n.first n.tick n.spoiled n.spill) (subst At p.0 e) | inr p ↦ p.1 one ]
+
+-- none of the states tells that a unit came too late
+in_time : (j b : ℕ) (states : List State) (s : State) (n : ShutNews) → late j states ≡ None → state_at b states ≡ s ∷ [] → s.shut ≡ Some n → n.reason ≡ 1 → ⊥
+in_time j b [] s n e at is one = let f : [] ≡ s ∷ [] = at in cc
+in_time j zero (x ∷ states) s n e at is one =
+    let same : x ≡ s = cc in
+    not_late j n (ap (late_of j) (sym (ap (λ (y : State). y.shut) same ∙ is)) ∙ (second_none (late_of j x.shut) (late (j + 1) states) e).0) one
+in_time j (suc b) (x ∷ states) s n e at is one = in_time (j + 1) b states s n (second_none (late_of j x.shut) (late (j + 1) states) e).1 at is one
+
+-- a board that wasn't told to stop didn't shut down for that
+none_asked : (d : BoardDef) (pins : List (List Level)) (b : ℕ) (entries : List Entry) (turns : List BoardTurn) (tick first : ℕ) → AreBoardTurns (clock_of d) (first_state d pins b entries) turns → NeverStop (orders_in turns)
+    → (stands_after (first_state d pins b entries) turns).core.board.controller.state ≡ Shut 5 tick first → ⊥
+none_asked d pins b entries turns tick first are never shut =
+    let begin = first_state d pins b entries in
+    let os = orders_in turns in
+    let steps = turns_are_steps (clock_of d) 0 os begin (stands_after begin turns) (turns_in_order (clock_of d) begin turns are) in
+    let ordered : IsOrdered (run steps.0 (start d pins)) = subst IsOrdered steps.1 (ordered_after d pins b entries turns are) in
+    let queue : (run steps.0 (start d pins)).queued ≡ flat_map queued_in os = all_orders steps.0 (start d pins) ∙ steps.2 in
+    never_shut d pins os steps.0 tick first ordered queue never (ap (λ (h : Core). h.board.controller.state) (sym steps.1) ∙ shut)
+
+-- a board whose state came in a turn of the reactor that goes on runs
+pub goes_running : (m : Machine) (switches : List Switch) (pins : List (List Level)) (entries : List Entry) (b : ℕ) (c : Came) (before : List Came) (past : List BoardTurn)
+    → IsInRun m switches pins entries b before past
+    → state_at b c.states ≡ latest_state past
+    → (last_turn m switches c before).ordered.end ≡ None
+    → MayBe (stands_after (first_state (board_at m b) pins b entries) past).core.board.controller.state
+    → (stands_after (first_state (board_at m b) pins b entries) past).core.board.controller.state ≡ Running
+unfolding new_controller
+goes_running m switches pins entries b c before [] r told e may = refl
+goes_running m switches pins entries b c before (t ∷ turns) r told e may =
+    let never = never_stop m switches pins entries b before (t ∷ turns) r (not_before m switches c before e) in
+    runs_so t.after.core.board.controller.state t.state.shut may r.turns_are.0.1.shut (λ n is one. in_time 0 b c.states t.state n (none_late m switches c before e) told is one)
+    (λ tick first shut. none_asked (board_at m b) pins b entries (t ∷ turns) tick first r.turns_are never shut)
+
+-- nothing that happens changes the state of a board that is shut down
+shut_event : (h : Core) (e : Event) → is_shut h.board.controller.state ≡ true → (happens h e).board.controller.state ≡ h.board.controller.state
+shut_event h (event.Pass t) shut = passes_state h.board t
+shut_event h event.Arrive shut = ap (λ (x : Controller). x.state) (all_left_by h.board (commands_of (takes_in h event.Arrive)) shut)
+shut_event h event.Repeat shut = ap (λ (x : Controller). x.state) (all_left_by h.board (commands_of (takes_in h event.Repeat)) shut)
+shut_event h (event.Put c) shut = refl
+shut_event h (event.Control c) shut = refl
+shut_event h event.Send shut = refl
+shut_event h event.Resend shut = refl
+shut_event h event.Lose shut = refl
+shut_event h event.Garble shut = refl
+shut_event h event.Reply shut = refl
+shut_event h event.LoseReply shut = refl
+
+shut_steps : (steps : List Step) (h : Core) → is_shut h.board.controller.state ≡ true → (run steps h).board.controller.state ≡ h.board.controller.state
+shut_steps [] h shut = refl
+shut_steps (Do e ∷ steps) h shut = let one = shut_event h e shut in shut_steps steps (happens h e) (ap is_shut one ∙ shut) ∙ one
+shut_steps (Turn turn ∷ steps) h shut = shut_steps steps (in_turn h turn) shut
+
+-- a board that has shut down stays so
+pub stays_shut : (clock : BoardClock) (first : LinkState) (later past : List BoardTurn) (reason tick at : ℕ) → AreBoardTurns clock first (later ++ past)
+    → (stands_after first past).core.board.controller.state ≡ Shut reason tick at → (stands_after first (later ++ past)).core.board.controller.state ≡ Shut reason tick at
+stays_shut clock first [] past reason tick at are shut = shut
+stays_shut clock first (t ∷ later) past reason tick at are shut =
+    let before = later ++ past in
+    let l = stands_after first before in
+    let steps = turns_are_steps clock (length before) (orders t.control t.batch ∷ []) l t.after (t.after, are.0.0, refl) in
+    let rest = stays_shut clock first later past reason tick at are.1 shut in
+    ap (λ (h : Core). h.board.controller.state) steps.1 ∙ shut_steps steps.0 l.core (ap is_shut rest) ∙ rest

@@ -1,0 +1,171 @@
+-- A cause that is so in a turn ends the run, or one before it does.
+use Rattle.std.proofs.Common.{◌≡◌, ◌⊎◌, ℕ, ◌<◌, Bool, true, false, cond, List, ◌++◌, Option, Some, None, refl, ap, sym, ◌∙◌, subst, arith, inl, inr}
+use Rattle.std.specs.Prelude.{◌-◌, ◌&&◌, ◌||◌, nat_lt}
+use Rattle.std.proofs.lemmas.Bool.Decides.{leb_tells}
+use Rattle.plan_types.specs.declared.cause.Cause.{Cause}
+use Rattle.plan_types.specs.declared.cause.Cause.TheVariants as cause
+use Rattle.plan_types.specs.declared.machine.Machine.{Machine}
+use Rattle.plan_types.specs.declared.plan.ReadStop.{ReadStop}
+use Rattle.plan_types.specs.declared.plan.ReadStop.TheVariants as read
+use Rattle.plan_types.specs.Machines.{axis_at}
+use Rattle.msg_code.specs.declared.talk.Note.{Note}
+use Rattle.msg_code.specs.declared.talk.State.{State}
+use Rattle.report_text.specs.declared.line.ReportLine.{ReportLine}
+use Rattle.wire_scene.specs.declared.scene.Switch.{Switch}
+use Rattle.board_asking.specs.declared.asking.Asking.{Asking}
+use Rattle.board_asking.specs.Connecting.{listen_all}
+use Rattle.board_asking.specs.Drift.{stale}
+use Rattle.axis_homing.specs.declared.homing.HomingTurn.{HomingTurn}
+use Rattle.axis_homing.specs.Homing.{homing_turn}
+use Rattle.host_reactor.specs.declared.ordered.Known.{Known}
+use Rattle.host_reactor.specs.declared.ordered.Phase.{Phase}
+use Rattle.host_reactor.specs.declared.ordered.Phase.TheVariants.{Connecting, Running, Stopping}
+use Rattle.host_reactor.specs.Notes.{noted, news_of, is_out}
+use Rattle.host_reactor.specs.Reactor.{after_homing, by_phase, carries_on, cut_line, finishes, reacts, unless_ended, unless_homing_ends, unless_late_stale, unless_stale}
+use Rattle.host_reactor.specs.Report.{first_lines}
+use Rattle.host_reactor.specs.Running.{all_ended, all_idle, any_out, first_cause, is_finished, late, stop_of}
+use Rattle.host_reactor.proofs.Blames.{blames}
+use Rattle.host_reactor.proofs.Ends.{connecting-ends, first-ends, homing-ends, late-is-next, memory-is-first, stale-ends}
+use Rattle.laws_run.specs.run_ends.Ends.{EndsSo, IsThrough, WentThrough, order}
+use Rattle.laws_run.proofs.run_ends.Ending.{IsHoming, IsLate, IsStale, homing_is, late_is, note_stays, of_some, stale_is}
+
+-- a turn ends a run for a cause, or for one before it
+abbrev Comes : Cause → Option Cause → Type 0
+Comes d None = ⊥
+Comes d (Some e) = (d ≡ e) ⊎ (order e < order d)
+
+late_order : (c : Cause) → IsLate c → order c ≡ 2
+late_order (cause.Late board first arrival spoiled spill) i = refl
+late_order c i = absurd i
+
+stale_order : (c : Cause) → IsStale c → order c ≡ 3
+stale_order (cause.Stale board turn) i = refl
+stale_order c i = absurd i
+
+homing_order : (c : Cause) → IsHoming c → order c ≡ 4
+homing_order (cause.NoSwitch section) i = refl
+homing_order (cause.Expired board turn) i = refl
+homing_order c i = absurd i
+
+both_true : (a b : Bool) → a ≡ true → b ≡ true → (a && b) ≡ true
+both_true true b e f = f
+both_true false b e f = e
+
+finished : (r : Known) (k : ℕ) (states : List State) → IsThrough r k states → is_finished r k states ≡ true
+finished r k states t =
+    let late : nat_lt 4 (k - r.ended) ≡ true = elim (leb_tells 5 (k - r.ended)) [ inl p ↦ p.0 | inr p ↦ absurd (let b = t.behind in omega (arith, p.1, b)) ] in
+    both_true (all_ended r.done r.reading) (nat_lt 4 (k - r.ended) && all_idle states) t.ended (both_true (nat_lt 4 (k - r.ended)) (all_idle states) late t.idle)
+
+module _ (m : Machine) (switches : List Switch) (r : Known) (k : ℕ) (states : List State) (note : Option Note) (none : (noted m note r).stopped ≡ None) where
+  abbrev End : Option Cause
+  End = (reacts m switches r k states note).ordered.end
+
+  abbrev Askings : List Asking
+  Askings = listen_all (noted m note r).askings.items states
+
+  abbrev Turn : HomingTurn
+  Turn = homing_turn (noted m note r).clocks k states (noted m note r).homing
+
+  abbrev Heard : List ReportLine
+  Heard = first_lines m (noted m note r) k (news_of note) states
+
+  ends_as : (d e : Cause) → End ≡ Some e → (d ≡ e) ⊎ (order e < order d) → Comes d End
+  ends_as d e is h = subst (Comes d) (sym is) h
+
+  -- the causes that come first
+  behind_first : (d : Cause) → 2 < order d → (first_cause (is_out note) (noted m note r).stopped states ≡ None → Comes d End) → Comes d End
+  behind_first d high then = by_out (is_out note || any_out states) refl
+    where
+      by_late : (l : Option Cause) → (is_out note || any_out states) ≡ false → late 0 states ≡ l → Comes d End
+      by_late None e f = then (late-is-next (is_out note) (noted m note r).stopped states e none ∙ f)
+      by_late (Some c) e f =
+          let is = late-is-next (is_out note) (noted m note r).stopped states e none ∙ f in
+          ends_as d c (first-ends m switches r k states note c is) (inr (let o = late_order c (of_some IsLate (late 0 states) c f (late_is 0 states)) in omega (arith, o, high)))
+
+      by_out : (b : Bool) → (is_out note || any_out states) ≡ b → Comes d End
+      by_out true e = ends_as d cause.Memory (first-ends m switches r k states note cause.Memory (memory-is-first (is_out note) (noted m note r).stopped states e)) (inr (omega (arith, high)))
+      by_out false e = by_late (late 0 states) e refl
+
+  late_comes : (d : Cause) → 0 < order d → late 0 states ≡ Some d → Comes d End
+  late_comes d high f = by_out (is_out note || any_out states) refl
+    where
+      by_out : (b : Bool) → (is_out note || any_out states) ≡ b → Comes d End
+      by_out true e = ends_as d cause.Memory (first-ends m switches r k states note cause.Memory (memory-is-first (is_out note) (noted m note r).stopped states e)) (inr (omega (arith, high)))
+      by_out false e = ends_as d d (first-ends m switches r k states note d (late-is-next (is_out note) (noted m note r).stopped states e none ∙ f)) (inl refl)
+
+  -- then the phase decides
+  decides : (p : Phase) → first_cause (is_out note) (noted m note r).stopped states ≡ None → (noted m note r).phase ≡ p → End ≡ (by_phase p m switches (noted m note r) k states Heard).ordered.end
+  decides p f e = ap (λ o. (unless_ended o m switches (noted m note r) k states Heard).ordered.end) f ∙ ap (λ q. (by_phase q m switches (noted m note r) k states Heard).ordered.end) e
+
+  stale_comes : (p : Phase) (d : Cause) → first_cause (is_out note) (noted m note r).stopped states ≡ None → (noted m note r).phase ≡ p → (p ≡ Connecting → ⊥) → stale k 0 Askings ≡ Some d → Comes d End
+  stale_comes Connecting d f e not s = absurd (not refl)
+  stale_comes Running d f e not s = ends_as d d (stale-ends m switches r k states note d f e s) (inl refl)
+  stale_comes (Stopping line) d f e not s = ends_as d d (decides (Stopping line) f e ∙ ap (λ o. (unless_late_stale o m (noted m note r) k Heard line).ordered.end) s) (inl refl)
+
+  -- while running, behind a board that gives no answer
+  behind_stale : (d : Cause) → 3 < order d → first_cause (is_out note) (noted m note r).stopped states ≡ None → (noted m note r).phase ≡ Running → (stale k 0 Askings ≡ None → Comes d End) → Comes d End
+  behind_stale d high f p then = by (stale k 0 Askings) refl
+    where
+      by : (o : Option Cause) → stale k 0 Askings ≡ o → Comes d End
+      by None e = then e
+      by (Some c) e = ends_as d c (stale-ends m switches r k states note c f p e) (inr (let o = stale_order c (of_some IsStale (stale k 0 Askings) c e (stale_is k 0 Askings)) in omega (arith, o, high)))
+
+  -- and behind homing
+  behind_homing : (d : Cause) → 4 < order d → first_cause (is_out note) (noted m note r).stopped states ≡ None → (noted m note r).phase ≡ Running → stale k 0 Askings ≡ None → (Turn.end ≡ None → Comes d End) → Comes d End
+  behind_homing d high f p s then = by Turn.end refl
+    where
+      by : (o : Option Cause) → Turn.end ≡ o → Comes d End
+      by None e = then e
+      by (Some c) e =
+          ends_as d c (homing-ends m switches r k states note c f p s e)
+          (inr (let o = homing_order c (of_some IsHoming Turn.end c e (homing_is (noted m note r).clocks k states (noted m note r).homing)) in omega (arith, o, high)))
+
+  -- a run that went through
+  through_comes : (stop : ReadStop) (d : Cause) → 4 < order d → WentThrough (noted m note r) k states stop
+      → ((lines : List ReportLine) (askings : List Asking) (turn : HomingTurn) → (finishes stop m (after_homing (noted m note r) k states) k lines askings turn).ordered.end ≡ Some d) → Comes d End
+  through_comes stop d high w is =
+      behind_first d (omega (arith, high)) (λ f. behind_stale d (omega (arith, high)) f w.running (λ s. behind_homing d high f w.running s (λ h.
+      let q = after_homing (noted m note r) k states in
+      let cut = cut_line m switches Turn.section (axis_at m Turn.axis) Turn.cut in
+      let t : IsThrough q k states = record { ended = w.through.ended; behind = w.through.behind; idle = w.through.idle } in
+      ends_as d d (decides Running f w.running
+      ∙ ap (λ o. (unless_stale o m switches (noted m note r) k states Heard Askings).ordered.end) s
+      ∙ ap (λ o. (unless_homing_ends o m q k states Heard cut Askings Turn).ordered.end) h
+      ∙ ap (λ b. (cond b (finishes (stop_of q.reading) m q k (Heard ++ cut) Askings Turn) (carries_on m q k (Heard ++ cut) Askings Turn None)).ordered.end) (finished q k states t)
+      ∙ ap (λ x. (finishes x m q k (Heard ++ cut) Askings Turn).ordered.end) w.stops
+      ∙ is (Heard ++ cut) Askings Turn) (inl refl))))
+
+  homing_comes : (d : Cause) → (noted m note r).phase ≡ Running → Turn.end ≡ Some d → Comes d End
+  homing_comes d p e =
+      let o = homing_order d (of_some IsHoming Turn.end d e (homing_is (noted m note r).clocks k states (noted m note r).homing)) in
+      behind_first d (omega (arith, o)) (λ f. behind_stale d (omega (arith, o)) f p (λ s. ends_as d d (homing-ends m switches r k states note d f p s e) (inl refl)))
+
+  asked_comes : (line : ℕ) → (noted m note r).phase ≡ Stopping line → Comes (cause.Asked line) End
+  asked_comes line p = behind_first (cause.Asked line) (omega arith) (λ f. by (stale k 0 Askings) refl f)
+    where
+      by : (o : Option Cause) → stale k 0 Askings ≡ o → first_cause (is_out note) (noted m note r).stopped states ≡ None → Comes (cause.Asked line) End
+      by None e f = ends_as (cause.Asked line) (cause.Asked line) (decides (Stopping line) f p ∙ ap (λ o. (unless_late_stale o m (noted m note r) k Heard line).ordered.end) e) (inl refl)
+      by (Some c) e f =
+          ends_as (cause.Asked line) c (decides (Stopping line) f p ∙ ap (λ o. (unless_late_stale o m (noted m note r) k Heard line).ordered.end) e)
+          (inr (let o = stale_order c (of_some IsStale (stale k 0 Askings) c e (stale_is k 0 Askings)) in omega (arith, o)))
+
+  comes : (d : Cause) → EndsSo m (noted m note r) k states d → Comes d End
+  comes (cause.Late board first arrival spoiled spill) h = late_comes (cause.Late board first arrival spoiled spill) (omega arith) h
+  comes (cause.Connect board turn) h =
+      behind_first (cause.Connect board turn) (omega arith) (λ f. ends_as (cause.Connect board turn) (cause.Connect board turn) (connecting-ends m switches r k states note (cause.Connect board turn) f h.0 h.1) (inl refl))
+  comes (cause.Stale board turn) h = behind_first (cause.Stale board turn) (omega arith) (λ f. stale_comes (noted m note r).phase (cause.Stale board turn) f refl h.0 h.1)
+  comes cause.Done h = through_comes read.End cause.Done (omega arith) h (λ lines askings turn. refl)
+  comes (cause.Line line kind) h = through_comes (read.Refused line kind) (cause.Line line kind) (omega arith) h (λ lines askings turn. refl)
+  comes (cause.Asked line) h = asked_comes line h.0
+  comes d h = homing_comes d h.0 h.1
+
+-- a turn that goes on has no cause
+pub none_comes : (m : Machine) (switches : List Switch) (r : Known) (k : ℕ) (states : List State) (note : Option Note) → (reacts m switches r k states note).ordered.end ≡ None → (c : Cause) → EndsSo m (noted m note r) k states c → ⊥
+none_comes m switches r k states note e c h =
+    let untold = (blames m switches r k states note).goes e in
+    subst (Comes c) e (comes m switches r k states note (note_stays m note r ∙ untold.0) c h)
+
+-- and one that ends a run has the first
+pub first_comes : (m : Machine) (switches : List Switch) (r : Known) (k : ℕ) (states : List State) (note : Option Note) (c : Cause) → r.stopped ≡ None → (reacts m switches r k states note).ordered.end ≡ Some c
+    → (d : Cause) → EndsSo m (noted m note r) k states d → (d ≡ c) ⊎ (order c < order d)
+first_comes m switches r k states note c untold e d h = subst (Comes d) e (comes m switches r k states note (note_stays m note r ∙ untold) d h)

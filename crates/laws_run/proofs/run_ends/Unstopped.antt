@@ -1,0 +1,120 @@
+-- Until the reactor stops, no board is told to.
+use Rattle.std.proofs.Common.{◌≡◌, ◌⊎◌, ℕ, Bool, true, false, cond, List, [], ◌∷◌, ◌++◌, All, drop, length, map, Option, Some, None, refl, sym, ◌∙◌, subst, inl, inr}
+use Rattle.std.proofs.lemmas.List.Elements.{All-cons, All-nil}
+use Rattle.plan_types.specs.declared.levels.Level.{Level}
+use Rattle.plan_types.specs.declared.machine.Machine.{Machine}
+use Rattle.plan_types.specs.Lines.{Clocks}
+use Rattle.plan_types.specs.Machines.{board_at}
+use Rattle.msg_code.specs.declared.cmd.Cmd.{Cmd}
+use Rattle.msg_code.specs.declared.cmd.Cmd.TheVariants as cmd
+use Rattle.msg_code.specs.declared.talk.State.{State}
+use Rattle.msg_code.specs.declared.unit.Control.{Control}
+use Rattle.wire_scene.specs.declared.scene.Entry.{Entry}
+use Rattle.wire_scene.specs.declared.scene.Switch.{Switch}
+use Rattle.link_work.specs.Stands.{orders}
+use Rattle.link_work.specs.Turn.{Orders}
+use Rattle.board_asking.specs.declared.asking.Asking.{Asking}
+use Rattle.board_asking.specs.declared.asking.Stage.{Stage}
+use Rattle.board_asking.specs.declared.asking.Stage.TheVariants.{Identify, Uptime, Configure, Config, Connected}
+use Rattle.board_asking.specs.declared.setup.Setup.{Setup}
+use Rattle.board_asking.specs.declared.setup.Setup.TheVariants.{Oids, Stepper, Trsync, Endstop, Finish}
+use Rattle.board_asking.specs.Asking.{asks, is_due, question, ready}
+use Rattle.board_asking.specs.Drift.{asks_now, drifts, waits_in}
+use Rattle.board_asking.specs.Machine.{configuration, control_bytes, fitting, setup_command}
+use Rattle.axis_homing.specs.declared.homing.Homing.{Homing}
+use Rattle.axis_homing.specs.Homing.{homing_turn}
+use Rattle.host_reactor.specs.declared.ordered.Known.{Known}
+use Rattle.host_reactor.specs.declared.ordered.Phase.{Phase}
+use Rattle.host_reactor.specs.declared.ordered.Phase.TheVariants.{Connecting, Running, Stopping}
+use Rattle.host_reactor.specs.Notes.{noted}
+use Rattle.host_reactor.specs.Reactor.{Reacted, phase_after, run_control, stop_command, stops}
+use Rattle.host_reactor.specs.Runs.{Came, known_by, last_turn}
+use Rattle.laws_board.specs.turns.Turns.{BoardTurn}
+use Rattle.laws_board.specs.clocks.Runs.{IsInRun, orders_in}
+use Rattle.laws_board.proofs.clocks.Lines.{noted_phase, run_before, turn_of}
+use Rattle.laws_board.proofs.clocks.Turning.{Asks, BoardTurned, Ends, Runs, goes}
+use Rattle.laws_board.specs.sections.Stops.{IsNoStop, NeverStop}
+use Rattle.laws_run.specs.run_ends.Ends.{NoneHomes}
+
+-- commands of which none is the order to stop
+abbrev pub NoStops : List Cmd → Type 0
+NoStops [] = Unit {0}
+NoStops (c ∷ cs) = IsNoStop c × NoStops cs
+
+pub all_none : (cs : List Cmd) → NoStops cs → All IsNoStop cs
+all_none [] n = All-nil IsNoStop
+all_none (c ∷ cs) n = All-cons IsNoStop c cs n.0 (all_none cs n.1)
+
+pub none_if : (b : Bool) (cs : List Cmd) → NoStops cs → NoStops (cond b cs [])
+none_if true cs n = n
+none_if false cs n = tt
+
+pub one_setup : (s : Setup) → IsNoStop (setup_command s)
+one_setup (Oids count) = tt
+one_setup (Stepper oid step dir) = tt
+one_setup (Trsync oid) = tt
+one_setup (Endstop oid pin) = tt
+one_setup Finish = tt
+
+pub all_setups : (ss : List Setup) → NoStops (map setup_command ss)
+all_setups [] = tt
+all_setups (s ∷ ss) = (one_setup s, all_setups ss)
+
+pub asks_none : (turn : ℕ) (setups : List Setup) (a : Asking) (stage : Stage) → NoStops (asks setups turn a stage)
+asks_none turn setups a (Identify offset) = none_if (is_due turn a.since) (question (Identify offset)) (tt, tt)
+asks_none turn setups a Uptime = none_if (is_due turn a.since) (question Uptime) (tt, tt)
+asks_none turn setups a (Configure n) = all_setups (fitting control_bytes (drop n setups))
+asks_none turn setups a Config = none_if (is_due turn a.since) (question Config) (tt, tt)
+asks_none turn setups a Connected = none_if (is_due turn a.since) (question Connected) tt
+
+-- a running turn in which no board homes, and which doesn't stop
+runs_none : (m : Machine) (k b : ℕ) (clocks : List Clocks) (states : List State) (own : Clocks) (a : Asking) (h : Option Homing) (stop : Option ℕ) → h ≡ None → ((line : ℕ) → phase_after stop ≡ Stopping line → ⊥)
+    → NoStops (run_control m k b (homing_turn clocks k states h) (stop_command (stops stop)) own a).commands
+runs_none m k b clocks states own a (Some h) stop e n = absurd (let f : Some h ≡ None = e in cc)
+runs_none m k b clocks states own a None (Some line) e n = absurd (n line refl)
+runs_none m k b clocks states own a None None e n = asked (asks_now [] a)
+  where
+    asked : (t : Bool) → NoStops (cond t (cmd.GetUptime ∷ []) [] ++ [])
+    asked true = (tt, tt)
+    asked false = tt
+
+turn_none : (m : Machine) (b k : ℕ) (c : Came) (r : Known) (a : Asking) (x : Reacted) (t : BoardTurn) → BoardTurned m r b k c.states a x t.control → r.homing ≡ None → ((line : ℕ) → x.known.phase ≡ Stopping line → ⊥) → NoStops t.control.commands
+turn_none m b k c r a x t (Asks p g) h n =
+    let Of : Control → Type 0 = λ y. NoStops y.commands in
+    let s = ready (configuration m b) a in
+    subst Of (sym g.control_is) (asks_none k (configuration m b) s s.stage)
+turn_none m b k c r a x t (Ends p g) h n =
+    let Of : Control → Type 0 = λ y. NoStops y.commands in
+    subst Of (sym g.control_is) tt
+turn_none m b k c r a x t (Runs p g) h n =
+    let Of : Control → Type 0 = λ y. NoStops y.commands in
+    subst Of (sym g.control_is) (runs_none m k b r.clocks c.states g.own (waits_in (drifts (board_at m b).drift) k a) r.homing g.stop h (λ line e. n line (g.phase ∙ e)))
+
+-- a turn that goes on finds the reactor not stopping
+pub not_yet : (p : Phase) (line : ℕ) → (p ≡ Connecting) ⊎ (p ≡ Running) → p ≡ Stopping line → ⊥
+not_yet p line (inl c) f = let g : Connecting ≡ Stopping line = sym c ∙ f in cc
+not_yet p line (inr c) f = let g : Running ≡ Stopping line = sym c ∙ f in cc
+
+pub not_before : (m : Machine) (switches : List Switch) (c : Came) (before : List Came) → (last_turn m switches c before).ordered.end ≡ None → (line : ℕ) → (known_by m switches before).phase ≡ Stopping line → ⊥
+not_before m switches c before e line f =
+    let r = known_by m switches before in
+    not_yet (noted m c.note r).phase line (elim (goes m switches r (length before) c.states c.note e) [
+      | inl a ↦ inl a.phase
+      | inr a ↦ elim a [ inl x ↦ inl x.phase | inr x ↦ inr x.phase ]
+    ]) (noted_phase m c.note r ∙ f)
+
+pub none_later : (xs : List Orders) (o : Orders) → NeverStop xs → All IsNoStop o.control.commands → NeverStop (xs ++ o ∷ [])
+none_later [] o n a = (a, tt)
+none_later (x ∷ xs) o n a = (n.0, none_later xs o n.1 a)
+
+pub never_stop : (m : Machine) (switches : List Switch) (pins : List (List Level)) (entries : List Entry) (b : ℕ) (came : List Came) (turns : List BoardTurn) → IsInRun m switches pins entries b came turns → NoneHomes m switches came
+    → ((line : ℕ) → (known_by m switches came).phase ≡ Stopping line → ⊥) → NeverStop (orders_in turns)
+never_stop m switches pins entries b [] [] r h n = tt
+never_stop m switches pins entries b [] (t ∷ turns) r h n = absurd r.both
+never_stop m switches pins entries b (c ∷ before) [] r h n = absurd r.both
+never_stop m switches pins entries b (c ∷ before) (t ∷ turns) r h n =
+    let x = turn_of m switches pins entries b c before t turns r in
+    let k = noted m c.note (known_by m switches before) in
+    let none = turn_none m b (length before) c k x.a (last_turn m switches c before) t x.turned h.0 n in
+    none_later (orders_in turns) (orders t.control t.batch)
+    (never_stop m switches pins entries b before turns (run_before m switches pins entries b c before t turns r) h.1 (not_before m switches c before r.goes_on.0)) (all_none t.control.commands none)

@@ -1,0 +1,15 @@
+pub mod lanes
+pub mod clock_ages
+pub mod run_ends
+pub mod run_headline
+pub mod run_lines
+pub mod run_limits
+pub mod clear_runs
+pub mod home_headline
+pub mod home_wholes
+pub mod clear_homes
+pub mod run_causes
+pub mod run_turns
+pub mod run_clocks
+pub mod run_links
+pub mod run_lates

@@ -1,7 +1,0 @@
-use Rattle.log_check.specs.Verdicts.{log_verdict, worded}
-use Rattle.log_laws.proofs.Standing.{checks}
-use Rattle.log_laws.proofs.law.logs_that_follow_the_plan_check.Goals as goal
-
-pub returns : goal.returns
-unfolding log_verdict
-returns c = λ m sections text lines said follows stands. checks m sections (worded text) lines said follows stands

@@ -1,5 +1,0 @@
-use Rattle.report_laws.proofs.Retelling.{alike}
-use Rattle.report_laws.proofs.law.lines_may_be_told_later.Goals as goal
-
-pub returns : goal.returns
-returns c = λ m clocks moves ready turn valid have order. alike m clocks moves ready turn valid have order

@@ -1,5 +1,0 @@
-use Rattle.run_boards.proofs.Whole.{in_whole}
-use Rattle.run_boards.proofs.laws.boards_are_in_the_run.Goals as goal
-
-pub returns : goal.returns
-returns g c = in_whole g.M.MotionMachine g.L.LinkMachine g.A.ReactorMachine g.O.Outside

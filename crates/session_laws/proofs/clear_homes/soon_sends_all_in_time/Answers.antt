@@ -1,5 +1,0 @@
-use Rattle.session_laws.proofs.clear_homes.Through.{exact_all, soon_all}
-use Rattle.session_laws.proofs.clear_homes.soon_sends_all_in_time.Goals as goal
-
-pub returns : goal.returns
-returns c = record { soon = λ m text planned sends. soon_all m text planned sends; exact = λ m text planned exact sends. exact_all m text planned exact sends }

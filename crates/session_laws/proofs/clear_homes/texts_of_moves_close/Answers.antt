@@ -1,5 +1,0 @@
-use Rattle.session_laws.proofs.clear_homes.Clear.{moves_close}
-use Rattle.session_laws.proofs.clear_homes.texts_of_moves_close.Goals as goal
-
-pub returns : goal.returns
-returns c = moves_close

@@ -1,5 +1,0 @@
-use Rattle.session_laws.proofs.clear_runs.Clearing.{run_unhindered}
-use Rattle.session_laws.proofs.clear_runs.clear_links_hinder_nothing.Goals as goal
-
-pub returns : goal.returns
-returns c = run_unhindered

@@ -1,5 +1,0 @@
-use Rattle.session_laws.proofs.home_headline.Heads.{home_boards}
-use Rattle.session_laws.proofs.home_headline.home_boards_have_their_lines.Goals as goal
-
-pub returns : goal.returns
-returns c = home_boards

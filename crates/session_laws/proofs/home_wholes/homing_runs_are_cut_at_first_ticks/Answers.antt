@@ -1,5 +1,0 @@
-use Rattle.session_laws.proofs.home_wholes.First.{run_first}
-use Rattle.session_laws.proofs.home_wholes.homing_runs_are_cut_at_first_ticks.Goals as goal
-
-pub returns : goal.returns
-returns g c = λ m s name files files' out out' kept kept' t r v short text told at other reads takes. run_first g.F.Files g.S.Sink m s name files files' out out' kept kept' t r v short text told at other reads takes

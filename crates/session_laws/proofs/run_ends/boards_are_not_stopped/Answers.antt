@@ -1,5 +1,0 @@
-use Rattle.session_laws.proofs.run_ends.Unstopped.{never_stop}
-use Rattle.session_laws.proofs.run_ends.boards_are_not_stopped.Goals as goal
-
-pub returns : goal.returns
-returns c = never_stop

@@ -1,5 +1,0 @@
-use Rattle.session_laws.proofs.run_ends.Coming.{first_comes, none_comes}
-use Rattle.session_laws.proofs.run_ends.causes_come.Goals as goal
-
-pub returns : goal.returns
-returns c = record { none = none_comes; first = first_comes }

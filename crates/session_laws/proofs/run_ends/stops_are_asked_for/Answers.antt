@@ -1,5 +1,0 @@
-use Rattle.session_laws.proofs.run_ends.Ending.{stops_so}
-use Rattle.session_laws.proofs.run_ends.stops_are_asked_for.Goals as goal
-
-pub returns : goal.returns
-returns c = stops_so

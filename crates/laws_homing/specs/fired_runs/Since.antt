@@ -64,6 +64,7 @@ AreRead R [] turns = Unit {0}
 AreRead R (c ∷ before) [] = Unit {0}
 AreRead R (c ∷ before) (t ∷ earlier) = R c before (t ∷ earlier) × AreRead R before earlier
 
+-- so what a board tells is read as ticks since which its trigger can't trigger (`ReadsTrue`)
 abbrev pub AreReadTrue : Machine → List Switch → ℕ → List Came → List BoardTurn → Type 0
 AreReadTrue m switches b came turns = AreRead (ReadsTrue m switches b) came turns
 
@@ -128,6 +129,7 @@ abbrev pub AllRead : (Came → List Came → List BoardTurn → Type 0) → List
 AllRead R came [] = Unit {0}
 AllRead R came (t ∷ earlier) = AreRead R came earlier
 
+-- so all that it tells in a run is read true
 abbrev pub AllReadTrue : Machine → List Switch → ℕ → List Came → List BoardTurn → Type 0
 AllReadTrue m switches b came turns = AllRead (ReadsTrue m switches b) came turns
 

@@ -16,11 +16,12 @@ use Rattle.laws_board.specs.turns.Turns.{BoardTurn, stands_after}
 use Rattle.laws_homing.specs.home_runs.Sections.{queued_by}
 use Rattle.laws_homing.specs.switch_runs.Runs.{IsReadAt}
 
--- a command begins no readings, and so some commands
+-- a command begins no readings
 abbrev pub IsBlind : Cmd → Type 0
 IsBlind (cmd.EndstopHome oid clock sample count rest value other reason) = ⊥
 IsBlind c = Unit {0}
 
+-- and some commands begin none
 abbrev pub AreBlind : List Meant → Type 0
 AreBlind [] = Unit {0}
 AreBlind (m ∷ ms) = IsBlind m.command × AreBlind ms

@@ -69,20 +69,19 @@ fn put_calm(
 ) -> Result<(), OutOfMemory>
     ensures { OnOk result (out.new ≡ out.old ++ calm_controls k clocks.now askings.now) }
 {
-    match askings {
-        [] => {}
-        [_first, rest @ ..] => match clocks {
-            [] => put_calm(alloc, k, clocks, rest, out)?,
-            [_line, lines @ ..] => {
-                out.push(Control {
-                    turn: k,
-                    commands: Listed::new(alloc),
-                    connected: true,
-                    end: false,
-                })?;
-                put_calm(alloc, k, lines, rest, out)?;
-            }
-        },
+    let mut lines = clocks;
+    let mut rest = askings;
+    while let [_first, behind @ ..] = rest {
+        if let [_line, others @ ..] = lines {
+            out.push(Control {
+                turn: k,
+                commands: Listed::new(alloc),
+                connected: true,
+                end: false,
+            })?;
+            lines = others;
+        }
+        rest = behind;
     }
     Ok(())
 }

@@ -84,7 +84,8 @@ impl<'a> Reactor<'a> {
     {
         take_note(self.machine, &mut self.known, &note)?;
         let out = is_out(&note);
-        let ordered = react(
+        self.next = k + 1;
+        react(
             self.alloc,
             self.machine,
             self.scene,
@@ -93,9 +94,7 @@ impl<'a> Reactor<'a> {
             states.as_slice(),
             news_of(&note),
             out,
-        )?;
-        self.next = k + 1;
-        Ok(ordered)
+        )
     }
 
     /// Whether a turn is the next one, and there are not too many.

@@ -79,6 +79,16 @@ impl StepQueue {
         Ok(())
     }
 
+    /// Whether a step is before `until`.
+    pub fn pends_before(&self, until: u64) -> bool
+        ensures { result ≡ false → NoneBefore self.now.groups until }
+    {
+        match self.current {
+            Some(current) => current.tick < until,
+            None => false,
+        }
+    }
+
     /// Makes the next step, where its tick is before `until`.
     pub fn advance(&mut self, until: u64) -> Option<Planned>
         requires { until < tick_limit }

@@ -11,7 +11,7 @@ ghost use Rattle.board_asking.specs.Drift.{stale};
 
 use crate::OutOfMemory;
 use crate::ordered::{Known, Ordered, Phase};
-use crate::report::{put_counts, put_first};
+use crate::report::{put_counts, put_first, room_for_lines};
 use crate::run::run;
 use crate::running::first_cause;
 use arrayvec::ArrayVec;
@@ -272,7 +272,7 @@ pub fn react(
     ensures known { OnOk result (r.new ≡ (reacts_to m.now scene.now.switches r.old k states.now news.now out).known) }
     ensures ordered { IfOk result (λ o. o ≡ (reacts_to m.now scene.now.switches r.old k states.now news.now out).ordered) }
 {
-    let mut lines = Listed::new(alloc);
+    let mut lines = room_for_lines(alloc, states)?;
     put_first(m, r.begun, k, news, states, &mut lines)?;
     if let Some(cause) = first_cause(out, r.stopped, states) {
         return end(alloc, m, k, lines, cause, r);

@@ -9,3 +9,4 @@ pub mod Checked
 pub mod Bedded
 mod Loaded
 mod Asked
+mod Few

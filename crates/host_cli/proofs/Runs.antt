@@ -13,6 +13,7 @@ use Rattle.session_run.specs.Reported.{EndsOver, IsNotBegun}
 use Rattle.laws_board.specs.causes.Short.{HaveShortDictionaries}
 use Rattle.host_cli.specs.Promises.{EndsAlone}
 use Rattle.host_cli.specs.Scenes.{ShowsRun}
+use Rattle.laws_report.specs.reports.Read.{IsSceneFor}
 use Rattle.laws_report.proofs.reports.Reported.{planned}
 
 -- none was begun
@@ -25,7 +26,7 @@ not_begun f o m files files' out out' c shown n = record {
   bytes = (n.written, λ memory write. absurd (memory n.memory));
 }
 
-pub run_planned : {F S : Type 0} (f : Files F) (o : Sink S) (m : Machine) (s : Scene) (gcode : List ℕ) (files files' : F) (out out' : S) (e : Ended) → IsValidMachine m → HaveShortDictionaries m
+pub run_planned : {F S : Type 0} (f : Files F) (o : Sink S) (m : Machine) (s : Scene) (gcode : List ℕ) (files files' : F) (out out' : S) (e : Ended) → IsValidMachine m → HaveShortDictionaries m → IsSceneFor m s
     → EndsOver f o m s gcode files files' out out' e → ShowsRun f o m s gcode files files' out out' e.cause e.report
-run_planned f o m s gcode files files' out out' e v short (inl r) = inl (files, (λ name. refl), planned f o m s gcode files files' out out' e.cause e.report.lines e.report.counts e.report.links.items v short r)
-run_planned f o m s gcode files files' out out' e v short (inr n) = inr (inl (not_begun f o m files files' out out' e.cause e.report n))
+run_planned f o m s gcode files files' out out' e v short scene (inl r) = inl (files, (λ name. refl), planned f o m s gcode files files' out out' e.cause e.report.lines e.report.counts e.report.links.items v short scene r)
+run_planned f o m s gcode files files' out out' e v short scene (inr n) = inr (inl (not_begun f o m files files' out out' e.cause e.report n))

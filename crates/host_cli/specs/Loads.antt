@@ -1,31 +1,20 @@
 -- What `make` shows: how many pulses each stepper made in a run of a load.
-use Rattle.std.specs.Prelude.{◌≡◌, ◌⊎◌, ℕ, List, Option, Some}
+use Rattle.std.specs.Prelude.{◌≡◌, ◌⊎◌, ℕ, List, Option}
 use Rattle.generated_load.specs.Printer.{load_machine}
-use Rattle.generated_load.specs.Text.{load_text}
 use Rattle.io_core.specs.declared.traits.Files.{Ghosts as Files}
 use Rattle.io_core.specs.declared.traits.Sink.{Ghosts as Sink}
 use Rattle.plan_types.specs.declared.cause.Cause.{Cause}
 use Rattle.plan_types.specs.declared.cause.Cause.TheVariants as cause
-use Rattle.report_text.specs.declared.line.ReportLine.{ReportLine}
 use Rattle.session_run.specs.declared.ended.Report.{Report}
 use Rattle.host_cli.specs.declared.answer.Answer.{Answer}
 use Rattle.host_cli.specs.Answers.{EndsWith}
 use Rattle.host_cli.specs.Counts.{summary}
-use Rattle.laws_report.specs.reports.Read.{no_scene}
 use Rattle.host_cli.specs.Promises.{EndsAlone, ShowsLines}
-use Rattle.laws_report.specs.reports.Linked.{IsLinkReport}
+use Rattle.laws_report.specs.loads.Run.{IsLoadRun}
 
--- Counts and links of a run over links: the counts are those of the pulses that its lines show, as they were written to an output that
--- keeps none. It is a run of the text of a load on its own printer, in the scene without entries and without switches.
-pub record AreCounts {F S : Type 0} (f : Files F) (o : Sink S) (seed moves : ℕ) (c : Cause) (r : Report) : Type 0 where
-  pub files : F
-  pub files' : F
-  pub out : S
-  pub out' : S
-  pub name : List ℕ
-  pub told : f.told files name ≡ Some (load_text seed moves)
-  pub lines : List ReportLine
-  pub run : IsLinkReport f o load_machine no_scene name files files' out out' c lines r.counts r.links.items
+-- counts and links of a report are those of a run of the text of a load
+abbrev pub AreCounts : {F S : Type 0} → Files F → Sink S → ℕ → ℕ → Cause → Report → Type 0
+AreCounts f o seed moves c r = IsLoadRun f o seed moves c r.counts r.links.items
 
 -- the summary of such a run, before it is written
 pub record IsSummary {F S : Type 0} (f : Files F) (o : Sink S) (seed moves : ℕ) (a : Answer) : Type 0 where

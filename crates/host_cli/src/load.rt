@@ -72,6 +72,7 @@ fn counted_load<R: Threads + Wait + Sync, G: Gate + Sync>(
     moves: u64,
     gate: &G,
 ) -> Result<Answer, AllocError>
+    requires few { moves ≤ 1_000_000 }
     ensures load { IfOk result (λ a. IsLoadAnswer ⟦<LoadFiles as Files>⟧ ⟦<SureSink as Sink>⟧ seed moves a) }
     ensures configured { IfOk result (λ a. IsRun a) }
     ensures no_read { IfOk result (λ a. a.cause ≢ Cause.ReadFault) }
@@ -118,6 +119,7 @@ pub fn run_load<R: Threads + Wait + Sync, S: Sink, G: Gate + Sync>(
     out: &mut S,
     gate: &G,
 ) -> Ended
+    requires few { moves ≤ 1_000_000 }
     ensures shows { ShowsLoad ⟦<LoadFiles as Files>⟧ ⟦<SureSink as Sink>⟧ seed moves
         (S.written out.old) (S.written out.new) result.cause result.report }
     ensures named { IsRunCause result.cause }

@@ -6,7 +6,7 @@ ghost use Rattle.cfg_lines.specs.declared.fault.CfgFault.TheVariants.{At};
 ghost use Rattle.cfg_text.specs.Reading.{reading};
 ghost use Rattle.laws_board.specs.causes.Short.{HaveShortDictionaries};
 ghost use Rattle.host_cli.specs.Answers.{IsRunCause};
-ghost use Rattle.laws_report.specs.reports.Read.{no_scene};
+ghost use Rattle.laws_report.specs.reports.Read.{IsSceneFor, no_scene};
 ghost use Rattle.host_cli.specs.Promises.{EndsFor, IsRefused};
 ghost use Rattle.host_cli.specs.Scenes.{IsSceneFault, IsSceneIn, ShowsRun};
 ghost use Rattle.io_core.specs.Faults.{Rose};
@@ -76,7 +76,7 @@ fn run_found<R: Threads + Wait + Sync, F: Files, S: Sink, G: Gate + Sync>(
 ) -> Ended
     requires machine { IsValidMachine machine.now }
     requires scene { IsValidScene machine.now scene.now }
-    ensures shows { HaveShortDictionaries machine.now → ShowsRun F.Files S.Sink machine.now scene.now gcode.now files.old files.new out.old out.new result.cause result.report }
+    ensures shows { HaveShortDictionaries machine.now → IsSceneFor machine.now scene.now → ShowsRun F.Files S.Sink machine.now scene.now gcode.now files.old files.new out.old out.new result.cause result.report }
     ensures named { IsRunCause result.cause }
     ensures status { result.status ≡ status_of result.cause }
     ensures read { result.cause ≡ Cause.ReadFault → Rose (F.faults files.old) (F.faults files.new) }
@@ -136,7 +136,7 @@ fn run_on<R: Threads + Wait + Sync, F: Files, S: Sink, G: Gate + Sync>(
 ) -> Ended
     requires machine { IsValidMachine machine.now }
     requires scene { IsValidScene machine.now scene.now }
-    ensures shows { HaveShortDictionaries machine.now → ShowsRun F.Files S.Sink machine.now scene.now gcode.now files.old files.new out.old out.new result.cause result.report }
+    ensures shows { HaveShortDictionaries machine.now → IsSceneFor machine.now scene.now → ShowsRun F.Files S.Sink machine.now scene.now gcode.now files.old files.new out.old out.new result.cause result.report }
     ensures named { IsRunCause result.cause }
     ensures status { result.status ≡ status_of result.cause }
     ensures read { result.cause ≡ Cause.ReadFault → Rose (F.faults files.old) (F.faults files.new) }

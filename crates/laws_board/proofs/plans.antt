@@ -14,3 +14,4 @@ pub mod Fitting
 pub mod Lasting
 pub mod Cutting
 pub mod Homed
+pub mod Rows

@@ -4,3 +4,4 @@ pub mod Given
 pub mod Lines
 pub mod Boards
 pub mod Homed
+pub mod Rows

@@ -2,6 +2,7 @@ pub mod Heard
 pub mod Held
 pub mod Renewed
 pub mod Reports
+pub mod Rests
 pub mod Taking
 pub mod Hearing
 pub mod Telling
@@ -26,3 +27,5 @@ pub mod Sent
 pub mod Leading
 pub mod Never
 pub mod Standing
+pub mod Triggering
+pub mod Answering

@@ -8,3 +8,5 @@ pub mod Stepping
 pub mod Setting
 pub mod Answering
 pub mod Running
+pub mod Fresh
+pub mod Reading

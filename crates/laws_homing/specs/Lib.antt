@@ -5,4 +5,6 @@ pub mod clear_groups
 pub mod home_plans
 pub mod home_parts
 pub mod missed_groups
+pub mod missed_runs
 pub mod fired_runs
+pub mod hindered

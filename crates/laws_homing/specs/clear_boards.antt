@@ -12,3 +12,4 @@ pub mod Alive
 pub mod Lately
 pub mod Member
 pub mod Ordered
+pub mod Rests

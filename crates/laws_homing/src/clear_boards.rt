@@ -1,4 +1,4 @@
-//! What boards, links and homing groups do in a scene without entries, as laws.
+//! What boards, links and homing groups do where links rest, as they do in a scene without entries, as laws.
 
 ghost use Rattle.std.specs.Prelude.{Bool, ◌≡◌, ◌⊎◌, ◌<◌, ◌≤◌, ◌+◌, ◌*◌, ◌/◌, ◌%◌, ◌^◌, ◌++◌, ◌∷◌, ℕ, List, [], None, Some, false, length, max, true};
 ghost use Rattle.std.specs.List.{Contains};
@@ -24,11 +24,10 @@ ghost use Rattle.msg_code.specs.Table.{row_of};
 ghost use Rattle.msg_code.specs.Text.{IsText};
 ghost use Rattle.board_world.specs.World.{says, text_of};
 ghost use Rattle.link_work.specs.Answers.{IsAmong};
-ghost use Rattle.link_work.specs.Limits.{AllKeepLimits};
 ghost use Rattle.link_work.specs.Runs.{queued_in};
 ghost use Rattle.link_work.specs.Stands.{first_state, orders};
 ghost use Rattle.laws_board.specs.turns.Turns.{AreBoardTurns, BoardTurn, stands_after};
-ghost use Rattle.laws_board.specs.clocks.Runs.{IsInRun, orders_in};
+ghost use Rattle.laws_board.specs.clocks.Runs.{IsInRun};
 ghost use Rattle.board_sim.specs.RigRuns.{AllSound, AreRegular, RigStep, rig_after_all};
 ghost use Rattle.trigger_group.specs.declared.order.Order.TheVariants.{Timeout, Trigger};
 ghost use Rattle.trigger_group.specs.declared.seen.Seen.{Seen};
@@ -57,6 +56,7 @@ ghost use Rattle.wire_scene.specs.declared.scene.Switch.{Switch};
 ghost use Rattle.host_reactor.specs.declared.ordered.Phase.TheVariants.{Connecting};
 ghost use Rattle.host_reactor.specs.Notes.{noted};
 ghost use Rattle.laws_homing.specs.clear_boards.Renewed.{HeardFrom};
+ghost use Rattle.laws_homing.specs.clear_boards.Rests.{RestsOver};
 ghost use Rattle.laws_homing.specs.clear_boards.Turned.{AreBehind, IsTurnedTo, RelaysOne, SetsNone, SetsOne};
 ghost use Rattle.laws_homing.specs.home_runs.Guards.{HasFired, IsSole};
 ghost use Rattle.plan_types.specs.Board.{nearest};
@@ -86,11 +86,11 @@ pub fn triggers_that_can_trigger_tell_so()
         (x : IsReported oid until report s.trigger.every s.trigger.can (pass n r until).rig (pass n r until).answers) × (until ≤ x.next) }
 {}
 
-/// The law of turns on clear links: in a scene without entries, where what is queued keeps the limits, a board takes in each turn just the
+/// The law of turns on clear links: where a link rests as a turn begins and as it ends, in any scene, a board takes in the turn just the
 /// commands that are queued in it, and then passes to its tick of the next turn.
 pub fn clear_boards_take_what_is_queued()
-    ensures { (b : BoardDef) (pins : List (List Level)) (place : ℕ) (entries : List Entry) (t : BoardTurn) (before : List BoardTurn) → entries ≡ [] →
-        AreBoardTurns (clock_of b) (first_state b pins place entries) (t ∷ before) → AllKeepLimits (orders_in (t ∷ before)) →
+    ensures { (b : BoardDef) (pins : List (List Level)) (place : ℕ) (entries : List Entry) (t : BoardTurn) (before : List BoardTurn) → RestsOver t before →
+        AreBoardTurns (clock_of b) (first_state b pins place entries) (t ∷ before) →
         t.after.core.board ≡
         (passes (takes_all (stands_after (first_state b pins place entries) before).core.board (commands_of (queued_in (orders t.control t.batch)))).rig (board_tick (clock_of b) (length before + 1))).rig }
 {}
@@ -104,20 +104,20 @@ pub fn groups_hear_of_able_members()
     ensures on { (b when : ℕ) (clocks : List Clocks) (states : List State) (h : Homing) → HeardBy h.group.start b when h.group.members → HeardBy h.group.start b when (hears_all clocks states h).group.members }
 {}
 
-/// The law of answers on clear links: in a scene without entries, where what is queued keeps the limits, all that a board says as it runs on in a
+/// The law of answers on clear links: where a link rests as a turn begins and as it ends, all that a board says as it runs on in the
 /// turn, and that its bytes tell, is among the news of this turn's state.
 pub fn clear_boards_tell_at_once()
-    ensures { (b : BoardDef) (pins : List (List Level)) (place : ℕ) (entries : List Entry) (t : BoardTurn) (before : List BoardTurn) (c : Cmd) → entries ≡ [] →
-        AreBoardTurns (clock_of b) (first_state b pins place entries) (t ∷ before) → AllKeepLimits (orders_in (t ∷ before)) →
+    ensures { (b : BoardDef) (pins : List (List Level)) (place : ℕ) (entries : List Entry) (t : BoardTurn) (before : List BoardTurn) (c : Cmd) → RestsOver t before →
+        AreBoardTurns (clock_of b) (first_state b pins place entries) (t ∷ before) →
         IsAmong c (says (takes_all (stands_after (first_state b pins place entries) before).core.board (commands_of (queued_in (orders t.control t.batch)))).rig (board_tick (clock_of b) (length before + 1))) →
         IsText own_formats c (text_of c) → (n : ℕ) × IsAmong (record { number = n; answer = c }) t.state.news }
 {}
 
-/// The law of news on clear links: in a scene without entries, where what is queued keeps the limits, each of the news of a turn's state has the
+/// The law of news on clear links: where a link rests as a turn begins and as it ends, each of the news of the turn's state has the
 /// bytes of an answer that the board gave in this turn, to a command that it took or as it ran on.
 pub fn clear_news_are_said_in_their_turn()
-    ensures { (b : BoardDef) (pins : List (List Level)) (place : ℕ) (entries : List Entry) (t : BoardTurn) (before : List BoardTurn) (n : News) → entries ≡ [] →
-        AreBoardTurns (clock_of b) (first_state b pins place entries) (t ∷ before) → AllKeepLimits (orders_in (t ∷ before)) → IsAmong n t.state.news →
+    ensures { (b : BoardDef) (pins : List (List Level)) (place : ℕ) (entries : List Entry) (t : BoardTurn) (before : List BoardTurn) (n : News) → RestsOver t before →
+        AreBoardTurns (clock_of b) (first_state b pins place entries) (t ∷ before) → IsAmong n t.state.news →
         (a : Cmd) ×
         IsAmong a ((takes_all (stands_after (first_state b pins place entries) before).core.board (commands_of (queued_in (orders t.control t.batch)))).answers ++
         says (takes_all (stands_after (first_state b pins place entries) before).core.board (commands_of (queued_in (orders t.control t.batch)))).rig (board_tick (clock_of b) (length before + 1))) ×
@@ -226,18 +226,18 @@ pub fn groups_know_of_triggers()
     ensures still { (b last : ℕ) (clocks : List Clocks) (states : List State) (h : Homing) → FiredOn b last h.group.members → FiredOn b last (hears_all clocks states h).group.members }
 {}
 
-/// The law of triggers on clear links: in a scene without entries, where what is queued keeps the limits, the state of a turn tells of a trigger that it
+/// The law of triggers on clear links: where a link rests as a turn begins and as it ends, the state of the turn tells of a trigger that it
 /// could trigger where the board told so as it ran on in the turn, at the turn of its tick; and that it can't, where the board told so; and where all
 /// that the board answers of triggers that can't trigger is of ticks that count in some turns, so is all that the state tells.
 pub fn clear_states_tell_of_triggers()
-    ensures able { (b : BoardDef) (pins : List (List Level)) (place : ℕ) (entries : List Entry) (t : BoardTurn) (before : List BoardTurn) (clocks : Clocks) (oid clock when base limit until : ℕ) → entries ≡ [] → AreBoardTurns (clock_of b) (first_state b pins place entries) (t ∷ before) → AllKeepLimits (orders_in (t ∷ before)) →
+    ensures able { (b : BoardDef) (pins : List (List Level)) (place : ℕ) (entries : List Entry) (t : BoardTurn) (before : List BoardTurn) (clocks : Clocks) (oid clock when base limit until : ℕ) → RestsOver t before → AreBoardTurns (clock_of b) (first_state b pins place entries) (t ∷ before) →
         oid < 2 ^ 8 → AreSpoken base limit until (passes (takes_all (stands_after (first_state b pins place entries) before).core.board (commands_of (queued_in (orders t.control t.batch)))).rig (board_tick (clock_of b) (length before + 1))).answers →
         TellCan oid clock (passes (takes_all (stands_after (first_state b pins place entries) before).core.board (commands_of (queued_in (orders t.control t.batch)))).rig (board_tick (clock_of b) (length before + 1))).answers →
         turn_in_run clocks (nearest (turn_tick clocks (length before)) clock) ≡ Some when → TellAble clocks (length before) when t.state.news }
-    ensures fired { (b : BoardDef) (pins : List (List Level)) (place : ℕ) (entries : List Entry) (t : BoardTurn) (before : List BoardTurn) (oid clock base limit until : ℕ) → entries ≡ [] → AreBoardTurns (clock_of b) (first_state b pins place entries) (t ∷ before) → AllKeepLimits (orders_in (t ∷ before)) →
+    ensures fired { (b : BoardDef) (pins : List (List Level)) (place : ℕ) (entries : List Entry) (t : BoardTurn) (before : List BoardTurn) (oid clock base limit until : ℕ) → RestsOver t before → AreBoardTurns (clock_of b) (first_state b pins place entries) (t ∷ before) →
         oid < 2 ^ 8 → AreSpoken base limit until (passes (takes_all (stands_after (first_state b pins place entries) before).core.board (commands_of (queued_in (orders t.control t.batch)))).rig (board_tick (clock_of b) (length before + 1))).answers →
         TellOff oid clock (passes (takes_all (stands_after (first_state b pins place entries) before).core.board (commands_of (queued_in (orders t.control t.batch)))).rig (board_tick (clock_of b) (length before + 1))).answers → TellFiring t.state.news }
-    ensures all { (b : BoardDef) (pins : List (List Level)) (place : ℕ) (entries : List Entry) (t : BoardTurn) (before : List BoardTurn) (clocks : Clocks) (start last base limit until : ℕ) → entries ≡ [] → AreBoardTurns (clock_of b) (first_state b pins place entries) (t ∷ before) → AllKeepLimits (orders_in (t ∷ before)) →
+    ensures all { (b : BoardDef) (pins : List (List Level)) (place : ℕ) (entries : List Entry) (t : BoardTurn) (before : List BoardTurn) (clocks : Clocks) (start last base limit until : ℕ) → RestsOver t before → AreBoardTurns (clock_of b) (first_state b pins place entries) (t ∷ before) →
         AreSpoken base limit until ((takes_all (stands_after (first_state b pins place entries) before).core.board (commands_of (queued_in (orders t.control t.batch)))).answers ++ says (takes_all (stands_after (first_state b pins place entries) before).core.board (commands_of (queued_in (orders t.control t.batch)))).rig (board_tick (clock_of b) (length before + 1))) →
         AreNumbered ((takes_all (stands_after (first_state b pins place entries) before).core.board (commands_of (queued_in (orders t.control t.batch)))).answers ++ says (takes_all (stands_after (first_state b pins place entries) before).core.board (commands_of (queued_in (orders t.control t.batch)))).rig (board_tick (clock_of b) (length before + 1))) →
         ((at : ℕ) → base ≤ at → at < limit → at < until → (when : ℕ) × (start ≤ when) × (when ≤ last) × (turn_in_run clocks (nearest (turn_tick clocks (length before)) (at % 2 ^ 32)) ≡ Some when)) →
@@ -263,7 +263,7 @@ pub fn group_orders_are_behind()
 /// were told in it; so the board was heard of lately. And where each member's board was heard of lately or is known to have triggered, so is the group.
 pub fn boards_are_heard_of_lately()
     ensures turn { (b : BoardDef) (pins : List (List Level)) (place : ℕ) (entries : List Entry) (t : BoardTurn) (before : List BoardTurn) (all : List Clocks) (states : List State) (h : Homing)
-        (oid base every next first limit ready : ℕ) → entries ≡ [] → AreBoardTurns (clock_of b) (first_state b pins place entries) (t ∷ before) → AllKeepLimits (orders_in (t ∷ before)) →
+        (oid base every next first limit ready : ℕ) → RestsOver t before → AreBoardTurns (clock_of b) (first_state b pins place entries) (t ∷ before) →
         AreTicks (λ k. board_tick (clock_of b) k) → (k : AreTracked (λ k. board_tick (clock_of b) k) (clocks_at all place) ready) → place < length all → state_at place states ≡ t.state ∷ [] →
         h.start ≡ h.group.start → lines_tick (clocks_at all place) (h.start * turn_ns) ≡ base → ready + 5 ≤ h.start → ready + 4 ≤ length before → length before + 1 ≤ k.until → h.start ≤ k.until →
         k.until < run_turns → (board_tick (clock_of b) (length before)) < 2 ^ 63 → oid < 2 ^ 8 → AreSpoken first limit (board_tick (clock_of b) (length before + 1)) (passes (takes_all (stands_after (first_state b pins place entries) before).core.board (commands_of (queued_in (orders t.control t.batch)))).rig (board_tick (clock_of b) (length before + 1))).answers → (a : StaysAlive oid base every (board_tick (clock_of b) (length before)) (board_tick (clock_of b) (length before + 1)) next (passes (takes_all (stands_after (first_state b pins place entries) before).core.board (commands_of (queued_in (orders t.control t.batch)))).rig (board_tick (clock_of b) (length before + 1))).rig (passes (takes_all (stands_after (first_state b pins place entries) before).core.board (commands_of (queued_in (orders t.control t.batch)))).rig (board_tick (clock_of b) (length before + 1))).answers) →
@@ -275,15 +275,15 @@ pub fn boards_are_heard_of_lately()
     ensures known { (b last : ℕ) (x : Seen) (xs : List Seen) → Contains xs x → x.member.board ≡ b → FiredOn b last xs → any_fired_by last xs ≡ true }
 {}
 
-/// The law of expiries on clear links: in a scene without entries, where what is queued keeps the limits, and all that a board answers in a turn tells of no
+/// The law of expiries on clear links: where a link rests as a turn begins and as it ends, and all that a board answers in the turn tells of no
 /// expiry but at one tick, an expiry of which the turn's state tells counts in no turn before one that begins at that tick or before it; and where that
 /// is so of two ticks, it tells of none.
 pub fn clear_states_tell_of_expiries()
-    ensures late { (b : BoardDef) (pins : List (List Level)) (place : ℕ) (entries : List Entry) (t : BoardTurn) (before : List BoardTurn) (own : ℕ → ℕ) (clocks : Clocks) (ready tick when begin : ℕ) → entries ≡ [] →
-        AreBoardTurns (clock_of b) (first_state b pins place entries) (t ∷ before) → AllKeepLimits (orders_in (t ∷ before)) → (k : AreTracked own clocks ready) → AllTellOnly tick ((takes_all (stands_after (first_state b pins place entries) before).core.board (commands_of (queued_in (orders t.control t.batch)))).answers ++ says (takes_all (stands_after (first_state b pins place entries) before).core.board (commands_of (queued_in (orders t.control t.batch)))).rig (board_tick (clock_of b) (length before + 1))) → AreSmall ((takes_all (stands_after (first_state b pins place entries) before).core.board (commands_of (queued_in (orders t.control t.batch)))).answers ++ says (takes_all (stands_after (first_state b pins place entries) before).core.board (commands_of (queued_in (orders t.control t.batch)))).rig (board_tick (clock_of b) (length before + 1))) → AreNumbered ((takes_all (stands_after (first_state b pins place entries) before).core.board (commands_of (queued_in (orders t.control t.batch)))).answers ++ says (takes_all (stands_after (first_state b pins place entries) before).core.board (commands_of (queued_in (orders t.control t.batch)))).rig (board_tick (clock_of b) (length before + 1))) →
+    ensures late { (b : BoardDef) (pins : List (List Level)) (place : ℕ) (entries : List Entry) (t : BoardTurn) (before : List BoardTurn) (own : ℕ → ℕ) (clocks : Clocks) (ready tick when begin : ℕ) → RestsOver t before →
+        AreBoardTurns (clock_of b) (first_state b pins place entries) (t ∷ before) → (k : AreTracked own clocks ready) → AllTellOnly tick ((takes_all (stands_after (first_state b pins place entries) before).core.board (commands_of (queued_in (orders t.control t.batch)))).answers ++ says (takes_all (stands_after (first_state b pins place entries) before).core.board (commands_of (queued_in (orders t.control t.batch)))).rig (board_tick (clock_of b) (length before + 1))) → AreSmall ((takes_all (stands_after (first_state b pins place entries) before).core.board (commands_of (queued_in (orders t.control t.batch)))).answers ++ says (takes_all (stands_after (first_state b pins place entries) before).core.board (commands_of (queued_in (orders t.control t.batch)))).rig (board_tick (clock_of b) (length before + 1))) → AreNumbered ((takes_all (stands_after (first_state b pins place entries) before).core.board (commands_of (queued_in (orders t.control t.batch)))).answers ++ says (takes_all (stands_after (first_state b pins place entries) before).core.board (commands_of (queued_in (orders t.control t.batch)))).rig (board_tick (clock_of b) (length before + 1))) →
         nearest (turn_tick clocks (length before)) (tick % 2 ^ 32) ≡ tick → lines_tick clocks (begin * turn_ns) ≤ tick → TellExpiry clocks (length before) when t.state.news → begin ≤ when }
-    ensures none { (b : BoardDef) (pins : List (List Level)) (place : ℕ) (entries : List Entry) (t : BoardTurn) (before : List BoardTurn) (clocks : Clocks) (when : ℕ) → entries ≡ [] →
-        AreBoardTurns (clock_of b) (first_state b pins place entries) (t ∷ before) → AllKeepLimits (orders_in (t ∷ before)) → AllTellOnly 0 ((takes_all (stands_after (first_state b pins place entries) before).core.board (commands_of (queued_in (orders t.control t.batch)))).answers ++ says (takes_all (stands_after (first_state b pins place entries) before).core.board (commands_of (queued_in (orders t.control t.batch)))).rig (board_tick (clock_of b) (length before + 1))) → AllTellOnly 1 ((takes_all (stands_after (first_state b pins place entries) before).core.board (commands_of (queued_in (orders t.control t.batch)))).answers ++ says (takes_all (stands_after (first_state b pins place entries) before).core.board (commands_of (queued_in (orders t.control t.batch)))).rig (board_tick (clock_of b) (length before + 1))) → AreSmall ((takes_all (stands_after (first_state b pins place entries) before).core.board (commands_of (queued_in (orders t.control t.batch)))).answers ++ says (takes_all (stands_after (first_state b pins place entries) before).core.board (commands_of (queued_in (orders t.control t.batch)))).rig (board_tick (clock_of b) (length before + 1))) → AreNumbered ((takes_all (stands_after (first_state b pins place entries) before).core.board (commands_of (queued_in (orders t.control t.batch)))).answers ++ says (takes_all (stands_after (first_state b pins place entries) before).core.board (commands_of (queued_in (orders t.control t.batch)))).rig (board_tick (clock_of b) (length before + 1))) →
+    ensures none { (b : BoardDef) (pins : List (List Level)) (place : ℕ) (entries : List Entry) (t : BoardTurn) (before : List BoardTurn) (clocks : Clocks) (when : ℕ) → RestsOver t before →
+        AreBoardTurns (clock_of b) (first_state b pins place entries) (t ∷ before) → AllTellOnly 0 ((takes_all (stands_after (first_state b pins place entries) before).core.board (commands_of (queued_in (orders t.control t.batch)))).answers ++ says (takes_all (stands_after (first_state b pins place entries) before).core.board (commands_of (queued_in (orders t.control t.batch)))).rig (board_tick (clock_of b) (length before + 1))) → AllTellOnly 1 ((takes_all (stands_after (first_state b pins place entries) before).core.board (commands_of (queued_in (orders t.control t.batch)))).answers ++ says (takes_all (stands_after (first_state b pins place entries) before).core.board (commands_of (queued_in (orders t.control t.batch)))).rig (board_tick (clock_of b) (length before + 1))) → AreSmall ((takes_all (stands_after (first_state b pins place entries) before).core.board (commands_of (queued_in (orders t.control t.batch)))).answers ++ says (takes_all (stands_after (first_state b pins place entries) before).core.board (commands_of (queued_in (orders t.control t.batch)))).rig (board_tick (clock_of b) (length before + 1))) → AreNumbered ((takes_all (stands_after (first_state b pins place entries) before).core.board (commands_of (queued_in (orders t.control t.batch)))).answers ++ says (takes_all (stands_after (first_state b pins place entries) before).core.board (commands_of (queued_in (orders t.control t.batch)))).rig (board_tick (clock_of b) (length before + 1))) →
         TellExpiry clocks (length before) when t.state.news → ⊥ }
 {}
 
@@ -305,7 +305,7 @@ pub fn groups_go_ahead()
 /// last turn.
 pub fn members_are_heard_or_known()
     ensures { (b : BoardDef) (pins : List (List Level)) (place : ℕ) (entries : List Entry) (t : BoardTurn) (before : List BoardTurn) (all : List Clocks) (states : List State) (h : Homing) (oid base every ready sent next : ℕ) →
-        entries ≡ [] → AreBoardTurns (clock_of b) (first_state b pins place entries) (t ∷ before) → AllKeepLimits (orders_in (t ∷ before)) →
+        RestsOver t before → AreBoardTurns (clock_of b) (first_state b pins place entries) (t ∷ before) →
         AreTicks (λ k. board_tick (clock_of b) k) → (k : AreTracked (λ k. board_tick (clock_of b) k) (clocks_at all place) ready) → place < length all → state_at place states ≡ t.state ∷ [] → h.start ≡ h.group.start →
         lines_tick (clocks_at all place) (h.start * turn_ns) ≡ base → ready + 5 ≤ h.start → ready + 4 ≤ length before → length before + 1 ≤ k.until → h.start ≤ k.until → next ≤ k.until → k.until < run_turns →
         (board_tick (clock_of b) (length before)) < 2 ^ 63 → (board_tick (clock_of b) (length before)) < (board_tick (clock_of b) (length before + 1)) → ((u : ℕ) → board_tick (clock_of b) u + every < board_tick (clock_of b) (u + 6)) → length before + 2 ≤ next → next ≤ length before + 1_000 → next ≤ h.group.last + 1 →
@@ -369,7 +369,6 @@ pub fn boards_stand_at_their_ticks()
         (stands_after (first_state b pins place entries) turns).core.board.controller.tick ≡ board_tick (clock_of b) (length turns) }
     ensures sound { (b : BoardDef) (pins : List (List Level)) (place : ℕ) (entries : List Entry) (turns : List BoardTurn) → AreBoardTurns (clock_of b) (first_state b pins place entries) turns →
         AllSound (stands_after (first_state b pins place entries) turns).core.board }
-    ensures runs { (b : BoardDef) (pins : List (List Level)) (place : ℕ) (entries : List Entry) (t : BoardTurn) (before : List BoardTurn) → entries ≡ [] → AreBoardTurns (clock_of b) (first_state b pins place entries) (t ∷ before) →
-        AllKeepLimits (orders_in (t ∷ before)) → t.state.shut ≡ None →
+    ensures runs { (b : BoardDef) (pins : List (List Level)) (place : ℕ) (entries : List Entry) (t : BoardTurn) (before : List BoardTurn) → RestsOver t before → AreBoardTurns (clock_of b) (first_state b pins place entries) (t ∷ before) → t.state.shut ≡ None →
         (takes_all (stands_after (first_state b pins place entries) before).core.board (commands_of (queued_in (orders t.control t.batch)))).rig.controller.state ≡ Running }
 {}

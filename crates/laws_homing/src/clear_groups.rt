@@ -26,53 +26,54 @@ ghost use Rattle.axis_homing.specs.declared.homing.Homing.{Homing};
 ghost use Rattle.axis_homing.specs.Homing.{answer_in, hears_all};
 ghost use Rattle.axis_homing.specs.Rising.{members_of};
 ghost use Rattle.host_reactor.specs.Notes.{news_of, noted};
+ghost use Rattle.laws_homing.specs.home_runs.Sections.{HomesFrom};
 ghost use Rattle.laws_homing.specs.home_runs.Words.{TellsHomed};
 ghost use Rattle.host_reactor.specs.Runs.{Came, GoesOn, HaveStates, known_by, last_turn, state_at};
 ghost use Rattle.laws_homing.specs.clear_groups.Safe.{IsSafeAt, IsSafeIn};
-ghost use Rattle.laws_homing.specs.clear_groups.Sections.{AllLate, AreOfTurn, IsClearSection, IsFollowed, IsPlain, rig_at, turns_of};
+ghost use Rattle.laws_homing.specs.clear_groups.Sections.{AllLate, AreOfTurn, BeginsNoneFrom, IsClearSection, IsFollowed, IsPlain, IsRestingSection, rig_at, turns_of};
 ghost use Rattle.laws_homing.specs.clear_groups.SetUp.{AllOfTurn, ArePreparedAt, BeginsSome, HoldsOf, IsNew, IsNewAt, IsNewIn, IsPrepared};
 ghost use Rattle.laws_homing.specs.clear_groups.Quiet.{IsQuiet};
 ghost use Rattle.laws_homing.specs.clear_groups.Resting.{AllOff, BeginsAlone};
 ghost use Rattle.laws_homing.specs.clear_groups.Runs.{AreSetUp, BeginNone, IsClearRun};
 
-/// The law of safe sections: in a scene without entries, where the clock lines follow the boards until 276 turns ahead, or to the section's end, a homing
+/// The law of safe sections: where the clock lines follow the boards until 276 turns ahead, or to the section's end, and the links rest, a homing
 /// group and its members' boards that are safe in a turn between the section's set-up and its start, or from there on, are so in each later turn in which
 /// the section is known; and no board told since of an expiry in a turn up to the section's last one.
 pub fn safe_sections_stay_safe()
-    ensures { (m : Machine) (switches : List Switch) (pins : ℕ → List (List Level)) (entries : List Entry) (lines : ℕ → Clocks) (ready from start last until at : ℕ) (members : List Member) → entries ≡ [] →
+    ensures { (m : Machine) (switches : List Switch) (pins : ℕ → List (List Level)) (entries : List Entry) (lines : ℕ → Clocks) (ready from start last until at : ℕ) (members : List Member) →
         ((b : ℕ) → IsMember b members → IsFollowed m b (lines b) ready start last until) → from ≤ at → ready + 4 ≤ at → start ≤ at + 249 → (c : Came) (before : List Came) (all : List (ℕ → BoardTurn)) →
-        IsClearSection m switches pins entries lines from start members c before all → length before + 276 ≤ until → at ≤ length before → IsSafeAt m switches pins entries lines start last members at (c ∷ before) all →
+        IsRestingSection m switches pins entries lines from start members c before all → length before + 276 ≤ until → at ≤ length before → IsSafeAt m switches pins entries lines start last members at (c ∷ before) all →
         IsSafeIn m switches pins entries lines start last members c before all × ((b : ℕ) → IsMember b members → AllLate (lines b) last at (turns_of b all)) }
 {}
 
 /// The law of safe groups: where it is so in a turn between the set-up and the start, the group never answers that a board expired.
 pub fn safe_groups_answer_of_no_expiry()
-    ensures { (m : Machine) (switches : List Switch) (pins : ℕ → List (List Level)) (entries : List Entry) (lines : ℕ → Clocks) (ready from start last until at : ℕ) (members : List Member) → entries ≡ [] →
+    ensures { (m : Machine) (switches : List Switch) (pins : ℕ → List (List Level)) (entries : List Entry) (lines : ℕ → Clocks) (ready from start last until at : ℕ) (members : List Member) →
         ((b : ℕ) → IsMember b members → IsFollowed m b (lines b) ready start last until) → from ≤ at → ready + 4 ≤ at → start ≤ at + 249 → at + 1 ≤ start → (c : Came) (before : List Came) (all : List (ℕ → BoardTurn)) →
-        IsClearSection m switches pins entries lines from start members c before all → length before + 276 ≤ until → at ≤ length before → IsSafeAt m switches pins entries lines start last members at (c ∷ before) all → (h : Homing) →
+        IsRestingSection m switches pins entries lines from start members c before all → length before + 276 ≤ until → at ≤ length before → IsSafeAt m switches pins entries lines start last members at (c ∷ before) all → (h : Homing) →
         (noted m c.note (known_by m switches before)).homing ≡ Some h → (b turn : ℕ) →
         answer_in (length before) h.start (hears_all (noted m c.note (known_by m switches before)).clocks c.states h).group ≡ Some (Expired b turn) → ⊥ }
 {}
 
-/// The law of set-ups: in a scene without entries, where the clock lines follow the boards, a homing group and its members' boards are safe 249 turns
+/// The law of set-ups: where the clock lines follow the boards and the links rest, a homing group and its members' boards are safe 249 turns
 /// before the section's start, where the group is new 251 turns before it, and each board's one trigger is at rest then, or is set up already.
 pub fn set_ups_make_sections_safe()
-    ensures { (m : Machine) (switches : List Switch) (pins : ℕ → List (List Level)) (entries : List Entry) (lines : ℕ → Clocks) (ready from start last until : ℕ) (members : List Member) → entries ≡ [] →
+    ensures { (m : Machine) (switches : List Switch) (pins : ℕ → List (List Level)) (entries : List Entry) (lines : ℕ → Clocks) (ready from start last until : ℕ) (members : List Member) →
         ((b : ℕ) → IsMember b members → IsFollowed m b (lines b) ready start last until) → start ≤ last → (c d e : Came) (past : List Came) (i j : ℕ → BoardTurn) (js : List (ℕ → BoardTurn)) →
-        IsClearSection m switches pins entries lines from start members c (d ∷ e ∷ past) (i ∷ j ∷ js) → from ≤ length past → ready + 4 ≤ length past → length past + 251 ≡ start → length past + 276 ≤ until →
+        IsRestingSection m switches pins entries lines from start members c (d ∷ e ∷ past) (i ∷ j ∷ js) → from ≤ length past → ready + 4 ≤ length past → length past + 251 ≡ start → length past + 276 ≤ until →
         AreOfTurn (length past + 1) d.states → AreOfTurn (length past + 2) c.states → (h : Homing) → (noted m e.note (known_by m switches past)).homing ≡ Some h →
         IsNew start last members (hears_all (noted m e.note (known_by m switches past)).clocks e.states h).group →
         ((b : ℕ) → IsMember b members → HoldsOf (trigger_of m b) (λ ps x. IsPrepared (lines_tick (lines b) (start * turn_ns)) ps x) (rig_at m pins entries js b)) →
         IsSafeIn m switches pins entries lines start last members c (d ∷ e ∷ past) (i ∷ j ∷ js) }
 {}
 
-/// The law of begun sections: in a scene without entries, where the clock lines follow the boards, the group of a homing section that is begun 251 turns
+/// The law of begun sections: where the clock lines follow the boards and the links rest, the group of a homing section that is begun 251 turns
 /// before its start or earlier never answers that a board expired, where each member's board has one trigger that is at rest 251 turns before the
 /// start, or is set up already.
 pub fn begun_sections_answer_of_no_expiry()
-    ensures { (m : Machine) (switches : List Switch) (pins : ℕ → List (List Level)) (entries : List Entry) (lines : ℕ → Clocks) (ready from start last until : ℕ) (members : List Member) → entries ≡ [] →
+    ensures { (m : Machine) (switches : List Switch) (pins : ℕ → List (List Level)) (entries : List Entry) (lines : ℕ → Clocks) (ready from start last until : ℕ) (members : List Member) →
         ((b : ℕ) → IsMember b members → IsFollowed m b (lines b) ready start last until) → ready + 255 ≤ start → from + 251 ≤ start → start ≤ last → (c : Came) (before : List Came) (all : List (ℕ → BoardTurn)) →
-        IsClearSection m switches pins entries lines from start members c before all → AllOfTurn (c ∷ before) → length before + 276 ≤ until → from ≤ length before → IsNewAt m switches start last members from (c ∷ before) →
+        IsRestingSection m switches pins entries lines from start members c before all → AllOfTurn (c ∷ before) → length before + 276 ≤ until → from ≤ length before → IsNewAt m switches start last members from (c ∷ before) →
         ArePreparedAt m pins entries lines start members (start - 251) all → (h : Homing) → (noted m c.note (known_by m switches before)).homing ≡ Some h → (b turn : ℕ) →
         answer_in (length before) h.start (hears_all (noted m c.note (known_by m switches before)).clocks c.states h).group ≡ Some (Expired b turn) → ⊥ }
 {}
@@ -89,9 +90,8 @@ pub fn tracked_boards_are_followed()
 pub fn noted_groups_are_new()
     ensures noted { (m : Machine) (switches : List Switch) (c : Came) (before : List Came) (h : Homing) → BeginsSome (news_of c.note) → (noted m c.note (known_by m switches before)).homing ≡ Some h → AreOfTurn (length before) c.states →
         length before < h.start → IsNewIn m switches h.start h.group.last (members_of h.group) c before }
-    ensures stays { (m : Machine) (switches : List Switch) (pins : ℕ → List (List Level)) (entries : List Entry) (lines : ℕ → Clocks) (ready from start last until : ℕ) (members : List Member) → entries ≡ [] →
-        ((b : ℕ) → IsMember b members → IsFollowed m b (lines b) ready start last until) → ready + 255 ≤ start → from + 251 ≤ start → start ≤ last → (c : Came) (before : List Came) (all : List (ℕ → BoardTurn)) →
-        IsClearSection m switches pins entries lines from start members c before all → AllOfTurn (c ∷ before) → from ≤ length before → length before + 251 ≤ start → IsNewAt m switches start last members from (c ∷ before) →
+    ensures stays { (m : Machine) (switches : List Switch) (from start last : ℕ) (members : List Member) → from + 251 ≤ start → (c : Came) (before : List Came) → GoesOn m switches before →
+        HomesFrom m switches from start members (c ∷ before) → BeginsNoneFrom from (c ∷ before) → AllOfTurn (c ∷ before) → from ≤ length before → length before + 251 ≤ start → IsNewAt m switches start last members from (c ∷ before) →
         IsNewIn m switches start last members c before }
 {}
 

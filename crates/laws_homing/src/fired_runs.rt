@@ -27,7 +27,7 @@ ghost use Rattle.laws_homing.specs.home_runs.Told.{IsMember};
 ghost use Rattle.laws_homing.specs.home_runs.Settled.{SetNoClockFrom};
 ghost use Rattle.laws_homing.specs.switch_runs.Reports.{HearsSoon};
 ghost use Rattle.laws_homing.specs.switch_runs.Taken.{IsTriggerOf};
-ghost use Rattle.laws_homing.specs.fired_runs.Since.{AreBehind, AreRead, AreReadTrue, BeginsApart, HasFiredSince, ReadsSwitchTrue, ReadsTrue};
+ghost use Rattle.laws_homing.specs.fired_runs.Since.{AreBehind, AreRead, AreReadTrue, BeginsApart, HasFiredSince, ReadsAsTold, ReadsSwitchTrue, ReadsTrue};
 ghost use Rattle.laws_board.specs.sections.Finds.{StepsFindHalted};
 ghost use Rattle.laws_homing.specs.fired_runs.Waiting.{MoveNoneIn, TookNone};
 
@@ -56,15 +56,17 @@ pub fn answers_are_of_trigger_ticks()
 {}
 
 /// The law of half a round: what the state of a board's turn tells of its trigger is read true (`ReadsTrue`,
-/// `ReadsSwitchTrue`), where it comes within half a round of the 32-bit clock of the tick since which the trigger
-/// stands (`HearsSoon`), and the board took the set-up of the homing section in time. What it takes is that the
-/// section is known from 254 turns before its start on, and that no unit sets a clock from there on.
+/// `ReadsSwitchTrue`), and wholly so (`ReadsAsTold`), where it comes within half a round of the 32-bit clock of the
+/// tick since which the trigger stands (`HearsSoon`), and the board took the set-up of the homing section in time. What
+/// it takes is that the section is known from 254 turns before its start on, and that no unit sets a clock from there
+/// on.
 pub fn reports_heard_soon_are_read_true()
     ensures { (m : Machine) (switches : List Switch) (pins : List (List Level)) (entries : List Entry) (b : ℕ) (c : Came) (before : List Came) (h : Homing) (from : ℕ) (t : BoardTurn) (earlier : List BoardTurn) → IsValidMachine m →
         IsInRun m switches pins entries b before (t ∷ earlier) → state_at b c.states ≡ latest_state (t ∷ earlier) → (noted m c.note (known_by m switches before)).homing ≡ Some h → from + 254 ≡ h.start →
         HomesFrom m switches from h.start (members_of h.group) before → SetNoClockFrom from (t ∷ earlier) → TakesSetUp (first_state (board_at m b) pins b entries) h.start (t ∷ earlier) →
         (stands_after (first_state (board_at m b) pins b entries) (t ∷ earlier)).core.board.controller.state ≡ Running → HearsSoon m switches b h.start c before t (length earlier) →
-        ReadsTrue m switches b c before (t ∷ earlier) × ReadsSwitchTrue m switches b c before (t ∷ earlier) }
+        ReadsTrue m switches b c before (t ∷ earlier) × ReadsSwitchTrue m switches b c before (t ∷ earlier)
+        × ReadsAsTold m switches b c before (t ∷ earlier) }
 {}
 
 /// The law of halts, whatever comes late: as the turn begins in which the group of a homing section answers, every stepper that moves in the section is

@@ -32,7 +32,8 @@ ghost use Rattle.laws_board.specs.plans.Homed.{TookControlsIn, runs_on, stops_of
 ghost use Rattle.laws_board.specs.plans.Lines.{TellTurns, pulses_of};
 ghost use Rattle.laws_board.specs.plans.Planned.{Plans};
 ghost use Rattle.laws_homing.specs.home_runs.Ended.{AreToldIn};
-ghost use Rattle.laws_homing.specs.home_plans.Notes.{AreInARow, CameNotes, IsNoteOf};
+ghost use Rattle.laws_homing.specs.home_plans.Notes.{CameNotes, IsNoteOf};
+ghost use Rattle.laws_board.specs.plans.Rows.{AreInARow};
 ghost use Rattle.laws_homing.specs.fired_runs.Since.{AreBehind, AreReadSo, BeginsApart};
 ghost use Rattle.laws_homing.specs.home_parts.Answers.{ArePastConnecting, IsPlannedBy, MayHome, TakeSetUps, TellNone, TellsIn};
 ghost use Rattle.laws_homing.specs.home_parts.Cuts.{AreOverBefore, cuts_on};

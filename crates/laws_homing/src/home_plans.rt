@@ -21,7 +21,8 @@ ghost use Rattle.laws_board.specs.turns.Turns.{BoardTurn};
 ghost use Rattle.laws_board.specs.clocks.Runs.{IsInRun};
 ghost use Rattle.laws_board.specs.sections.Homes.{RunSection};
 ghost use Rattle.laws_homing.specs.home_runs.Words.{BeginsNone, IsBegunIn};
-ghost use Rattle.laws_homing.specs.home_plans.Notes.{AreInARow, CameNotes, HoldControlsIn, IsNoteOf, IsSilentFrom, KnowBases, ShowsSections, WasBegun};
+ghost use Rattle.laws_homing.specs.home_plans.Notes.{CameNotes, HoldControlsIn, IsNoteOf, IsSilentFrom, KnowBases, ShowsSections, WasBegun};
+ghost use Rattle.laws_board.specs.plans.Rows.{AreInARow};
 
 /// The law of notes: where the reactor takes the planner's notes, one turn behind it, a homing section is begun 259 turns before its
 /// start, and none other up to the turn in which it ends.

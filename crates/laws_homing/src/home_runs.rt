@@ -11,8 +11,7 @@ ghost use Rattle.board_asking.specs.Machine.{trigger_of};
 ghost use Rattle.board_sim.specs.Board.{stepper_at};
 ghost use Rattle.board_sim.specs.Fair.{Meant, commands_of};
 ghost use Rattle.board_sim.specs.Rig.{Slot, slot_at};
-ghost use Rattle.board_sim.specs.RigRuns.{AllBefore, IsHalted};
-ghost use Rattle.plan_types.specs.declared.plan.Pulse.{Pulse};
+ghost use Rattle.board_sim.specs.RigRuns.{IsHalted};
 ghost use Rattle.link_work.specs.Stands.{first_state};
 ghost use Rattle.laws_board.specs.turns.Turns.{AreBoardTurns, BoardTurn, stands_after};
 ghost use Rattle.trigger_group.specs.declared.order.End.{End};
@@ -52,7 +51,7 @@ ghost use Rattle.laws_homing.specs.home_runs.Words.{BeginsNone, IsBegunIn, Tells
 ghost use Rattle.laws_homing.specs.home_runs.Ended.{AreToldIn, IsToldIn};
 ghost use Rattle.laws_homing.specs.home_runs.Windows.{BringCalm, HasAnswer, IsSetUp, IsWatched, TellFired};
 ghost use Rattle.laws_homing.specs.home_runs.Guards.{ReasonFits, StandsFired};
-ghost use Rattle.msg_code.specs.declared.cmd.Cmd.TheVariants.{StepperStopOnTrigger, TrsyncSetTimeout, TrsyncState};
+ghost use Rattle.msg_code.specs.declared.cmd.Cmd.TheVariants.{TrsyncState};
 
 /// The law of told triggers: where a board took the set-up of a homing section by a turn at whose end nothing that it said is still
 /// under way, and from there on nothing comes that starts its trigger anew or sets the clock of a stepper that is bound to it, this

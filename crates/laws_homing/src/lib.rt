@@ -4,8 +4,10 @@
 pub mod clear_boards;
 pub mod clear_groups;
 pub mod fired_runs;
+pub mod hindered;
 pub mod home_parts;
 pub mod home_plans;
 pub mod home_runs;
 pub mod missed_groups;
+pub mod missed_runs;
 pub mod switch_runs;

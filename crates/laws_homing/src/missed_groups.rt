@@ -3,9 +3,10 @@
 ghost use Rattle.std.specs.Prelude.{◌≡◌, ◌<◌, ◌≤◌, ◌+◌, ◌*◌, ◌∷◌, ℕ, List, [], Some, length};
 ghost use Rattle.plan_types.specs.declared.levels.Level.{Level};
 ghost use Rattle.plan_types.specs.declared.machine.Machine.{Machine};
-ghost use Rattle.plan_types.specs.Clock.{turn_ns};
+ghost use Rattle.plan_types.specs.Clock.{board_tick, clock_of, turn_ns};
 ghost use Rattle.plan_types.specs.Lines.{Clocks, lines_tick};
-ghost use Rattle.plan_types.specs.Machines.{IsValidMachine, axis_at};
+ghost use Rattle.plan_types.specs.Machines.{IsValidMachine, axis_at, board_at};
+ghost use Rattle.clock_line.specs.Early.{run_turns};
 ghost use Rattle.wire_scene.specs.declared.scene.Entry.{Entry};
 ghost use Rattle.wire_scene.specs.declared.scene.Switch.{Switch};
 ghost use Rattle.trigger_group.specs.declared.order.End.{End};
@@ -15,7 +16,10 @@ ghost use Rattle.axis_homing.specs.Homing.{answer_in, hears_all};
 ghost use Rattle.host_reactor.specs.Notes.{noted};
 ghost use Rattle.host_reactor.specs.Runs.{Came, known_by};
 ghost use Rattle.laws_board.specs.turns.Turns.{BoardTurn};
+ghost use Rattle.laws_board.specs.sections.Parts.{AreTracked};
 ghost use Rattle.laws_homing.specs.clear_groups.Runs.{IsClearRun};
+ghost use Rattle.laws_homing.specs.clear_groups.Sections.{turns_of};
+ghost use Rattle.laws_homing.specs.fired_runs.Since.{AreRead, AreReadTrue, ReadsSwitchTrue};
 ghost use Rattle.laws_homing.specs.missed_groups.Known.{AxesLow};
 ghost use Rattle.laws_homing.specs.missed_groups.Ticks.{IsSwitchTick};
 
@@ -33,4 +37,15 @@ pub fn groups_miss_no_switch()
         (tick : ℕ) → IsSwitchTick m (pins (axis_at m h.axis).board) (axis_at m h.axis).board (axis_at m h.axis) (lines_tick (lines h.start (axis_at m h.axis).board) (h.start * turn_ns)) tick →
         tick < lines_tick (lines h.start (axis_at m h.axis).board) ((h.group.last + 1) * turn_ns) → (x : End) →
         answer_in (length before) h.start (hears_all (noted m c.note (known_by m switches before)).clocks c.states h).group ≡ Some x → (at : ℕ) × (x ≡ Endstop at) }
+{}
+
+/// The law of reports in a clear run: in a clear run of all boards, whose clock lines track them until 276 turns ahead,
+/// all that the states of a board tell of its trigger in homing sections is read true (`AreReadTrue`), and so all that
+/// they tell of readings that triggered it. For a group answers soon after a member's trigger has triggered, so no
+/// report comes long after that.
+pub fn clear_reports_are_read_true()
+    ensures { (m : Machine) (switches : List Switch) (pins : ℕ → List (List Level)) (entries : List Entry) (lines : ℕ → ℕ → Clocks) (ready until : ℕ) → IsValidMachine m → entries ≡ [] →
+        ((start b : ℕ) → b < length m.boards → (k : AreTracked (λ n. board_tick (clock_of (board_at m b)) n) (lines start b) ready) × (until ≤ k.until) × (k.until < run_turns)) →
+        (c : Came) (before : List Came) (all : List (ℕ → BoardTurn)) → IsClearRun m switches pins entries lines ready until c before all → length before + 276 ≤ until → (b : ℕ) → b < length m.boards →
+        AreReadTrue m switches b (c ∷ before) (turns_of b all) × AreRead (ReadsSwitchTrue m switches b) (c ∷ before) (turns_of b all) }
 {}

@@ -1,3 +1,4 @@
 pub mod Front
 pub mod Going
 pub mod Near
+pub mod Steps

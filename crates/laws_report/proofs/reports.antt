@@ -40,5 +40,6 @@ pub mod WithoutSections
 pub mod Scenes
 pub mod Any
 pub mod Replaying
+pub mod Wanted
 pub mod Reported
 pub mod Timed

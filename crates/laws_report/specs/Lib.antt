@@ -2,3 +2,4 @@ pub mod logs
 pub mod meshes
 pub mod reports
 pub mod page
+pub mod loads

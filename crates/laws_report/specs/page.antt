@@ -1,3 +1,4 @@
 pub mod Log
 pub mod Clocks
+pub mod Steps
 pub mod Report

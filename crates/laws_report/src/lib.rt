@@ -2,6 +2,7 @@
 //! follows a bed does.
 #![tactic(auto)]
 
+pub mod loads;
 pub mod logs;
 pub mod meshes;
 pub mod page;

@@ -9,3 +9,5 @@ pub mod Running
 pub mod Bounds
 pub mod Lines
 pub mod Whole
+pub mod Fitting
+pub mod Timed

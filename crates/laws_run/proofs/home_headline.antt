@@ -20,3 +20,5 @@ pub mod Sections
 pub mod Before
 pub mod Read
 pub mod OfMoves
+pub mod Held
+pub mod Switched

@@ -8,8 +8,10 @@ pub mod clear_runs
 pub mod home_headline
 pub mod home_wholes
 pub mod clear_homes
+pub mod missed_switches
 pub mod run_causes
 pub mod run_turns
 pub mod run_clocks
 pub mod run_links
 pub mod run_lates
+pub mod hindered_runs

@@ -1,3 +1,4 @@
+pub mod Near
 pub mod Little
 pub mod Follow
 pub mod Reports

@@ -1,6 +1,6 @@
 //! What a run in which axes home shows in a scene without entries, as laws.
 
-ghost use Rattle.std.specs.Prelude.{◌≡◌, ◌⊎◌, ◌<◌, ℕ, List, [], Some, length, pos};
+ghost use Rattle.std.specs.Prelude.{◌≡◌, ◌⊎◌, ◌<◌, ◌++◌, ◌∷◌, ℕ, List, [], Some, length, pos};
 ghost use Rattle.gcode_program.specs.Programs.{program_end, program_sections};
 ghost use Rattle.plan_types.specs.declared.machine.Machine.{Machine};
 ghost use Rattle.plan_types.specs.declared.plan.ReadStop.TheVariants.{Stop};
@@ -11,16 +11,19 @@ ghost use Rattle.host_reactor.specs.Rows.{IsOwn};
 ghost use Rattle.laws_board.specs.causes.Short.{HaveShortDictionaries};
 ghost use Rattle.session_lanes.specs.declared.near.Told.{Told};
 ghost use Rattle.session_work.specs.declared.table.MotionTurn.{MotionTurn};
+ghost use Rattle.session_work.specs.declared.table.ReactorTurn.{ReactorTurn};
 ghost use Rattle.session_run.specs.declared.tell.Kept.{Kept};
 ghost use Rattle.session_run.specs.Runs.{RunsOver};
 ghost use Rattle.laws_run.specs.run_ends.Ends.{GoesThrough};
-ghost use Rattle.laws_run.specs.home_headline.Little.{SendsAllInTime};
+ghost use Rattle.laws_run.specs.home_headline.Little.{SendsAllInTime, SendsNear};
 ghost use Rattle.laws_run.specs.run_headline.Made.{IsMade};
-ghost use Rattle.laws_run.specs.run_headline.Timely.{AreOfMoves};
+ghost use Rattle.laws_run.specs.run_headline.Timely.{AllAreTimely, AreOfMoves};
 ghost use Rattle.laws_run.specs.clear_homes.Closes.{AllClose, MissesSwitch};
 ghost use Rattle.laws_run.specs.clear_homes.Expiry.{IsExpired};
 ghost use Rattle.laws_run.specs.clear_homes.First.{IsFirstExpired, IsUnswitched};
+ghost use Rattle.laws_run.specs.home_headline.Near.{AllTakeNear};
 ghost use Rattle.laws_run.specs.clear_runs.Clear.{SendsAllSoon};
+ghost use Rattle.laws_run.specs.home_wholes.Own.{AllSwitchesReadTrue, AllTakeInTime};
 
 use io_core::{Files, Sink};
 use plan_types::Cause;
@@ -66,6 +69,48 @@ pub fn clear_runs_with_switches_go_through<F: Files, S: Sink>()
 /// So a clear run of such a text goes through.
 pub fn texts_of_moves_close()
     ensures { (m : Machine) (s : Scene) (text : List ℕ) (planned : List MotionTurn) → AreOfMoves (program_sections m text) → AllClose m s text planned }
+{}
+
+/// The law of clear runs whose boards are timely: in whatever threads a run went, in a scene without entries, in which each
+/// board is timely (`AllAreTimely`), each takes all near (`AllTakeNear`) and takes the set-up of each homing section in time
+/// (`AllTakeInTime`), and each report that readings triggered a trigger is read true (`AllSwitchesReadTrue`). So nothing is
+/// asked there of what boards report. It holds in all turns of a run that does not end for want of memory, and that they
+/// take all near also in those before the last one of any run, by what the planner made up to then. And each board is
+/// timely where the planner sends no unit more than 10,700 turns late (`SendsNear`), as it does where it sends all in time.
+pub fn clear_runs_take_near<F: Files, S: Sink>()
+    ensures near { (m : Machine) (s : Scene) (name : List ℕ) (files files' : F) (out out' : S) (kept kept' : Kept)
+        (t : Told Run) → (r : RunsOver F.Files S.Sink m s name files out kept t files' out' kept') → IsValidMachine m →
+        HaveShortDictionaries m → (text : List ℕ) → (t.cause ≡ Cause.Memory → ⊥) → s.entries ≡ [] →
+        AllAreTimely m s text r.runs.0 (r.runs.1 ++ r.runs.2 ∷ []) →
+        AllTakeNear m s text r.runs.0 (r.runs.1 ++ r.runs.2 ∷ []) }
+    ensures before { (m : Machine) (s : Scene) (name : List ℕ) (files files' : F) (out out' : S) (kept kept' : Kept)
+        (t : Told Run) → (r : RunsOver F.Files S.Sink m s name files out kept t files' out' kept') → IsValidMachine m →
+        HaveShortDictionaries m → (text : List ℕ) →
+        (turns : List ReactorTurn) (last : ReactorTurn) → r.runs.1 ≡ turns ++ last ∷ [] →
+        (front later : List MotionTurn) → r.runs.0 ≡ front ++ later → length front ≡ length turns → s.entries ≡ [] →
+        AllAreTimely m s text front (turns ++ last ∷ []) → AllTakeNear m s text front (turns ++ last ∷ []) }
+    ensures in_time { (m : Machine) (s : Scene) (name : List ℕ) (files files' : F) (out out' : S) (kept kept' : Kept)
+        (t : Told Run) → (r : RunsOver F.Files S.Sink m s name files out kept t files' out' kept') → IsValidMachine m →
+        HaveShortDictionaries m → (text : List ℕ) → (t.cause ≡ Cause.Memory → ⊥) → s.entries ≡ [] →
+        AllAreTimely m s text r.runs.0 (r.runs.1 ++ r.runs.2 ∷ []) →
+        AllTakeInTime m s text r.runs.0 (r.runs.1 ++ r.runs.2 ∷ []) }
+    ensures switches { (m : Machine) (s : Scene) (name : List ℕ) (files files' : F) (out out' : S) (kept kept' : Kept)
+        (t : Told Run) → (r : RunsOver F.Files S.Sink m s name files out kept t files' out' kept') → IsValidMachine m →
+        HaveShortDictionaries m → (text : List ℕ) → F.told files name ≡ Some text → kept.at ≡ 0 →
+        (t.cause ≡ Cause.Memory → ⊥) → s.entries ≡ [] → AllAreTimely m s text r.runs.0 (r.runs.1 ++ r.runs.2 ∷ []) →
+        ∥ AllSwitchesReadTrue m s r.runs.0 (r.runs.1 ++ r.runs.2 ∷ []) ∥₁ }
+    ensures timely { (m : Machine) (s : Scene) (name : List ℕ) (files files' : F) (out out' : S) (kept kept' : Kept)
+        (t : Told Run) → (r : RunsOver F.Files S.Sink m s name files out kept t files' out' kept') → IsValidMachine m →
+        HaveShortDictionaries m → (text : List ℕ) → (t.cause ≡ Cause.Memory → ⊥) → s.entries ≡ [] →
+        SendsNear m text r.runs.0 → AllAreTimely m s text r.runs.0 (r.runs.1 ++ r.runs.2 ∷ []) }
+    ensures timely_before { (m : Machine) (s : Scene) (name : List ℕ) (files files' : F) (out out' : S) (kept kept' : Kept)
+        (t : Told Run) → (r : RunsOver F.Files S.Sink m s name files out kept t files' out' kept') → IsValidMachine m →
+        HaveShortDictionaries m → (text : List ℕ) →
+        (turns : List ReactorTurn) (last : ReactorTurn) → r.runs.1 ≡ turns ++ last ∷ [] →
+        (front later : List MotionTurn) → r.runs.0 ≡ front ++ later → length front ≡ length turns → s.entries ≡ [] →
+        SendsNear m text front → AllAreTimely m s text front (turns ++ last ∷ []) }
+    ensures sent { (m : Machine) (text : List ℕ) (planned : List MotionTurn) →
+        SendsAllInTime m text planned → SendsNear m text planned }
 {}
 
 /// The law of expired boards: in whatever threads a run went that ends as a board expired in a turn, the board told so: in one of the

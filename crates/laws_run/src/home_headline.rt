@@ -28,15 +28,17 @@ ghost use Rattle.laws_run.specs.lanes.Boards.{IsInWhole};
 ghost use Rattle.laws_run.specs.run_ends.Ends.{GoesThrough};
 ghost use Rattle.laws_run.specs.run_headline.Made.{IsMade};
 ghost use Rattle.laws_run.specs.run_headline.Told.{AreTold};
-ghost use Rattle.laws_run.specs.run_headline.Timely.{AllTakeNear, AreOfMoves, HoldsNothingLong, clocks_heard, link_of, ready_heard};
+ghost use Rattle.laws_run.specs.run_headline.Timely.{AllAreTimely, AreOfMoves, HoldsNothingLong, clocks_heard, link_of, ready_heard};
 ghost use Rattle.laws_run.specs.run_lines.Due.{BoardsHave, StandApart};
 ghost use Rattle.laws_homing.specs.home_runs.Words.{TellsHomed};
 ghost use Rattle.laws_homing.specs.home_plans.Notes.{CameNotes, WasBegun};
 ghost use Rattle.laws_homing.specs.home_parts.Answers.{IsPlannedBy};
 ghost use Rattle.laws_run.specs.home_headline.Cuts.{TellAnswers, TellEnds, TellsCut, cuts_of};
 ghost use Rattle.laws_run.specs.home_headline.Follow.{AllShowBegun, AllShowHomes, FollowHomes, HaveBegunLines, ShowBegun, ShowHomes};
-ghost use Rattle.laws_run.specs.home_headline.Little.{AllHomeLittle, HomesLittle, SendsAllInTime, SendsAllOut};
+ghost use Rattle.laws_run.specs.home_headline.Near.{AllKeepUp, AllReportsReadTrue, AllTakeNear, KeepsUp};
+ghost use Rattle.laws_run.specs.home_headline.Little.{AllHomeLittle};
 ghost use Rattle.laws_run.specs.home_headline.Reports.{TellOfReadings};
+ghost use Rattle.laws_run.specs.home_wholes.Own.{AllTakeInTime};
 
 use io_core::{Files, Sink};
 use plan_types::Cause;
@@ -90,44 +92,81 @@ pub fn cut_lines_stand_at_ends()
 /// first steps of its plan, in order, each once, at most the tolerance before its planned tick and never after it, whatever its trigger
 /// did.
 ///
-/// It is asked of each board that it holds nothing long (`HomesLittle`).
+/// It is asked of each board that it keeps up (`KeepsUp`).
 pub fn homing_runs_follow_their_plans<F: Files, S: Sink>()
     ensures { (m : Machine) (s : Scene) (name : List ℕ) (files files' : F) (out out' : S) (kept kept' : Kept) (t : Told Run) →
         (r : RunsOver F.Files S.Sink m s name files out kept t files' out' kept') → IsValidMachine m → HaveShortDictionaries m → (text : List ℕ) → F.told files name ≡ Some text → kept.at ≡ 0 →
         ∥ ((made : IsMade m s r.runs.0 r.runs.1) × (made.plans.seen.text ≡ text) ×
         ((heard : Heard) (first : ReactorTurn) (rest : List ReactorTurn) → (t.cause ≡ Cause.Memory → ⊥) → r.runs.1 ≡ first ∷ rest → made.plans.seen.told ≡ Some heard →
         ((b : ℕ) → b < length m.boards → (w : IsInWhole m s.switches b (clock_of (board_at m b)) (link_of m s b) r.runs.0 first (rest ++ r.runs.2 ∷ [])) →
-        HomesLittle m s b r.runs.0 first (rest ++ r.runs.2 ∷ []) (length made.plans.made) heard made.plans.seen.begun w) →
+        KeepsUp m s b r.runs.0 first (rest ++ r.runs.2 ∷ []) made.plans.seen.begun w) →
         FollowHomes m heard made.plans.seen first (rest ++ r.runs.2 ∷ []))) ∥₁ }
 {}
 
 /// The law of a run's report where axes home: in whatever threads a run went that does not end for want of memory, the lines of all of the
 /// reactor's turns, the one that ends the run among them, follow the plans of the sections of the file's text, of moves or homing, by the
-/// clock lines that the planner heard; where each board holds nothing long (`AllHomeLittle`). Where the run went through, these are all
-/// sections of the text.
+/// clock lines that the planner heard; where each board keeps up (`AllKeepUp`). Where the run went through, these are all sections of
+/// the text.
 pub fn homing_runs_show_their_sections<F: Files, S: Sink>()
     ensures { (m : Machine) (s : Scene) (name : List ℕ) (files files' : F) (out out' : S) (kept kept' : Kept) (t : Told Run) →
         (r : RunsOver F.Files S.Sink m s name files out kept t files' out' kept') → IsValidMachine m → HaveShortDictionaries m → (text : List ℕ) → F.told files name ≡ Some text → kept.at ≡ 0 →
         ∥ ((made : IsMade m s r.runs.0 r.runs.1) × (made.plans.seen.text ≡ text) ×
-        ((t.cause ≡ Cause.Memory → ⊥) → AllHomeLittle m s text r.runs.0 (r.runs.1 ++ r.runs.2 ∷ []) →
+        ((t.cause ≡ Cause.Memory → ⊥) → AllKeepUp m s text r.runs.0 (r.runs.1 ++ r.runs.2 ∷ []) →
         AllShowHomes m made.plans.seen (clocks_heard made.plans.seen.told) (ready_heard made.plans.seen.told) t.cause (r.runs.1 ++ r.runs.2 ∷ []))) ∥₁ }
 {}
 
-/// The law of runs of moves: where each board of such a run takes all near (`AllTakeNear`), each holds nothing long, as
-/// one of a run in which axes home may (`AllHomeLittle`): in all turns of a run that does not end for want of memory,
-/// and in those before the last one of any run, by what the planner made up to then. And each takes all near where no
-/// line holds a command for long (`HoldsNothingLong`).
-pub fn runs_of_moves_hold_little<F: Files, S: Sink>()
-    ensures little { (m : Machine) (s : Scene) (name : List ℕ) (files files' : F) (out out' : S) (kept kept' : Kept) (t : Told Run) →
-        (r : RunsOver F.Files S.Sink m s name files out kept t files' out' kept') → IsValidMachine m → (text : List ℕ) → AreOfMoves (program_sections m text) → (t.cause ≡ Cause.Memory → ⊥) →
-        AllTakeNear m s text r.runs.0 (r.runs.1 ++ r.runs.2 ∷ []) → AllHomeLittle m s text r.runs.0 (r.runs.1 ++ r.runs.2 ∷ []) }
-    ensures before { (m : Machine) (s : Scene) (name : List ℕ) (files files' : F) (out out' : S) (kept kept' : Kept) (t : Told Run) →
-        (r : RunsOver F.Files S.Sink m s name files out kept t files' out' kept') → IsValidMachine m → (text : List ℕ) → AreOfMoves (program_sections m text) →
-        (turns : List ReactorTurn) (last : ReactorTurn) → r.runs.1 ≡ turns ++ last ∷ [] → (front later : List MotionTurn) → r.runs.0 ≡ front ++ later → length front ≡ length turns →
-        AllTakeNear m s text front (turns ++ last ∷ []) → AllHomeLittle m s text front (turns ++ last ∷ []) }
-    ensures near { (m : Machine) (s : Scene) (name : List ℕ) (files files' : F) (out out' : S) (kept kept' : Kept) (t : Told Run) →
-        (r : RunsOver F.Files S.Sink m s name files out kept t files' out' kept') → IsValidMachine m → HaveShortDictionaries m → (text : List ℕ) → AreOfMoves (program_sections m text) →
-        (t.cause ≡ Cause.Memory → ⊥) → HoldsNothingLong m s text r.runs.0 (r.runs.1 ++ r.runs.2 ∷ []) → AllTakeNear m s text r.runs.0 (r.runs.1 ++ r.runs.2 ∷ []) }
+/// The law of boards that take all near: they keep up. So do boards that are timely and take the set-up of each homing
+/// section in time. And boards that keep up, and whose reports are read true, take all near.
+pub fn boards_that_take_near_keep_up()
+    ensures keep { (m : Machine) (s : Scene) (text : List ℕ) (planned : List MotionTurn) (turns : List ReactorTurn) →
+        AllTakeNear m s text planned turns → AllKeepUp m s text planned turns }
+    ensures in_time { (m : Machine) (s : Scene) (text : List ℕ) (planned : List MotionTurn) (turns : List ReactorTurn) →
+        AllAreTimely m s text planned turns → AllTakeInTime m s text planned turns → AllKeepUp m s text planned turns }
+    ensures near { (m : Machine) (s : Scene) (text : List ℕ) (planned : List MotionTurn) (turns : List ReactorTurn) →
+        AllKeepUp m s text planned turns → AllReportsReadTrue m s planned turns → AllTakeNear m s text planned turns }
+{}
+
+/// The law of limits: the boards of a run keep up where each holds little (`HomesLittle`): its units are sent so many
+/// turns late at most, few turns of its link are spoiled, and it takes the set-ups in time, or its reports are read true.
+/// It holds in all turns of a run that does not end for want of memory, and in those before the last one of any run, by
+/// what the planner made up to then.
+pub fn runs_that_hold_little_keep_up<F: Files, S: Sink>()
+    ensures whole { (m : Machine) (s : Scene) (name : List ℕ) (files files' : F) (out out' : S) (kept kept' : Kept)
+        (t : Told Run) → (r : RunsOver F.Files S.Sink m s name files out kept t files' out' kept') → IsValidMachine m →
+        HaveShortDictionaries m → (text : List ℕ) →
+        (t.cause ≡ Cause.Memory → ⊥) → AllHomeLittle m s text r.runs.0 (r.runs.1 ++ r.runs.2 ∷ []) →
+        AllKeepUp m s text r.runs.0 (r.runs.1 ++ r.runs.2 ∷ []) }
+    ensures before { (m : Machine) (s : Scene) (name : List ℕ) (files files' : F) (out out' : S) (kept kept' : Kept)
+        (t : Told Run) → (r : RunsOver F.Files S.Sink m s name files out kept t files' out' kept') → IsValidMachine m →
+        HaveShortDictionaries m → (text : List ℕ) →
+        (turns : List ReactorTurn) (last : ReactorTurn) → r.runs.1 ≡ turns ++ last ∷ [] →
+        (front later : List MotionTurn) → r.runs.0 ≡ front ++ later → length front ≡ length turns →
+        AllHomeLittle m s text front (turns ++ last ∷ []) → AllKeepUp m s text front (turns ++ last ∷ []) }
+{}
+
+/// The law of runs of moves: each board of such a run takes all near (`AllTakeNear`), where it is timely: its reports
+/// count for no homing section. And it is timely where no line holds a command for long (`HoldsNothingLong`). It holds in
+/// all turns of a run that does not end for want of memory, and in those before the last one of any run, by what the
+/// planner made up to then.
+pub fn runs_of_moves_take_near<F: Files, S: Sink>()
+    ensures timely { (m : Machine) (s : Scene) (name : List ℕ) (files files' : F) (out out' : S) (kept kept' : Kept)
+        (t : Told Run) → (r : RunsOver F.Files S.Sink m s name files out kept t files' out' kept') → IsValidMachine m →
+        (text : List ℕ) → AreOfMoves (program_sections m text) → (t.cause ≡ Cause.Memory → ⊥) →
+        AllAreTimely m s text r.runs.0 (r.runs.1 ++ r.runs.2 ∷ []) →
+        AllTakeNear m s text r.runs.0 (r.runs.1 ++ r.runs.2 ∷ []) }
+    ensures near { (m : Machine) (s : Scene) (name : List ℕ) (files files' : F) (out out' : S) (kept kept' : Kept)
+        (t : Told Run) → (r : RunsOver F.Files S.Sink m s name files out kept t files' out' kept') → IsValidMachine m →
+        HaveShortDictionaries m → (text : List ℕ) → AreOfMoves (program_sections m text) →
+        (t.cause ≡ Cause.Memory → ⊥) → HoldsNothingLong m s text r.runs.0 (r.runs.1 ++ r.runs.2 ∷ []) →
+        AllTakeNear m s text r.runs.0 (r.runs.1 ++ r.runs.2 ∷ []) }
+    ensures before { (m : Machine) (s : Scene) (name : List ℕ) (files files' : F) (out out' : S) (kept kept' : Kept)
+        (t : Told Run) → (r : RunsOver F.Files S.Sink m s name files out kept t files' out' kept') → IsValidMachine m →
+        (text : List ℕ) → AreOfMoves (program_sections m text) →
+        (turns : List ReactorTurn) (last : ReactorTurn) → r.runs.1 ≡ turns ++ last ∷ [] →
+        (front later : List MotionTurn) → r.runs.0 ≡ front ++ later → length front ≡ length turns →
+        (AllAreTimely m s text front (turns ++ last ∷ []) → AllTakeNear m s text front (turns ++ last ∷ [])) ×
+        (HaveShortDictionaries m → HoldsNothingLong m s text front (turns ++ last ∷ []) →
+        AllTakeNear m s text front (turns ++ last ∷ [])) }
 {}
 
 /// The law of the lines of a run of moves: where it went through, they are such as a reactor tells that homes nothing,
@@ -138,13 +177,6 @@ pub fn runs_of_moves_tell_no_switch<F: Files, S: Sink>()
         AreOfMoves (program_sections m text) → GoesThrough t.cause → ∥ AreTold false m (gather (λ t. t.lines) (r.runs.1 ++ r.runs.2 ∷ [])) ∥₁ }
 {}
 
-/// The law of scenes without entries: where the planner sends those units of each section of moves that are late by four turns behind its end,
-/// and none too late, no board holds anything long. So it does where it sends all units in time.
-pub fn clear_scenes_hold_little()
-    ensures little { (m : Machine) (s : Scene) (text : List ℕ) (planned : List MotionTurn) (turns : List ReactorTurn) → s.entries ≡ [] → SendsAllOut m text planned → AllHomeLittle m s text planned turns }
-    ensures out { (m : Machine) (text : List ℕ) (planned : List MotionTurn) → SendsAllInTime m text planned → SendsAllOut m text planned }
-{}
-
 /// The law of switches in whole runs: in whatever threads a run went that does not end for want of memory, each of the reactor's turns, the
 /// one that ends the run among them, tells of a switch exactly where a homing section ended in it: one line, of that section's number and
 /// its axis's endstop. This is said of the same run of the planner as what the lines show of its sections.
@@ -152,7 +184,7 @@ pub fn homing_runs_tell_of_switches<F: Files, S: Sink>()
     ensures { (m : Machine) (s : Scene) (name : List ℕ) (files files' : F) (out out' : S) (kept kept' : Kept) (t : Told Run) →
         (r : RunsOver F.Files S.Sink m s name files out kept t files' out' kept') → IsValidMachine m → (text : List ℕ) → F.told files name ≡ Some text → kept.at ≡ 0 →
         ∥ ((made : IsMade m s r.runs.0 r.runs.1) × (made.plans.seen.text ≡ text) ×
-        ((t.cause ≡ Cause.Memory → ⊥) → HaveShortDictionaries m → AllHomeLittle m s text r.runs.0 (r.runs.1 ++ r.runs.2 ∷ []) →
+        ((t.cause ≡ Cause.Memory → ⊥) → HaveShortDictionaries m → AllKeepUp m s text r.runs.0 (r.runs.1 ++ r.runs.2 ∷ []) →
         AllShowHomes m made.plans.seen (clocks_heard made.plans.seen.told) (ready_heard made.plans.seen.told) t.cause (r.runs.1 ++ r.runs.2 ∷ [])) ×
         ((t.cause ≡ Cause.Memory → ⊥) → TellEnds m s.switches made.plans.seen.begun 0 (r.runs.1 ++ r.runs.2 ∷ []))) ∥₁ }
 {}
@@ -192,7 +224,7 @@ pub fn home_sections_stand_behind_boards()
 
 /// The law of turns before the last one: in whatever threads a run went, and whatever ended it, want of memory too, the lines of the reactor's
 /// turns before its last one show the sections that the planner begun by then as those of a run do that a fault ends (`AllShowBegun`), and where
-/// each board holds nothing long in these turns the pulses as well (`AllShowHomes`). A run that ends for want of memory has no lines in its last
+/// each board keeps up in these turns the pulses as well (`AllShowHomes`). A run that ends for want of memory has no lines in its last
 /// turn.
 pub fn runs_show_sections_before_they_end<F: Files, S: Sink>()
     ensures shown { (m : Machine) (s : Scene) (name : List ℕ) (files files' : F) (out out' : S) (kept kept' : Kept) (t : Told Run) →
@@ -200,7 +232,7 @@ pub fn runs_show_sections_before_they_end<F: Files, S: Sink>()
         (turns : List ReactorTurn) (last : ReactorTurn) → r.runs.1 ≡ turns ++ last ∷ [] →
         ∥ ((front : List MotionTurn) × (later : List MotionTurn) × (r.runs.0 ≡ front ++ later) × (length front ≡ length turns) × (p : Plans m (length m.boards) front) × (p.seen.text ≡ text) ×
         AllShowBegun m p.seen (clocks_heard p.seen.told) (ready_heard p.seen.told) Cause.ReadFault (turns ++ last ∷ []) ×
-        (HaveShortDictionaries m → AllHomeLittle m s text front (turns ++ last ∷ []) → AllShowHomes m p.seen (clocks_heard p.seen.told) (ready_heard p.seen.told) Cause.ReadFault (turns ++ last ∷ []))) ∥₁ }
+        (HaveShortDictionaries m → AllKeepUp m s text front (turns ++ last ∷ []) → AllShowHomes m p.seen (clocks_heard p.seen.told) (ready_heard p.seen.told) Cause.ReadFault (turns ++ last ∷ []))) ∥₁ }
     ensures silent { (m : Machine) (s : Scene) (name : List ℕ) (files files' : F) (out out' : S) (kept kept' : Kept) (t : Told Run) →
         (r : RunsOver F.Files S.Sink m s name files out kept t files' out' kept') → t.cause ≡ Cause.Memory → r.runs.2.lines ≡ [] }
 {}

@@ -28,7 +28,8 @@ ghost use Rattle.laws_board.specs.causes.Short.{HaveShortDictionaries};
 ghost use Rattle.motion_work.specs.Seen.{Started};
 ghost use Rattle.laws_board.specs.plans.Homed.{stops_of};
 ghost use Rattle.laws_homing.specs.home_runs.Settled.{AreHomed};
-ghost use Rattle.laws_homing.specs.home_plans.Notes.{AreInARow, CameNotes};
+ghost use Rattle.laws_homing.specs.home_plans.Notes.{CameNotes};
+ghost use Rattle.laws_board.specs.plans.Rows.{AreInARow};
 ghost use Rattle.session_lanes.specs.declared.near.Told.{Told};
 ghost use Rattle.session_run.specs.declared.tell.Kept.{Kept};
 ghost use Rattle.session_run.specs.Runs.{RunsOver};
@@ -37,7 +38,8 @@ ghost use Rattle.laws_run.specs.run_headline.Timely.{clocks_heard, ready_heard};
 ghost use Rattle.laws_run.specs.clear_homes.Closes.{TellFirst};
 ghost use Rattle.laws_run.specs.home_headline.Cuts.{TellEnds};
 ghost use Rattle.laws_run.specs.home_headline.Follow.{AllShowHomes};
-ghost use Rattle.laws_run.specs.home_headline.Little.{AllHomeLittle};
+ghost use Rattle.laws_run.specs.home_headline.Little.{SendsOut};
+ghost use Rattle.laws_run.specs.home_headline.Near.{AllKeepUp};
 ghost use Rattle.laws_run.specs.home_wholes.Own.{AllSwitchesReadTrue, AllTakeInTime, TellTriggers};
 ghost use Rattle.laws_run.specs.home_wholes.Still.{IsStillIn};
 ghost use Rattle.laws_run.specs.home_wholes.Whole.{AllWholeHomes};
@@ -78,13 +80,13 @@ pub fn boards_are_still_in_sections_of_moves()
 /// The law of whole sections where axes home: in whatever threads a run went that does not end for want of memory, the lines of its report
 /// follow the plans of the sections of the file's text (`AllShowHomes`), and of sections of moves they tell whole plans: where the run went
 /// through, of each stepper as many pulses as its plan of the section has steps; and so, whatever ended the run, where any pulse of a stepper
-/// of the same board is told behind the section. It is asked that each board holds nothing long (`AllHomeLittle`). Without that, each turn
+/// of the same board is told behind the section. It is asked that each board keeps up (`AllKeepUp`). Without that, each turn
 /// tells of a switch exactly where a homing section ended in it (`TellEnds`).
 pub fn homing_runs_are_whole<F: Files, S: Sink>()
     ensures { (m : Machine) (s : Scene) (name : List ℕ) (files files' : F) (out out' : S) (kept kept' : Kept) (t : Told Run) →
         (r : RunsOver F.Files S.Sink m s name files out kept t files' out' kept') → IsValidMachine m → (text : List ℕ) → F.told files name ≡ Some text → kept.at ≡ 0 →
         ∥ ((made : IsMade m s r.runs.0 r.runs.1) × (made.plans.seen.text ≡ text) ×
-        ((t.cause ≡ Cause.Memory → ⊥) → HaveShortDictionaries m → AllHomeLittle m s text r.runs.0 (r.runs.1 ++ r.runs.2 ∷ []) →
+        ((t.cause ≡ Cause.Memory → ⊥) → HaveShortDictionaries m → AllKeepUp m s text r.runs.0 (r.runs.1 ++ r.runs.2 ∷ []) →
         AllShowHomes m made.plans.seen (clocks_heard made.plans.seen.told) (ready_heard made.plans.seen.told) t.cause (r.runs.1 ++ r.runs.2 ∷ []) ×
         AllWholeHomes m made.plans.seen (clocks_heard made.plans.seen.told) t.cause (r.runs.1 ++ r.runs.2 ∷ [])) ×
         ((t.cause ≡ Cause.Memory → ⊥) → TellEnds m s.switches made.plans.seen.begun 0 (r.runs.1 ++ r.runs.2 ∷ []))) ∥₁ }
@@ -104,9 +106,18 @@ pub fn homing_runs_are_cut_at_trigger_ticks<F: Files, S: Sink>()
         ∥ ((made : IsMade m s r.runs.0 r.runs.1) × (made.plans.seen.text ≡ text) × TellTriggers m s made.plans.seen r.runs.0 r.runs.1 r.runs.2) ∥₁ }
 {}
 
+/// The law of set-ups: each board of a run in a scene without entries takes the set-up of each homing section in time
+/// (`AllTakeInTime`), where units of moves that are late are sent by four turns behind their section's end.
+pub fn clear_runs_take_set_ups_in_time<F: Files, S: Sink>()
+    ensures { (m : Machine) (s : Scene) (name : List ℕ) (files files' : F) (out out' : S) (kept kept' : Kept)
+        (t : Told Run) → (r : RunsOver F.Files S.Sink m s name files out kept t files' out' kept') → IsValidMachine m →
+        HaveShortDictionaries m → (text : List ℕ) →
+        (t.cause ≡ Cause.Memory → ⊥) → s.entries ≡ [] → SendsOut m text r.runs.0 →
+        AllTakeInTime m s text r.runs.0 (r.runs.1 ++ r.runs.2 ∷ []) }
+{}
+
 /// The law of first ticks: where moreover each board takes the set-up of each homing section in time
-/// (`AllTakeInTime`), as it does in a scene without entries where units of moves are sent by four turns behind their
-/// section's end, each of those turns tells of the first tick, from the section's start on by the clock lines that the
+/// (`AllTakeInTime`), each of those turns tells of the first tick, from the section's start on by the clock lines that the
 /// planner was told, at which four readings in a row show its switch pressed (`TellFirst`).
 pub fn homing_runs_are_cut_at_first_ticks<F: Files, S: Sink>()
     ensures { (m : Machine) (s : Scene) (name : List ℕ) (files files' : F) (out out' : S) (kept kept' : Kept) (t : Told Run) →

@@ -4,9 +4,11 @@
 pub mod clear_homes;
 pub mod clear_runs;
 pub mod clock_ages;
+pub mod hindered_runs;
 pub mod home_headline;
 pub mod home_wholes;
 pub mod lanes;
+pub mod missed_switches;
 pub mod run_causes;
 pub mod run_clocks;
 pub mod run_ends;

@@ -1,5 +1,5 @@
 -- What stands behind some lines of a log. The lines are listed from the last one back to the first.
-use Rattle.std.specs.Prelude.{ℕ, suc, ◌*◌, ◌==◌, Bool, true, false, List, [], ◌∷◌, ◌++◌, set, if◌then◌else◌, Option, Some, None, Ok, Err}
+use Rattle.std.specs.Prelude.{ℕ, suc, ◌*◌, ◌==◌, Bool, true, false, List, [], ◌∷◌, ◌++◌, set, if◌then◌else◌, Option, Some, None, Ok}
 use Rattle.log_text.specs.declared.line.LogLine.{LogLine}
 use Rattle.log_text.specs.declared.line.LogLine.TheVariants as line
 use Rattle.log_text.specs.Said.{Said, line_said}
@@ -18,45 +18,26 @@ use Rattle.log_check.specs.declared.further.Further.{Further}
 abbrev pub begun : List LogLine → ℕ
 begun [] = 0
 begun (line.Section i turn kind ∷ lines) = suc (begun lines)
-begun (line.Note ∷ lines) = begun lines
-begun (line.Board b turn tick ∷ lines) = begun lines
-begun (line.Line b turn tick from ∷ lines) = begun lines
-begun (line.Pulse s tick up ∷ lines) = begun lines
-begun (line.Cut i ∷ lines) = begun lines
-begun (line.End ∷ lines) = begun lines
+begun (_ ∷ lines) = begun lines
 
 -- the turn in which the present section started
 abbrev pub start : List LogLine → ℕ
 start [] = 0
 start (line.Section i turn kind ∷ lines) = turn
-start (line.Note ∷ lines) = start lines
-start (line.Board b turn tick ∷ lines) = start lines
-start (line.Line b turn tick from ∷ lines) = start lines
-start (line.Pulse s tick up ∷ lines) = start lines
-start (line.Cut i ∷ lines) = start lines
-start (line.End ∷ lines) = start lines
+start (_ ∷ lines) = start lines
 
 -- whether a cut of the present section was told
 abbrev pub is_cut : List LogLine → Bool
 is_cut [] = false
 is_cut (line.Section i turn kind ∷ lines) = false
 is_cut (line.Cut i ∷ lines) = true
-is_cut (line.Note ∷ lines) = is_cut lines
-is_cut (line.Board b turn tick ∷ lines) = is_cut lines
-is_cut (line.Line b turn tick from ∷ lines) = is_cut lines
-is_cut (line.Pulse s tick up ∷ lines) = is_cut lines
-is_cut (line.End ∷ lines) = is_cut lines
+is_cut (_ ∷ lines) = is_cut lines
 
 -- whether the end was told
 abbrev pub is_ended : List LogLine → Bool
 is_ended [] = false
 is_ended (line.End ∷ lines) = true
-is_ended (line.Section i turn kind ∷ lines) = is_ended lines
-is_ended (line.Cut i ∷ lines) = is_ended lines
-is_ended (line.Note ∷ lines) = is_ended lines
-is_ended (line.Board b turn tick ∷ lines) = is_ended lines
-is_ended (line.Line b turn tick from ∷ lines) = is_ended lines
-is_ended (line.Pulse s tick up ∷ lines) = is_ended lines
+is_ended (_ ∷ lines) = is_ended lines
 
 -- the clock line of a board that told its tick at the beginning of a turn
 abbrev pub told_line : Machine → ℕ → ℕ → ℕ → Line
@@ -64,14 +45,8 @@ told_line m b turn tick = record { at = turn * turn_ns; clock = tick; freq = (bo
 
 -- the further clock line that a line says, where it is one
 abbrev pub further_of : Said → Option Further
-further_of (Err kind) = None
-further_of (Ok line.Note) = None
-further_of (Ok (line.Board b turn tick)) = None
 further_of (Ok (line.Line b turn tick from)) = Some (record { board = b; turn = turn; tick = tick; from = from })
-further_of (Ok (line.Section i turn kind)) = None
-further_of (Ok (line.Pulse s tick up)) = None
-further_of (Ok (line.Cut i)) = None
-further_of (Ok line.End) = None
+further_of _ = None
 
 abbrev pub with_one : Option Further → List Further → List Further
 with_one None further = further
@@ -94,23 +69,14 @@ with_further m b (f ∷ further) clocks =
 abbrev pub clocks : Machine → List Further → List LogLine → List Clocks
 clocks m further [] = []
 clocks m further (line.Board b turn tick ∷ lines) = clocks m further lines ++ with_further m b further (one_line (told_line m b turn tick)) ∷ []
-clocks m further (line.Line b turn tick from ∷ lines) = clocks m further lines
-clocks m further (line.Section i turn kind ∷ lines) = clocks m further lines
-clocks m further (line.Note ∷ lines) = clocks m further lines
-clocks m further (line.Pulse s tick up ∷ lines) = clocks m further lines
-clocks m further (line.Cut i ∷ lines) = clocks m further lines
-clocks m further (line.End ∷ lines) = clocks m further lines
+clocks m further (_ ∷ lines) = clocks m further lines
 
 -- those of them that were told so far
 abbrev pub told : Machine → List LogLine → List Clocks
 told m [] = []
 told m (line.Board b turn tick ∷ lines) = told m lines ++ one_line (told_line m b turn tick) ∷ []
 told m (line.Line b turn tick from ∷ lines) = set (told m lines) b (added_where (clocks_at (told m lines) b) from (told_line m b turn tick))
-told m (line.Section i turn kind ∷ lines) = told m lines
-told m (line.Note ∷ lines) = told m lines
-told m (line.Pulse s tick up ∷ lines) = told m lines
-told m (line.Cut i ∷ lines) = told m lines
-told m (line.End ∷ lines) = told m lines
+told m (_ ∷ lines) = told m lines
 
 -- the pulses of a stepper in the present section, the last one first
 abbrev pub pulses : ℕ → List LogLine → List Pulse
@@ -119,8 +85,4 @@ pulses s (line.Section i turn kind ∷ lines) = []
 pulses s (line.Pulse t tick up ∷ lines) =
     let here : Pulse = record { tick = tick; stepper = t; up = up } in
     (if t == s then here ∷ pulses s lines else pulses s lines)
-pulses s (line.Note ∷ lines) = pulses s lines
-pulses s (line.Board b turn tick ∷ lines) = pulses s lines
-pulses s (line.Line b turn tick from ∷ lines) = pulses s lines
-pulses s (line.Cut i ∷ lines) = pulses s lines
-pulses s (line.End ∷ lines) = pulses s lines
+pulses s (_ ∷ lines) = pulses s lines

@@ -19,11 +19,10 @@ use Rattle.board_sim.specs.Rig.{Rig, passes, takes_all}
 use Rattle.board_sim.specs.Turn.{says_shut}
 use Rattle.board_world.specs.World.{says, shut_before, text_of}
 use Rattle.link_work.specs.Answers.{IsAmong}
-use Rattle.link_work.specs.Limits.{AllKeepLimits}
+use Rattle.laws_homing.specs.clear_boards.Rests.{RestsOver}
 use Rattle.link_work.specs.Runs.{queued_in}
 use Rattle.link_work.specs.Stands.{first_state, orders}
 use Rattle.laws_board.specs.turns.Turns.{AreBoardTurns, BoardTurn, stands_after}
-use Rattle.laws_board.specs.clocks.Runs.{orders_in}
 use Rattle.laws_board.proofs.clocks.Answers.{Each}
 use Rattle.laws_homing.proofs.home_runs.Spelled.{own_state, same_kind, state_is, state_told}
 use Rattle.laws_homing.specs.clear_boards.Firing.{AreNumbered, AreSpoken, IsNumbered, IsSpoken, TellOff}
@@ -42,15 +41,15 @@ numbered_among c [] k among = absurd among
 numbered_among c (x ∷ xs) k (inl e) = subst IsNumbered e k.0
 numbered_among c (x ∷ xs) k (inr m) = numbered_among c xs k.1 m
 
-among_front : (c : Cmd) (xs ys : List Cmd) → IsAmong c xs → IsAmong c (xs ++ ys)
+pub among_front : (c : Cmd) (xs ys : List Cmd) → IsAmong c xs → IsAmong c (xs ++ ys)
 among_front c [] ys k = absurd k
 among_front c (x ∷ xs) ys (inl e) = inl e
 among_front c (x ∷ xs) ys (inr m) = inr (among_front c xs ys m)
 
 -- an answer that tells so, as one of them
-record Found (oid can clock : ℕ) (cs : List Cmd) : Type 0 where
-  reason : ℕ
-  among : IsAmong (cmd.TrsyncState oid can reason clock) cs
+pub record Found (oid can clock : ℕ) (cs : List Cmd) : Type 0 where
+  pub reason : ℕ
+  pub among : IsAmong (cmd.TrsyncState oid can reason clock) cs
 
 state_same : (oid can reason clock other b told : ℕ) → other ≡ oid → b ≡ can → told ≡ clock → cmd.TrsyncState other b reason told ≡ cmd.TrsyncState oid can reason clock
 state_same oid can reason clock other b told e f g = cc
@@ -61,7 +60,7 @@ can_found oid clock (cmd.TrsyncState other can reason told ∷ cs) (inl t) = rec
 can_found oid clock (c ∷ cs) (inl t) = absurd t
 can_found oid clock (c ∷ cs) (inr t) = let f = can_found oid clock cs t in record { reason = f.reason; among = inr f.among }
 
-off_found : (oid clock : ℕ) (cs : List Cmd) → TellOff oid clock cs → Found oid 0 clock cs
+pub off_found : (oid clock : ℕ) (cs : List Cmd) → TellOff oid clock cs → Found oid 0 clock cs
 off_found oid clock [] t = absurd t
 off_found oid clock (cmd.TrsyncState other can reason told ∷ cs) (inl t) = record { reason = reason; among = inl (state_same oid 0 reason clock other can told t.0 t.1 t.2) }
 off_found oid clock (c ∷ cs) (inl t) = absurd t
@@ -75,7 +74,7 @@ able_among clocks turn when oid reason clock n (x ∷ ns) (inl e) is =
     inl (subst (λ (c : Cmd). IsAble clocks turn when c) (ap (λ (y : News). y.answer) (sym e)) can)
 able_among clocks turn when oid reason clock n (x ∷ ns) (inr m) is = inr (able_among clocks turn when oid reason clock n ns m is)
 
-firing_among : (oid reason clock n : ℕ) (ns : List News) → IsAmong (record { number = n; answer = cmd.TrsyncState oid 0 reason clock }) ns → TellFiring ns
+pub firing_among : (oid reason clock n : ℕ) (ns : List News) → IsAmong (record { number = n; answer = cmd.TrsyncState oid 0 reason clock }) ns → TellFiring ns
 firing_among oid reason clock n [] among = absurd among
 firing_among oid reason clock n (x ∷ ns) (inl e) = inl (subst IsFiring (ap (λ (y : News). y.answer) (sym e)) (refl))
 firing_among oid reason clock n (x ∷ ns) (inr m) = inr (firing_among oid reason clock n ns m)
@@ -116,7 +115,7 @@ all_news : (clocks : Clocks) (turn start last : ℕ) (ns : List News) → ((n : 
 all_news clocks turn start last [] f = tt
 all_news clocks turn start last (n ∷ ns) f = (f n (inl refl), all_news clocks turn start last ns (λ x m. f x (inr m)))
 
-module _ (b : BoardDef) (pins : List (List Level)) (place : ℕ) (entries : List Entry) (t : BoardTurn) (before : List BoardTurn) (none : entries ≡ []) (are : AreBoardTurns (clock_of b) (first_state b pins place entries) (t ∷ before)) (limits : AllKeepLimits (orders_in (t ∷ before))) where
+module _ (b : BoardDef) (pins : List (List Level)) (place : ℕ) (entries : List Entry) (t : BoardTurn) (before : List BoardTurn) (rests : RestsOver t before) (are : AreBoardTurns (clock_of b) (first_state b pins place entries) (t ∷ before)) where
   abbrev Start : Rig
   Start = (stands_after (first_state b pins place entries) before).core.board
 
@@ -136,7 +135,7 @@ module _ (b : BoardDef) (pins : List (List Level)) (place : ℕ) (entries : List
       let c = cmd.TrsyncState oid can f.reason clock in
       let fits = spoken_among base limit until c (passes Taken Until).answers spoken f.among in
       let shut = says_shut (shut_before Taken.controller.state Taken.controller.tick) Taken.controller.tick Until in
-      told_at_once b pins place entries t before c none are limits (among_front c (passes Taken Until).answers shut f.among) (own_state oid can f.reason clock small few fits.0 fits.1)
+      told_at_once b pins place entries t before c rests are (among_front c (passes Taken Until).answers shut f.among) (own_state oid can f.reason clock small few fits.0 fits.1)
 
   pub tells_able : (clocks : Clocks) (oid clock when base limit until : ℕ) → oid < 2 ^ 8 → AreSpoken base limit until (passes Taken Until).answers → TellCan oid clock (passes Taken Until).answers
       → turn_in_run clocks (nearest (turn_tick clocks (length before)) clock) ≡ Some when → TellAble clocks (length before) when t.state.news
@@ -156,7 +155,7 @@ module _ (b : BoardDef) (pins : List (List Level)) (place : ℕ) (entries : List
   all_fired_in clocks start last base limit until spoken numbered counts =
       all_news clocks (length before) start last t.state.news
       (λ n among. (
-      let said = said_in_turn b pins place entries t before n none are limits among in
+      let said = said_in_turn b pins place entries t before n rests are among in
       let all = (takes_all Start Commands).answers ++ says Taken Until in
       fired_by_answer clocks (length before) start last base limit until n.answer said.0 (same_kind said.0 n.answer said.2) said.2 (spoken_among base limit until said.0 all spoken said.1) (numbered_among said.0 all numbered said.1) counts))
 
@@ -168,6 +167,6 @@ module _ (b : BoardDef) (pins : List (List Level)) (place : ℕ) (entries : List
   none_firing P each never =
       no_news t.state.news
       (λ n among off. (
-      let said = said_in_turn b pins place entries t before n none are limits among in
+      let said = said_in_turn b pins place entries t before n rests are among in
       let all = (takes_all Start Commands).answers ++ says Taken Until in
       never (firing_said P n.answer said.0 (same_kind said.0 n.answer said.2) said.2 (off_among P said.0 all each said.1) off)))

@@ -19,11 +19,10 @@ use Rattle.board_sim.specs.Fair.{commands_of}
 use Rattle.board_sim.specs.Rig.{Rig, takes_all}
 use Rattle.board_world.specs.World.{says, text_of}
 use Rattle.link_work.specs.Answers.{IsAmong}
-use Rattle.link_work.specs.Limits.{AllKeepLimits}
+use Rattle.laws_homing.specs.clear_boards.Rests.{RestsOver}
 use Rattle.link_work.specs.Runs.{queued_in}
 use Rattle.link_work.specs.Stands.{first_state, orders}
 use Rattle.laws_board.specs.turns.Turns.{AreBoardTurns, BoardTurn, stands_after}
-use Rattle.laws_board.specs.clocks.Runs.{orders_in}
 use Rattle.laws_board.specs.sections.Parts.{AreTracked}
 use Rattle.laws_board.proofs.sections.Clocks.{turn_least}
 use Rattle.laws_homing.proofs.home_runs.Spelled.{same_kind, state_told}
@@ -37,7 +36,7 @@ when_if : (b : Bool) (n when : ℕ) → (if b then Some n else None) ≡ Some wh
 when_if true n when e = cc
 when_if false n when e = cc
 
-when_is : (clocks : Clocks) (tick when : ℕ) → turn_in_run clocks tick ≡ Some when → lines_turn clocks tick ≡ when
+pub when_is : (clocks : Clocks) (tick when : ℕ) → turn_in_run clocks tick ≡ Some when → lines_turn clocks tick ≡ when
 when_is clocks tick when e = when_if (is_in_run clocks tick) (lines_turn clocks tick) when e
 
 -- one of some answers
@@ -73,7 +72,7 @@ expiry_among clocks turn when [] t = absurd t
 expiry_among clocks turn when (n ∷ ns) (inl x) = (n, inl refl, x)
 expiry_among clocks turn when (n ∷ ns) (inr t) = let f = expiry_among clocks turn when ns t in (f.0, inr f.1, f.2)
 
-module _ (b : BoardDef) (pins : List (List Level)) (place : ℕ) (entries : List Entry) (t : BoardTurn) (before : List BoardTurn) (none : entries ≡ []) (are : AreBoardTurns (clock_of b) (first_state b pins place entries) (t ∷ before)) (limits : AllKeepLimits (orders_in (t ∷ before))) where
+module _ (b : BoardDef) (pins : List (List Level)) (place : ℕ) (entries : List Entry) (t : BoardTurn) (before : List BoardTurn) (rests : RestsOver t before) (are : AreBoardTurns (clock_of b) (first_state b pins place entries) (t ∷ before)) where
   abbrev Start : Rig
   Start = (stands_after (first_state b pins place entries) before).core.board
 
@@ -86,7 +85,7 @@ module _ (b : BoardDef) (pins : List (List Level)) (place : ℕ) (entries : List
   told_by : (clocks : Clocks) (when : ℕ) → AreSmall All → AreNumbered All → TellExpiry clocks (length before) when t.state.news → (a : Cmd) × IsAmong a All × ((clock : ℕ) × Clock clocks (length before) when clock a)
   told_by clocks when small numbered tells =
       let f = expiry_among clocks (length before) when t.state.news tells in
-      let said = said_in_turn b pins place entries t before f.0 none are limits f.1 in
+      let said = said_in_turn b pins place entries t before f.0 rests are f.1 in
       (said.0, said.1, by_answer clocks (length before) when f.0.answer said.0 (same_kind said.0 f.0.answer said.2) said.2 (small_among said.0 All small said.1) (fits_among said.0 All numbered said.1) f.2)
 
   pub late_expiry : (own : ℕ → ℕ) (clocks : Clocks) (ready tick when begin : ℕ) → (k : AreTracked own clocks ready) → AllTellOnly tick All → AreSmall All → AreNumbered All → nearest (turn_tick clocks (length before)) (tick % 2 ^ 32) ≡ tick

@@ -20,12 +20,12 @@ use Rattle.laws_homing.specs.clear_boards.Limited.{limit_of}
 use Rattle.laws_homing.proofs.clear_boards.Held.{at_set, ended_reason, rested_is, sampled_reason, switch_reason}
 use Rattle.laws_homing.proofs.home_runs.Saying.{bit_none}
 
-off_front : (oid clock : ℕ) (xs ys : List Cmd) → TellOff oid clock xs → TellOff oid clock (xs ++ ys)
+pub off_front : (oid clock : ℕ) (xs ys : List Cmd) → TellOff oid clock xs → TellOff oid clock (xs ++ ys)
 off_front oid clock [] ys t = absurd t
 off_front oid clock (x ∷ xs) ys (inl t) = inl t
 off_front oid clock (x ∷ xs) ys (inr t) = inr (off_front oid clock xs ys t)
 
-off_behind : (oid clock : ℕ) (xs ys : List Cmd) → TellOff oid clock ys → TellOff oid clock (xs ++ ys)
+pub off_behind : (oid clock : ℕ) (xs ys : List Cmd) → TellOff oid clock ys → TellOff oid clock (xs ++ ys)
 off_behind oid clock [] ys t = t
 off_behind oid clock (x ∷ xs) ys t = inr (off_behind oid clock xs ys t)
 

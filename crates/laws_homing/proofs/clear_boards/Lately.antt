@@ -13,11 +13,10 @@ use Rattle.wire_scene.specs.declared.scene.Entry.{Entry}
 use Rattle.msg_code.specs.declared.talk.State.{State}
 use Rattle.board_sim.specs.Fair.{commands_of}
 use Rattle.board_sim.specs.Rig.{Rig, passes, takes_all}
-use Rattle.link_work.specs.Limits.{AllKeepLimits}
+use Rattle.laws_homing.specs.clear_boards.Rests.{RestsOver}
 use Rattle.link_work.specs.Runs.{queued_in}
 use Rattle.link_work.specs.Stands.{first_state, orders}
 use Rattle.laws_board.specs.turns.Turns.{AreBoardTurns, BoardTurn, stands_after}
-use Rattle.laws_board.specs.clocks.Runs.{orders_in}
 use Rattle.laws_board.specs.sections.Events.{AreTicks}
 use Rattle.laws_board.specs.sections.Parts.{AreTracked}
 use Rattle.laws_board.proofs.sections.Clocks.{ticks_rise}
@@ -83,7 +82,7 @@ any_on b last x (y ∷ ys) c on k = elim (either y x ys c) [
 ]
 
 -- a turn of a clear link, and the states that come behind it
-module _ (b : BoardDef) (pins : List (List Level)) (place : ℕ) (entries : List Entry) (t : BoardTurn) (before : List BoardTurn) (none : entries ≡ []) (are : AreBoardTurns (clock_of b) (first_state b pins place entries) (t ∷ before)) (limits : AllKeepLimits (orders_in (t ∷ before))) where
+module _ (b : BoardDef) (pins : List (List Level)) (place : ℕ) (entries : List Entry) (t : BoardTurn) (before : List BoardTurn) (rests : RestsOver t before) (are : AreBoardTurns (clock_of b) (first_state b pins place entries) (t ∷ before)) where
   abbrev own : ℕ → ℕ
   own = λ k. board_tick (clock_of b) k
 
@@ -115,8 +114,8 @@ module _ (b : BoardDef) (pins : List (List Level)) (place : ℕ) (entries : List
           let counted = report_counts own (clocks_at all place) ready (length before) (length before) at ticks k low (omega arith) (omega arith) soon in_run small late early in
           let when = counted.when in
           let begun = counted.begun h.start (omega (arith, begins, from)) in
-          let tells = tells_able b pins place entries t before none are limits (clocks_at all place) oid (at % 2 ^ 32) when first limit (own (length before + 1)) oid_small spoken z.5 counted.in_run in
-          let now = turn_is b pins place entries t before none are limits in
+          let tells = tells_able b pins place entries t before rests are (clocks_at all place) oid (at % 2 ^ 32) when first limit (own (length before + 1)) oid_small spoken z.5 counted.in_run in
+          let now = turn_is b pins place entries t before rests are in
           let At : ℕ → Type 0 = λ n. TellAble (clocks_at all place) n when t.state.news in
           let in_time : h.start ≤ t.state.turn + 1 = elim (leb_tells h.start (length before + 1)) [
             | inl p ↦ (let l = p.1 in omega (arith, l, now))

@@ -16,16 +16,15 @@ use Rattle.board_world.specs.declared.event.Event.{Event}
 use Rattle.board_world.specs.declared.event.Event.TheVariants as event
 use Rattle.board_world.specs.World.{Core, happens, run, says, text_of, Step, Do, Turn, does, in_turn, takes_in}
 use Rattle.link_work.specs.Answers.{IsAmong}
-use Rattle.link_work.specs.Limits.{AllKeepLimits}
 use Rattle.link_work.specs.Runs.{queued_in}
 use Rattle.link_work.specs.Stands.{first_state, orders}
 use Rattle.link_work.specs.Told.{AreNews, heard_in, news_of}
 use Rattle.link_work.specs.Turn.{LinkState, after_board, after_host, come}
 use Rattle.laws_board.specs.turns.Turns.{AreBoardTurns, BoardTurn, stands_after}
-use Rattle.laws_board.specs.clocks.Runs.{orders_in}
-use Rattle.link_work.proofs.Late.{limits_split}
 use Rattle.laws_homing.proofs.home_runs.Resting.{rests_up}
-use Rattle.laws_homing.proofs.clear_boards.Taking.{clear_at, IsComing, down_coming, down_taking, host_quiet_all}
+use Rattle.laws_homing.specs.clear_boards.Rests.{RestsOver}
+use Rattle.laws_homing.proofs.clear_boards.Rests.{rests_none}
+use Rattle.laws_homing.proofs.clear_boards.Taking.{IsComing, down_coming, down_taking, host_quiet_all}
 use Rattle.std.proofs.lemmas.List.{append_cancel_left}
 use Rattle.board_world.specs.Stands.{IsAnswer}
 use Rattle.link_work.proofs.Steps.{all_come, AllOf}
@@ -53,18 +52,18 @@ from_by : (P : Cmd → Type 0) (h : Core) (e : Event) → Each P (does h e).answ
 from_by P h e t k = up_by (From P) h e (λ n. inl refl) (λ n is. from_answers P n (does h e).answers t) k
 
 -- what is taken in some steps
-taken_along : List Step → Core → List Meant
+unfoldable pub taken_along : List Step → Core → List Meant
 taken_along [] h = []
 taken_along (Do e ∷ steps) h = takes_in h e ++ taken_along steps (happens h e)
 taken_along (Turn turn ∷ steps) h = taken_along steps (in_turn h turn)
 
-taken_is : (steps : List Step) (h : Core) → (run steps h).taken ≡ h.taken ++ taken_along steps h
+pub taken_is : (steps : List Step) (h : Core) → (run steps h).taken ≡ h.taken ++ taken_along steps h
 unfolding taken_along
 taken_is [] h = sym (append-nil h.taken)
 taken_is (Do e ∷ steps) h = taken_is steps (happens h e) ∙ append_assoc h.taken (takes_in h e) (taken_along steps (happens h e))
 taken_is (Turn turn ∷ steps) h = taken_is steps (in_turn h turn)
 
-answers_both : (r : Rig) (xs ys : List Cmd) → (takes_all r (xs ++ ys)).answers ≡ (takes_all r xs).answers ++ (takes_all (takes_all r xs).rig ys).answers
+pub answers_both : (r : Rig) (xs ys : List Cmd) → (takes_all r (xs ++ ys)).answers ≡ (takes_all r xs).answers ++ (takes_all (takes_all r xs).rig ys).answers
 answers_both r [] ys = refl
 answers_both r (c ∷ xs) ys =
     ap (λ (cs : List Cmd). (takes r c).answers ++ cs) (answers_both (takes r c).rig xs ys)
@@ -107,11 +106,11 @@ news_from P (r ∷ rs) news n are k among = by are.0 are.2 (subst (λ (ns : List
       | inr later ↦ rest later
     ]
 
-pub news_said : (P : Cmd → Type 0) (b : BoardDef) (pins : List (List Level)) (board : ℕ) (entries : List Entry) (t : BoardTurn) (before : List BoardTurn) (n : News) → entries ≡ [] → AreBoardTurns (clock_of b) (first_state b pins board entries) (t ∷ before)
-    → AllKeepLimits (orders_in (t ∷ before)) → Each P (takes_all (stands_after (first_state b pins board entries) before).core.board (commands_of (queued_in (orders t.control t.batch)))).answers
+pub news_said : (P : Cmd → Type 0) (b : BoardDef) (pins : List (List Level)) (board : ℕ) (entries : List Entry) (t : BoardTurn) (before : List BoardTurn) (n : News) → RestsOver t before → AreBoardTurns (clock_of b) (first_state b pins board entries) (t ∷ before)
+    → Each P (takes_all (stands_after (first_state b pins board entries) before).core.board (commands_of (queued_in (orders t.control t.batch)))).answers
     → Each P (says (takes_all (stands_after (first_state b pins board entries) before).core.board (commands_of (queued_in (orders t.control t.batch)))).rig (board_tick (clock_of b) (length before + 1)))
     → IsAmong n t.state.news → (a : Cmd) × P a × IsText own_formats n.answer (text_of a)
-news_said P b pins board entries t before n e are limits takes says_so among =
+news_said P b pins board entries t before n rest are takes says_so among =
     let first = first_state b pins board entries in
     let clock = clock_of b in
     let o = orders t.control t.batch in
@@ -119,16 +118,14 @@ news_said P b pins board entries t before n e are limits takes says_so among =
     let tick = board_tick clock (turn + 1) in
     let l = stands_after first before in
     let resent = are.0.0.resent in
-    let kept = (limits_split (orders_in before) (o ∷ []) limits).0 in
-    let old = clear_at b pins board entries before e are.1 kept in
-    let empty = rests_up b pins board entries before are.1 old.1.none in
+    let empty = rests_up b pins board entries before are.1 (rests_none b pins board entries before rest.0) in
     let l1 : LinkState = after_host turn o resent l in
     let l2 : LinkState = after_board clock turn l1 in
     let down = come Down turn l1.down.copies in
     let mid : Core = run down l1.core in
     let host = host_quiet_all turn o resent l.core in
     let coming = all_come IsComing Down down_coming turn l1.down.copies in
-    let x = down_taking b pins board entries t before e are limits in
+    let x = down_taking b pins board entries t before rest are in
     let All : List Meant → Type 0 = λ ms. Each P (takes_all l1.core.board (commands_of ms)).answers in
     let On : Rig → Type 0 = λ r. Each P (takes_all r (commands_of (queued_in o))).answers in
     let meant : taken_along down l1.core ≡ queued_in o = append_cancel_left l1.core.taken (taken_along down l1.core) (queued_in o) (sym (taken_is down l1.core) ∙ x.0) in
@@ -146,15 +143,15 @@ all_in : (zs xs : List Cmd) → ((c : Cmd) → IsAmong c xs → IsAmong c zs) �
 all_in zs [] f = tt
 all_in zs (x ∷ xs) f = (f x (inl refl), all_in zs xs (λ c k. f c (inr k)))
 
-pub said_in_turn : (b : BoardDef) (pins : List (List Level)) (board : ℕ) (entries : List Entry) (t : BoardTurn) (before : List BoardTurn) (n : News) → entries ≡ [] → AreBoardTurns (clock_of b) (first_state b pins board entries) (t ∷ before)
-    → AllKeepLimits (orders_in (t ∷ before)) → IsAmong n t.state.news
+pub said_in_turn : (b : BoardDef) (pins : List (List Level)) (board : ℕ) (entries : List Entry) (t : BoardTurn) (before : List BoardTurn) (n : News) → RestsOver t before → AreBoardTurns (clock_of b) (first_state b pins board entries) (t ∷ before)
+    → IsAmong n t.state.news
     → (a : Cmd)
     × IsAmong a ((takes_all (stands_after (first_state b pins board entries) before).core.board (commands_of (queued_in (orders t.control t.batch)))).answers
     ++ says (takes_all (stands_after (first_state b pins board entries) before).core.board (commands_of (queued_in (orders t.control t.batch)))).rig (board_tick (clock_of b) (length before + 1)))
     × IsText own_formats n.answer (text_of a)
-said_in_turn b pins board entries t before n e are limits among =
+said_in_turn b pins board entries t before n rest are among =
     let done = takes_all (stands_after (first_state b pins board entries) before).core.board (commands_of (queued_in (orders t.control t.batch))) in
     let xs = done.answers in
     let ys = says done.rig (board_tick (clock_of b) (length before + 1)) in
     let P : Cmd → Type 0 = λ a. IsAmong a (xs ++ ys) in
-    news_said P b pins board entries t before n e are limits (all_in (xs ++ ys) xs (λ c k. among_left c xs ys k)) (all_in (xs ++ ys) ys (λ c k. among_right c xs ys k)) among
+    news_said P b pins board entries t before n rest are (all_in (xs ++ ys) xs (λ c k. among_left c xs ys k)) (all_in (xs ++ ys) ys (λ c k. among_right c xs ys k)) among

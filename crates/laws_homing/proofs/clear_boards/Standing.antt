@@ -17,7 +17,9 @@ use Rattle.laws_board.specs.turns.Turns.{AreBoardTurns, BoardTurn, stands_after}
 use Rattle.laws_board.specs.clocks.Runs.{orders_in}
 use Rattle.laws_board.proofs.clocks.Orders.{order_length, turns_in_order}
 use Rattle.laws_board.proofs.sections.Boarding.{runs_on}
-use Rattle.laws_homing.proofs.clear_boards.Taking.{takes_in_turn}
+use Rattle.laws_homing.specs.clear_boards.Rests.{RestsOver}
+use Rattle.laws_homing.proofs.clear_boards.Rests.{clear_over}
+use Rattle.laws_homing.proofs.clear_boards.Taking.{takes_rested}
 
 pub tick_is : (b : BoardDef) (pins : List (List Level)) (place : ℕ) (entries : List Entry) (turns : List BoardTurn) → AreBoardTurns (clock_of b) (first_state b pins place entries) turns
     → (stands_after (first_state b pins place entries) turns).core.board.controller.tick ≡ board_tick (clock_of b) (length turns)
@@ -33,10 +35,16 @@ sound_at b pins place entries turns are =
     let l = stands_after first turns in
     (begins b pins place entries (orders_in turns) l (turns_in_order (clock_of b) first turns are)).in_time.0.sound
 
+pub runs_rested : (b : BoardDef) (pins : List (List Level)) (place : ℕ) (entries : List Entry) (t : BoardTurn) (before : List BoardTurn) → RestsOver t before → AreBoardTurns (clock_of b) (first_state b pins place entries) (t ∷ before)
+    → t.state.shut ≡ None
+    → (takes_all (stands_after (first_state b pins place entries) before).core.board (commands_of (queued_in (orders t.control t.batch)))).rig.controller.state ≡ Running
+runs_rested b pins place entries t before rests are shut =
+    let q = (takes_all (stands_after (first_state b pins place entries) before).core.board (commands_of (queued_in (orders t.control t.batch)))).rig in
+    let is = takes_rested b pins place entries t before rests are in
+    sym (passes_state q (board_tick (clock_of b) (length before + 1))) ∙ ap (λ (r : Rig). r.controller.state) (sym is) ∙ runs_on t.after.core.board.controller.state t.state.shut are.0.1.shut shut
+
+-- so in a scene without entries
 pub runs_through : (b : BoardDef) (pins : List (List Level)) (place : ℕ) (entries : List Entry) (t : BoardTurn) (before : List BoardTurn) → entries ≡ [] → AreBoardTurns (clock_of b) (first_state b pins place entries) (t ∷ before)
     → AllKeepLimits (orders_in (t ∷ before)) → t.state.shut ≡ None
     → (takes_all (stands_after (first_state b pins place entries) before).core.board (commands_of (queued_in (orders t.control t.batch)))).rig.controller.state ≡ Running
-runs_through b pins place entries t before none are limits shut =
-    let q = (takes_all (stands_after (first_state b pins place entries) before).core.board (commands_of (queued_in (orders t.control t.batch)))).rig in
-    let is = takes_in_turn b pins place entries t before none are limits in
-    sym (passes_state q (board_tick (clock_of b) (length before + 1))) ∙ ap (λ (r : Rig). r.controller.state) (sym is) ∙ runs_on t.after.core.board.controller.state t.state.shut are.0.1.shut shut
+runs_through b pins place entries t before none are limits shut = runs_rested b pins place entries t before (clear_over b pins place entries t before none are limits) are shut

@@ -18,11 +18,10 @@ use Rattle.board_sim.specs.RigRuns.{AllSound}
 use Rattle.board_sim.proofs.Bound.{one_slot}
 use Rattle.board_sim.proofs.RigStates.{all_tick}
 use Rattle.board_sim.proofs.Sound.{sound_regular}
-use Rattle.link_work.specs.Limits.{AllKeepLimits}
+use Rattle.laws_homing.specs.clear_boards.Rests.{RestsOver}
 use Rattle.link_work.specs.Runs.{queued_in}
 use Rattle.link_work.specs.Stands.{first_state, orders}
 use Rattle.laws_board.specs.turns.Turns.{AreBoardTurns, BoardTurn, stands_after}
-use Rattle.laws_board.specs.clocks.Runs.{orders_in}
 use Rattle.laws_board.specs.sections.Events.{AreTicks}
 use Rattle.laws_board.specs.sections.Parts.{AreTracked}
 use Rattle.laws_board.proofs.sections.Clocks.{ticks_rise}
@@ -54,7 +53,7 @@ alive_not oid r s there can f =
 one_state : (s u : State) → u ∷ [] ≡ s ∷ [] → u ≡ s
 one_state s u e = cc
 
-module _ (b : BoardDef) (pins : List (List Level)) (place : ℕ) (entries : List Entry) (t : BoardTurn) (before : List BoardTurn) (none : entries ≡ []) (are : AreBoardTurns (clock_of b) (first_state b pins place entries) (t ∷ before)) (limits : AllKeepLimits (orders_in (t ∷ before))) where
+module _ (b : BoardDef) (pins : List (List Level)) (place : ℕ) (entries : List Entry) (t : BoardTurn) (before : List BoardTurn) (rests : RestsOver t before) (are : AreBoardTurns (clock_of b) (first_state b pins place entries) (t ∷ before)) where
   abbrev own : ℕ → ℕ
   own = λ k. board_tick (clock_of b) k
 
@@ -102,14 +101,14 @@ module _ (b : BoardDef) (pins : List (List Level)) (place : ℕ) (entries : List
       let start_ahead = k.ahead h.start (omega (arith, early_so)) start_soon in
       let Early : ℕ → Type 0 = λ n. base < own (n + 4) in
       let early_base : base < own (h.group.start + 4) = subst Early together (omega (arith, start_ahead, begins)) in
-      let now_is = turn_is b pins place entries t before none are limits in
+      let now_is = turn_is b pins place entries t before rests are in
       let places = (next_all oid clock Start Commands behind).places in (
         turned,
         elim alive.0 [
           | inl stays ↦
-              let heard_now = heard_on b pins place entries t before none are limits all states h oid base every a.next (max base now) limit ready ticks k few is together begins early_so low_so soon start_soon in_run small oid_small spoken stays heard in
+              let heard_now = heard_on b pins place entries t before rests are all states h oid base every a.next (max base now) limit ready ticks k few is together begins early_so low_so soon start_soon in_run small oid_small spoken stays heard in
               let off = turn_off oid clock until Start Commands few_triggers (omega (arith, places, few_triggers)) (limited 0).sole taken.sole behind in
-              let firing = none_firing b pins place entries t before none are limits (HasFired oid After) off (λ f. alive_not oid After stays.alive.slot stays.alive.is stays.alive.can f) in
+              let firing = none_firing b pins place entries t before rests are (HasFired oid After) off (λ f. alive_not oid After stays.alive.slot stays.alive.is stays.alive.can f) in
               let unknown = hears_none place all states h (λ s there. subst (λ (x : State). FiringNone x.news) (one_state s t.state (sym is ∙ there)) firing) known in
               inl (stays.alive, heard_now, near_so own base every h.group.start place (length before + 1) stays.alive.next members ticks goes early_base stays.alive.due heard_now, unknown)
           | inr off ↦
@@ -121,8 +120,8 @@ module _ (b : BoardDef) (pins : List (List Level)) (place : ℕ) (entries : List
               let c = report_counts own cl ready (length before) (length before) x ticks k low_so (omega arith) (omega arith) soon in_run small (omega (arith, from)) early in
               let begun = c.begun h.start (omega (arith, begins, from)) in
               (c.when, omega (arith, begun, together), c.ends h.group.last (omega (arith, before_limit, up)), c.in_run))) in
-              let all_in = all_fired_in b pins place entries t before none are limits cl h.group.start h.group.last (max base now) limit until all_spoken numbered counts in
-              let fires = tells_firing b pins place entries t before none are limits oid (off.at % 2 ^ 32) (max base now) limit until oid_small spoken off.told in
+              let all_in = all_fired_in b pins place entries t before rests are cl h.group.start h.group.last (max base now) limit until all_spoken numbered counts in
+              let fires = tells_firing b pins place entries t before rests are oid (off.at % 2 ^ 32) (max base now) limit until oid_small spoken off.told in
               let At : ℕ → Type 0 = λ n. AllFiredIn cl n h.group.start h.group.last t.state.news in
               let from = off.begun in
               let early = off.early in

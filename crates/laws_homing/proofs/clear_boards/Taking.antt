@@ -1,21 +1,18 @@
 -- On a clear link a board takes in each turn what is queued in it.
-use Rattle.std.proofs.Common.{◌≡◌, ◌++◌, ℕ, suc, ◌+◌, Bool, true, List, [], ◌∷◌, length, refl, ap, sym, ◌∙◌, subst, arith, eq-eqb, ◌==◌, ◌&&◌, append-nil, append_assoc}
+use Rattle.std.proofs.Common.{◌≡◌, ◌++◌, ℕ, ◌+◌, Bool, List, [], ◌∷◌, length, refl, ap, sym, ◌∙◌, append-nil, append_assoc}
 use Rattle.plan_types.specs.declared.machine.BoardDef.{BoardDef}
 use Rattle.plan_types.specs.declared.levels.Level.{Level}
 use Rattle.plan_types.specs.Clock.{clock_of, board_tick}
-use Rattle.link_core.specs.Core.{Command, sent}
 use Rattle.wire_scene.specs.declared.scene.Entry.{Entry}
-use Rattle.link_work.specs.Ends.{is_idle, is_quiet, is_quiet_line, none_wait}
 use Rattle.link_work.specs.Limits.{AllKeepLimits}
 use Rattle.link_work.specs.Stands.{first_state, orders}
 use Rattle.link_work.specs.Turn.{IsTurn, LinkState, Orders, after_board, after_host, come, comes, host_steps, resends, sends}
-use Rattle.link_work.proofs.Answered.{begins, sends_all}
-use Rattle.link_work.proofs.Draining.{IsSound, parts_of}
-use Rattle.link_work.proofs.Late.{drained_after, first_sound, limits_split, no_more, sound_along}
+use Rattle.link_work.proofs.Answered.{begins}
+use Rattle.link_work.proofs.Draining.{parts_of}
 use Rattle.laws_board.specs.turns.Turns.{AreBoardTurns, BoardTurn, stands_after}
 use Rattle.laws_board.specs.clocks.Runs.{orders_in}
-use Rattle.laws_board.proofs.clocks.Orders.{order_length, turns_in_order}
-use Rattle.laws_board.proofs.sections.Calm.{AreClear, both_quiet, clear_turn, first_clear, quiet_now}
+use Rattle.laws_board.proofs.clocks.Orders.{turns_in_order}
+use Rattle.laws_board.proofs.sections.Calm.{AreClear}
 use Rattle.board_world.specs.World.{Core, Step, Do, Turn, after, happens, run, takes_in}
 use Rattle.link_work.specs.Runs.{queued_in}
 use Rattle.laws_homing.specs.home_runs.Sections.{queued_by}
@@ -32,6 +29,8 @@ use Rattle.std.proofs.lemmas.List.{append_cancel_left}
 use Rattle.link_work.proofs.Steps.{AllOf, all_append, all_come, all_resent, all_sent}
 use Rattle.laws_homing.proofs.home_runs.Staging.{commands_both}
 use Rattle.laws_homing.proofs.home_runs.Resting.{rests_took}
+use Rattle.laws_homing.specs.clear_boards.Rests.{RestsOver}
+use Rattle.laws_homing.proofs.clear_boards.Rests.{clear_over, free_at, rests_idle}
 
 -- steps in which a board takes nothing and doesn't run on
 abbrev IsQuiet : Step → Type 0
@@ -82,7 +81,7 @@ coming_step (Do event.Arrive) h c = record { meant = takes_in h event.Arrive; ta
 coming_step (Do event.Repeat) h c = record { meant = takes_in h event.Repeat; taken = refl; board = refl }
 coming_step s h c = absurd c
 
-takes_both : (r : Rig) (xs ys : List Cmd) → (takes_all r (xs ++ ys)).rig ≡ (takes_all (takes_all r xs).rig ys).rig
+pub takes_both : (r : Rig) (xs ys : List Cmd) → (takes_all r (xs ++ ys)).rig ≡ (takes_all (takes_all r xs).rig ys).rig
 takes_both r [] ys = refl
 takes_both r (c ∷ xs) ys = takes_both (takes r c).rig xs ys
 
@@ -144,66 +143,32 @@ turned clock turn o l m t =
       board = ap (λ (h : Core). h.board) last ∙ back.0 ∙ ap (λ (h : Core). h.board) cut ∙ ap (λ (r : Rig). (passes r tick).rig) came.board ∙ ap (λ (r : Rig). (passes (takes_all r (commands_of came.meant)).rig tick).rig) host.0;
     }
 
--- a link at the end of a turn
-record IsFree (turn : ℕ) (l : LinkState) : Type 0 where
-  clear : AreClear l turn
-  none : l.core.link.waiting ≡ []
-  idle : is_idle l ≡ true
-
-nothing_waits : (cs : List Command) → cs ≡ [] → none_wait cs ≡ true
-nothing_waits cs e = ap none_wait e
-
-idle_so : (l : LinkState) → l.core.link.waiting ≡ [] → l.core.link.acked ≡ sent l.core.link → is_idle l ≡ true
-idle_so l none all =
-    ap (λ (b : Bool). b && (l.core.link.acked == sent l.core.link)) (nothing_waits l.core.link.waiting none) ∙ eq-eqb l.core.link.acked (sent l.core.link) all
-
-free_at : (b : BoardDef) (pins : List (List Level)) (board : ℕ) (entries : List Entry) (turns : List BoardTurn) → entries ≡ [] → AreBoardTurns (clock_of b) (first_state b pins board entries) turns
-    → AllKeepLimits (orders_in turns) → IsFree (length turns) (stands_after (first_state b pins board entries) turns)
-free_at b pins board entries [] e are limits = record { clear = first_clear b pins board entries e; none = refl; idle = refl }
-free_at b pins board entries (t ∷ before) e are limits =
-    let clock = clock_of b in
-    let first = first_state b pins board entries in
-    let l = stands_after first before in
-    let o = orders t.control t.batch in
-    let os = orders_in before in
-    let both = limits_split os (o ∷ []) limits in
-    let old = free_at b pins board entries before e are.1 both.0 in
-    let turns = turns_in_order clock first before are.1 in
-    let many : length os ≡ length before = order_length before in
-    let next = clear_turn clock (length before) o l t.after are.0.0 old.clear in
-    let Sound : ℕ → Type 0 = λ k. IsSound l k in
-    let sound = subst Sound (no_more (length os) ∙ many) (sound_along clock os 0 first l (first_sound b pins board entries) turns) in
-    let none = sends_all clock (length before) o l t.after sound are.0.0 old.idle both.1.0 in
-    let quiet : is_quiet (record { turn = length before; link = t.after }) ≡ true = both_quiet (is_quiet_line t.after.down (length before)) (is_quiet_line t.after.up (length before)) (quiet_now t.after.down (length before) next.0) (quiet_now t.after.up (length before) next.1) in
-    let At : ℕ → Type 0 = λ k. IsTurn clock k o l t.after in
-    let Quiet : ℕ → Type 0 = λ k. is_quiet (record { turn = k; link = t.after }) ≡ true in
-    let drained = drained_after b pins board entries clock os o l t.after turns (subst At (sym many) are.0.0) (subst Quiet (sym many) quiet) in
-    let Clear : ℕ → Type 0 = λ k. AreClear t.after k in
-    let later : length before + 1 ≡ suc (length before) = omega arith in
-    record { clear = subst Clear later next; none = none; idle = idle_so t.after none drained.0 }
-
 -- what the board takes in a turn is what is queued in it
-pub taking : (b : BoardDef) (pins : List (List Level)) (board : ℕ) (entries : List Entry) (t : BoardTurn) (before : List BoardTurn) → entries ≡ [] → (are : AreBoardTurns (clock_of b) (first_state b pins board entries) (t ∷ before))
-    → AllKeepLimits (orders_in (t ∷ before))
+pub taking : (b : BoardDef) (pins : List (List Level)) (board : ℕ) (entries : List Entry) (t : BoardTurn) (before : List BoardTurn) → RestsOver t before → (are : AreBoardTurns (clock_of b) (first_state b pins board entries) (t ∷ before))
     → (x : Turned (clock_of b) (length before) (orders t.control t.batch) are.0.0.resent (stands_after (first_state b pins board entries) before) t.after) × (x.meant ≡ queued_in (orders t.control t.batch))
-taking b pins board entries t before e are limits =
+taking b pins board entries t before rest are =
     let first = first_state b pins board entries in
     let o = orders t.control t.batch in
-    let kept = (limits_split (orders_in before) (o ∷ []) limits).0 in
     let x = turned (clock_of b) (length before) o (stands_after first before) t.after are.0.0 in
-    let old = rests_took b pins board entries before are.1 (free_at b pins board entries before e are.1 kept).idle in
-    let new = rests_took b pins board entries (t ∷ before) are (free_at b pins board entries (t ∷ before) e are limits).idle in
+    let old = rests_took b pins board entries before are.1 (rests_idle b pins board entries before are.1 rest.0) in
+    let new = rests_took b pins board entries (t ∷ before) are (rests_idle b pins board entries (t ∷ before) are rest.1) in
     let both : queued_by before ++ x.meant ≡ queued_by before ++ queued_in o = ap (λ (ms : List Meant). ms ++ x.meant) (sym old) ∙ sym x.taken ∙ new in
     (x, append_cancel_left (queued_by before) x.meant (queued_in o) both)
 
+pub takes_rested : (b : BoardDef) (pins : List (List Level)) (board : ℕ) (entries : List Entry) (t : BoardTurn) (before : List BoardTurn) → RestsOver t before → AreBoardTurns (clock_of b) (first_state b pins board entries) (t ∷ before)
+    → (stands_after (first_state b pins board entries) (t ∷ before)).core.board
+    ≡ (passes (takes_all (stands_after (first_state b pins board entries) before).core.board (commands_of (queued_in (orders t.control t.batch)))).rig (board_tick (clock_of b) (length before + 1))).rig
+takes_rested b pins board entries t before rest are =
+    let tick = board_tick (clock_of b) (length before + 1) in
+    let x = taking b pins board entries t before rest are in
+    x.0.board ∙ ap (λ (ms : List Meant). (passes (takes_all (stands_after (first_state b pins board entries) before).core.board (commands_of ms)).rig tick).rig) x.1
+
+-- so in a scene without entries
 pub takes_in_turn : (b : BoardDef) (pins : List (List Level)) (board : ℕ) (entries : List Entry) (t : BoardTurn) (before : List BoardTurn) → entries ≡ [] → AreBoardTurns (clock_of b) (first_state b pins board entries) (t ∷ before)
     → AllKeepLimits (orders_in (t ∷ before))
     → (stands_after (first_state b pins board entries) (t ∷ before)).core.board
     ≡ (passes (takes_all (stands_after (first_state b pins board entries) before).core.board (commands_of (queued_in (orders t.control t.batch)))).rig (board_tick (clock_of b) (length before + 1))).rig
-takes_in_turn b pins board entries t before e are limits =
-    let tick = board_tick (clock_of b) (length before + 1) in
-    let x = taking b pins board entries t before e are limits in
-    x.0.board ∙ ap (λ (ms : List Meant). (passes (takes_all (stands_after (first_state b pins board entries) before).core.board (commands_of ms)).rig tick).rig) x.1
+takes_in_turn b pins board entries t before e are limits = takes_rested b pins board entries t before (clear_over b pins board entries t before e are limits) are
 
 -- the link is clear and idle at the end of a turn
 pub clear_at : (b : BoardDef) (pins : List (List Level)) (board : ℕ) (entries : List Entry) (turns : List BoardTurn) → entries ≡ [] → AreBoardTurns (clock_of b) (first_state b pins board entries) turns → AllKeepLimits (orders_in turns)
@@ -215,14 +180,13 @@ pub host_quiet_all : (turn : ℕ) (o : Orders) (resent : Bool) (h : Core) → ((
 host_quiet_all turn o resent h = quiet_all (host_steps turn o resent) h (host_quiet turn o resent)
 
 -- what the board took by what came down, and how it stands then
-pub down_taking : (b : BoardDef) (pins : List (List Level)) (board : ℕ) (entries : List Entry) (t : BoardTurn) (before : List BoardTurn) → entries ≡ [] → (are : AreBoardTurns (clock_of b) (first_state b pins board entries) (t ∷ before))
-    → AllKeepLimits (orders_in (t ∷ before))
+pub down_taking : (b : BoardDef) (pins : List (List Level)) (board : ℕ) (entries : List Entry) (t : BoardTurn) (before : List BoardTurn) → RestsOver t before → (are : AreBoardTurns (clock_of b) (first_state b pins board entries) (t ∷ before))
     → let l1 : LinkState = after_host (length before) (orders t.control t.batch) are.0.0.resent (stands_after (first_state b pins board entries) before) in
     let mid : Core = run (come Down (length before) l1.down.copies) l1.core in
     (mid.taken ≡ l1.core.taken ++ queued_in (orders t.control t.batch))
     × (mid.board ≡ (takes_all (stands_after (first_state b pins board entries) before).core.board (commands_of (queued_in (orders t.control t.batch)))).rig)
     × (l1.core.link.up ≡ (stands_after (first_state b pins board entries) before).core.link.up)
-down_taking b pins board entries t before e are limits =
+down_taking b pins board entries t before rest are =
     let first = first_state b pins board entries in
     let clock = clock_of b in
     let turn = length before in
@@ -236,7 +200,7 @@ down_taking b pins board entries t before e are limits =
     let mid : Core = run down l1.core in
     let came = coming_all down l1.core (all_come IsComing Down down_coming turn l1.down.copies) in
     let host = host_quiet_all turn o resent l.core in
-    let x = taking b pins board entries t before e are limits in
+    let x = taking b pins board entries t before rest are in
     let cut : l2.core ≡ happens mid (event.Pass tick) = run_append down (Do (event.Pass tick) ∷ []) l1.core in
     let back = quiet_all (come Up turn l2.up.copies) l2.core (all_come IsQuiet Up up_quiet turn l2.up.copies) in
     let last : t.after.core ≡ run (come Up turn l2.up.copies) l2.core = ap (λ (y : LinkState). y.core) are.0.0.becomes in

@@ -20,7 +20,6 @@ use Rattle.board_sim.specs.Rig.{Rig, takes_all}
 use Rattle.board_world.specs.declared.event.Event.TheVariants as event
 use Rattle.board_world.specs.World.{Core, happens, run, says, text_of}
 use Rattle.link_work.specs.Answers.{IsAmong}
-use Rattle.link_work.specs.Limits.{AllKeepLimits}
 use Rattle.link_work.specs.Runs.{queued_in}
 use Rattle.link_work.specs.Stands.{first_state, orders}
 use Rattle.link_work.specs.Told.{AreNews, heard_in, news_of}
@@ -34,9 +33,10 @@ use Rattle.link_work.proofs.Saying.{among_right}
 use Rattle.laws_board.specs.turns.Turns.{AreBoardTurns, BoardTurn, stands_after}
 use Rattle.laws_board.specs.clocks.Runs.{orders_in}
 use Rattle.laws_board.proofs.clocks.Orders.{order_length, turns_in_order}
-use Rattle.link_work.proofs.Late.{limits_split}
 use Rattle.laws_homing.proofs.home_runs.Resting.{rests_up}
-use Rattle.laws_homing.proofs.clear_boards.Taking.{clear_at, taking}
+use Rattle.laws_homing.specs.clear_boards.Rests.{RestsOver}
+use Rattle.laws_homing.proofs.clear_boards.Rests.{rests_calm, rests_none}
+use Rattle.laws_homing.proofs.clear_boards.Taking.{taking}
 
 -- what is due is heard
 due_if : (b : Bool) (c : Copy) (cs rest : List Copy) → (if b then rest else c ∷ cs) ≡ [] → (b ≡ true) × (rest ≡ [])
@@ -74,7 +74,7 @@ heard_here turn (d ∷ ds) h (x ∷ more) r e many last none k =
     among_left-of (x ∷ xs) ys r k = elim k [ inl e ↦ inl e | inr m ↦ inr (among_left-of xs ys r m) ]
 
 -- the news of what is heard
-news_hold : (rs : List Reply) (news : List News) (r : Reply) (c : Cmd) → AreNews rs news → IsAmong r rs → IsText own_formats c r.answer → IsAmong (record { number = r.number; answer = c }) news
+pub news_hold : (rs : List Reply) (news : List News) (r : Reply) (c : Cmd) → AreNews rs news → IsAmong r rs → IsText own_formats c r.answer → IsAmong (record { number = r.number; answer = c }) news
 news_hold [] news r c n k t = absurd k
 news_hold (x ∷ rs) news r c n k t =
     let wanted : News = record { number = r.number; answer = c } in
@@ -90,7 +90,7 @@ no_copies : (cs : List Copy) → length cs ≡ 0 → cs ≡ []
 no_copies [] e = refl
 no_copies (c ∷ cs) e = absurd (omega (arith, e))
 
-all_heard : (clock : BoardClock) (turn : ℕ) (o : Orders) (resent : Bool) (l : LinkState) (r : Reply) → IsSound l turn → l.core.link.up ≡ [] → (after_replies turn (after_board clock turn (after_host turn o resent l))).up.calm ≤ turn + 4
+pub all_heard : (clock : BoardClock) (turn : ℕ) (o : Orders) (resent : Bool) (l : LinkState) (r : Reply) → IsSound l turn → l.core.link.up ≡ [] → (after_replies turn (after_board clock turn (after_host turn o resent l))).up.calm ≤ turn + 4
     → (after_replies turn (after_board clock turn (after_host turn o resent l))).up.copies ≡ [] → IsAmong r (after_board clock turn (after_host turn o resent l)).core.link.up
     → IsAmong r (heard_in (come Up turn (after_board clock turn (after_host turn o resent l)).up.copies) (after_board clock turn (after_host turn o resent l)).core)
 all_heard clock turn o resent l r sound empty calm none k =
@@ -106,27 +106,23 @@ all_heard clock turn o resent l r sound empty calm none k =
     heard_here turn l2.up.copies l2.core l2.core.link.up r refl many last none k
 
 -- what the board says as it runs on
-in_numbered : (n : ℕ) (cs : List Cmd) (c : Cmd) → IsAmong c cs → IsAmong (record { number = n; answer = text_of c }) (numbered n (map text_of cs))
+pub in_numbered : (n : ℕ) (cs : List Cmd) (c : Cmd) → IsAmong c cs → IsAmong (record { number = n; answer = text_of c }) (numbered n (map text_of cs))
 in_numbered n [] c k = absurd k
 in_numbered n (x ∷ cs) c k = elim k [ inl e ↦ inl (ap (λ (y : Cmd). record { number = n; answer = text_of y }) e) | inr m ↦ inr (in_numbered n cs c m) ]
 
-pub told_at_once : (b : BoardDef) (pins : List (List Level)) (board : ℕ) (entries : List Entry) (t : BoardTurn) (before : List BoardTurn) (c : Cmd) → entries ≡ [] → AreBoardTurns (clock_of b) (first_state b pins board entries) (t ∷ before)
-    → AllKeepLimits (orders_in (t ∷ before))
+pub told_at_once : (b : BoardDef) (pins : List (List Level)) (board : ℕ) (entries : List Entry) (t : BoardTurn) (before : List BoardTurn) (c : Cmd) → RestsOver t before → AreBoardTurns (clock_of b) (first_state b pins board entries) (t ∷ before)
     → IsAmong c (says (takes_all (stands_after (first_state b pins board entries) before).core.board (commands_of (queued_in (orders t.control t.batch)))).rig (board_tick (clock_of b) (length before + 1)))
     → IsText own_formats c (text_of c) → (n : ℕ) × IsAmong (record { number = n; answer = c }) t.state.news
-told_at_once b pins board entries t before c e are limits among text =
+told_at_once b pins board entries t before c rest are among text =
     let first = first_state b pins board entries in
     let clock = clock_of b in
     let o = orders t.control t.batch in
     let turn = length before in
     let tick = board_tick clock (turn + 1) in
     let l = stands_after first before in
-    let kept = (limits_split (orders_in before) (o ∷ []) limits).0 in
-    let old = clear_at b pins board entries before e are.1 kept in
-    let new = clear_at b pins board entries (t ∷ before) e are limits in
-    let x = taking b pins board entries t before e are limits in
+    let x = taking b pins board entries t before rest are in
     let mid = x.0.mid in
-    let empty = rests_up b pins board entries before are.1 old.1.none in
+    let empty = rests_up b pins board entries before are.1 (rests_none b pins board entries before rest.0) in
     let Sound : ℕ → Type 0 = λ k. IsSound l k in
     let sound = subst Sound (order_length before) (begins b pins board entries (orders_in before) l (turns_in_order clock first before are.1)).sound in
     let board_is : mid.board ≡ (takes_all l.core.board (commands_of (queued_in o))).rig = x.0.mid_board ∙ ap (λ (ms : List Meant). (takes_all l.core.board (commands_of ms)).rig) x.1 in
@@ -138,7 +134,7 @@ told_at_once b pins board entries t before c e are limits among text =
     let resent = are.0.0.resent in
     let l3 = after_replies turn (after_board clock turn (after_host turn o resent l)) in
     let Up_of : LinkState → Type 0 = λ y. (y.up.calm ≤ turn + 4) × (y.up.copies ≡ []) in
-    let calm = new.1.calm in
-    let clear : Up_of l3 = subst Up_of are.0.0.becomes (omega (arith, calm), new.1.none) in
+    let calm = rests_calm t before rest.1 in
+    let clear : Up_of l3 = subst Up_of are.0.0.becomes (omega (arith, calm), rests_none b pins board entries (t ∷ before) rest.1) in
     let heard = all_heard clock turn o resent l reply sound empty clear.0 clear.1 there in
     (mid.link.accepted, news_hold (heard_in (come Up turn (after_board clock turn (after_host turn o resent l)).up.copies) (after_board clock turn (after_host turn o resent l)).core) t.state.news reply c are.0.1.news heard text)

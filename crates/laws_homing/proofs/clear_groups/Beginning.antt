@@ -18,11 +18,10 @@ use Rattle.board_asking.specs.Machine.{trigger_of}
 use Rattle.board_sim.specs.Fair.{commands_of}
 use Rattle.board_sim.specs.Rig.{Rig, passes, takes_all}
 use Rattle.board_sim.proofs.RigStates.{all_tick}
-use Rattle.link_work.specs.Limits.{AllKeepLimits}
+use Rattle.laws_homing.specs.clear_boards.Rests.{RestsOver}
 use Rattle.link_work.specs.Runs.{queued_in}
 use Rattle.link_work.specs.Stands.{first_state, orders as taken_orders}
 use Rattle.laws_board.specs.turns.Turns.{AreBoardTurns, BoardTurn, stands_after}
-use Rattle.laws_board.specs.clocks.Runs.{orders_in}
 use Rattle.laws_board.proofs.clocks.Lines.{as_long, noted_phase}
 use Rattle.trigger_group.specs.declared.order.Ctl.{Ctl}
 use Rattle.trigger_group.specs.declared.order.Member.{Member}
@@ -47,17 +46,17 @@ use Rattle.laws_homing.specs.clear_boards.Turned.{AreBehind}
 use Rattle.laws_homing.proofs.clear_boards.Clocking.{line_ahead, timeout_ahead}
 use Rattle.laws_homing.proofs.clear_boards.Member.{all_sound}
 use Rattle.laws_homing.proofs.clear_boards.Ordered.{turn_ordered}
-use Rattle.laws_homing.proofs.clear_boards.Standing.{runs_through, sound_at, tick_is}
-use Rattle.laws_homing.proofs.clear_boards.Taking.{takes_in_turn}
+use Rattle.laws_homing.proofs.clear_boards.Standing.{runs_rested, sound_at, tick_is}
+use Rattle.laws_homing.proofs.clear_boards.Taking.{takes_rested}
 use Rattle.laws_homing.proofs.clear_boards.Turned.{ran}
 use Rattle.laws_homing.specs.clear_groups.Early.{HeardUntil}
 use Rattle.laws_homing.specs.clear_groups.Safe.{IsRenewed, IsSafe, IsSafeIn, IsWatched}
-use Rattle.laws_homing.specs.clear_groups.Sections.{AreOfTurn, IsClearSection, IsFollowed, report_ticks, rig_at, turns_of}
+use Rattle.laws_homing.specs.clear_groups.Sections.{AreOfTurn, IsRestingSection, IsFollowed, report_ticks, rig_at, turns_of}
 use Rattle.laws_homing.specs.clear_groups.SetUp.{HoldsOf, IsArmed, IsNew, IsPrepared}
 use Rattle.laws_homing.proofs.clear_groups.Alike.{AreBy, homes_by, ordered_alike, starts_by}
 use Rattle.laws_homing.proofs.clear_groups.Arming.{armed_alive, armed_limited, armed_passes, armed_small}
 use Rattle.laws_homing.proofs.clear_groups.Known.{behind_turn, homing_next, of_known}
-use Rattle.laws_homing.proofs.clear_groups.Sections.{cut}
+use Rattle.laws_homing.proofs.clear_groups.Sections.{cut_rests}
 use Rattle.laws_homing.proofs.clear_groups.SetUp.{homed, others, started, takes_both}
 
 -- the turns of the set-up
@@ -100,7 +99,7 @@ near_new : (start b turn : ℕ) (ms : List Member) → turn ≤ start + 10 → N
 near_new start b turn [] l = tt
 near_new start b turn (m ∷ ms) l = ((λ is. l), near_new start b turn ms l)
 
-none_new : (b : ℕ) (ms : List Member) → NoneOn b (map unseen ms)
+pub none_new : (b : ℕ) (ms : List Member) → NoneOn b (map unseen ms)
 none_new b [] = tt
 none_new b (m ∷ ms) = ((λ is. refl), none_new b ms)
 
@@ -113,8 +112,8 @@ same_unseen [] = refl
 same_unseen (m ∷ ms) = ap (λ (xs : List Member). m ∷ xs) (same_unseen ms)
 
 -- a board's turn
-module _ (m : Machine) (b : ℕ) (pins : List (List Level)) (entries : List Entry) (t : BoardTurn) (before : List BoardTurn) (none : entries ≡ [])
-    (are : AreBoardTurns (clock_of (board_at m b)) (first_state (board_at m b) pins b entries) (t ∷ before)) (limits : AllKeepLimits (orders_in (t ∷ before))) (shut : t.state.shut ≡ None)
+module _ (m : Machine) (b : ℕ) (pins : List (List Level)) (entries : List Entry) (t : BoardTurn) (before : List BoardTurn) (rests : RestsOver t before)
+    (are : AreBoardTurns (clock_of (board_at m b)) (first_state (board_at m b) pins b entries) (t ∷ before)) (shut : t.state.shut ≡ None)
     (in_range : board_tick (clock_of (board_at m b)) (length before) < 2 ^ 63) (lines : Clocks) (ready start last till : ℕ) (f : IsFollowed m b lines ready start last till) (low_so : ready ≤ length before) (far : length before + 2 ≤ start)
     (near : start ≤ length before + 300) (reach : start + 25 ≤ till) where
   abbrev own : ℕ → ℕ
@@ -142,7 +141,7 @@ module _ (m : Machine) (b : ℕ) (pins : List (List Level)) (entries : List Entr
   Armed r = HoldsOf (trigger_of m b) (λ ps s. IsArmed Base (report_ticks m b) (Some Limit) ps s) r
 
   runs : Taken.controller.state ≡ Running
-  runs = runs_through (board_at m b) pins b entries t before none are limits shut
+  runs = runs_rested (board_at m b) pins b entries t before rests are shut
 
   at_tick : Start.controller.tick ≡ own (length before)
   at_tick = tick_is (board_at m b) pins b entries before are.1
@@ -191,9 +190,9 @@ module _ (m : Machine) (b : ℕ) (pins : List (List Level)) (entries : List Entr
       (λ runs_so. homed m lines b start (axis_at m h.axis) Base (report_ticks m b) (own (length before)) Limit Timeout base.is (omega (arith, low_base)) limit.is limit.later f.spaced refl g.members Start (Some Limit) at_tick runs_so armed)
 
 -- the group and its boards
-module _ (m : Machine) (switches : List Switch) (pins : ℕ → List (List Level)) (entries : List Entry) (none : entries ≡ []) (lines : ℕ → Clocks) (ready from start last till : ℕ) (members : List Member)
+module _ (m : Machine) (switches : List Switch) (pins : ℕ → List (List Level)) (entries : List Entry) (lines : ℕ → Clocks) (ready from start last till : ℕ) (members : List Member)
     (followed : (b : ℕ) → IsMember b members → IsFollowed m b (lines b) ready start last till) (c d e : Came) (past : List Came) (i j : ℕ → BoardTurn) (js : List (ℕ → BoardTurn))
-    (s : IsClearSection m switches pins entries lines from start members c (d ∷ e ∷ past) (i ∷ j ∷ js)) (early : from ≤ length past) (low_so : ready + 4 ≤ length past) (set_up : length past + 251 ≡ start) (order : start ≤ last) (reach : length past + 276 ≤ till)
+    (s : IsRestingSection m switches pins entries lines from start members c (d ∷ e ∷ past) (i ∷ j ∷ js)) (early : from ≤ length past) (low_so : ready + 4 ≤ length past) (set_up : length past + 251 ≡ start) (order : start ≤ last) (reach : length past + 276 ≤ till)
     (first : AreOfTurn (length past + 1) d.states) (second : AreOfTurn (length past + 2) c.states) (h : Homing) (is : (noted m e.note (known_by m switches past)).homing ≡ Some h)
     (new : IsNew start last members (hears_all (noted m e.note (known_by m switches past)).clocks e.states h).group) where
   abbrev K : ℕ
@@ -217,11 +216,11 @@ module _ (m : Machine) (switches : List Switch) (pins : ℕ → List (List Level
   abbrev pub Last : Homing
   Last = hears_all (Clocks_of c (d ∷ e ∷ past)) c.states Second
 
-  pub cut_once : IsClearSection m switches pins entries lines from start members d (e ∷ past) (j ∷ js)
-  cut_once = cut m switches pins entries none lines ready from start last till start members followed (omega (arith, early, set_up)) (omega (arith, low_so, set_up)) (omega arith) c d (e ∷ past) i (j ∷ js) s
+  pub cut_once : IsRestingSection m switches pins entries lines from start members d (e ∷ past) (j ∷ js)
+  cut_once = cut_rests m switches pins entries lines ready from start last till start members followed (omega (arith, early, set_up)) (omega (arith, low_so, set_up)) (omega arith) c d (e ∷ past) i (j ∷ js) s
 
-  pub cut_twice : IsClearSection m switches pins entries lines from start members e past js
-  cut_twice = cut m switches pins entries none lines ready from start last till start members followed (omega (arith, early, set_up)) (omega (arith, low_so, set_up)) (omega arith) d e past j js cut_once
+  pub cut_twice : IsRestingSection m switches pins entries lines from start members e past js
+  cut_twice = cut_rests m switches pins entries lines ready from start last till start members followed (omega (arith, early, set_up)) (omega (arith, low_so, set_up)) (omega arith) d e past j js cut_once
 
   pub known_first : ((noted m d.note (known_by m switches (e ∷ past))).homing ≡ Some First) × (answer_in K h.start Now.group ≡ None)
   known_first = homing_next m switches from start members d e past h cut_once.homes cut_once.begins.0 cut_once.goes_on early is
@@ -263,6 +262,12 @@ module _ (m : Machine) (switches : List Switch) (pins : ℕ → List (List Level
     pub long_first : K ≡ length (turns_of b js)
     long_first = as_long m switches b past (turns_of b js) (cut_twice.plain b on).run.both
 
+    over_first : RestsOver (j b) (turns_of b js)
+    over_first = (let long = long_first in (cut_once.plain b on).rests.0 (omega (arith, early, long)))
+
+    over_second : RestsOver (i b) (turns_of b (j ∷ js))
+    over_second = (let long = long_first in (s.plain b on).rests.0 (omega (arith, early, long)))
+
     pub sends_first : orders Now.group K ≡ round_of (Starts Earliest) Now.group.members
     sends_first =
         let at = new.begins in
@@ -300,17 +305,17 @@ module _ (m : Machine) (switches : List Switch) (pins : ℕ → List (List Level
     armed_first =
         let p = cut_once.plain b on in
         let long = long_first in
-        let x = started_turn m b (pins b) entries (j b) (turns_of b js) none p.run.turns_are p.limits p.none_shut.0 (cut_twice.plain b on).in_range (lines b) ready start last till (followed b on) (omega (arith, low_so, long)) (omega (arith, set_up, long)) (omega (arith, set_up, long)) (omega (arith, set_up, reach)) h K Now.group ordered_first begins_at
+        let x = started_turn m b (pins b) entries (j b) (turns_of b js) over_first p.run.turns_are p.none_shut.0 (cut_twice.plain b on).in_range (lines b) ready start last till (followed b on) (omega (arith, low_so, long)) (omega (arith, set_up, long)) (omega (arith, set_up, long)) (omega (arith, set_up, reach)) h K Now.group ordered_first begins_at
         sends_first (subst (IsMember b) (sym members_are) on) rest in
-        subst Set_up (sym (takes_in_turn (board_at m b) (pins b) b entries (j b) (turns_of b js) none p.run.turns_are p.limits)) x
+        subst Set_up (sym (takes_rested (board_at m b) (pins b) b entries (j b) (turns_of b js) over_first p.run.turns_are)) x
 
     pub armed_second : Set_up (rig_at m pins entries (i ∷ j ∷ js) b)
     armed_second =
         let p = s.plain b on in
         let long : length (turns_of b (j ∷ js)) ≡ K + 1 = (let l = long_first in omega (arith, l)) in
-        let x = homed_turn m b (pins b) entries (i b) (turns_of b (j ∷ js)) none p.run.turns_are p.limits p.none_shut.0 (cut_once.plain b on).in_range (lines b) ready start last till (followed b on) (omega (arith, low_so, long)) (omega (arith, set_up, long)) (omega (arith, set_up, long)) (omega (arith, set_up, reach)) First (length (e ∷ past)) Heard.group
+        let x = homed_turn m b (pins b) entries (i b) (turns_of b (j ∷ js)) over_second p.run.turns_are p.none_shut.0 (cut_once.plain b on).in_range (lines b) ready start last till (followed b on) (omega (arith, low_so, long)) (omega (arith, set_up, long)) (omega (arith, set_up, long)) (omega (arith, set_up, reach)) First (length (e ∷ past)) Heard.group
         ordered_second begins_at sends_second armed_first in
-        subst Set_up (sym (takes_in_turn (board_at m b) (pins b) b entries (i b) (turns_of b (j ∷ js)) none p.run.turns_are p.limits)) x
+        subst Set_up (sym (takes_rested (board_at m b) (pins b) b entries (i b) (turns_of b (j ∷ js)) over_second p.run.turns_are)) x
 
     watched : IsWatched m (lines b) b (length (d ∷ e ∷ past)) start last Earliest (map unseen members) (rig_at m pins entries (i ∷ j ∷ js) b)
     watched =

@@ -164,7 +164,7 @@ module _ (m : Machine) (switches : List Switch) (lines : ℕ → ℕ → Clocks)
             | inr more ↦ elim more [ inl x ↦ subst Not (sym x.is) (λ z. same n.homing e z) is | inr x ↦ subst Not (sym x.is) (λ z. same (homing_after n.clocks (length past) d.states n.homing) later z) is ]
           ])
 
-  began : (c : Came) (before : List Came) → GoesOn m switches before → AllOfTurn (c ∷ before) → BeginsWell m switches lines ready till (c ∷ before) → (h : Homing) → (noted m c.note (known_by m switches before)).homing ≡ Some h → Began m switches lines ready till c before h
+  pub began : (c : Came) (before : List Came) → GoesOn m switches before → AllOfTurn (c ∷ before) → BeginsWell m switches lines ready till (c ∷ before) → (h : Homing) → (noted m c.note (known_by m switches before)).homing ≡ Some h → Began m switches lines ready till c before h
   began c [] on of well h is = elim (some_or_none (news_of c.note)) [
     | inl some ↦ began_here c [] h of some is (elim well.0 [ inl calm ↦ absurd (both_notes (news_of c.note) some calm) | inr x ↦ x.1 h is ])
     | inr calm ↦ absurd (let bad : None ≡ Some h = sym (noted_none m c.note (known_by m switches []) calm) ∙ is in cc)
@@ -268,7 +268,7 @@ module _ (m : Machine) (v : IsValidMachine m) (switches : List Switch) (pins : �
       let from_early : x.from ≤ length past = omega (arith, soon, at, together) in
       let once = cut m switches pins entries none (lines h.start) ready x.from h.start g.group.last till h.start (members_of g.group) followed (omega (arith, soon)) (omega (arith, far)) (omega arith) c d (e ∷ past) i (j ∷ js) section in
       let twice = cut m switches pins entries none (lines h.start) ready x.from h.start g.group.last till h.start (members_of g.group) followed (omega (arith, soon)) (omega (arith, far)) (omega arith) d e past j js once in
-      let new = stays_new m switches pins entries none (lines h.start) ready x.from h.start g.group.last till (members_of g.group) followed x.far x.soon x.order e past js twice of.1.1 from_early (omega (arith, at, together)) x.new.1.1 in
+      let new = stays_new m switches x.from h.start g.group.last (members_of g.group) x.soon e past twice.goes_on twice.homes twice.begins of.1.1 from_early (omega (arith, at, together)) x.new.1.1 in
       let made : IsSetUp m switches pins entries (lines h.start) ready till h.start c d e past i j js = record {
         from = x.from;
         last = g.group.last;

@@ -23,11 +23,10 @@ use Rattle.board_step.proofs.Whole.{nearest_is}
 use Rattle.laws_board.proofs.sections.Clocks.{ticks_most}
 use Rattle.board_sim.proofs.Sound.{takes_sound}
 use Rattle.board_world.specs.World.{says}
-use Rattle.link_work.specs.Limits.{AllKeepLimits}
+use Rattle.laws_homing.specs.clear_boards.Rests.{RestsOver}
 use Rattle.link_work.specs.Runs.{queued_in}
 use Rattle.link_work.specs.Stands.{first_state, orders}
 use Rattle.laws_board.specs.turns.Turns.{AreBoardTurns, BoardTurn, stands_after}
-use Rattle.laws_board.specs.clocks.Runs.{orders_in}
 use Rattle.laws_homing.specs.home_runs.Guards.{HasFired, IsSole}
 use Rattle.trigger_group.specs.declared.seen.Seen.{Seen}
 use Rattle.axis_homing.specs.declared.homing.Homing.{Homing}
@@ -50,7 +49,7 @@ use Rattle.laws_homing.proofs.clear_boards.Ending.{late_expiry, no_expiry}
 use Rattle.laws_homing.proofs.clear_boards.Knowing.{hears_still, same_when}
 use Rattle.laws_homing.proofs.clear_boards.Member.{all_sound, turn_numbered}
 use Rattle.laws_homing.proofs.clear_boards.Small.{turn_small}
-use Rattle.laws_homing.proofs.clear_boards.Standing.{runs_through, sound_at, tick_is}
+use Rattle.laws_homing.proofs.clear_boards.Standing.{runs_rested, sound_at, tick_is}
 use Rattle.laws_homing.proofs.clear_boards.Stepping.{goes_on}
 use Rattle.laws_homing.proofs.clear_boards.Turned.{next_all, relay_fires, stays_fired, turn_ahead, turn_far, turn_fired}
 use Rattle.laws_homing.specs.clear_groups.Early.{AllDue, HeardUntil, IsDue}
@@ -99,8 +98,8 @@ only_same : (x y : ℕ) (cs : List Cmd) → x % 2 ^ 32 ≡ y % 2 ^ 32 → AllTel
 only_same x y [] e k = tt
 only_same x y (c ∷ cs) e k = (one_same x y c e k.0, only_same x y cs e k.1)
 
-module _ (m : Machine) (b : ℕ) (pins : List (List Level)) (entries : List Entry) (t : BoardTurn) (before : List BoardTurn) (none : entries ≡ [])
-    (are : AreBoardTurns (clock_of (board_at m b)) (first_state (board_at m b) pins b entries) (t ∷ before)) (limits : AllKeepLimits (orders_in (t ∷ before))) (shut : t.state.shut ≡ None)
+module _ (m : Machine) (b : ℕ) (pins : List (List Level)) (entries : List Entry) (t : BoardTurn) (before : List BoardTurn) (rests : RestsOver t before)
+    (are : AreBoardTurns (clock_of (board_at m b)) (first_state (board_at m b) pins b entries) (t ∷ before)) (shut : t.state.shut ≡ None)
     (few : length (stands_after (first_state (board_at m b) pins b entries) before).core.board.triggers ≤ 256) (in_range : board_tick (clock_of (board_at m b)) (length before) < 2 ^ 63) where
   abbrev pub own : ℕ → ℕ
   own = λ k. board_tick (clock_of (board_at m b)) k
@@ -124,7 +123,7 @@ module _ (m : Machine) (b : ℕ) (pins : List (List Level)) (entries : List Entr
   Oid = trigger_of m b
 
   runs : Taken.controller.state ≡ Running
-  runs = runs_through (board_at m b) pins b entries t before none are limits shut
+  runs = runs_rested (board_at m b) pins b entries t before rests are shut
 
   at_tick : Start.controller.tick ≡ own (length before)
   at_tick = tick_is (board_at m b) pins b entries before are.1
@@ -144,7 +143,7 @@ module _ (m : Machine) (b : ℕ) (pins : List (List Level)) (entries : List Entr
 
   never : (clock limit : ℕ) → AreBehind Oid clock Commands → AllSmall Start → IsSole Oid Start → ((tick : ℕ) → IsTurnedTo Oid tick limit (own (length before + 1)) Start Commands) → TellsNone
   never clock limit behind small sole turned = λ known when tells.
-      no_expiry (board_at m b) pins b entries t before none are limits known when (turned 0).tells (turned 1).tells (turn_small Oid clock (own (length before + 1)) Start Commands behind small).1 (numbered clock behind sole) tells
+      no_expiry (board_at m b) pins b entries t before rests are known when (turned 0).tells (turned 1).tells (turn_small Oid clock (own (length before + 1)) Start Commands behind small).1 (numbered clock behind sole) tells
 
   -- a board that can't trigger
   pub fired_step : (lines : Clocks) (clock sent next : ℕ) → AreBehind Oid clock Commands → AllSmall Start → IsRenewed Oid lines sent Start → HasFired Oid Start
@@ -159,7 +158,7 @@ module _ (m : Machine) (b : ℕ) (pins : List (List Level)) (entries : List Entr
         never clock limit behind small (renewed 0).sole turned,
       )
 
-  ahead_of : (lines : Clocks) (ready start last till next : ℕ) (f : IsFollowed m b lines ready start last till) → ready ≤ length before → length before + 276 ≤ till → length before + 2 ≤ next → next ≤ last + 1 → next ≤ length before + 276 → IsAhead own lines (length before) next
+  pub ahead_of : (lines : Clocks) (ready start last till next : ℕ) (f : IsFollowed m b lines ready start last till) → ready ≤ length before → length before + 276 ≤ till → length before + 2 ≤ next → next ≤ last + 1 → next ≤ length before + 276 → IsAhead own lines (length before) next
   ahead_of lines ready start last till next f low_so reach far most near =
       let ends = f.ends in
       timeout_ahead own lines ready (length before) next f.ticks f.tracked low_so (omega (arith, most, near, reach, ends)) far (omega (arith, near)) (f.rises (length before)) in_range
@@ -213,7 +212,7 @@ module _ (m : Machine) (b : ℕ) (pins : List (List Level)) (entries : List Entr
       let early = turn_early (own (length before)) until Start Commands (sound_tells Start Commands sound) (due_all lines clock base every sent later behind relays renewed a) in
       let k = f.tracked in
       let next_low = k.behind (length before + 1) (omega (arith, low_so)) (omega (arith, soon, reach, ends)) in
-      able_by (board_at m b) pins b entries t before none are limits lines (length before + 1 + 249) (own (length before)) until (turn_small Oid clock until Start Commands behind small).1 (numbered clock behind (renewed 0).sole) early
+      able_by (board_at m b) pins b entries t before rests are lines (length before + 1 + 249) (own (length before)) until (turn_small Oid clock until Start Commands behind small).1 (numbered clock behind (renewed 0).sole) early
       (λ at w from_so before_so is. (
       let c = report_counts own lines ready (length before) (length before) at f.ticks k low_so (omega arith) (omega arith) (omega (arith, soon, reach, ends)) f.in_run in_range from_so before_so in
       let same = same_when (turn_in_run lines (nearest (turn_tick lines (length before)) (at % 2 ^ 32))) c.when w c.in_run is in
@@ -260,7 +259,7 @@ module _ (m : Machine) (b : ℕ) (pins : List (List Level)) (entries : List Entr
         let behind : AreBehind Oid (low (turn_tick known next)) Commands =
         subst (λ (n : ℕ). AreBehind Oid n Commands) (clock_is soon ∙ ap low (sym (turn_alike known lines (length before + 277) next alike (omega (arith, soon))))) behind_so in
         let heard = subst (λ (n : ℕ). IsHeardOf own base every n b alive.0.next h.group.members) (sym group_begins) alive.1 in
-        let on = goes_on (board_at m b) pins b entries t before none are limits all states h Oid base every ready sent next k.ticks k.tracked here is (begins ∙ sym group_begins)
+        let on = goes_on (board_at m b) pins b entries t before rests are all states h Oid base every ready sent next k.ticks k.tracked here is (begins ∙ sym group_begins)
         (ap (λ (n : ℕ). lines_tick known (n * turn_ns)) begins ∙ alike.ticks start (omega (arith, far_start)))
         (omega (arith, early, begins)) low_so (omega (arith, far, next_low, reach, ends)) (omega (arith, begins, ends, order, reach, far_start)) (omega (arith, next_low, soon, reach, ends)) k.in_run in_range (k.rises (length before)) k.reports far (omega (arith, soon)) (omega (arith, most, group_ends)) k.trigger few at_tick runs
         behind relays sets by_known sound alive.0 heard alive.3 in
@@ -268,7 +267,7 @@ module _ (m : Machine) (b : ℕ) (pins : List (List Level)) (entries : List Entr
         let ahead = ahead_of known ready start upto till next k (omega (arith, low_so)) reach far next_low (omega (arith, soon)) in
         let later : own (length before) < nearest (own (length before)) (low (turn_tick known next)) = (let is_it = ahead.is in let more = ahead.later in omega (arith, is_it, more)) in
         let able = able_now known (low (turn_tick known next)) base every sent ready start upto till k low_so reach (omega (arith, far, next_low)) later behind relays small by_known alive.0 in
-        let turn_so = turn_is (board_at m b) pins b entries t before none are limits in
+        let turn_so = turn_is (board_at m b) pins b entries t before rests are in
         let until = hears_until start (length before + 1 + 249) b all states h
         (λ s there late. (
         let At : ℕ → Type 0 = λ n. AllAbleBy known n (length before + 1 + 249) t.state.news in
@@ -330,7 +329,7 @@ module _ (m : Machine) (b : ℕ) (pins : List (List Level)) (entries : List Entr
       let e : length before + 277 ≡ length before + 276 + 1 = omega arith in
       let k = tracked_alike own known lines ready (length before + 276) f.tracked (subst (λ (n : ℕ). IsAlike n known lines) e alike) in
       let tick_is = alike.ticks (last + 1) (last_by lines ready start last till f low_so reach past) in
-      let low_when = late_expiry (board_at m b) pins b entries t before none are limits own known ready near when (last + 1) k.0 (only_same tick near Answers same only) (turn_small Oid clock (own (length before + 1)) Start Commands behind small).1
+      let low_when = late_expiry (board_at m b) pins b entries t before rests are own known ready near when (last + 1) k.0 (only_same tick near Answers same only) (turn_small Oid clock (own (length before + 1)) Start Commands behind small).1
       (numbered clock behind sole) is (omega (arith, late, tick_is)) tells in
       omega (arith, low_when))
 

@@ -21,7 +21,7 @@ use Rattle.axis_homing.specs.Rising.{members_of}
 use Rattle.host_reactor.specs.Notes.{noted}
 use Rattle.host_reactor.specs.Runs.{Came, known_by}
 use Rattle.laws_homing.specs.clear_groups.Safe.{IsSafeAt}
-use Rattle.laws_homing.specs.clear_groups.Sections.{IsClearSection, IsFollowed}
+use Rattle.laws_homing.specs.clear_groups.Sections.{IsRestingSection, IsFollowed}
 use Rattle.laws_homing.proofs.clear_groups.Known.{of_known}
 use Rattle.laws_homing.proofs.clear_groups.Sections.{never_answers}
 use Rattle.laws_homing.proofs.clear_boards.Heard.{no_switch, of_answer, of_turn}
@@ -57,12 +57,12 @@ ends_member k start b turn g e =
     let ended_so = of_turn (nat_le start k) g (end.Expired b turn) e in
     any_board g.last b turn g.members (of_answer b turn (first_expired g.last g.members) (first_switched g.members) (none_switched b turn g.members) ended_so)
 
-pub never_any : (m : Machine) (switches : List Switch) (pins : ℕ → List (List Level)) (entries : List Entry) (lines : ℕ → Clocks) (ready from start last till at : ℕ) (members : List Member) → entries ≡ []
+pub never_any : (m : Machine) (switches : List Switch) (pins : ℕ → List (List Level)) (entries : List Entry) (lines : ℕ → Clocks) (ready from start last till at : ℕ) (members : List Member)
     → ((b : ℕ) → IsMember b members → IsFollowed m b (lines b) ready start last till) → from ≤ at → ready + 4 ≤ at → start ≤ at + 249 → at + 1 ≤ start → (c : Came) (before : List Came) (all : List (ℕ → BoardTurn))
-    → IsClearSection m switches pins entries lines from start members c before all → length before + 276 ≤ till → at ≤ length before → IsSafeAt m switches pins entries lines start last members at (c ∷ before) all
+    → IsRestingSection m switches pins entries lines from start members c before all → length before + 276 ≤ till → at ≤ length before → IsSafeAt m switches pins entries lines start last members at (c ∷ before) all
     → (h : Homing) → (noted m c.note (known_by m switches before)).homing ≡ Some h → (b turn : ℕ) → answer_in (length before) h.start (hears_all (noted m c.note (known_by m switches before)).clocks c.states h).group ≡ Some (end.Expired b turn) → ⊥
-never_any m switches pins entries lines ready from start last till at members none followed early low_so far first c before all s r l safe h is b turn ends =
+never_any m switches pins entries lines ready from start last till at members followed early low_so far first c before all s r l safe h is b turn ends =
     let clocks = (noted m c.note (known_by m switches before)).clocks in
     let of = of_known start members (noted m c.note (known_by m switches before)).homing h (s.homes.0 (omega (arith, early, l))).1 is in
     let on = subst (IsMember b) (members_states clocks 0 h.start c.states h.group ∙ of.2) (ends_member (length before) h.start b turn (hears_all clocks c.states h).group ends) in
-    never_answers m switches pins entries none lines ready from start last till at members followed early low_so far c before all s r l first safe h is of.0 b turn on ends
+    never_answers m switches pins entries lines ready from start last till at members followed early low_so far c before all s r l first safe h is of.0 b turn on ends

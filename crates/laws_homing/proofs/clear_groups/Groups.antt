@@ -49,10 +49,11 @@ use Rattle.laws_homing.proofs.clear_boards.Leading.{fired_by_flag, leads_on}
 use Rattle.laws_homing.proofs.clear_boards.Modes.{begins_ahead}
 use Rattle.laws_homing.proofs.clear_boards.Ordered.{turn_ordered}
 use Rattle.laws_homing.proofs.clear_boards.Sent.{sent_relays}
-use Rattle.laws_homing.proofs.clear_boards.Taking.{takes_in_turn}
+use Rattle.laws_homing.proofs.clear_boards.Taking.{takes_rested}
 use Rattle.laws_homing.specs.clear_groups.Early.{HeardUntil}
 use Rattle.laws_homing.specs.clear_groups.Safe.{IsHeld, IsLast, IsRenewed, IsSafe, IsSafeIn, IsWatched}
-use Rattle.laws_homing.specs.clear_groups.Sections.{IsAlike, IsClearSection, IsFollowed, IsPlain, report_ticks, rig_at, turns_of}
+use Rattle.laws_homing.specs.clear_boards.Rests.{RestsOver}
+use Rattle.laws_homing.specs.clear_groups.Sections.{IsAlike, IsRestingSection, IsFollowed, IsOnward, report_ticks, rig_at, turns_of}
 use Rattle.laws_homing.proofs.clear_groups.Alike.{turn_alike}
 use Rattle.laws_homing.proofs.clear_groups.Boards.{After, ahead_step, fired_step, last_step, relay_step, watched_step}
 use Rattle.laws_homing.proofs.clear_groups.Known.{behind_turn, homing_next, member_seen, group_waits, of_known, open_group, seen_member}
@@ -100,16 +101,16 @@ relay_of : (turn : ℕ) (g : GroupState) → IsLive turn g ⊎ IsKnown turn g �
 relay_of turn g (inl live) = live.relay
 relay_of turn g (inr known) = known.relay
 
-none_at : (b : ℕ) (x : Seen) (xs : List Seen) → Contains xs x → x.member.board ≡ b → NoneOn b xs → x.fired ≡ None
+pub none_at : (b : ℕ) (x : Seen) (xs : List Seen) → Contains xs x → x.member.board ≡ b → NoneOn b xs → x.fired ≡ None
 none_at b x [] c on k = absurd (none_there x c)
 none_at b x (y ∷ ys) c on k = elim (either y x ys c) [
   | inl e ↦ ap (λ (s : Seen). s.fired) (sym e) ∙ k.0 (ap (λ (s : Seen). s.member.board) e ∙ on)
   | inr more ↦ none_at b x ys more on k.1
 ]
 
-module _ (m : Machine) (switches : List Switch) (pins : ℕ → List (List Level)) (entries : List Entry) (none : entries ≡ []) (lines : ℕ → Clocks) (ready from start last till : ℕ) (members : List Member)
+module _ (m : Machine) (switches : List Switch) (pins : ℕ → List (List Level)) (entries : List Entry) (lines : ℕ → Clocks) (ready from start last till : ℕ) (members : List Member)
     (followed : (b : ℕ) → IsMember b members → IsFollowed m b (lines b) ready start last till) (c d : Came) (past : List Came) (j : ℕ → BoardTurn) (js : List (ℕ → BoardTurn))
-    (s : IsClearSection m switches pins entries lines from start members c (d ∷ past) (j ∷ js)) (early : from ≤ length past) (low_so : ready + 4 ≤ length past) (far : start ≤ length past + 249) (reach : length past + 276 ≤ till)
+    (s : IsRestingSection m switches pins entries lines from start members c (d ∷ past) (j ∷ js)) (early : from ≤ length past) (low_so : ready + 4 ≤ length past) (far : start ≤ length past + 249) (reach : length past + 276 ≤ till)
     (h : Homing) (is : (noted m d.note (known_by m switches past)).homing ≡ Some h) where
   abbrev K : ℕ
   K = length past
@@ -163,7 +164,7 @@ module _ (m : Machine) (switches : List Switch) (pins : ℕ → List (List Level
   are_members : members_of G ≡ members
   are_members = ap (λ (xs : List Seen). map (λ (x : Seen). x.member) xs) (sym same_members) ∙ next_of.2
 
-  later_members : members_of N ≡ members
+  pub later_members : members_of N ≡ members
   later_members = members_states All 0 Next.start c.states Next.group ∙ next_of.2
 
   unended : G.start ≡ start → G.start ≤ K → all_fired G.members ≡ false
@@ -171,7 +172,7 @@ module _ (m : Machine) (switches : List Switch) (pins : ℕ → List (List Level
 
   -- one of its boards
   module _ (b : ℕ) (on : IsMember b members) where
-    plain : IsPlain m switches (pins b) entries b (d ∷ past) (turns_of b (j ∷ js))
+    plain : IsOnward m switches (pins b) entries b from (d ∷ past) (turns_of b (j ∷ js))
     plain = s.plain b on
 
     within : b < length m.boards
@@ -180,13 +181,16 @@ module _ (m : Machine) (switches : List Switch) (pins : ℕ → List (List Level
     long : K ≡ length (turns_of b js)
     long = as_long m switches b past (turns_of b js) plain.run.both.2
 
+    rests : RestsOver (j b) (turns_of b js)
+    rests = plain.rests.0 (omega (arith, early, long))
+
     seen : (x : Seen) × Contains G.members x × (x.member.board ≡ b)
     seen = member_seen b G.members (subst (IsMember b) (sym are_members) on)
 
-    few : length (stands_after (first_state (board_at m b) (pins b) b entries) (turns_of b js)).core.board.triggers ≤ 256
+    pub few : length (stands_after (first_state (board_at m b) (pins b) b entries) (turns_of b js)).core.board.triggers ≤ 256
     few = (let many = (staged_after (board_at m b) (pins b) b entries (turns_of b js) 0 0 (omega arith) (omega arith) plain.run.turns_are.1).triggers in omega (arith, many))
 
-    in_range : Own b (length (turns_of b js)) < 2 ^ 63
+    pub in_range : Own b (length (turns_of b js)) < 2 ^ 63
     in_range =
         let f = followed b on in
         let up = f.ticks.up (length (turns_of b js)) in
@@ -214,26 +218,26 @@ module _ (m : Machine) (switches : List Switch) (pins : ℕ → List (List Level
     abbrev Clock : ℕ
     Clock = low (turn_tick Lines (after G K).sent)
 
-    clock_is : (after G K).sent ≤ K + 274 → Clock ≡ low (turn_tick (lines b) (after G K).sent)
+    pub clock_is : (after G K).sent ≤ K + 274 → Clock ≡ low (turn_tick (lines b) (after G K).sent)
     clock_is soon = ap low (turn_alike Lines (lines b) (K + 276) (after G K).sent alike (omega (arith, soon)))
 
-    taken : Later b ≡ After m b (pins b) entries (j b) (turns_of b js) none plain.run.turns_are plain.limits plain.none_shut.0 few in_range
-    taken = takes_in_turn (board_at m b) (pins b) b entries (j b) (turns_of b js) none plain.run.turns_are plain.limits
+    taken : Later b ≡ After m b (pins b) entries (j b) (turns_of b js) rests plain.run.turns_are plain.none_shut.0 few in_range
+    taken = takes_rested (board_at m b) (pins b) b entries (j b) (turns_of b js) rests plain.run.turns_are
 
     -- results in the turns' numbers
-    out : (P : ℕ → Rig → Type 0) → P (length (turns_of b js)) (After m b (pins b) entries (j b) (turns_of b js) none plain.run.turns_are plain.limits plain.none_shut.0 few in_range) → P K (Later b)
-    out P x = subst (λ (r : Rig). P K r) (sym taken) (subst (λ (n : ℕ). P n (After m b (pins b) entries (j b) (turns_of b js) none plain.run.turns_are plain.limits plain.none_shut.0 few in_range)) (sym long) x)
+    out : (P : ℕ → Rig → Type 0) → P (length (turns_of b js)) (After m b (pins b) entries (j b) (turns_of b js) rests plain.run.turns_are plain.none_shut.0 few in_range) → P K (Later b)
+    out P x = subst (λ (r : Rig). P K r) (sym taken) (subst (λ (n : ℕ). P n (After m b (pins b) entries (j b) (turns_of b js) rests plain.run.turns_are plain.none_shut.0 few in_range)) (sym long) x)
 
     fired_on : G.start ≡ start → AllSmall (Rigs b) → (old next : ℕ) → IsRenewed (trigger_of m b) (lines b) old (Rigs b) → HasFired (trigger_of m b) (Rigs b)
         → AllSmall (Later b) × IsRenewed (trigger_of m b) (lines b) next (Later b) × HasFired (trigger_of m b) (Later b) × TellsLate b K
     fired_on e small old next renewed fired =
-        let x = fired_step m b (pins b) entries (j b) (turns_of b js) none plain.run.turns_are plain.limits plain.none_shut.0 few in_range (lines b) Clock old next (sent e).behind small renewed fired in
+        let x = fired_step m b (pins b) entries (j b) (turns_of b js) rests plain.run.turns_are plain.none_shut.0 few in_range (lines b) Clock old next (sent e).behind small renewed fired in
         out (λ n r. AllSmall r × IsRenewed (trigger_of m b) (lines b) next r × HasFired (trigger_of m b) r × TellsLate b n) (x.0, x.1, x.2, λ known k when t. absurd (x.3 known when t))
 
     last_on : G.start ≡ start → G.sent ≡ G.last + 1 → AllSmall (Rigs b) → IsLast m (lines b) b K last (Rigs b) → AllSmall (Later b) × IsLast m (lines b) b (K + 1) last (Later b) × TellsLate b K
     last_on e ended small k =
         let o = sent e in
-        let x = last_step m b (pins b) entries (j b) (turns_of b js) none plain.run.turns_are plain.limits plain.none_shut.0 few in_range (lines b) Clock ready start last till (followed b on) (omega (arith, low_so, long)) (omega (arith, reach, long)) o.behind (o.far ended) small
+        let x = last_step m b (pins b) entries (j b) (turns_of b js) rests plain.run.turns_are plain.none_shut.0 few in_range (lines b) Clock ready start last till (followed b on) (omega (arith, low_so, long)) (omega (arith, reach, long)) o.behind (o.far ended) small
         (subst (λ (n : ℕ). IsLast m (lines b) b n last (Rigs b)) long k) in
         out (λ n r. AllSmall r × IsLast m (lines b) b (n + 1) last r × TellsLate b n) x
 
@@ -241,16 +245,16 @@ module _ (m : Machine) (switches : List Switch) (pins : ℕ → List (List Level
         → AllSmall (Later b) × IsRenewed (trigger_of m b) (lines b) (after G K).sent (Later b) × TellsLate b K
     ahead_on e next most near small renewed =
         let o = sent e in
-        let x = ahead_step m b (pins b) entries (j b) (turns_of b js) none plain.run.turns_are plain.limits plain.none_shut.0 few in_range (lines b) ready start last till G.sent (after G K).sent (followed b on) (omega (arith, low_so, long)) (omega (arith, reach, long)) (omega (arith, next, long)) most (omega (arith, near, long)) (subst (λ (n : ℕ). AreBehind (trigger_of m b) n (Commands b)) (clock_is near) o.behind)
+        let x = ahead_step m b (pins b) entries (j b) (turns_of b js) rests plain.run.turns_are plain.none_shut.0 few in_range (lines b) ready start last till G.sent (after G K).sent (followed b on) (omega (arith, low_so, long)) (omega (arith, reach, long)) (omega (arith, next, long)) most (omega (arith, near, long)) (subst (λ (n : ℕ). AreBehind (trigger_of m b) n (Commands b)) (clock_is near) o.behind)
         (o.sets seen.0 seen.1 seen.2) small renewed in
         out (λ n r. AllSmall r × IsRenewed (trigger_of m b) (lines b) (after G K).sent r × TellsLate b n) (x.0, x.1, λ known k when t. absurd (x.2 known when t))
 
-    relay_on : G.start ≡ start → (u : Slot) → slot_at (Rigs b) (trigger_of m b) ≡ Some u → RelaysOne (Commands b) → HasFired (trigger_of m b) (Later b)
+    pub relay_on : G.start ≡ start → (u : Slot) → slot_at (Rigs b) (trigger_of m b) ≡ Some u → RelaysOne (Commands b) → HasFired (trigger_of m b) (Later b)
     relay_on e u there relays =
-        let x = relay_step m b (pins b) entries (j b) (turns_of b js) none plain.run.turns_are plain.limits plain.none_shut.0 few in_range Clock u there (sent e).behind relays in
+        let x = relay_step m b (pins b) entries (j b) (turns_of b js) rests plain.run.turns_are plain.none_shut.0 few in_range Clock u there (sent e).behind relays in
         out (λ n r. HasFired (trigger_of m b) r) x
 
-    near_on : G.start ≡ start → HeardUntil start b (K + 249) G.members → G.sent ≤ K + 274 → (after G K).sent ≤ K + 274
+    pub near_on : G.start ≡ start → HeardUntil start b (K + 249) G.members → G.sent ≤ K + 274 → (after G K).sent ≤ K + 274
     near_on e until soon = near_turn G b K seen.0 seen.1 seen.2 (omega (arith, e, far)) (unended e) (subst (λ (n : ℕ). HeardUntil n b (K + 249) G.members) (sym e) until) soon
 
     watched_on : G.start ≡ start → G.last ≡ last → G.relay ≡ None → relay_begins G K ≡ false → K + 2 ≤ (after G K).sent → (after G K).sent ≤ last + 1 → AllSmall (Rigs b) → IsRenewed (trigger_of m b) (lines b) G.sent (Rigs b)
@@ -265,7 +269,7 @@ module _ (m : Machine) (switches : List Switch) (pins : ℕ → List (List Level
         let ends : Next.group.last ≡ last = after_last G K ∙ f in
         let old : IsWatched m (lines b) b (length turns) start last G.sent (after G K).members (Rigs b) =
         subst (λ (xs : List Seen). IsWatched m (lines b) b (length turns) start last G.sent xs (Rigs b)) (sym same_members) (subst (λ (n : ℕ). IsWatched m (lines b) b n start last G.sent G.members (Rigs b)) long watched) in
-        let x = watched_step m b (pins b) entries (j b) turns none plain.run.turns_are plain.limits plain.none_shut.0 few in_range All c.states Next (lines b) Clock ready start last till G.sent (followed b on) (subst (λ (n : ℕ). IsAlike n (clocks_at All b) (lines b)) same knows.1) knows.0 (s.states b on)
+        let x = watched_step m b (pins b) entries (j b) turns rests plain.run.turns_are plain.none_shut.0 few in_range All c.states Next (lines b) Clock ready start last till G.sent (followed b on) (subst (λ (n : ℕ). IsAlike n (clocks_at All b) (lines b)) same knows.1) knows.0 (s.states b on)
         next_of.0 next_of.1 ends (omega (arith, low_so, long)) (omega (arith, reach, long)) (omega (arith, far, long)) (omega (arith, next, long)) most
         (λ until soon. (
         let heard : HeardUntil start b (K + 249) G.members = subst (λ (n : ℕ). HeardUntil start b (n + 249) G.members) (sym long) (subst (λ (xs : List Seen). HeardUntil start b (length turns + 249) xs) same_members until) in
@@ -275,10 +279,10 @@ module _ (m : Machine) (switches : List Switch) (pins : ℕ → List (List Level
 
   -- the group behind the turn
   module _ (safe : IsSafe m lines start last members K G Rigs) where
-    grown : IsTimed (after G K) × (G.sent ≤ (after G K).sent)
+    pub grown : IsTimed (after G K) × (G.sent ≤ (after G K).sent)
     grown = (let e = safe.begins in timed_turn G K (omega (arith, e, far)) (unended safe.begins) safe.timed)
 
-    most : (after G K).sent ≤ last + 1
+    pub most : (after G K).sent ≤ last + 1
     most = (let e = safe.ends in let f = after_last G K in let l = grown.0.most in omega (arith, e, f, l))
 
     begins_next : N.start ≡ start

@@ -18,15 +18,16 @@ use Rattle.trigger_group.proofs.Knows.{after_last, after_members, after_start}
 use Rattle.axis_homing.specs.declared.homing.Homing.{Homing}
 use Rattle.axis_homing.specs.Homing.{answer_in, hears_all}
 use Rattle.host_reactor.specs.Notes.{noted}
-use Rattle.host_reactor.specs.Runs.{Came, known_by}
+use Rattle.host_reactor.specs.Runs.{Came, GoesOn, known_by}
 use Rattle.laws_homing.specs.home_runs.Told.{IsMember}
 use Rattle.laws_homing.specs.clear_groups.Safe.{IsSafeAt, IsSafeIn}
-use Rattle.laws_homing.specs.clear_groups.Sections.{AreOfTurn, IsClearSection, IsFollowed}
+use Rattle.laws_homing.specs.home_runs.Sections.{HomesFrom}
+use Rattle.laws_homing.specs.clear_groups.Sections.{AreOfTurn, BeginsNoneFrom, IsRestingSection, IsFollowed}
 use Rattle.laws_homing.specs.clear_groups.SetUp.{AllOfTurn, ArePrepared, ArePreparedAt, IsNew, IsNewAt, IsNewIn}
 use Rattle.laws_homing.proofs.clear_groups.Beginning.{begins_safe, unheard}
 use Rattle.laws_homing.proofs.clear_groups.Ended.{never_any}
 use Rattle.laws_homing.proofs.clear_groups.Known.{answered_late, behind_turn, homing_next, of_known}
-use Rattle.laws_homing.proofs.clear_groups.Sections.{cut}
+use Rattle.laws_homing.proofs.clear_groups.Sections.{cut_rests}
 
 -- before the start a group doesn't relay
 skip : (b : Bool) (r : Round) (y : GroupPhase) → cond b (Sends r) y ≡ Goes → y ≡ Goes
@@ -47,20 +48,17 @@ relay_in_phase (Sends r) g turn n = refl
 relay_in_phase Rests g turn n = refl
 relay_in_phase Goes g turn n = absurd (n refl)
 
-module _ (m : Machine) (switches : List Switch) (pins : ℕ → List (List Level)) (entries : List Entry) (none : entries ≡ []) (lines : ℕ → Clocks) (ready from start last till : ℕ) (members : List Member)
-    (followed : (b : ℕ) → IsMember b members → IsFollowed m b (lines b) ready start last till) (low_so : ready + 255 ≤ start) (set_up : from + 251 ≤ start) (order : start ≤ last) where
-  earlier : (c d : Came) (past : List Came) (j : ℕ → BoardTurn) (js : List (ℕ → BoardTurn)) → IsClearSection m switches pins entries lines from start members c (d ∷ past) (j ∷ js) → IsClearSection m switches pins entries lines from start members d past js
-  earlier c d past j js s = cut m switches pins entries none lines ready from start last till start members followed (omega (arith, set_up)) (omega (arith, low_so, set_up)) (omega arith) c d past j js s
-
-  new_next : (c d : Came) (past : List Came) (j : ℕ → BoardTurn) (js : List (ℕ → BoardTurn)) → IsClearSection m switches pins entries lines from start members c (d ∷ past) (j ∷ js) → from ≤ length past → length past + 252 ≤ start
+-- a group is new from its note until its boards are started
+module _ (m : Machine) (switches : List Switch) (from start last : ℕ) (members : List Member) (set_up : from + 251 ≤ start) where
+  new_next : (c d : Came) (past : List Came) → GoesOn m switches (d ∷ past) → HomesFrom m switches from start members (c ∷ d ∷ past) → BeginsNoneFrom from (c ∷ d ∷ past) → from ≤ length past → length past + 252 ≤ start
       → AreOfTurn (length (d ∷ past)) c.states → IsNewIn m switches start last members d past → IsNewIn m switches start last members c (d ∷ past)
-  new_next c d past j js s early before of x =
+  new_next c d past on homes begins_none early before of x =
       let h = x.0 in
       let new = x.2 in
       let k = length past in
       let now = hears_all (noted m d.note (known_by m switches past)).clocks d.states h in
-      let next = homing_next m switches from start members c d past h s.homes s.begins.0 s.goes_on early x.1 in
-      let begins = (of_known start members (noted m d.note (known_by m switches past)).homing h (s.homes.1.0 early).1 x.1).0 in
+      let next = homing_next m switches from start members c d past h homes begins_none.0 on early x.1 in
+      let begins = (of_known start members (noted m d.note (known_by m switches past)).homing h (homes.1.0 early).1 x.1).0 in
       let later = behind_turn now k in
       let clocks = (noted m c.note (known_by m switches (d ∷ past))).clocks in
       let at = new.begins in
@@ -74,14 +72,27 @@ module _ (m : Machine) (switches : List Switch) (pins : ℕ → List (List Level
       } in
       (later, next.0, group)
 
-  pub stays_new : (c : Came) (before : List Came) (all : List (ℕ → BoardTurn)) → IsClearSection m switches pins entries lines from start members c before all → AllOfTurn (c ∷ before) → from ≤ length before → length before + 251 ≤ start
+  pub stays_new : (c : Came) (before : List Came) → GoesOn m switches before → HomesFrom m switches from start members (c ∷ before) → BeginsNoneFrom from (c ∷ before) → AllOfTurn (c ∷ before) → from ≤ length before → length before + 251 ≤ start
       → IsNewAt m switches start last members from (c ∷ before) → IsNewIn m switches start last members c before
-  stays_new c [] all s of l soon new = new.0 (omega (arith, l))
-  stays_new c (d ∷ past) [] s of l soon new = absurd (let size = s.long in omega (arith, size))
-  stays_new c (d ∷ past) (j ∷ js) s of l soon new = elim (leb_tells from (length past)) [
-    | inl p ↦ new_next c d past j js s p.1 (omega (arith, soon)) of.0 (stays_new d past js (earlier c d past j js s) of.1 p.1 (omega (arith, soon)) new.1)
+  stays_new c [] on homes begins of l soon new = new.0 (omega (arith, l))
+  stays_new c (d ∷ past) on homes begins of l soon new = elim (leb_tells from (length past)) [
+    | inl p ↦ new_next c d past on homes begins p.1 (omega (arith, soon)) of.0 (stays_new d past on.1 homes.1 begins.1 of.1 p.1 (omega (arith, soon)) new.1)
     | inr p ↦ let below = p.1 in new.0 (omega (arith, l, below))
   ]
+
+  -- so it is new in a later turn before that
+  pub new_later : (at : ℕ) (c : Came) (before : List Came) → from ≤ at → at + 251 ≤ start → GoesOn m switches before → HomesFrom m switches from start members (c ∷ before) → BeginsNoneFrom from (c ∷ before) → AllOfTurn (c ∷ before)
+      → IsNewAt m switches start last members from (c ∷ before) → IsNewAt m switches start last members at (c ∷ before)
+  new_later at c [] late soon on homes begins of new = ((λ e. stays_new c [] on homes begins of (omega (arith, e, late)) (omega (arith, e, soon)) new), tt)
+  new_later at c (d ∷ past) late soon on homes begins of new = (
+    λ e. stays_new c (d ∷ past) on homes begins of (omega (arith, e, late)) (omega (arith, e, soon)) new,
+    new_later at d past late soon on.1 homes.1 begins.1 of.1 new.1,
+  )
+
+module _ (m : Machine) (switches : List Switch) (pins : ℕ → List (List Level)) (entries : List Entry) (lines : ℕ → Clocks) (ready from start last till : ℕ) (members : List Member)
+    (followed : (b : ℕ) → IsMember b members → IsFollowed m b (lines b) ready start last till) (low_so : ready + 255 ≤ start) (set_up : from + 251 ≤ start) (order : start ≤ last) where
+  earlier : (c d : Came) (past : List Came) (j : ℕ → BoardTurn) (js : List (ℕ → BoardTurn)) → IsRestingSection m switches pins entries lines from start members c (d ∷ past) (j ∷ js) → IsRestingSection m switches pins entries lines from start members d past js
+  earlier c d past j js s = cut_rests m switches pins entries lines ready from start last till start members followed (omega (arith, set_up)) (omega (arith, low_so, set_up)) (omega arith) c d past j js s
 
   prepared_here : (at : ℕ) (all : List (ℕ → BoardTurn)) → length all ≡ at → ArePreparedAt m pins entries lines start members at all → ArePrepared m pins entries lines start members all
   prepared_here at [] e k = k e
@@ -90,32 +101,32 @@ module _ (m : Machine) (switches : List Switch) (pins : ℕ → List (List Level
   abbrev At : ℕ
   At = start - 249
 
-  safe_at : (c : Came) (before : List Came) (all : List (ℕ → BoardTurn)) → IsClearSection m switches pins entries lines from start members c before all → AllOfTurn (c ∷ before) → IsNewAt m switches start last members from (c ∷ before)
+  pub safe_at : (c : Came) (before : List Came) (all : List (ℕ → BoardTurn)) → IsRestingSection m switches pins entries lines from start members c before all → AllOfTurn (c ∷ before) → IsNewAt m switches start last members from (c ∷ before)
       → ArePreparedAt m pins entries lines start members (start - 251) all → start + 25 ≤ till → IsSafeAt m switches pins entries lines start last members At (c ∷ before) all
   safe_at c [] [] s of new k r = ((λ e. absurd (omega (arith, e, low_so, set_up))), tt)
   safe_at c [] (j ∷ js) s of new k r = absurd (let size = s.long in omega (arith, size))
   safe_at c (d ∷ past) [] s of new k r = absurd (let size = s.long in omega (arith, size))
   safe_at c (d ∷ past) (j ∷ js) s of new k r = (λ e. here past js s of new k e, safe_at d past js (earlier c d past j js s) of.1 new.1 k.1 r)
     where
-      here : (past : List Came) (js : List (ℕ → BoardTurn)) → IsClearSection m switches pins entries lines from start members c (d ∷ past) (j ∷ js) → AllOfTurn (c ∷ d ∷ past) → IsNewAt m switches start last members from (c ∷ d ∷ past)
+      here : (past : List Came) (js : List (ℕ → BoardTurn)) → IsRestingSection m switches pins entries lines from start members c (d ∷ past) (j ∷ js) → AllOfTurn (c ∷ d ∷ past) → IsNewAt m switches start last members from (c ∷ d ∷ past)
           → ArePreparedAt m pins entries lines start members (start - 251) (j ∷ js) → length (d ∷ past) ≡ At → IsSafeIn m switches pins entries lines start last members c (d ∷ past) (j ∷ js)
       here [] js s of new k e = absurd (omega (arith, e, low_so, set_up))
       here (x ∷ past) [] s of new k e = absurd (let size = s.long in omega (arith, size))
       here (x ∷ past) (i ∷ js) s of new k e =
           let two = earlier c d (x ∷ past) j (i ∷ js) s in
           let one = earlier d x past i js two in
-          let known = stays_new x past js one of.1.1 (omega (arith, e, set_up)) (omega (arith, e, set_up)) new.1.1 in
+          let known = stays_new m switches from start last members set_up x past one.goes_on one.homes one.begins of.1.1 (omega (arith, e, set_up)) (omega (arith, e, set_up)) new.1.1 in
           let size = s.long in
           let first : length past + 1 ≡ length (x ∷ past) = omega arith in
           let second : length past + 2 ≡ length (d ∷ x ∷ past) = omega arith in
-          begins_safe m switches pins entries none lines ready from start last till members followed c d x past j i js s (omega (arith, e, set_up)) (omega (arith, e, low_so, set_up)) (omega (arith, e, set_up)) order (omega (arith, e, set_up, r))
+          begins_safe m switches pins entries lines ready from start last till members followed c d x past j i js s (omega (arith, e, set_up)) (omega (arith, e, low_so, set_up)) (omega (arith, e, set_up)) order (omega (arith, e, set_up, r))
           (subst (λ (n : ℕ). AreOfTurn n d.states) (sym first) of.1.0) (subst (λ (n : ℕ). AreOfTurn n c.states) (sym second) of.0) known.0 known.1 known.2
           (prepared_here (start - 251) js (omega (arith, e, size, set_up)) k.1.1)
 
-  pub begun_never : (c : Came) (before : List Came) (all : List (ℕ → BoardTurn)) → IsClearSection m switches pins entries lines from start members c before all → AllOfTurn (c ∷ before) → length before + 276 ≤ till → from ≤ length before
+  pub begun_never : (c : Came) (before : List Came) (all : List (ℕ → BoardTurn)) → IsRestingSection m switches pins entries lines from start members c before all → AllOfTurn (c ∷ before) → length before + 276 ≤ till → from ≤ length before
       → IsNewAt m switches start last members from (c ∷ before) → ArePreparedAt m pins entries lines start members (start - 251) all
       → (h : Homing) → (noted m c.note (known_by m switches before)).homing ≡ Some h → (b turn : ℕ) → answer_in (length before) h.start (hears_all (noted m c.note (known_by m switches before)).clocks c.states h).group ≡ Some (end.Expired b turn) → ⊥
   begun_never c before all s of reach l new k h is b turn ends =
       let begins = (of_known start members (noted m c.note (known_by m switches before)).homing h (s.homes.0 l).1 is).0 in
       let late = answered_late (length before) h.start (hears_all (noted m c.note (known_by m switches before)).clocks c.states h).group (end.Expired b turn) ends in
-      never_any m switches pins entries lines ready from start last till At members none followed (omega (arith, set_up)) (omega (arith, low_so, set_up)) (omega arith) (omega (arith, set_up)) c before all s reach (omega (arith, late, begins, set_up)) (safe_at c before all s of new k (omega (arith, late, begins, reach))) h is b turn ends
+      never_any m switches pins entries lines ready from start last till At members followed (omega (arith, set_up)) (omega (arith, low_so, set_up)) (omega arith) (omega (arith, set_up)) c before all s reach (omega (arith, late, begins, set_up)) (safe_at c before all s of new k (omega (arith, late, begins, reach))) h is b turn ends

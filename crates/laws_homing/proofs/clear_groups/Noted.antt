@@ -32,7 +32,9 @@ use Rattle.axis_homing.specs.declared.homing.Homing.{Homing}
 use Rattle.laws_homing.specs.home_runs.Told.{IsMember}
 use Rattle.plan_types.specs.declared.machine.AxisDef.{AxisDef}
 use Rattle.plan_types.specs.declared.machine.BoardDef.{BoardDef}
-use Rattle.std.specs.Prelude.{◌||◌, nat_lt}
+use Rattle.std.specs.Prelude.{◌||◌, ◌&&◌, nat_le, nat_lt}
+use Rattle.std.proofs.lemmas.Bool.Decides.{leb_tells}
+use Rattle.trigger_group.specs.declared.seen.Seen.{Seen}
 use Rattle.axis_homing.specs.Homing.{homing_of, homing_with, member_where, members_from, moving_on}
 use Rattle.axis_homing.specs.Rising.{members_of}
 use Rattle.host_reactor.specs.declared.ordered.Known.{Known}
@@ -48,7 +50,7 @@ use Rattle.laws_homing.proofs.clear_groups.Beginning.{same_unseen, unheard}
 -- the section of a note
 abbrev pub IsNewly : Machine → Option Homing → Type 0
 IsNewly m None = Unit {0}
-IsNewly m (Some h) = (h.group.start ≡ h.start) × IsNew h.start h.group.last (members_of h.group) h.group × ((b : ℕ) → IsMember b (members_of h.group) → b < length m.boards)
+IsNewly m (Some h) = (h.group.start ≡ h.start) × IsNew h.start h.group.last (members_of h.group) h.group × ((b : ℕ) → IsMember b (members_of h.group) → b < length m.boards) × (h.start ≤ h.group.last)
 
 -- the members of a section are boards of the machine
 one_within : (b k : ℕ) (endstop some : Bool) (moving : ℕ) → IsMember b (cond some (record { board = k; endstop = endstop; moving = moving } ∷ []) []) → b ≡ k
@@ -69,16 +71,27 @@ members_within m axis moving b k (d ∷ boards) x =
       | inr more ↦ (let l = members_within m axis moving b (k + 1) boards more in omega (arith, l))
     ]
 
-begun_if : (m : Machine) (c : Bool) (section axis turn last : ℕ) (ms : List Member) → ((b : ℕ) → IsMember b ms → b < length m.boards) → IsNewly m (homing_with section axis turn (cond c (Some (new_group ms turn last)) None))
-begun_if m true section axis turn last ms within =
-    (refl, record { begins = refl; ends = refl; unheard = ap (map unseen) (sym (same_unseen ms)); calm = refl }, λ b on. within b (subst (IsMember b) (same_unseen ms) on))
-begun_if m false section axis turn last ms within = tt
+-- and it doesn't end before it starts
+and_true : (a b : Bool) → (a && b) ≡ true → (a ≡ true) × (b ≡ true)
+and_true true b e = (refl, e)
+and_true false b e = cc
+
+may_order : (xs : List Seen) (start last : ℕ) → may_be xs start last ≡ true → start ≤ last
+may_order xs start last e =
+    let parts = and_true (nat_le 254 start) _ e in
+    let order = (and_true (nat_le start last) _ parts.1).0 in
+    elim (leb_tells start last) [ inl p ↦ p.1 | inr p ↦ absurd (let bad : false ≡ true = sym p.0 ∙ order in cc) ]
+
+begun_if : (m : Machine) (c : Bool) (section axis turn last : ℕ) (ms : List Member) → ((b : ℕ) → IsMember b ms → b < length m.boards) → (c ≡ true → turn ≤ last) → IsNewly m (homing_with section axis turn (cond c (Some (new_group ms turn last)) None))
+begun_if m true section axis turn last ms within order =
+    (refl, record { begins = refl; ends = refl; unheard = ap (map unseen) (sym (same_unseen ms)); calm = refl }, λ b on. within b (subst (IsMember b) (same_unseen ms) on), order refl)
+begun_if m false section axis turn last ms within order = tt
 
 begun_newly : (m : Machine) (section : ℕ) (kind : SectionKind) (turn last moving : ℕ) → IsNewly m (homing_of m section kind turn last moving)
 begun_newly m section Moves turn last moving = tt
 begun_newly m section (Home axis) turn last moving =
     let ms = members_from m (axis_at m axis) moving 0 m.boards in
-    begun_if m (may_be (map unseen ms) turn last) section axis turn last ms (λ b on. (let l = members_within m (axis_at m axis) moving b 0 m.boards on in omega (arith, l)))
+    begun_if m (may_be (map unseen ms) turn last) section axis turn last ms (λ b on. (let l = members_within m (axis_at m axis) moving b 0 m.boards on in omega (arith, l))) (may_order (map unseen ms) turn last)
 
 pub some_or_none : (ns : List NoteNews) → BeginsSome ns ⊎ BeginsNone ns
 some_or_none [] = inr tt

@@ -23,11 +23,10 @@ use Rattle.board_sim.specs.Rig.{Rig, takes_all}
 use Rattle.plan_types.specs.declared.plan.TrigState.{TrigState}
 use Rattle.board_world.specs.World.{says, text_of}
 use Rattle.link_work.specs.Answers.{IsAmong}
-use Rattle.link_work.specs.Limits.{AllKeepLimits}
+use Rattle.laws_homing.specs.clear_boards.Rests.{RestsOver}
 use Rattle.link_work.specs.Runs.{queued_in}
 use Rattle.link_work.specs.Stands.{first_state, orders}
 use Rattle.laws_board.specs.turns.Turns.{AreBoardTurns, BoardTurn, stands_after}
-use Rattle.laws_board.specs.clocks.Runs.{orders_in}
 use Rattle.trigger_group.specs.declared.seen.Seen.{Seen}
 use Rattle.trigger_group.specs.Group.{GroupState, came, heard_of, hears_from, later}
 use Rattle.axis_homing.specs.declared.homing.Homing.{Homing}
@@ -65,7 +64,7 @@ all_news : (clocks : Clocks) (turn most : ℕ) (ns : List News) → ((n : News) 
 all_news clocks turn most [] f = tt
 all_news clocks turn most (n ∷ ns) f = (λ when able. f n when (inl refl) able, all_news clocks turn most ns (λ x when m able. f x when (inr m) able))
 
-module _ (b : BoardDef) (pins : List (List Level)) (place : ℕ) (entries : List Entry) (t : BoardTurn) (before : List BoardTurn) (none : entries ≡ []) (are : AreBoardTurns (clock_of b) (first_state b pins place entries) (t ∷ before)) (limits : AllKeepLimits (orders_in (t ∷ before))) where
+module _ (b : BoardDef) (pins : List (List Level)) (place : ℕ) (entries : List Entry) (t : BoardTurn) (before : List BoardTurn) (rests : RestsOver t before) (are : AreBoardTurns (clock_of b) (first_state b pins place entries) (t ∷ before)) where
   abbrev Start : Rig
   Start = (stands_after (first_state b pins place entries) before).core.board
 
@@ -80,7 +79,7 @@ module _ (b : BoardDef) (pins : List (List Level)) (place : ℕ) (entries : List
   able_by clocks most from until small numbered early counts =
       all_news clocks (length before) most t.state.news
       (λ n when among able. (
-      let said = said_in_turn b pins place entries t before n none are limits among in
+      let said = said_in_turn b pins place entries t before n rests are among in
       by_answer clocks (length before) when most from until n.answer said.0 (same_kind said.0 n.answer said.2) said.2 (small_among said.0 All small said.1) (fits_among said.0 All numbered said.1) (early_among from until said.0 All early said.1) counts able))
 
 -- a report

@@ -1,17 +1,18 @@
 -- A board of a clear scene that runs has one trigger once connecting has ended.
-use Rattle.std.proofs.Common.{◌≡◌, ℕ, ◌<◌, ◌==◌, ◌&&◌, ◌⊎◌, inr, Bool, true, false, cond, List, [], ◌∷◌, ◌++◌, refl, ap, sym, ◌∙◌, subst, arith}
+use Rattle.std.proofs.Common.{◌≡◌, ℕ, ◌<◌, ◌==◌, ◌&&◌, ◌⊎◌, inr, Bool, true, false, cond, List, [], ◌∷◌, refl, sym, ◌∙◌, subst, arith}
 use Rattle.std.proofs.lemmas.Bool.{eq-eqb}
 use Rattle.plan_types.specs.declared.levels.Level.{Level}
 use Rattle.plan_types.specs.declared.machine.BoardDef.{BoardDef}
 use Rattle.plan_types.specs.declared.plan.BoardState.TheVariants.{Running}
 use Rattle.plan_types.specs.Clock.{clock_of}
 use Rattle.link_work.specs.Limits.{AllKeepLimits}
-use Rattle.link_work.proofs.Late.{limits_split}
 use Rattle.laws_board.specs.clocks.Runs.{orders_in}
 use Rattle.laws_board.proofs.orders.Controlled.{few_on}
 use Rattle.laws_homing.specs.home_runs.Guards.{IsSole}
 use Rattle.laws_homing.proofs.home_runs.Whole.{Has, OneHas, OneOnly, Only, config_has, filter_has, keep_there, queue_has, queue_only, run_only, there_first}
-use Rattle.laws_homing.proofs.clear_boards.Taking.{taking}
+use Rattle.laws_homing.specs.clear_boards.Rests.{RestsBehind}
+use Rattle.laws_homing.proofs.clear_boards.Rests.{clear_behind, free_at, rests_idle}
+use Rattle.laws_homing.proofs.home_runs.Resting.{rests_took}
 use Rattle.plan_types.specs.declared.machine.Machine.{Machine}
 use Rattle.plan_types.specs.Machines.{IsValidMachine, board_at}
 use Rattle.msg_code.specs.declared.cmd.Cmd.{Cmd}
@@ -19,7 +20,7 @@ use Rattle.msg_code.specs.declared.cmd.Cmd.TheVariants as cmd
 use Rattle.wire_scene.specs.declared.scene.Entry.{Entry}
 use Rattle.wire_scene.specs.declared.scene.Switch.{Switch}
 use Rattle.board_sim.specs.Fair.{Meant, commands_of}
-use Rattle.link_work.specs.Stands.{first_state, orders}
+use Rattle.link_work.specs.Stands.{first_state}
 use Rattle.board_asking.specs.Machine.{trigger_of}
 use Rattle.host_reactor.specs.declared.ordered.Phase.TheVariants.{Connecting}
 use Rattle.host_reactor.specs.Runs.{Came, known_by}
@@ -63,17 +64,13 @@ grown i j s (c ∷ cs) only sole =
 -- the link of a clear scene leaves nothing in its queue
 pub taken_all : (b : BoardDef) (pins : List (List Level)) (board : ℕ) (entries : List Entry) (turns : List BoardTurn) → entries ≡ [] → AreBoardTurns (clock_of b) (first_state b pins board entries) turns → AllKeepLimits (orders_in turns)
     → (stands_after (first_state b pins board entries) turns).core.taken ≡ queued_by turns
-taken_all b pins board entries [] none are limits = refl
-taken_all b pins board entries (t ∷ before) none are limits =
-    let x = taking b pins board entries t before none are limits in
-    let kept = (limits_split (orders_in before) (orders t.control t.batch ∷ []) limits).0 in
-    x.0.taken ∙ ap (λ (ms : List Meant). ms ++ x.0.meant) (taken_all b pins board entries before none are.1 kept) ∙ ap (λ (ms : List Meant). queued_by before ++ ms) x.1
+taken_all b pins board entries turns none are limits = rests_took b pins board entries turns are (free_at b pins board entries turns none are limits).idle
 
--- a board that runs
-pub one_trigger : (m : Machine) (switches : List Switch) (pins : List (List Level)) (entries : List Entry) (b : ℕ) (came : List Came) (turns : List BoardTurn) → IsValidMachine m → entries ≡ [] → IsInRun m switches pins entries b came turns → AllKeepLimits (orders_in turns)
+-- a board that runs, where its link rests
+pub one_rested : (m : Machine) (switches : List Switch) (pins : List (List Level)) (entries : List Entry) (b : ℕ) (came : List Came) (turns : List BoardTurn) → IsValidMachine m → IsInRun m switches pins entries b came turns → RestsBehind turns
     → ((known_by m switches came).phase ≡ Connecting → ⊥) → (stands_after (first_state (board_at m b) pins b entries) turns).core.board.controller.state ≡ Running
     → IsSole (trigger_of m b) (stands_after (first_state (board_at m b) pins b entries) turns).core.board × HasSlot (trigger_of m b) (stands_after (first_state (board_at m b) pins b entries) turns).core.board
-one_trigger m switches pins entries b came turns v none r limits n runs =
+one_rested m switches pins entries b came turns v r rest n runs =
     let j = trigger_of m b in
     let few : j < 256 = (let most = v.steppers_few in let here = few_on b m.steppers in omega (arith, most, here)) in
     let d = board_at m b in
@@ -81,7 +78,13 @@ one_trigger m switches pins entries b came turns v none r limits n runs =
     let g = grown 0 j no_stage (commands_of (queued_by turns)) (queue_only j turns (run_only m switches pins entries b came turns v r)) refl in
     let has = queue_has j turns (filter_has j (commands_in turns) (subst (λ (l : List Cmd). Has j l) (sym all) (config_has m b))) in
     let staged = staged_after d pins b entries turns 0 j (omega arith) few r.turns_are in
-    let taken = taken_all d pins b entries turns none r.turns_are limits in
+    let taken = rests_took d pins b entries turns r.turns_are (rests_idle d pins b entries turns r.turns_are rest) in
     let Stage_of : List Meant → Type 0 = λ ms. ((stage_from 0 j no_stage (commands_of ms)).sole ≡ true) × ((stage_from 0 j no_stage (commands_of ms)).there ≡ true) in
     let stage : Stage_of (stands_after (first_state d pins b entries) turns).core.taken = subst Stage_of (sym taken) (g.0, g.1 (inr has)) in
     ((staged.staged runs).sole stage.0, (staged.staged runs).there stage.1)
+
+-- so in a scene without entries
+pub one_trigger : (m : Machine) (switches : List Switch) (pins : List (List Level)) (entries : List Entry) (b : ℕ) (came : List Came) (turns : List BoardTurn) → IsValidMachine m → entries ≡ [] → IsInRun m switches pins entries b came turns → AllKeepLimits (orders_in turns)
+    → ((known_by m switches came).phase ≡ Connecting → ⊥) → (stands_after (first_state (board_at m b) pins b entries) turns).core.board.controller.state ≡ Running
+    → IsSole (trigger_of m b) (stands_after (first_state (board_at m b) pins b entries) turns).core.board × HasSlot (trigger_of m b) (stands_after (first_state (board_at m b) pins b entries) turns).core.board
+one_trigger m switches pins entries b came turns v none r limits n runs = one_rested m switches pins entries b came turns v r (clear_behind (board_at m b) pins b entries turns none r.turns_are limits) n runs

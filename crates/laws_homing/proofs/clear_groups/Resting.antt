@@ -49,6 +49,7 @@ use Rattle.host_reactor.specs.Reactor.{Reacted}
 use Rattle.host_reactor.specs.Runs.{Came, GoesOn, known_by, last_turn}
 use Rattle.laws_homing.specs.clear_boards.Hearing.{FiringNone, IsFiring}
 use Rattle.laws_homing.specs.clear_boards.Turned.{AreBehind}
+use Rattle.laws_homing.proofs.clear_boards.Rests.{clear_over}
 use Rattle.laws_homing.proofs.clear_boards.Bridging.{none_firing}
 use Rattle.laws_homing.proofs.clear_boards.Member.{turn_off}
 use Rattle.laws_homing.proofs.clear_boards.Ordered.{plain_are, turn_ordered}
@@ -219,7 +220,7 @@ module _ (m : Machine) (v : IsValidMachine m) (switches : List Switch) (pins : L
           | inr off ↦ record { slot = two.slot; is = two.is; fired = off }
           | inl can ↦
               let each = turn_off Oid clock Until (Board turns) Commands (omega (arith, few)) (omega (arith, places, few)) sole (next.sole sole) behind in
-              absurd (news_clash t.state.news tells (none_firing (board_at m b) pins b entries t turns none now.run.turns_are now.limits (HasFired Oid (passes q Until).rig) each (λ f. alive_not (passes q Until).rig two.slot two.is can f)))
+              absurd (news_clash t.state.news tells (none_firing (board_at m b) pins b entries t turns (clear_over (board_at m b) pins b entries t turns none now.run.turns_are now.limits) now.run.turns_are (HasFired Oid (passes q Until).rig) each (λ f. alive_not (passes q Until).rig two.slot two.is can f)))
         ])
       where
         alive_not : (r : Rig) (s : Slot) → slot_at r Oid ≡ Some s → s.trigger.can ≡ true → HasFired Oid r → ⊥

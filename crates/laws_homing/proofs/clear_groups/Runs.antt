@@ -37,6 +37,7 @@ use Rattle.laws_homing.specs.clear_groups.Safe.{IsSafeAt, IsSafeIn}
 use Rattle.laws_homing.specs.clear_groups.Sections.{IsClearSection, IsFollowed, IsPlain, report_ticks, rest_of, rig_at, turns_of}
 use Rattle.laws_homing.specs.clear_groups.SetUp.{HoldsOf, IsPrepared}
 use Rattle.laws_homing.proofs.clear_groups.Beginning.{armed_second, begins_safe}
+use Rattle.laws_homing.proofs.clear_groups.Sections.{rests_section}
 use Rattle.laws_homing.proofs.clear_groups.Ended.{never_any}
 use Rattle.laws_homing.proofs.clear_groups.Known.{answered_late, of_known, some_known}
 use Rattle.laws_homing.proofs.clear_groups.Owning.{one_trigger}
@@ -136,7 +137,7 @@ module _ (m : Machine) (switches : List Switch) (pins : ℕ → List (List Level
                 let at = x.at in
                 let rest = prepared_all start c d e past i j js y (omega (arith, at)) b rise second alone.1 was.1 in
                 let armed =
-                armed_second m switches pins entries none (lines start) ready y.from start y.last till y.members y.followed c d e past i j js y.section y.early y.begins (omega (arith, at)) y.goes (omega (arith, reach)) y.first y.second y.new.0 y.new.1 y.new.2 b on rest in
+                armed_second m switches pins entries (lines start) ready y.from start y.last till y.members y.followed c d e past i j js (rests_section m switches pins entries (lines start) y.from start y.members c (d ∷ e ∷ past) (i ∷ j ∷ js) none y.section) y.early y.begins (omega (arith, at)) y.goes (omega (arith, reach)) y.first y.second y.new.0 y.new.1 y.new.2 b on rest in
                 armed_quiet (trigger_of m b) (lines_tick (lines start b) (start * turn_ns)) (report_ticks m b) _ (rig_at m pins entries (i ∷ j ∷ js) b) armed
           ],
           was.0,
@@ -171,16 +172,21 @@ module _ (m : Machine) (switches : List Switch) (pins : ℕ → List (List Level
       low_so : ready + 255 ≤ start
       safe : IsSafeAt m switches pins entries (lines start) start last members (start - 249) came all
 
-    here : (c d e : Came) (past : List Came) (i j : ℕ → BoardTurn) (js : List (ℕ → BoardTurn)) → IsClearSection m switches pins entries (lines start) from start members c (d ∷ e ∷ past) (i ∷ j ∷ js) → BeginsAlone m switches (d ∷ e ∷ past) → AreSetUp m switches pins entries lines ready till (c ∷ d ∷ e ∷ past) (i ∷ j ∷ js)
-        → length (d ∷ e ∷ past) + 276 ≤ till → length (d ∷ e ∷ past) + 249 ≡ start → Found (c ∷ d ∷ e ∷ past) (i ∷ j ∷ js)
-    here c d e past i j js s alone set_up reach at =
+    -- the set-up of the section
+    pub record Prepared (c d e : Came) (past : List Came) (i j : ℕ → BoardTurn) (js : List (ℕ → BoardTurn)) : Type 0 where
+      pub x : IsSetUp m switches pins entries (lines start) ready till start c d e past i j js
+      pub same : x.members ≡ members
+      pub boards : (b : ℕ) → IsMember b x.members → HoldsOf (trigger_of m b) (λ ps y. IsPrepared (lines_tick (lines start b) (start * turn_ns)) ps y) (rig_at m pins entries js b)
+
+    pub prepared_here : (c d e : Came) (past : List Came) (i j : ℕ → BoardTurn) (js : List (ℕ → BoardTurn)) → IsClearSection m switches pins entries (lines start) from start members c (d ∷ e ∷ past) (i ∷ j ∷ js) → BeginsAlone m switches (d ∷ e ∷ past)
+        → AreSetUp m switches pins entries lines ready till (c ∷ d ∷ e ∷ past) (i ∷ j ∷ js) → length (d ∷ e ∷ past) + 276 ≤ till → length (d ∷ e ∷ past) + 249 ≡ start → Prepared c d e past i j js
+    prepared_here c d e past i j js s alone set_up reach at =
         let known = some_known start members (noted m d.note (known_by m switches (e ∷ past))).homing (s.homes.1.0 (omega (arith, at, begun))).1 in
         let h = known.0 in
         let of = of_known start members (noted m d.note (known_by m switches (e ∷ past))).homing h (s.homes.1.0 (omega (arith, at, begun))).1 known.1 in
         let begins = of.1 in
         let x : IsSetUp m switches pins entries (lines start) ready till start c d e past i j js = subst (λ (n : ℕ). IsSetUp m switches pins entries (lines n) ready till n c d e past i j js) begins (set_up.0 h known.1 (omega (arith, begins, at))) in
         let soon = x.early in
-        let low_so = x.begins in
         let known_members : members_of h.group ≡ x.members = (of_known start x.members (noted m d.note (known_by m switches (e ∷ past))).homing h (x.section.homes.1.0 (omega (arith, soon))).1 known.1).2 in
         let same : x.members ≡ members = sym known_members ∙ of.2 in
         let size = x.section.long in
@@ -188,10 +194,18 @@ module _ (m : Machine) (switches : List Switch) (pins : ℕ → List (List Level
         let rise = rises b (x.section.plain b on).run.board in
         let first = turn_before m switches (pins b) entries b d (e ∷ past) (i b) (turns_of b (j ∷ js)) rise (x.section.plain b on) in
         prepared_all start c d e past i j js x (omega (arith, at)) b rise (turn_before m switches (pins b) entries b e past (j b) (turns_of b js) rise first) alone.1 (quiet_all b rise d (e ∷ past) (j ∷ js) (omega (arith, size)) first alone.1 set_up.1 (omega (arith, reach))).1)) in
+        record { x = x; same = same; boards = prepared }
+
+    here : (c d e : Came) (past : List Came) (i j : ℕ → BoardTurn) (js : List (ℕ → BoardTurn)) → IsClearSection m switches pins entries (lines start) from start members c (d ∷ e ∷ past) (i ∷ j ∷ js) → BeginsAlone m switches (d ∷ e ∷ past) → AreSetUp m switches pins entries lines ready till (c ∷ d ∷ e ∷ past) (i ∷ j ∷ js)
+        → length (d ∷ e ∷ past) + 276 ≤ till → length (d ∷ e ∷ past) + 249 ≡ start → Found (c ∷ d ∷ e ∷ past) (i ∷ j ∷ js)
+    here c d e past i j js s alone set_up reach at =
+        let p = prepared_here c d e past i j js s alone set_up reach at in
+        let x = p.x in
+        let low_so = x.begins in
         let safe_in =
-        begins_safe m switches pins entries none (lines start) ready x.from start x.last till x.members x.followed c d e past i j js x.section x.early x.begins (omega (arith, at)) x.goes (omega (arith, reach)) x.first x.second x.new.0 x.new.1 x.new.2 prepared in
+        begins_safe m switches pins entries (lines start) ready x.from start x.last till x.members x.followed c d e past i j js (rests_section m switches pins entries (lines start) x.from start x.members c (d ∷ e ∷ past) (i ∷ j ∷ js) none x.section) x.early x.begins (omega (arith, at)) x.goes (omega (arith, reach)) x.first x.second x.new.0 x.new.1 x.new.2 p.boards in
         let Both : List Member → Type 0 = λ ms. ((b : ℕ) → IsMember b ms → IsFollowed m b (lines start b) ready start x.last till) × IsSafeIn m switches pins entries (lines start) start x.last ms c (d ∷ e ∷ past) (i ∷ j ∷ js) in
-        let both : Both members = subst Both same (x.followed, safe_in) in
+        let both : Both members = subst Both p.same (x.followed, safe_in) in
         record {
           last = x.last;
           followed = both.0;
@@ -219,4 +233,4 @@ module _ (m : Machine) (switches : List Switch) (pins : ℕ → List (List Level
         let late = answered_late (length before) h.start (hears_all (noted m c.note (known_by m switches before)).clocks c.states h).group (end.Expired b turn) ends in
         let x = find c before all s alone set_up reach (omega (arith, late, begins)) in
         let low_so = x.low_so in
-        never_any m switches pins entries (lines start) ready from start x.last till (start - 249) members none x.followed (omega (arith, begun)) (omega (arith, low_so)) (omega arith) (omega (arith, begun)) c before all s reach (omega (arith, late, begins)) x.safe h is b turn ends
+        never_any m switches pins entries (lines start) ready from start x.last till (start - 249) members x.followed (omega (arith, begun)) (omega (arith, low_so)) (omega arith) (omega (arith, begun)) c before all (rests_section m switches pins entries (lines start) from start members c before all none s) reach (omega (arith, late, begins)) x.safe h is b turn ends

@@ -41,7 +41,7 @@ use Rattle.laws_homing.proofs.home_runs.Sole.{sole_after}
 use Rattle.laws_homing.proofs.home_runs.Staging.{ran_turns}
 use Rattle.laws_homing.proofs.home_runs.Told.{told_stands}
 use Rattle.laws_homing.proofs.home_runs.Windows.{ordered_after}
-use Rattle.laws_homing.specs.fired_runs.Since.{ReadsSwitchTrue, ReadsTrue, WasFiredAt}
+use Rattle.laws_homing.specs.fired_runs.Since.{ReadsAsTold, ReadsSwitchTrue, ReadsTrue, WasFiredAt}
 use Rattle.laws_homing.proofs.fired_runs.Reported.{sole_state}
 use Rattle.laws_homing.specs.switch_runs.Reports.{HearsSoon, IsReport}
 use Rattle.laws_homing.specs.switch_runs.Runs.{IsEndstop}
@@ -172,9 +172,10 @@ pub soon_true : (m : Machine) (switches : List Switch) (pins : List (List Level)
     → IsInRun m switches pins entries b before (t ∷ earlier) → state_at b c.states ≡ latest_state (t ∷ earlier) → (noted m c.note (known_by m switches before)).homing ≡ Some h → from + 254 ≡ h.start
     → HomesFrom m switches from h.start (members_of h.group) before → SetNoClockFrom from (t ∷ earlier) → TakesSetUp (first_state (board_at m b) pins b entries) h.start (t ∷ earlier)
     → (stands_after (first_state (board_at m b) pins b entries) (t ∷ earlier)).core.board.controller.state ≡ Running → HearsSoon m switches b h.start c before t (length earlier)
-    → ReadsTrue m switches b c before (t ∷ earlier) × ReadsSwitchTrue m switches b c before (t ∷ earlier)
+    → ReadsTrue m switches b c before (t ∷ earlier) × ReadsSwitchTrue m switches b c before (t ∷ earlier) × ReadsAsTold m switches b c before (t ∷ earlier)
 soon_true m switches pins entries b c before h from t earlier v r latest known begins since none took runs soon =
     let told = report_true m switches pins entries b c before h from t earlier v r latest known begins since none took runs soon in (
       λ g f is member report. (f.reason, told g f is report),
       λ g f is reader one report. subst (λ (n : ℕ). WasFiredAt (trigger_of m b) n f.tick (t ∷ earlier)) one (told g f is report),
+      λ g f is member report. told g f is report,
     )

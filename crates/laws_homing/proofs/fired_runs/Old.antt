@@ -41,7 +41,7 @@ pub record Old (most : ℕ) (t : Trigger) : Type 0 where
 abbrev pub OldAt : ℕ → ℕ → Rig → Type 0
 OldAt j most r = (oid : ℕ) (s : Slot) → oid ≡ j → slot_at r oid ≡ Some s → Old most s.trigger
 
-clash : (b : Bool) → b ≡ true → b ≡ false → ⊥
+pub clash : (b : Bool) → b ≡ true → b ≡ false → ⊥
 clash true e f = cc
 clash false e f = cc
 
@@ -96,7 +96,7 @@ goes_old : (j most : ℕ) (o : Option (ℕ × ℕ)) (x y : Passed) → OldAt j m
 goes_old j most None x y k l = k
 goes_old j most (Some at) x y k l = l
 
-pass_old : (j most n : ℕ) (r : Rig) (t : ℕ) → OldAt j most r → OldAt j most (pass n r t).rig
+pub pass_old : (j most n : ℕ) (r : Rig) (t : ℕ) → OldAt j most r → OldAt j most (pass n r t).rig
 pass_old j most zero r t all = all
 pass_old j most (suc n) r t all =
     let next = earliest r t 0 r.triggers in
@@ -106,7 +106,7 @@ pass_old j most (suc n) r t all =
     let one = happens_old j most (at_of next).1 t ran (slot_at ran (at_of next).1) refl (same_old j most r ran refl all) in
     goes_old j most next (rests_to r t) (passes_by first rest) (rests_old j most r t all) (pass_old j most n first.rig t one)
 
-passes_old : (j most : ℕ) (r : Rig) (t : ℕ) → OldAt j most r → OldAt j most (passes r t).rig
+pub passes_old : (j most : ℕ) (r : Rig) (t : ℕ) → OldAt j most r → OldAt j most (passes r t).rig
 passes_old j most r t all = by (nat_le r.controller.tick t)
   where
     by : (b : Bool) → let p : Passed = if b then pass (all_left t r.triggers + 1) r t else record { rig = r; pulses = []; answers = [] } in OldAt j most p.rig
@@ -177,7 +177,7 @@ running_old : (o : BoardState) (j most : ℕ) (r : Rig) (c : Cmd) → 0 < most �
 running_old Running j most r c some k all = acts_old j most r c some k all
 running_old (Shut reason at first) j most r c some k all = same_old j most r (acts_running (Shut reason at first) r c).rig refl all
 
-takes_old : (j most : ℕ) (r : Rig) (cs : List Cmd) → 0 < most → EachTame cs → OldAt j most r → OldAt j most (takes_all r cs).rig
+pub takes_old : (j most : ℕ) (r : Rig) (cs : List Cmd) → 0 < most → EachTame cs → OldAt j most r → OldAt j most (takes_all r cs).rig
 takes_old j most r [] some k all = all
 takes_old j most r (c ∷ cs) some k all = takes_old j most (takes r c).rig cs some k.1 (running_old r.controller.state j most r c some k.0 all)
 

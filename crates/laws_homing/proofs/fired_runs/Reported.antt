@@ -59,7 +59,7 @@ pub sole_state : (s t : State) → s ∷ [] ≡ t ∷ [] → s ≡ t
 sole_state s t e = cc
 
 -- the turn of a tick of the run
-turn_if : (in_run : Bool) (n turn : ℕ) → (if in_run then Some n else None) ≡ Some turn → n ≡ turn
+pub turn_if : (in_run : Bool) (n turn : ℕ) → (if in_run then Some n else None) ≡ Some turn → n ≡ turn
 turn_if true n turn e = cc
 turn_if false n turn e = cc
 

@@ -63,7 +63,7 @@ use Rattle.laws_homing.proofs.fired_runs.Reported.{before_start, member_told, so
 use Rattle.laws_homing.proofs.fired_runs.Under.{under_after}
 
 -- what is queued behind some turns
-pub queue_later : (later past : List BoardTurn) → (q : List Meant) × (queued_by (later ++ past) ≡ queued_by past ++ q)
+unfoldable pub queue_later : (later past : List BoardTurn) → (q : List Meant) × (queued_by (later ++ past) ≡ queued_by past ++ q)
 queue_later [] past = ([], sym (append-nil (queued_by past)))
 queue_later (t ∷ later) past =
     let rest = queue_later later past in
@@ -95,7 +95,7 @@ module _ (m : Machine) (switches : List Switch) (pins : List (List Level)) (entr
   of_some None of = absurd of
   of_some (Some h) of = (h, refl, of.0, of.2)
 
-  read_now : (c : Came) (before : List Came) (turns : List BoardTurn) → IsInRun m switches pins entries b before turns → state_at b c.states ≡ latest_state turns → HomesFrom m switches from start ms (c ∷ before) → AreRead R (c ∷ before) turns
+  pub read_now : (c : Came) (before : List Came) (turns : List BoardTurn) → IsInRun m switches pins entries b before turns → state_at b c.states ≡ latest_state turns → HomesFrom m switches from start ms (c ∷ before) → AreRead R (c ∷ before) turns
       → AreBehind m switches b (c ∷ before) → IsReport m switches b start f c before → Read m b start f W turns
   read_now c before [] r latest homes reads behind x = absurd (let came = x.came in cc)
   read_now c before (t ∷ earlier) r latest homes reads behind x =
@@ -117,7 +117,7 @@ module _ (m : Machine) (switches : List Switch) (pins : List (List Level)) (entr
         ];
       }
 
-  was_read : (c : Came) (before : List Came) (turns : List BoardTurn) → IsInRun m switches pins entries b before turns → state_at b c.states ≡ latest_state turns → HomesFrom m switches from start ms (c ∷ before) → AreRead R (c ∷ before) turns
+  pub was_read : (c : Came) (before : List Came) (turns : List BoardTurn) → IsInRun m switches pins entries b before turns → state_at b c.states ≡ latest_state turns → HomesFrom m switches from start ms (c ∷ before) → AreRead R (c ∷ before) turns
       → AreBehind m switches b (c ∷ before) → WasReported m switches b start f (c ∷ before) → Read m b start f W turns
   was_read c before turns r latest homes reads behind (inl now) = read_now c before turns r latest homes reads behind now
   was_read c [] turns r latest homes reads behind (inr old) = absurd old
@@ -184,7 +184,7 @@ module _ (m : Machine) (v : IsValidMachine m) (switches : List Switch) (pins : L
       (left, ap (λ (x : List Meant). x ++ left) o.first ∙ take-append-drop (length core.link.taken) core.queued ∙ all_queued (board_at m b) pins b entries turns are)
 
   -- a trigger that can't trigger is old
-  old_of : (before : List Came) (turns : List BoardTurn) (most : ℕ) → Run before turns → Own (length turns) < most → IsOff Oid (Board turns) → OldAt Oid most (Board turns)
+  pub old_of : (before : List Came) (turns : List BoardTurn) (most : ℕ) → Run before turns → Own (length turns) < most → IsOff Oid (Board turns) → OldAt Oid most (Board turns)
   old_of before turns most r l off oid s own at =
       let low = under_after m switches pins entries b before turns r oid s at in
       let here = off s (subst (λ (n : ℕ). slot_at (Board turns) n ≡ Some s) own at) in
@@ -633,3 +633,17 @@ module _ (m : Machine) (v : IsValidMachine m) (switches : List Switch) (pins : L
             subst (λ (g : Homing). HasFiredSince Oid g.start First turns) same
             (answers_fired c before turns r latest reads behind (λ p. x.0 (sym (noted_phase m c.note known) ∙ p)) u still e own_ends)
       ]
+
+  -- in a turn by which a section that is known hasn't started it
+  pub rest_before : (c : Came) (before : List Came) (turns : List BoardTurn) (h : Homing) → Run before turns → BeginsApart m switches (c ∷ before) → AreReadTrue m switches b before (rest_of turns) → AreBehind m switches b before
+      → (noted m c.note (known_by m switches before)).homing ≡ Some h → length before + 251 ≤ h.start → IsAtRest Oid First turns
+  rest_before c before turns h r apart reads behind is far = elim (all_way before turns r apart.1 reads behind) [
+    | inl x ↦ x.0
+    | inr x ↦
+        let known = known_by m switches before in
+        let u = x.1 in
+        let still : (noted m c.note known).homing ≡ Some u.homing = elim apart.0 [ inl none ↦ noted_none m c.note known none ∙ u.known | inr begun_now ↦ absurd (clash known.homing u.homing begun_now.0 u.known) ] in
+        let same = ap (λ (z : Homing). z.start) (some_same u.homing h (sym still ∙ is)) in
+        let soon = u.soon in
+        absurd (omega (arith, same, soon, far))
+  ]

@@ -79,7 +79,7 @@ no_reading None y e f = cc
 no_reading (Some z) y e f = cc
 
 -- all that is queued is fit
-queued_fit : (E F : ℕ → (ℕ → Type 0)) (pins : List (List Level)) (turns : List BoardTurn) → BringFit E F pins turns → AreFit E F pins (queued_by turns)
+pub queued_fit : (E F : ℕ → (ℕ → Type 0)) (pins : List (List Level)) (turns : List BoardTurn) → BringFit E F pins turns → AreFit E F pins (queued_by turns)
 queued_fit E F pins [] fit = tt
 queued_fit E F pins (t ∷ turns) fit = fit_both E F pins (queued_by turns) (queued_in (orders t.control t.batch)) (queued_fit E F pins turns fit.1) fit.0
 
@@ -641,3 +641,18 @@ module _ (m : Machine) (v : IsValidMachine m) (switches : List Switch) (pins : L
             subst (λ (g : Homing). IsTriggerOf m switches pins entries b g.start g.axis before turns tick) same
             (answers_read c before turns r latest reads behind (λ p. x.0 (sym (noted_phase m c.note known) ∙ p)) u still tick own_ends).1
       ]
+
+  -- in a turn by which a section that is known has begun no readings its trigger reads nothing, and no command is left that has it read
+  pub unread_before : (c : Came) (before : List Came) (turns : List BoardTurn) (h : Homing) → Run before turns → BeginsApart m switches (c ∷ before) → AreRead (ReadsSwitchTrue m switches b) before (rest_of m v switches pins entries b turns)
+      → AreBehind m switches b before → (noted m c.note (known_by m switches before)).homing ≡ Some h → length before + 250 ≤ h.start
+      → ((s : Slot) → slot_at (Board turns) Oid ≡ Some s → s.trigger.sampling ≡ None) × ((left : List Meant) × (Taken turns ++ left ≡ queued_by turns) × AreBlind left)
+  unread_before c before turns h r apart reads behind is far = elim (all_way before turns r apart.1 reads behind) [
+    | inl x ↦ (let u = x.0 in (u.none, (u.left, u.rest, u.blind)))
+    | inr x ↦
+        let known = known_by m switches before in
+        let u = x.1 in
+        let still : (noted m c.note known).homing ≡ Some u.homing = elim apart.0 [ inl none ↦ noted_none m c.note known none ∙ u.known | inr begun_now ↦ absurd (clash known.homing u.homing begun_now.0 u.known) ] in
+        let same = ap (λ (z : Homing). z.start) (some_same u.homing h (sym still ∙ is)) in
+        let soon = u.soon in
+        absurd (omega (arith, same, soon, far))
+  ]

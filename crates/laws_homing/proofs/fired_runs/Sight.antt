@@ -119,7 +119,7 @@ stop_blind : (s : Bool) → Each IsBlind (stop_command s)
 stop_blind true = (tt, tt)
 stop_blind false = tt
 
-question_blind : (commands : List Cmd) (a : Asking) (s : Bool) → Each IsBlind (clock_question commands a ++ stop_command s)
+pub question_blind : (commands : List Cmd) (a : Asking) (s : Bool) → Each IsBlind (clock_question commands a ++ stop_command s)
 question_blind commands a s = each_both IsBlind (clock_question commands a) (stop_command s) (each_if (asks_now commands a) (cmd.GetUptime ∷ []) (tt, tt)) (stop_blind s)
 
 -- orders that begin no readings, or go to other boards
@@ -357,7 +357,7 @@ unit_blind u = one u.reset u.up
     one (Some r) None = (tt, (tt, tt))
     one (Some r) (Some d) = (tt, (tt, (tt, tt)))
 
-units_blind : (us : List StepUnit) → AreBlind (units_orders us)
+pub units_blind : (us : List StepUnit) → AreBlind (units_orders us)
 units_blind [] = tt
 units_blind (u ∷ us) = blind_both (unit_orders u) (units_orders us) (unit_blind u) (units_blind us)
 

@@ -175,7 +175,7 @@ running_under : (o : BoardState) (most : ℕ) (r : Rig) (c : Cmd) → r.controll
 running_under Running most r c l all = acts_under most r c l all
 running_under (Shut reason at first) most r c l all = same_under most r (acts_running (Shut reason at first) r c).rig refl all
 
-takes_under : (most : ℕ) (r : Rig) (cs : List Cmd) → r.controller.tick ≤ most → AllUnder most r → AllUnder most (takes_all r cs).rig
+pub takes_under : (most : ℕ) (r : Rig) (cs : List Cmd) → r.controller.tick ≤ most → AllUnder most r → AllUnder most (takes_all r cs).rig
 takes_under most r [] l all = all
 takes_under most r (c ∷ cs) l all =
     let same = takes_rig_tick r c in

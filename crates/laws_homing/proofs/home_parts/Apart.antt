@@ -23,14 +23,16 @@ use Rattle.session_work.specs.declared.table.MotionTurn.{MotionTurn}
 use Rattle.laws_board.specs.plans.Planned.{Plans}
 use Rattle.laws_homing.specs.home_runs.Words.{BeginsNone}
 use Rattle.laws_homing.proofs.home_runs.Knowing.{noted_none}
-use Rattle.laws_homing.specs.home_plans.Notes.{AreInARow, CameNotes, IsNoteOf, WasBegun}
+use Rattle.laws_homing.specs.home_plans.Notes.{CameNotes, IsNoteOf, WasBegun}
+use Rattle.laws_board.specs.plans.Rows.{AreInARow}
 use Rattle.laws_homing.proofs.home_plans.Fresh.{IsFresh, note_begins}
 use Rattle.laws_homing.proofs.home_plans.Knowing.{now_was}
 use Rattle.laws_homing.specs.home_parts.Answers.{ArePastConnecting, IsPlannedBy, TellsIn}
 use Rattle.laws_homing.specs.home_parts.Known.{KnowsLately}
 use Rattle.laws_homing.proofs.home_parts.Ends.{ends_told}
 use Rattle.laws_homing.proofs.home_parts.Held.{tick_known}
-use Rattle.laws_homing.proofs.home_parts.Told.{past_tail, row_from, tells_now, tells_tail}
+use Rattle.laws_homing.proofs.home_parts.Told.{past_tail, tells_now, tells_tail}
+use Rattle.laws_board.proofs.plans.Rows.{row_from}
 use Rattle.laws_homing.proofs.clear_groups.Over.{told_over}
 use Rattle.laws_homing.specs.fired_runs.Since.{AreBehind, BeginsApart}
 
@@ -177,11 +179,11 @@ goes_front m switches (d ∷ rest) g = g.1
 
 -- as each of the planner's homing sections starts, a board that its clock lines track is no more than a turn ahead of those that are known
 module _ (m : Machine) (switches : List Switch) (b ready first : ℕ) (begun : List Started) (clocks : List Clocks) (early : ready + 1 ≤ first) (row : AreInARow first begun) (kept : AreKept (clocks_at clocks b)) where
-  abbrev Starts : ℕ → Type 0
+  abbrev pub Starts : ℕ → Type 0
   Starts n = (past : List Started) (s : Started) (later : List Started) (axis : ℕ) → begun ≡ past ++ s ∷ later → s.section.kind ≡ Home axis → s.start ≤ n
       → board_tick (clock_of (board_at m b)) (s.start - 1) ≤ lines_tick (clocks_at clocks b) (s.start * turn_ns)
 
-  one_behind : (c : Came) (before : List Came) → GoesOn m switches before → CameNotes begun (c ∷ before) → KnowsLately m switches clocks (c ∷ before) → (ready < length before → (known_by m switches before).phase ≡ Connecting → ⊥) → Starts (length before)
+  pub one_behind : (c : Came) (before : List Came) → GoesOn m switches before → CameNotes begun (c ∷ before) → KnowsLately m switches clocks (c ∷ before) → (ready < length before → (known_by m switches before).phase ≡ Connecting → ⊥) → Starts (length before)
       → (h : Homing) → (noted m c.note (known_by m switches before)).homing ≡ Some h → h.start ≤ length before
       → board_tick (clock_of (board_at m b)) (h.start - 1) ≤ lines_tick (clocks_at (noted m c.note (known_by m switches before)).clocks b) (h.start * turn_ns)
   one_behind c before on notes knows past starts h is late =

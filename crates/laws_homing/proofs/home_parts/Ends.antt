@@ -15,45 +15,11 @@ use Rattle.session_work.specs.Rows.{item}
 use Rattle.laws_board.specs.plans.Answers.{EndByWords, EndsByWord, TookNoneAhead}
 use Rattle.laws_board.proofs.plans.Heard.{heard_all, heard_few}
 use Rattle.laws_board.specs.plans.Planned.{AreToldBy, Plans, put_of, words_in}
-use Rattle.laws_homing.specs.home_plans.Notes.{AreInARow}
-use Rattle.laws_homing.proofs.home_plans.Noting.{begun_row}
+use Rattle.laws_board.specs.plans.Rows.{AreInARow}
+use Rattle.laws_board.proofs.plans.Rows.{Among, among_here, among_parts, begun_row, row_from, row_later, row_past}
 use Rattle.laws_homing.specs.home_parts.Answers.{IsPlannedBy, TellNone, TellsIn}
 use Rattle.laws_homing.proofs.home_parts.Known.{tells_low, told_at, turn_tells, word_tells}
 use Rattle.laws_homing.proofs.home_parts.Taken.{IsTelling, ahead_by, by_more, takes_word, waits_by, waits_word}
-
--- sections in a row
-abbrev pub Among : Started → List Started → Type 0
-Among x [] = ⊥
-Among x (s ∷ ss) = (x ≡ s) ⊎ Among x ss
-
-pub among_here : (past : List Started) (x : Started) (later : List Started) → Among x (past ++ x ∷ later)
-among_here [] x later = inl refl
-among_here (y ∷ past) x later = inr (among_here past x later)
-
-pub among_parts : (x : Started) (past : List Started) (s : Started) (later : List Started) → Among x (past ++ s ∷ later) → Among x past ⊎ ((x ≡ s) ⊎ Among x later)
-among_parts x [] s later a = inr a
-among_parts x (y ∷ past) s later (inl e) = inl (inl e)
-among_parts x (y ∷ past) s later (inr a) = elim (among_parts x past s later a) [ inl b ↦ inl (inr b) | inr b ↦ inr b ]
-
-row_start : (ready : ℕ) (past : List Started) (s : Started) (later : List Started) → AreInARow ready (past ++ s ∷ later) → (ready ≤ s.start) × (s.start ≤ s.end)
-row_start ready [] s later r = (r.0, r.1)
-row_start ready (y ∷ past) s later r = let a = r.0 in let b = r.1 in let c = row_start (y.end + 260) past s later r.2 in let d = c.0 in (omega (arith, a, b, d), c.1)
-
-pub row_past : (ready : ℕ) (x : Started) (past : List Started) (s : Started) (later : List Started) → AreInARow ready (past ++ s ∷ later) → Among x past → (x.start ≤ x.end) × (x.end + 260 ≤ s.start)
-row_past ready x [] s later r a = absurd a
-row_past ready x (y ∷ past) s later r (inl e) =
-    let Of : Started → Type 0 = λ z. (z.start ≤ z.end) × (z.end + 260 ≤ s.start) in
-    subst Of (sym e) (r.1, (row_start (y.end + 260) past s later r.2).0)
-row_past ready x (y ∷ past) s later r (inr a) = row_past (y.end + 260) x past s later r.2 a
-
-row_all : (ready : ℕ) (x : Started) (ss : List Started) → AreInARow ready ss → Among x ss → ready ≤ x.start
-row_all ready x [] r a = absurd a
-row_all ready x (s ∷ ss) r (inl e) = let a = r.0 in let same = ap (λ (z : Started). z.start) e in omega (arith, a, same)
-row_all ready x (s ∷ ss) r (inr a) = let b = r.0 in let c = r.1 in let d = row_all (s.end + 260) x ss r.2 a in omega (arith, b, c, d)
-
-pub row_later : (ready : ℕ) (x : Started) (past : List Started) (s : Started) (later : List Started) → AreInARow ready (past ++ s ∷ later) → Among x later → s.end + 260 ≤ x.start
-row_later ready x [] s later r a = row_all (s.end + 260) x later r.2 a
-row_later ready x (y ∷ past) s later r a = row_later (y.end + 260) x past s later r.2 a
 
 module _ (m : Machine) (switches : List Switch) (n : ℕ) (ts : List MotionTurn) (p : Plans m n ts) (came : List Came) (by : IsPlannedBy m switches n ts p came) where
   abbrev Hears : List MotionTurn
@@ -127,7 +93,7 @@ module _ (m : Machine) (switches : List Switch) (n : ℕ) (ts : List MotionTurn)
             record { x = d.s; axis = d.axis; home = d.home; among = a; none = λ low u. d.none d.s.end (omega (arith, order)) low u }
         | inr b ↦ elim b [
           | inl e ↦ absurd (let same = ap (λ (z : Started). z.start) e in omega (arith, same, late, soon))
-          | inr a ↦ absurd (let far = row_later ready d.s past s later r a in let order = (row_start ready past s later r).1 in omega (arith, far, order, late, soon))
+          | inr a ↦ absurd (let far = row_later ready d.s past s later r a in let order = (row_from ready past s later r).1 in omega (arith, far, order, late, soon))
         ]
       ]
 
@@ -174,7 +140,7 @@ module _ (m : Machine) (switches : List Switch) (n : ℕ) (ts : List MotionTurn)
           let less = t.low in
           let behind = t.behind in
           let before = t.before in
-          let order = (row_start ready past s later (subst Row cut in_row)).1 in
+          let order = (row_from ready past s later (subst Row cut in_row)).1 in
           let most = ahead_by 0 0 t.turn Hears ahead less in
           let one_more = heard_few m n ts p in
           let low : t.place < length came = elim (leb_tells (suc t.place) (length came)) [ inl q ↦ q.1 | inr q ↦ absurd (by.others t.place t.word (let far = q.1 in omega (arith, far)) t.is t.tells) ] in

@@ -20,11 +20,12 @@ use Rattle.laws_board.specs.plans.Planned.{Plans}
 use Rattle.laws_homing.proofs.home_runs.Clocking.{clocks_set}
 use Rattle.laws_homing.proofs.home_runs.Joining.{homes_later}
 use Rattle.laws_homing.proofs.home_runs.Knowing.{homing_known}
-use Rattle.laws_homing.specs.home_plans.Notes.{AreInARow}
+use Rattle.laws_board.specs.plans.Rows.{AreInARow}
 use Rattle.laws_homing.specs.home_parts.Answers.{ArePastConnecting, IsPlannedBy, MayHome}
 use Rattle.laws_homing.specs.home_parts.Cuts.{cut_on, cuts_on}
 use Rattle.laws_homing.specs.home_parts.Movers.{HaveMovers, IsMover}
-use Rattle.laws_homing.proofs.home_parts.Told.{begun_by, home_kind, in_row, row_from, split_at}
+use Rattle.laws_homing.proofs.home_parts.Told.{begun_by, home_kind, in_row, split_at}
+use Rattle.laws_board.proofs.plans.Rows.{row_from}
 
 module _ (m : Machine) (switches : List Switch) (pins : List (List Level)) (entries : List Entry) (b : ℕ) (ts : List MotionTurn) (p : Plans m (length m.boards) ts) (t : Told) (ready : ℕ) (came : List Came) (by : IsPlannedBy m switches (length m.boards) ts p came)
     (told : p.seen.told ≡ Some t) (early : ready + 260 ≤ t.first) (past : ArePastConnecting m switches ready came) (may : MayHome m p.seen.begun) (turns : List BoardTurn) (run : IsInRun m switches pins entries b came turns) where

@@ -21,6 +21,7 @@ use Rattle.laws_board.proofs.clocks.Lines.{as_long, run_before}
 use Rattle.motion_work.specs.Seen.{Started}
 use Rattle.motion_work.specs.Told.{Told}
 use Rattle.session_work.specs.declared.table.MotionTurn.{MotionTurn}
+use Rattle.laws_board.specs.sections.Homes.{RunSection}
 use Rattle.laws_board.specs.plans.Homed.{is_home, is_set_in, stops_of}
 use Rattle.laws_board.specs.plans.Planned.{Plans, put_of}
 use Rattle.laws_board.proofs.plans.Running.{started_in}
@@ -28,8 +29,11 @@ use Rattle.laws_homing.specs.home_runs.Sections.{TakesSetUp}
 use Rattle.laws_homing.specs.home_runs.Words.{IsBegunIn, TellsHomed}
 use Rattle.laws_homing.specs.home_runs.Ended.{AreToldIn, IsToldIn}
 use Rattle.laws_homing.specs.fired_runs.Since.{AllRead, AreBehind, AreRead, AreReadSo, BeginsApart, IsReadSo, ReadsTrue}
-use Rattle.laws_homing.specs.home_plans.Notes.{AreInARow, CameNotes, IsSilentFrom}
-use Rattle.laws_homing.proofs.home_plans.Noting.{begun_in, begun_row, none_later}
+use Rattle.laws_homing.specs.home_plans.Notes.{CameNotes, IsSilentFrom}
+use Rattle.laws_board.specs.plans.Rows.{AreInARow}
+use Rattle.laws_board.proofs.plans.Rows.{row_from}
+use Rattle.laws_homing.proofs.home_plans.Noting.{begun_in, none_later}
+use Rattle.laws_board.proofs.plans.Rows.{begun_row}
 use Rattle.laws_homing.specs.home_parts.Answers.{ArePastConnecting, IsPlannedBy, MayHome, TakeSetUps, TellNone, TellsIn}
 use Rattle.laws_homing.specs.home_parts.Cuts.{cut_on, cuts_on}
 use Rattle.laws_board.proofs.plans.Heard.{heard_few}
@@ -148,10 +152,6 @@ silent m switches ready from to (c ∷ before) early low past none = (
   silent m switches ready from to before early (omega (arith, low)) past.1 none.1,
 )
 
-pub row_from : (ready : ℕ) (past : List Started) (s : Started) (later : List Started) → AreInARow ready (past ++ s ∷ later) → (ready ≤ s.start) × (s.start ≤ s.end)
-row_from ready [] s later r = (r.0, r.1)
-row_from ready (y ∷ past) s later r = let a = r.0 in let b = r.1 in let c = row_from (y.end + 260) past s later r.2 in let d = c.0 in (omega (arith, a, b, d), c.1)
-
 may_at : (m : Machine) (past : List Started) (s : Started) (later : List Started) (axis : ℕ) → s.section.kind ≡ Home axis → MayHome m (past ++ s ∷ later) → may_be (map unseen (members_from m (axis_at m axis) s.moving 0 m.boards)) s.start s.last ≡ true
 may_at m [] s later axis home h = h.0 axis home
 may_at m (y ∷ past) s later axis home h = may_at m past s later axis home h.1
@@ -197,6 +197,12 @@ read_at m switches pins entries b came turns xs c before zs t past run here are 
     let x = so_at m switches pins entries b (ReadsTrue m switches b) came turns xs c before zs t past run here are cut (so.apart, so.reads, so.behind) in
     record { apart = x.0; reads = x.1; behind = x.2 }
 
+-- the section with which a part of a stepper's steps stops that is begun in a turn, in some turns in which it was told of
+abbrev pub ToldAt : Machine → List Switch → List (List Level) → List Entry → ℕ → List RunSection → List BoardTurn → ℕ → ℕ → Type 0
+ToldAt m switches pins entries b ss turns turn end =
+    (past : List RunSection) × (s : RunSection) × (later : List RunSection) × (ss ≡ past ++ s ∷ later) × (s.homes ≡ true) × (s.section.end ≡ end) × (s.section.start ≤ turn + 254) × (turn + 252 ≤ s.section.start)
+    × IsToldIn m switches pins entries b s.section.start end turns
+
 module _ (m : Machine) (switches : List Switch) (pins : List (List Level)) (entries : List Entry) (b : ℕ) (ts : List MotionTurn) (p : Plans m (length m.boards) ts) (t : Told) (ready : ℕ) (came : List Came) (by : IsPlannedBy m switches (length m.boards) ts p came)
     (told : p.seen.told ≡ Some t) (early : ready + 260 ≤ t.first) (past : ArePastConnecting m switches ready came) (may : MayHome m p.seen.begun) where
   pub in_row : AreInARow t.first p.seen.begun
@@ -219,9 +225,10 @@ module _ (m : Machine) (switches : List Switch) (pins : List (List Level)) (entr
       begun_in m switches t.first from axis xs s later behind row home (may_at m xs s later axis home (subst (MayHome m) cut may)) notes calm at (omega (arith, at, start, early)) (omega (arith, low))
 
   -- and one that ended was told of
-  told_one : (turns : List BoardTurn) → IsInRun m switches pins entries b came turns → TakeSetUps m pins entries b p.seen.begun turns ⊎ AreReadSo m switches b came turns → (xs : List Started) (s : Started) (later : List Started) (axis : ℕ) → p.seen.begun ≡ xs ++ s ∷ later → s.section.kind ≡ Home axis
-      → s.end < length came → IsToldIn m switches pins entries b s.start s.end turns
-  told_one turns run takes xs s later axis cut home low =
+  told_one : (turns : List BoardTurn) (run : IsInRun m switches pins entries b came turns) (xs : List Started) (s : Started) (later : List Started) (axis : ℕ) → p.seen.begun ≡ xs ++ s ∷ later → s.section.kind ≡ Home axis
+      → s.end < length came → ((f : Split m switches pins entries b s.end came turns) → length f.past ≡ s.end → TakesSetUp (first_state (board_at m b) pins b entries) s.start f.past ⊎ IsReadSo m switches b f.c f.before f.past)
+      → IsToldIn m switches pins entries b s.start s.end turns
+  told_one turns run xs s later axis cut home low takes =
       let f = split_at m switches pins entries b s.end came turns run low in
       let Row : List Started → Type 0 = λ ss. AreInARow t.first ss in
       let row = subst Row cut in_row in
@@ -239,7 +246,6 @@ module _ (m : Machine) (switches : List Switch) (pins : List (List Level)) (entr
       let notes = subst Notes cut (notes_tail p.seen.begun f.ahead (f.c ∷ f.before) (subst All f.came_is by.notes)) in
       let tells = tells_tail m switches s.end f.ahead (f.c ∷ f.before) (omega (arith, same)) (subst Tells f.came_is (ends_told m switches (length m.boards) ts p came xs s later axis by cut home low)) in
       let long : length f.past ≡ s.end = (let e = as_long m switches b f.before f.past f.run.both.2 in omega (arith, e, same)) in
-      let Set_ups : List Started → Type 0 = λ ss. TakeSetUps m pins entries b ss turns in
       let size = length-map p.made put_of in
       let small = p.small in
       let long_by = by.long in
@@ -262,24 +268,25 @@ module _ (m : Machine) (switches : List Switch) (pins : List (List Level)) (entr
         far = far;
         none = none_later t.first from (length f.before) xs s later f.c.note row notes.0 at (omega (arith, same, at, far)) (omega (arith, same));
         homed = tells_now m switches s.end f.c f.before same tells;
-        fires = elim takes [
-          | inl x ↦ inl (take_at m pins entries b xs s later axis turns home (subst Set_ups cut x) (f.later ++ f.t ∷ []) f.past turns_are long)
-          | inr so ↦ inr (read_at m switches pins entries b came turns f.ahead f.c f.before f.later f.t f.past run f.run f.came_is f.turns_is so)
-        ];
+        fires = takes f long;
       }
 
   pub cut_split : (turn : ℕ) (xs : List Started) (s : Started) (later : List Started) (axis : ℕ) → p.seen.begun ≡ xs ++ s ∷ later → cuts_on m t.clocks turn p.seen.begun b ≡ cuts_on m t.clocks turn xs b ++ cut_on m t.clocks turn b s ∷ cuts_on m t.clocks turn later b
   cut_split turn xs s later axis cut = ap (map (cut_on m t.clocks turn b)) cut ∙ map-append (cut_on m t.clocks turn b) xs (s ∷ later)
 
-  told_in : (turns : List BoardTurn) (until : ℕ) → IsInRun m switches pins entries b came turns → TakeSetUps m pins entries b p.seen.begun turns ⊎ AreReadSo m switches b came turns → AreToldIn m switches pins entries b (stops_of p.seen.begun) (cuts_on m t.clocks until p.seen.begun b) turns
-  told_in turns until run takes turn end stops by_then =
+  -- so those that ended by a turn, by which the board took their set-ups in time, or its reports are read true
+  pub told_to : (turns : List BoardTurn) (until by_turn : ℕ) → IsInRun m switches pins entries b came turns → by_turn ≤ length turns
+      → ((xs : List Started) (s : Started) (later : List Started) (axis : ℕ) → p.seen.begun ≡ xs ++ s ∷ later → s.section.kind ≡ Home axis → s.end ≤ by_turn → (f : Split m switches pins entries b s.end came turns) → length f.past ≡ s.end
+      → TakesSetUp (first_state (board_at m b) pins b entries) s.start f.past ⊎ IsReadSo m switches b f.c f.before f.past)
+      → (turn end : ℕ) → stops_of p.seen.begun turn ≡ Some end → end ≤ by_turn → ToldAt m switches pins entries b (cuts_on m t.clocks until p.seen.begun b) turns turn end
+  told_to turns until by_turn run within takes turn end stops by_then =
       let f = stops_found p.seen.begun turn end stops in
       let size = length-map p.made put_of in
       let small = p.small in
       let long = by.long in
       let e = f.end_is in
       let both = as_long m switches b came turns run.both in
-      let low = ends_low m switches (length m.boards) ts p came f.past f.s f.later f.axis by f.are f.home (λ none. omega (arith, none, e, by_then, both, long, size, small)) in
+      let low = ends_low m switches (length m.boards) ts p came f.past f.s f.later f.axis by f.are f.home (λ none. omega (arith, none, e, by_then, within, both, long, size, small)) in
       let home : is_home f.s.section.kind ≡ true = ap is_home f.home in
       let At : ℕ → Type 0 = λ n. IsToldIn m switches pins entries b f.s.start n turns in (
         cuts_on m t.clocks until f.past b,
@@ -290,10 +297,18 @@ module _ (m : Machine) (switches : List Switch) (pins : List (List Level)) (entr
         e,
         f.soon,
         f.late,
-        subst At e (told_one turns run takes f.past f.s f.later f.axis f.are f.home low),
+        subst At e (told_one turns run f.past f.s f.later f.axis f.are f.home low (takes f.past f.s f.later f.axis f.are f.home (omega (arith, e, by_then)))),
       )
 
 pub all_told : (m : Machine) (switches : List Switch) (pins : List (List Level)) (entries : List Entry) (b ready until : ℕ) (ts : List MotionTurn) (p : Plans m (length m.boards) ts) (t : Told) (came : List Came) (turns : List BoardTurn)
     → IsPlannedBy m switches (length m.boards) ts p came → p.seen.told ≡ Some t → ready + 260 ≤ t.first → ArePastConnecting m switches ready came → MayHome m p.seen.begun → IsInRun m switches pins entries b came turns
     → TakeSetUps m pins entries b p.seen.begun turns ⊎ AreReadSo m switches b came turns → AreToldIn m switches pins entries b (stops_of p.seen.begun) (cuts_on m t.clocks until p.seen.begun b) turns
-all_told m switches pins entries b ready until ts p t came turns by told early past may run takes = told_in m switches pins entries b ts p t ready came by told early past may turns until run takes
+all_told m switches pins entries b ready until ts p t came turns by told early past may run takes =
+    told_to m switches pins entries b ts p t ready came by told early past may turns until (length turns) run (omega arith)
+    (λ xs s later axis cut home low f long. (
+    let Set_ups : List Started → Type 0 = λ ss. TakeSetUps m pins entries b ss turns in
+    let turns_are : turns ≡ (f.later ++ f.t ∷ []) ++ f.past = f.turns_is ∙ sym (append_assoc f.later (f.t ∷ []) f.past) in
+    elim takes [
+      | inl x ↦ inl (take_at m pins entries b xs s later axis turns home (subst Set_ups cut x) (f.later ++ f.t ∷ []) f.past turns_are long)
+      | inr so ↦ inr (read_at m switches pins entries b came turns f.ahead f.c f.before f.later f.t f.past run f.run f.came_is f.turns_is so)
+    ]))

@@ -27,7 +27,8 @@ use Rattle.laws_homing.specs.home_runs.Sections.{IsOf}
 use Rattle.laws_homing.specs.home_runs.Words.{BeginsNone, IsBegunIn}
 use Rattle.laws_homing.proofs.home_runs.Forming.{unseen_members}
 use Rattle.laws_homing.proofs.home_runs.Knowing.{all_none}
-use Rattle.laws_homing.specs.home_plans.Notes.{AreInARow, CameNotes, IsNoteOf, IsSilentFrom}
+use Rattle.laws_homing.specs.home_plans.Notes.{CameNotes, IsNoteOf, IsSilentFrom}
+use Rattle.laws_board.specs.plans.Rows.{AreInARow}
 
 pub none_both : (xs ys : List NoteNews) → BeginsNone xs → BeginsNone ys → BeginsNone (xs ++ ys)
 none_both [] ys a b = b
@@ -141,10 +142,3 @@ begun_in m switches ready from axis past s later (c ∷ before) row kind may not
     own_order : (n : ℕ) (xs : List Started) → AreInARow n (xs ++ s ∷ later) → s.start ≤ s.end
     own_order n [] q = q.1
     own_order n (x ∷ xs) q = own_order (x.end + 260) xs q.2
-
--- the sections that a planner began
-pub begun_row : (m : Machine) (clocks : List Clocks) (ready : ℕ) (begun : List Started) → AreStarted m clocks ready begun → AreInARow ready begun
-begun_row m clocks ready [] a = tt
-begun_row m clocks ready (s ∷ ss) a =
-    let start = a.0.start in
-    (omega (arith, start), planned_late s.section.kind m clocks s a.0.planned, begun_row m clocks (s.end + 260) ss a.1)

@@ -37,7 +37,7 @@ abbrev NoHit : List Level → ℕ → Trigger → Type 0
 NoHit levels until t = (x : ℕ) → SwitchesAt levels t x → until ≤ x
 
 -- what is read up to a tick at which nothing is complete
-read_hits : (levels : List Level) (until : ℕ) (o : Option Sampling) → ((y : Sampling) → o ≡ Some y → (x : ℕ) → IsTriggerTick levels y x → until ≤ x) → (x : ℕ)
+pub read_hits : (levels : List Level) (until : ℕ) (o : Option Sampling) → ((y : Sampling) → o ≡ Some y → (x : ℕ) → IsTriggerTick levels y x → until ≤ x) → (x : ℕ)
     → (Hits levels (trig.read_to levels until o) x → Hits levels o x) × (Hits levels o x → Hits levels (trig.read_to levels until o) x)
 read_hits levels until None far x = ((λ h. h), λ h. h)
 read_hits levels until (Some y) far x = by (completes levels until y) refl
@@ -115,7 +115,7 @@ module _ (T : ℕ → Type 0) (Q : Type 0) (pins : List (List Level)) where
   tells_minds (Some n) until s e k = absurd (let bad : None ≡ Some n = sym k.told ∙ e in cc)
 
 -- where nothing happens before a tick, nothing happens to any trigger
-moment_none : (e : Happening) → moment_of e ≡ None → e ≡ Nothing
+pub moment_none : (e : Happening) → moment_of e ≡ None → e ≡ Nothing
 moment_none Nothing m = refl
 moment_none (Expires t) m = absurd (cc)
 moment_none (Switches t) m = absurd (cc)
@@ -130,7 +130,7 @@ sooner_none oid (Some m) (Some rest) e = absurd (by (nat_le m rest.0) e)
     by true f = cc
     by false f = cc
 
-none_next : (r : Rig) (until oid p : ℕ) (ss : List (Option Slot)) (s : Slot) → get_or ss p None ≡ Some s → earliest r until oid ss ≡ None → moment_in r until (Some s) ≡ None
+pub none_next : (r : Rig) (until oid p : ℕ) (ss : List (Option Slot)) (s : Slot) → get_or ss p None ≡ Some s → earliest r until oid ss ≡ None → moment_in r until (Some s) ≡ None
 none_next r until oid p [] s at e = absurd (cc)
 none_next r until oid zero (o ∷ os) s at e = ap (moment_in r until) (sym at) ∙ (sooner_none oid (moment_in r until o) (earliest r until (oid + 1) os) e).0
 none_next r until oid (suc p) (o ∷ os) s at e = none_next r until (oid + 1) p os s at (sooner_none oid (moment_in r until o) (earliest r until (oid + 1) os) e).1

@@ -39,7 +39,7 @@ use Rattle.laws_homing.proofs.clear_groups.Owning.{one_trigger}
 use Rattle.laws_homing.proofs.clear_groups.Plain.{turn_before}
 use Rattle.laws_homing.proofs.clear_groups.Resting.{board_runs, off_at}
 use Rattle.laws_homing.proofs.clear_groups.Runs.{earlier, prepared_all, quiet_all, rises}
-use Rattle.laws_homing.proofs.clear_groups.Sections.{cut, stays_safe}
+use Rattle.laws_homing.proofs.clear_groups.Sections.{cut, rests_section, stays_safe}
 use Rattle.laws_homing.specs.missed_groups.Known.{AxesLow}
 use Rattle.laws_homing.specs.missed_groups.Ticks.{IsReader, IsSwitchTick}
 use Rattle.laws_homing.proofs.missed_groups.Answering.{Missed, known_read, missed, reader_fired}
@@ -233,10 +233,10 @@ module _ (m : Machine) (v : IsValidMachine m) (switches : List Switch) (pins : �
         let of_board : OfBoard (axis_at m x.new.0.axis).board (length m.boards) x.members = subst (OfBoard (axis_at m x.new.0.axis).board (length m.boards)) noticed_members noticed in
         let set : length past + 251 ≡ start = omega (arith, at) in
         let first_reach : length past + 276 ≤ till = omega (arith, reach) in
-        let safe_in = beginning.begins_safe m switches pins entries none (lines start) ready x.from start x.last till x.members x.followed c d e past i j js x.section x.early x.begins set x.goes first_reach x.first x.second x.new.0 x.new.1 x.new.2 prepared in
+        let safe_in = beginning.begins_safe m switches pins entries (lines start) ready x.from start x.last till x.members x.followed c d e past i j js (rests_section m switches pins entries (lines start) x.from start x.members c (d ∷ e ∷ past) (i ∷ j ∷ js) none x.section) x.early x.begins set x.goes first_reach x.first x.second x.new.0 x.new.1 x.new.2 prepared in
         let is_known = begins_known m v switches pins entries none (lines start) ready x.from start x.last till x.members x.followed c d e past i j js x.section x.early x.begins set x.goes first_reach x.first x.second x.new.0 x.new.1 x.new.2 low_axis of_board in
         let mindful = begins_mindful m v switches pins entries none (lines start) ready x.from start x.last till x.members x.followed c d e past i j js x.section x.early x.begins set x.goes first_reach x.first x.second x.new.0 x.new.1 x.new.2 low_axis of_board prepared rests in
-        let Second : Homing = beginning.Second m switches pins entries none (lines start) ready x.from start x.last till x.members x.followed c d e past i j js x.section x.early x.begins set x.goes first_reach x.first x.second x.new.0 x.new.1 x.new.2 in
+        let Second : Homing = beginning.Second m switches pins entries (lines start) ready x.from start x.last till x.members x.followed c d e past i j js (rests_section m switches pins entries (lines start) x.from start x.members c (d ∷ e ∷ past) (i ∷ j ∷ js) none x.section) x.early x.begins set x.goes first_reach x.first x.second x.new.0 x.new.1 x.new.2 in
         let minds_in : MindsIn m switches pins entries (lines start) start x.last x.members c (d ∷ e ∷ past) (i ∷ j ∷ js) = (Second, is_known, mindful) in
         let All : List Member → Type 0 = λ ms. ((b : ℕ) → IsMember b ms → IsFollowed m b (lines start b) ready start x.last till) × IsSafeIn m switches pins entries (lines start) start x.last ms c (d ∷ e ∷ past) (i ∷ j ∷ js)
         × MindsIn m switches pins entries (lines start) start x.last ms c (d ∷ e ∷ past) (i ∷ j ∷ js) in

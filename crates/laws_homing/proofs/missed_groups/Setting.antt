@@ -38,10 +38,11 @@ use Rattle.laws_homing.proofs.clear_boards.Clocking.{timeout_ahead}
 use Rattle.laws_homing.proofs.clear_boards.Standing.{runs_through, tick_is}
 use Rattle.laws_homing.proofs.clear_boards.Taking.{takes_in_turn}
 use Rattle.laws_homing.proofs.clear_boards.Turned.{above, next_all, ran}
-use Rattle.laws_homing.specs.clear_groups.Sections.{AreOfTurn, IsClearSection, IsFollowed, IsPlain, report_ticks, rig_at, turns_of}
+use Rattle.laws_homing.specs.clear_groups.Sections.{AreOfTurn, IsClearSection, IsFollowed, IsPlain, IsRestingSection, report_ticks, rig_at, turns_of}
 use Rattle.laws_homing.specs.clear_groups.SetUp.{HoldsOf, IsArmed, IsNew, IsPrepared}
 use Rattle.laws_homing.proofs.clear_groups.Beginning as beginning
 use Rattle.laws_homing.proofs.clear_groups.Plain.{turn_before}
+use Rattle.laws_homing.proofs.clear_groups.Sections.{rests_section}
 use Rattle.laws_homing.proofs.clear_groups.Resting.{board_runs}
 use Rattle.laws_homing.proofs.clear_groups.SetUp.{takes_both}
 use Rattle.laws_homing.specs.missed_groups.Ticks.{IsReader, IsSwitchTick}
@@ -100,11 +101,14 @@ module _ (m : Machine) (v : IsValidMachine m) (switches : List Switch) (pins : �
     (s : IsClearSection m switches pins entries lines from start members c (d ∷ e ∷ past) (i ∷ j ∷ js)) (early : from ≤ length past) (low_so : ready + 4 ≤ length past) (set_up : length past + 251 ≡ start) (order : start ≤ last) (reach : length past + 276 ≤ till)
     (first : AreOfTurn (length past + 1) d.states) (second : AreOfTurn (length past + 2) c.states) (h : Homing) (is : (noted m e.note (known_by m switches past)).homing ≡ Some h)
     (new : IsNew start last members (hears_all (noted m e.note (known_by m switches past)).clocks e.states h).group) (low_axis : h.axis < length m.axes) (of : OfBoard (axis_at m h.axis).board (length m.boards) members) where
+  abbrev Rested : IsRestingSection m switches pins entries lines from start members c (d ∷ e ∷ past) (i ∷ j ∷ js)
+  Rested = rests_section m switches pins entries lines from start members c (d ∷ e ∷ past) (i ∷ j ∷ js) none s
+
   abbrev Last_homing : Homing
-  Last_homing = beginning.Last m switches pins entries none lines ready from start last till members followed c d e past i j js s early low_so set_up order reach first second h is new
+  Last_homing = beginning.Last m switches pins entries lines ready from start last till members followed c d e past i j js Rested early low_so set_up order reach first second h is new
 
   abbrev Heard_homing : Homing
-  Heard_homing = beginning.Heard m switches pins entries none lines ready from start last till members followed c d e past i j js s early low_so set_up order reach first second h is new
+  Heard_homing = beginning.Heard m switches pins entries lines ready from start last till members followed c d e past i j js Rested early low_so set_up order reach first second h is new
 
   abbrev Q : Type 0
   Q = KnownIn last Last_homing.group.members
@@ -132,7 +136,7 @@ module _ (m : Machine) (v : IsValidMachine m) (switches : List Switch) (pins : �
     plain_first = turn_before m switches (pins b) entries b e past (j b) (turns_of b js) (followed b on).ticks.up plain_mid
 
     long : length past ≡ length (turns_of b js)
-    long = beginning.long_first m switches pins entries none lines ready from start last till members followed c d e past i j js s early low_so set_up order reach first second h is new b on prep
+    long = beginning.long_first m switches pins entries lines ready from start last till members followed c d e past i j js Rested early low_so set_up order reach first second h is new b on prep
 
     -- the turn of the start
     abbrev Cs_first : List Cmd
@@ -141,10 +145,10 @@ module _ (m : Machine) (v : IsValidMachine m) (switches : List Switch) (pins : �
     first_able : Minded Oid Never Q (rig_at m pins entries (j ∷ js) b)
     first_able =
         let r = rig_at m pins entries js b in
-        let o = beginning.ordered_first m switches pins entries none lines ready from start last till members followed c d e past i j js s early low_so set_up order reach first second h is new b on prep in
-        let begins = beginning.begins_at m switches pins entries none lines ready from start last till members followed c d e past i j js s early low_so set_up order reach first second h is new in
-        let sends = beginning.sends_first m switches pins entries none lines ready from start last till members followed c d e past i j js s early low_so set_up order reach first second h is new b on prep in
-        let armed = beginning.armed_first m switches pins entries none lines ready from start last till members followed c d e past i j js s early low_so set_up order reach first second h is new b on prep in
+        let o = beginning.ordered_first m switches pins entries lines ready from start last till members followed c d e past i j js Rested early low_so set_up order reach first second h is new b on prep in
+        let begins = beginning.begins_at m switches pins entries lines ready from start last till members followed c d e past i j js Rested early low_so set_up order reach first second h is new in
+        let sends = beginning.sends_first m switches pins entries lines ready from start last till members followed c d e past i j js Rested early low_so set_up order reach first second h is new b on prep in
+        let armed = beginning.armed_first m switches pins entries lines ready from start last till members followed c d e past i j js Rested early low_so set_up order reach first second h is new b on prep in
         let g = (hears_all (noted m e.note (known_by m switches past)).clocks e.states h).group in
         let A : List Cmd = commands_to m (lines b) b start Axis (round_of (Starts Earliest) g.members) in
         let cut : Cs_first ≡ A ++ o.tail = o.are ∙ ap (λ (n : ℕ). commands_to m (lines b) b n Axis (orders g (length past)) ++ o.tail) begins ∙ ap (λ (cs : List Ctl). commands_to m (lines b) b start Axis cs ++ o.tail) sends in
@@ -193,7 +197,7 @@ module _ (m : Machine) (v : IsValidMachine m) (switches : List Switch) (pins : �
           let runs_tail : (takes_all q tail).rig.controller.state ≡ Running = ap (λ (z : Rig). z.controller.state) (sym rigs) ∙ runs in
           let taken = takes_in_turn (board_at m b) (pins b) b entries (i b) (turns_of b (j ∷ js)) none plain_last.run.turns_are plain_last.limits in
           let now : rig_at m pins entries (i ∷ j ∷ js) b ≡ (passes (takes_all q tail).rig until).rig = taken ∙ ap (λ (z : Rig). (passes z until).rig) rigs in
-          let armed = beginning.armed_second m switches pins entries none lines ready from start last till members followed c d e past i j js s early low_so set_up order reach first second h is new b on prep in
+          let armed = beginning.armed_second m switches pins entries lines ready from start last till members followed c d e past i j js Rested early low_so set_up order reach first second h is new b on prep in
           let alive : HasFired Oid (passes (takes_all q tail).rig until).rig → ⊥ =
           (λ off. armed_alive Oid Base (report_ticks m b) (lines_tick (lines b) (Earliest * turn_ns)) (rig_at m pins entries (i ∷ j ∷ js) b) armed (subst (HasFired Oid) (sym now) off)) in
           let minded = able_minded Oid T Q q (alive_before Oid until q tail behind alive) (able (ran q tail runs_tail)) in
@@ -203,17 +207,17 @@ module _ (m : Machine) (v : IsValidMachine m) (switches : List Switch) (pins : �
     second_minded =
         let r = rig_at m pins entries (j ∷ js) b in
         let f = followed b on in
-        let o = beginning.ordered_second m switches pins entries none lines ready from start last till members followed c d e past i j js s early low_so set_up order reach first second h is new b on prep in
-        let begins = beginning.begins_at m switches pins entries none lines ready from start last till members followed c d e past i j js s early low_so set_up order reach first second h is new in
-        let sends = beginning.sends_second m switches pins entries none lines ready from start last till members followed c d e past i j js s early low_so set_up order reach first second h is new b on prep in
+        let o = beginning.ordered_second m switches pins entries lines ready from start last till members followed c d e past i j js Rested early low_so set_up order reach first second h is new b on prep in
+        let begins = beginning.begins_at m switches pins entries lines ready from start last till members followed c d e past i j js Rested early low_so set_up order reach first second h is new in
+        let sends = beginning.sends_second m switches pins entries lines ready from start last till members followed c d e past i j js Rested early low_so set_up order reach first second h is new b on prep in
         let g = Heard_homing.group in
         let k = length (e ∷ past) in
         let A : List Cmd = commands_to m (lines b) b start Axis (round_of Homes g.members) in
         let cut : Cs_second ≡ A ++ o.tail = o.are ∙ ap (λ (n : ℕ). commands_to m (lines b) b n Axis (orders g k) ++ o.tail) begins ∙ ap (λ (cs : List Ctl). commands_to m (lines b) b start Axis cs ++ o.tail) sends in
         let x = first_able in
         let never : Able Oid Never Q r = record { slot = x.slot; is = x.is; minds = λ can. x.minds } in
-        let members_so : members_of g ≡ members = ap (λ (y : GroupState). members_of y) (beginning.group_first m switches pins entries none lines ready from start last till members followed c d e past i j js s early low_so set_up order reach first second h is new)
-        ∙ beginning.members_are m switches pins entries none lines ready from start last till members followed c d e past i j js s early low_so set_up order reach first second h is new b on prep in
+        let members_so : members_of g ≡ members = ap (λ (y : GroupState). members_of y) (beginning.group_first m switches pins entries lines ready from start last till members followed c d e past i j js Rested early low_so set_up order reach first second h is new)
+        ∙ beginning.members_are m switches pins entries lines ready from start last till members followed c d e past i j js Rested early low_so set_up order reach first second h is new b on prep in
         let T : ℕ → Type 0 = Reads m pins lines start last members h.axis (axis_at m h.axis).board b in
         let pins_now = (rig_at m pins entries (i ∷ j ∷ js) b).pins in
         let turn = length (turns_of b (j ∷ js)) in
@@ -241,7 +245,7 @@ module _ (m : Machine) (v : IsValidMachine m) (switches : List Switch) (pins : �
       → ((b : ℕ) → IsMember b members → RestsOf (trigger_of m b) (rig_at m pins entries js b))
       → IsMindful m pins lines start last members h.axis (axis_at m h.axis).board (length (d ∷ e ∷ past)) Last_homing.group (rig_at m pins entries (i ∷ j ∷ js))
   begins_mindful prep rests =
-      let group = beginning.group_second m switches pins entries none lines ready from start last till members followed c d e past i j js s early low_so set_up order reach first second h is new in
+      let group = beginning.group_second m switches pins entries lines ready from start last till members followed c d e past i j js Rested early low_so set_up order reach first second h is new in
       let calm : Last_homing.group.relay ≡ None = ap (λ (g : GroupState). g.relay) group ∙ new.calm in
       let members_are : Last_homing.group.members ≡ map unseen members = ap (λ (g : GroupState). g.members) group ∙ new.unheard in
       let own = (axis_at m h.axis).board in
@@ -252,5 +256,5 @@ module _ (m : Machine) (v : IsValidMachine m) (switches : List Switch) (pins : �
         told = subst (Each W own) (sym members_are) (each_unseen W own members of.0);
       }
 
-  pub begins_known : (noted m c.note (known_by m switches (d ∷ e ∷ past))).homing ≡ Some (beginning.Second m switches pins entries none lines ready from start last till members followed c d e past i j js s early low_so set_up order reach first second h is new)
-  begins_known = (beginning.known_second m switches pins entries none lines ready from start last till members followed c d e past i j js s early low_so set_up order reach first second h is new).0
+  pub begins_known : (noted m c.note (known_by m switches (d ∷ e ∷ past))).homing ≡ Some (beginning.Second m switches pins entries lines ready from start last till members followed c d e past i j js Rested early low_so set_up order reach first second h is new)
+  begins_known = (beginning.known_second m switches pins entries lines ready from start last till members followed c d e past i j js Rested early low_so set_up order reach first second h is new).0

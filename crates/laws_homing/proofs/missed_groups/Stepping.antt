@@ -90,18 +90,18 @@ no_both : (b : Bool) → b ≡ true → b ≡ false → ⊥
 no_both true e f = cc
 no_both false e f = cc
 
-both_parts : (a b : Bool) → (a && b) ≡ true → (a ≡ true) × (b ≡ true)
+pub both_parts : (a b : Bool) → (a && b) ≡ true → (a ≡ true) × (b ≡ true)
 both_parts true b e = (refl, e)
 both_parts false b e = cc
 
-either_part : (a b : Bool) → (a || b) ≡ true → (a ≡ true) ⊎ (b ≡ true)
+pub either_part : (a b : Bool) → (a || b) ≡ true → (a ≡ true) ⊎ (b ≡ true)
 either_part true b e = inl refl
 either_part false b e = inr e
 
-le_so : (a b : ℕ) → nat_le a b ≡ true → a ≤ b
+pub le_so : (a b : ℕ) → nat_le a b ≡ true → a ≤ b
 le_so a b e = elim (leb_tells a b) [ inl p ↦ p.1 | inr p ↦ absurd (let bad : false ≡ true = sym p.0 ∙ e in cc) ]
 
-none_relay : (cs : List Cmd) → RelayNone cs → RelaysOne cs → ⊥
+pub none_relay : (cs : List Cmd) → RelayNone cs → RelaysOne cs → ⊥
 none_relay [] n o = o
 none_relay (c ∷ cs) n (inl now) = n.0 now
 none_relay (c ∷ cs) n (inr more) = none_relay cs n.1 more
@@ -120,10 +120,14 @@ relay_of_if : (b : Bool) (g x : GroupState) → (cond b g x).relay ≡ cond b g.
 relay_of_if true g x = refl
 relay_of_if false g x = refl
 
-relay_after : (p : Phase) (g : GroupState) (turn k : ℕ) → (after_in p g turn).relay ≡ Some k → (g.relay ≡ Some k) ⊎ ((k ≡ turn) × (relay_begins g turn ≡ true))
+pub relay_after : (p : Phase) (g : GroupState) (turn k : ℕ) → (after_in p g turn).relay ≡ Some k → (g.relay ≡ Some k) ⊎ ((k ≡ turn) × (relay_begins g turn ≡ true))
 relay_after (Sends round) g turn k e = inl e
 relay_after Rests g turn k e = inl e
 relay_after Goes g turn k e = relay_goes (all_fired g.members) g turn k (sym (relay_of_if (all_fired g.members) g _) ∙ e)
+
+pub calm_meant : (i oid clock : ℕ) (ms : List Meant) → above (commands_of ms) ≤ i → AreBehind oid clock (commands_of ms) → AreCalm i oid ms
+calm_meant i oid clock [] less k = tt
+calm_meant i oid clock (x ∷ ms) less k = (calm_one i oid clock x.command (omega (arith, less)) k.0, calm_meant i oid clock ms (omega (arith, less)) k.1)
 
 -- what a board minds in a section, and what the group knows
 module _ (m : Machine) (pins : ℕ → List (List Level)) (lines : ℕ → Clocks) (start last : ℕ) (members : List Member) (axis own : ℕ) where
@@ -176,25 +180,25 @@ module _ (m : Machine) (v : IsValidMachine m) (switches : List Switch) (pins : �
   abbrev Mindful : ℕ → GroupState → (ℕ → Rig) → Type 0
   Mindful = IsMindful m pins lines start last members axis own
 
-  next_known : ((noted m c.note (known_by m switches (d ∷ past))).homing ≡ Some Behind) × (answer_in K h.start G ≡ None)
+  pub next_known : ((noted m c.note (known_by m switches (d ∷ past))).homing ≡ Some Behind) × (answer_in K h.start G ≡ None)
   next_known = homing_next m switches from start members c d past h s.homes s.begins.0 s.goes_on early is
 
   now_of : (h.start ≡ start) × (h.group.start ≡ start) × (members_of h.group ≡ members)
   now_of = of_known start members (noted m d.note (known_by m switches past)).homing h (s.homes.1.0 early).1 is
 
-  next_of : (Behind.start ≡ start) × (Behind.group.start ≡ start) × (members_of Behind.group ≡ members)
+  pub next_of : (Behind.start ≡ start) × (Behind.group.start ≡ start) × (members_of Behind.group ≡ members)
   next_of = of_known start members (noted m c.note (known_by m switches (d ∷ past))).homing Behind (s.homes.0 (omega (arith, early))).1 next_known.0
 
-  hears : Hears (after G K) N
+  pub hears : Hears (after G K) N
   hears = hears_keep All c.states Behind
 
-  same_members : (after G K).members ≡ G.members
+  pub same_members : (after G K).members ≡ G.members
   same_members = after_members G K
 
-  are_members : members_of G ≡ members
+  pub are_members : members_of G ≡ members
   are_members = ap (λ (xs : List Seen). map (λ (x : Seen). x.member) xs) (sym same_members) ∙ next_of.2
 
-  unended : G.start ≡ start → G.start ≤ K → all_fired G.members ≡ false
+  pub unended : G.start ≡ start → G.start ≤ K → all_fired G.members ≡ false
   unended e l = (let same = now_of.0 in open_group K h.start G next_known.1 (omega (arith, l, e, same)))
 
   connected : (known_by m switches past).phase ≡ Connecting → ⊥
@@ -202,39 +206,53 @@ module _ (m : Machine) (v : IsValidMachine m) (switches : List Switch) (pins : �
 
   -- one of its boards
   module _ (b : ℕ) (on : IsMember b members) where
-    plain : IsPlain m switches (pins b) entries b (d ∷ past) (turns_of b (j ∷ js))
+    pub plain : IsPlain m switches (pins b) entries b (d ∷ past) (turns_of b (j ∷ js))
     plain = s.plain b on
 
-    before : IsPlain m switches (pins b) entries b past (turns_of b js)
+    pub before : IsPlain m switches (pins b) entries b past (turns_of b js)
     before = turn_before m switches (pins b) entries b d past (j b) (turns_of b js) (followed b on).ticks.up plain
 
-    within : b < length m.boards
+    pub within : b < length m.boards
     within = plain.run.board
 
-    long : K ≡ length (turns_of b js)
+    pub long : K ≡ length (turns_of b js)
     long = as_long m switches b past (turns_of b js) plain.run.both.2
 
     -- the clock lines that are known
-    abbrev Lines : Clocks
+    abbrev pub Lines : Clocks
     Lines = clocks_at (noted m d.note (known_by m switches past)).clocks b
 
-    ordered : IsOrdered m Lines b h K G (Commands b)
+    pub ordered : IsOrdered m Lines b h K G (Commands b)
     ordered = turn_ordered m switches (pins b) entries b d past (j b) (turns_of b js) h plain.run is (λ e. connected (sym (noted_phase m d.note (known_by m switches past)) ∙ e)) next_known.1
 
-    sent : G.start ≡ start → IsSent m Lines b K G (Commands b)
+    pub sent : G.start ≡ start → IsSent m Lines b K G (Commands b)
     sent e = sent_from m Lines b h K G (Commands b) ordered (omega (arith, e, far)) (unended e)
 
-    abbrev Clock : ℕ
+    abbrev pub Clock : ℕ
     Clock = low (turn_tick Lines (after G K).sent)
 
-    taken : Later b ≡ (passes (takes_all (Rigs b) (Commands b)).rig (Own b (length (turns_of b js) + 1))).rig
+    pub taken : Later b ≡ (passes (takes_all (Rigs b) (Commands b)).rig (Own b (length (turns_of b js) + 1))).rig
     taken = takes_in_turn (board_at m b) (pins b) b entries (j b) (turns_of b js) none plain.run.turns_are plain.limits
 
-    sound : AllSound (Rigs b)
+    pub sound : AllSound (Rigs b)
     sound = sound_at (board_at m b) (pins b) b entries (turns_of b js) before.run.turns_are
 
-    at_tick : (Rigs b).controller.tick ≡ Own b (length (turns_of b js))
+    pub at_tick : (Rigs b).controller.tick ≡ Own b (length (turns_of b js))
     at_tick = tick_is (board_at m b) (pins b) b entries (turns_of b js) before.run.turns_are
+
+    -- what it says is heard
+    pub watched : (i : ℕ) → IsWatched i (trigger_of m b) (stands_after (first_state (board_at m b) (pins b) b entries) (turns_of b js)).core
+    watched i =
+        let p = before in
+        let d0 = board_at m b in
+        let core = (stands_after (first_state d0 (pins b) b entries) (turns_of b js)).core in
+        record {
+          sole = (one_trigger m switches (pins b) entries b past (turns_of b js) v none p.run p.limits connected (board_runs m v switches (pins b) entries none b past (turns_of b js) p)).0;
+          left = [];
+          rest = append-nil core.taken ∙ taken_all d0 (pins b) b entries (turns_of b js) none p.run.turns_are p.limits ∙ sym (all_queued d0 (pins b) b entries (turns_of b js) p.run.turns_are);
+          calm = tt;
+          heard = rests_up d0 (pins b) b entries (turns_of b js) p.run.turns_are (clear_at d0 (pins b) b entries (turns_of b js) none p.run.turns_are p.limits).1.none;
+        }
 
     -- five turns behind the section's last one it can't trigger
     over : (limit : ℕ) → limit ≡ lines_tick (lines b) ((last + 1) * turn_ns) → last + 5 ≤ K → (u : Slot) → slot_at (Rigs b) (trigger_of m b) ≡ Some u → u.trigger.timeout ≡ Some limit → ⊥
@@ -252,7 +270,7 @@ module _ (m : Machine) (v : IsValidMachine m) (switches : List Switch) (pins : �
         let here = at_tick in
         omega (arith, soon, same, ahead_so, rise, here)
 
-    off_late : IsSafe m lines start last members K G Rigs → last + 5 ≤ K → (u : Slot) → slot_at (Rigs b) (trigger_of m b) ≡ Some u → u.trigger.can ≡ true → ⊥
+    pub off_late : IsSafe m lines start last members K G Rigs → last + 5 ≤ K → (u : Slot) → slot_at (Rigs b) (trigger_of m b) ≡ Some u → u.trigger.can ≡ true → ⊥
     off_late safe late u there can = by safe.held
       where
         by : IsHeld m lines start last members K G Rigs → ⊥
@@ -352,23 +370,6 @@ module _ (m : Machine) (v : IsValidMachine m) (switches : List Switch) (pins : �
         let one = fired_on (above cs) oid reason r q (next_all oid (Clock b on) r cs (sent b on safe.begins).behind) z in
         let two = fired_on (above cs) oid reason q (passes q until).rig (passes_next (above cs) oid q until) one in
         subst (FiredSo oid reason) (sym (taken b on)) two
-
-    watched : (b : ℕ) → IsMember b members → (i : ℕ) → IsWatched i (trigger_of m b) (stands_after (first_state (board_at m b) (pins b) b entries) (turns_of b js)).core
-    watched b on i =
-        let p = before b on in
-        let d0 = board_at m b in
-        let core = (stands_after (first_state d0 (pins b) b entries) (turns_of b js)).core in
-        record {
-          sole = (one_trigger m switches (pins b) entries b past (turns_of b js) v none p.run p.limits connected (board_runs m v switches (pins b) entries none b past (turns_of b js) p)).0;
-          left = [];
-          rest = append-nil core.taken ∙ taken_all d0 (pins b) b entries (turns_of b js) none p.run.turns_are p.limits ∙ sym (all_queued d0 (pins b) b entries (turns_of b js) p.run.turns_are);
-          calm = tt;
-          heard = rests_up d0 (pins b) b entries (turns_of b js) p.run.turns_are (clear_at d0 (pins b) b entries (turns_of b js) none p.run.turns_are p.limits).1.none;
-        }
-
-    calm_meant : (i oid clock : ℕ) (ms : List Meant) → above (commands_of ms) ≤ i → AreBehind oid clock (commands_of ms) → AreCalm i oid ms
-    calm_meant i oid clock [] less k = tt
-    calm_meant i oid clock (x ∷ ms) less k = (calm_one i oid clock x.command (omega (arith, less)) k.0, calm_meant i oid clock ms (omega (arith, less)) k.1)
 
     one_state : (x y : State) → x ∷ [] ≡ y ∷ [] → x ≡ y
     one_state x y e = cc

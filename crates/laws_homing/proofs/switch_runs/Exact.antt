@@ -1,5 +1,5 @@
 -- Where a board takes the homing command in time, a section's readings begin exactly at the tick at which it starts.
-use Rattle.std.proofs.Common.{◌≡◌, ℕ, ◌+◌, ◌*◌, ◌/◌, ◌^◌, ◌<◌, ◌≤◌, List, [], ◌∷◌, ◌++◌, length, Some, ap, sym, ◌∙◌, subst, arith, inl, inr, append_assoc, length-append}
+use Rattle.std.proofs.Common.{◌≡◌, ℕ, ◌+◌, ◌*◌, ◌/◌, ◌^◌, ◌<◌, ◌≤◌, List, [], ◌∷◌, ◌++◌, length, Some, refl, ap, sym, ◌∙◌, subst, arith, inl, inr, append_assoc, length-append}
 use Rattle.std.specs.Prelude.{slice_index_or}
 use Rattle.std.proofs.lemmas.Bool.Decides.{leb_tells}
 use Rattle.plan_types.specs.declared.levels.Level.{Level}
@@ -58,8 +58,20 @@ exact_tick m b start axis clocks pins base now tick some is small before near k 
     let begun = same_sampling (Sampled m clocks b start axis (Unit {0}) pins base now at before some) k.sampling k.begun in
     subst (λ (y : Sampling). IsTriggerTick (slice_index_or pins axis.pin []) y tick) (sym begun ∙ sampled_is m clocks b start axis (Unit {0}) pins base now at before some) k.complete
 
+-- and what is read from there on is what the command has it read
+pub exact_back : (m : Machine) (b start : ℕ) (axis : AxisDef) (clocks : Clocks) (pins : List (List Level)) (base now tick : ℕ) → 0 < (board_at m b).freq / 10_000 → lines_tick clocks (start * turn_ns) ≡ base → base < 2 ^ 64
+    → now ≤ base → base ≤ now + 2 ^ 31 → IsSwitchTick m pins b axis base tick → IsComplete (slice_index_or pins axis.pin []) (readings m b axis (low (turn_tick clocks start))) now tick
+exact_back m b start axis clocks pins base now tick some is small before near hit =
+    let same : turn_tick clocks start ≡ base = omega (arith, is, small) in
+    let at : nearest now (low (turn_tick clocks start)) ≡ base = subst (λ (n : ℕ). nearest now (low n) ≡ base) (sym same) (nearest_is now (low base) base (omega (arith, before), near) (omega arith)) in
+    record {
+      sampling = Sampled m clocks b start axis (Unit {0}) pins base now at before some;
+      begun = refl;
+      complete = subst (λ (y : Sampling). IsTriggerTick (slice_index_or pins axis.pin []) y tick) (sym (sampled_is m clocks b start axis (Unit {0}) pins base now at before some)) hit;
+    }
+
 -- of two parts of some turns the shorter one is part of the longer
-front_part : (xs ys us vs : List BoardTurn) → xs ++ ys ≡ us ++ vs → length ys ≤ length vs → (d : List BoardTurn) × (vs ≡ d ++ ys)
+pub front_part : (xs ys us vs : List BoardTurn) → xs ++ ys ≡ us ++ vs → length ys ≤ length vs → (d : List BoardTurn) × (vs ≡ d ++ ys)
 front_part xs ys us vs e low = elim (cuts xs ys us vs e) [
   | inr p ↦ (p.0 ∷ p.1, p.3)
   | inl p ↦ ([], none p.0 (let size = ap length p.2 ∙ length-append p.0 vs in omega (arith, size, low)) p.2)

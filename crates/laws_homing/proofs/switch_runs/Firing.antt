@@ -296,7 +296,7 @@ bind_true E F G pins r oid other (Some q) (Some s) e all =
     (record { reason = k.reason; expire = k.expire; other = k.other; fired = k.fired; sampled = k.sampled; ended = k.ended })
 
 -- the readings that a command begins are for its reason
-begun_reason : (b : Bool) (now : ℕ) (g : Homing) (y : Sampling)
+pub begun_reason : (b : Bool) (now : ℕ) (g : Homing) (y : Sampling)
     → (if b then None else Some (record { at = trig.first_from now (nearest now g.clock) (trig.rest_of g); sample = g.sample_ticks; count = g.sample_count; rest = trig.rest_of g; value = g.pin_value == 1; reason = g.reason })) ≡ Some y → g.reason ≡ y.reason
 begun_reason true now g y e = absurd (cc)
 begun_reason false now g y e = cc

@@ -179,7 +179,7 @@ time_stood e j P r t k = record {
 }
 
 -- commands in two parts
-only_parts : (j : ℕ) (xs ys : List Meant) → Only j (commands_of (xs ++ ys)) → Only j (commands_of xs) × Only j (commands_of ys)
+pub only_parts : (j : ℕ) (xs ys : List Meant) → Only j (commands_of (xs ++ ys)) → Only j (commands_of xs) × Only j (commands_of ys)
 only_parts j [] ys a = (tt, a)
 only_parts j (x ∷ xs) ys a = let p = only_parts j xs ys a.1 in ((a.0, p.0), p.1)
 
@@ -199,7 +199,7 @@ made_so e j taken ms r k m =
     let Makes : List Cmd → Type 0 = λ cs. MakesEndstop e cs in
     elim (made_parts e (commands_of taken) (commands_of ms) (subst Makes (commands_both taken ms) m)) [ inl old ↦ elim (k.made old) [ inl h ↦ inl h | inr none ↦ absurd none ] | inr new ↦ inr new ]
 
-took_standing : (e j : ℕ) (taken ms : List Meant) (r : Rig) → IsStanding e j taken r → IsStanding e j (taken ++ ms) (takes_all r (commands_of ms)).rig
+pub took_standing : (e j : ℕ) (taken ms : List Meant) (r : Rig) → IsStanding e j taken r → IsStanding e j (taken ++ ms) (takes_all r (commands_of ms)).rig
 took_standing e j taken ms r old runs only =
     let both = only_parts j taken ms only in
     let k = old (ran r (commands_of ms) runs) both.0 in

@@ -194,7 +194,7 @@ question_fit E F pins commands a stop =
     one true = (tt, tt)
     one false = tt
 
-lines_at : (b : ℕ) (clocks : List Clocks) (own : Clocks) → turning.clocks_at b clocks ≡ own ∷ [] → own ≡ clocks_at clocks b
+pub lines_at : (b : ℕ) (clocks : List Clocks) (own : Clocks) → turning.clocks_at b clocks ≡ own ∷ [] → own ≡ clocks_at clocks b
 lines_at b [] own e = cc
 lines_at zero (c ∷ clocks) own e = cc
 lines_at (suc b) (c ∷ clocks) own e = lines_at b clocks own e

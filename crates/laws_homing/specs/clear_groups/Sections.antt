@@ -28,6 +28,7 @@ use Rattle.laws_homing.specs.home_runs.Sections.{HomesFrom}
 use Rattle.laws_homing.specs.home_runs.Told.{IsMember}
 use Rattle.laws_homing.specs.home_runs.Words.{BeginsNone}
 use Rattle.laws_homing.specs.clear_boards.Expiry.{TellExpiry}
+use Rattle.laws_homing.specs.clear_boards.Rests.{RestsFrom}
 
 -- of what each board did in some turns, the latest first, what one board did
 abbrev pub turns_of : ℕ → List (ℕ → BoardTurn) → List BoardTurn
@@ -83,16 +84,40 @@ pub record IsPlain (m : Machine) (switches : List Switch) (pins : List (List Lev
   pub none_shut : ShutNone turns
   pub in_range : board_tick (clock_of (board_at m b)) (length turns) < 2 ^ 63
 
--- A homing section that is known from a turn on, as the reactor begins another turn: no later note begins one, by the clock lines that are known with it
--- turns begin as by these, and the reactor and the members' boards go on together.
-pub record IsClearSection (m : Machine) (switches : List Switch) (pins : ℕ → List (List Level)) (entries : List Entry) (lines : ℕ → Clocks) (from start : ℕ) (members : List Member) (c : Came) (before : List Came) (all : List (ℕ → BoardTurn)) : Type 0 where
+-- A member's board in a run that goes on, in any scene: its link rests in each turn from a number on, and none of its
+-- states tells of a shutdown.
+pub record IsOnward (m : Machine) (switches : List Switch) (pins : List (List Level)) (entries : List Entry)
+    (b from : ℕ) (before : List Came) (turns : List BoardTurn) : Type 0 where
+  pub run : IsInRun m switches pins entries b before turns
+  pub rests : RestsFrom from turns
+  pub none_shut : ShutNone turns
+  pub in_range : board_tick (clock_of (board_at m b)) (length turns) < 2 ^ 63
+
+-- A homing section that is known from a turn on, as the reactor begins another turn: no later note begins one, by the
+-- clock lines that are known with it turns begin as by these, and the reactor and the members' boards, of which
+-- something holds, go on together.
+pub record IsHomingSection (Goes : ℕ → List Came → List BoardTurn → Type 0) (m : Machine) (switches : List Switch)
+    (lines : ℕ → Clocks) (from start : ℕ) (members : List Member) (c : Came) (before : List Came)
+    (all : List (ℕ → BoardTurn)) : Type 0 where
   pub goes_on : GoesOn m switches before
   pub long : length all ≡ length before
   pub homes : HomesFrom m switches from start members (c ∷ before)
   pub begins : BeginsNoneFrom from (c ∷ before)
   pub knows : KnowsLines m switches start lines (c ∷ before)
-  pub plain : (b : ℕ) → IsMember b members → IsPlain m switches (pins b) entries b before (turns_of b all)
+  pub plain : (b : ℕ) → IsMember b members → Goes b before (turns_of b all)
   pub states : (b : ℕ) → IsMember b members → state_at b c.states ≡ latest_state (turns_of b all)
+
+-- so with boards in a scene without entries
+abbrev pub IsClearSection : Machine → List Switch → (pins : ℕ → List (List Level)) → List Entry → (lines : ℕ → Clocks)
+    → (from start : ℕ) → List Member → Came → List Came → List (ℕ → BoardTurn) → Type 0
+IsClearSection m switches pins entries lines from start members c before all =
+    IsHomingSection (λ b. IsPlain m switches (pins b) entries b) m switches lines from start members c before all
+
+-- and with boards whose links rest from then on
+abbrev pub IsRestingSection : Machine → List Switch → (pins : ℕ → List (List Level)) → List Entry
+    → (lines : ℕ → Clocks) → (from start : ℕ) → List Member → Came → List Came → List (ℕ → BoardTurn) → Type 0
+IsRestingSection m switches pins entries lines from start members c before all =
+    IsHomingSection (λ b. IsOnward m switches (pins b) entries b from) m switches lines from start members c before all
 
 -- a board behind its turns
 abbrev pub rig_at : Machine → (ℕ → List (List Level)) → List Entry → List (ℕ → BoardTurn) → ℕ → Rig

@@ -58,6 +58,15 @@ ReadsSwitchTrue m switches b c before turns =
     IsReader b (members_of h.group) → f.reason ≡ 1 → IsReport m switches b h.start f c before →
     WasFiredAt (trigger_of m b) 1 f.tick turns
 
+-- Where the state of a board that comes in a turn of the reactor tells that its trigger has triggered, and that counts
+-- for the homing section that is known, of which the board is a member, it is read as what it told: the board's trigger
+-- could not trigger since the tick as which it is read, for the told reason, as one of these turns ended.
+abbrev pub ReadsAsTold : Machine → List Switch → ℕ → Came → List Came → List BoardTurn → Type 0
+ReadsAsTold m switches b c before turns =
+    (h : Homing) (f : Fired) → (noted m c.note (known_by m switches before)).homing ≡ Some h →
+    IsMember b (members_of h.group) → IsReport m switches b h.start f c before →
+    WasFiredAt (trigger_of m b) f.reason f.tick turns
+
 -- so in each of some turns; the first state that came is that of the latest of the board's turns
 abbrev pub AreRead : (Came → List Came → List BoardTurn → Type 0) → List Came → List BoardTurn → Type 0
 AreRead R [] turns = Unit {0}

@@ -31,11 +31,6 @@ abbrev pub CameNotes : List Started → List Came → Type 0
 CameNotes begun [] = Unit {0}
 CameNotes begun (c ∷ before) = IsNoteOf begun (length before) c.note × CameNotes begun before
 
--- sections one behind the other, each 260 turns after the end of the one before or later
-abbrev pub AreInARow : ℕ → List Started → Type 0
-AreInARow ready [] = Unit {0}
-AreInARow ready (s ∷ ss) = (ready ≤ s.start) × (s.start ≤ s.end) × AreInARow (s.end + 260) ss
-
 -- in some turns from a number on a run is past connecting, and no word tells of an answer
 abbrev pub IsSilentFrom : Machine → List Switch → ℕ → List Came → Type 0
 IsSilentFrom m switches from [] = Unit {0}

@@ -113,11 +113,11 @@ no_sign d h = grind (arith, nat_tests)
 no_minus : (d : ℕ) → is_digit d ≡ true → (d == 45) ≡ false
 no_minus d h = grind (arith, nat_tests)
 
-unsigned_same : (ds rest : List ℕ) → AreDigits ds → without is_sign (ds ++ 46 ∷ rest) ≡ ds ++ 46 ∷ rest
+pub unsigned_same : (ds rest : List ℕ) → AreDigits ds → without is_sign (ds ++ 46 ∷ rest) ≡ ds ++ 46 ∷ rest
 unsigned_same [] rest h = refl
 unsigned_same (d ∷ ds) rest h = let e = no_sign d h.0 in rw e refl
 
-not_minus : (ds rest : List ℕ) → AreDigits ds → begins (λ b. b == 45) (ds ++ 46 ∷ rest) ≡ false
+pub not_minus : (ds rest : List ℕ) → AreDigits ds → begins (λ b. b == 45) (ds ++ 46 ∷ rest) ≡ false
 not_minus [] rest h = refl
 not_minus (d ∷ ds) rest h = no_minus d h.0
 
@@ -129,7 +129,7 @@ no_more : (rest : List ℕ) → IsBehind rest → begins (λ b. is_point b || is
 no_more [] h = refl
 no_more (b ∷ rest) h = h.1
 
-parts_made : (text ds six rest : List ℕ) (negative : Bool) → without is_sign text ≡ ds ++ 46 ∷ (six ++ rest) → begins (λ b. b == 45) text ≡ negative → AreDigits ds → AreDigits six → IsBehind rest
+pub parts_made : (text ds six rest : List ℕ) (negative : Bool) → without is_sign text ≡ ds ++ 46 ∷ (six ++ rest) → begins (λ b. b == 45) text ≡ negative → AreDigits ds → AreDigits six → IsBehind rest
     → parts_of text ≡ record { negative = negative; whole = ds; decimals = six; rest = rest }
 unfolding parts_of
 parts_made text ds six rest negative e f h k r =

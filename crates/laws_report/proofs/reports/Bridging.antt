@@ -1,6 +1,6 @@
 -- Lines that follow the plan and stand in order go through the sections.
 use Rattle.std.proofs.Common.{◌≡◌, ◌∙◌, ◌⊎◌, inl, inr, ℕ, ◌+◌, ◌<◌, ◌≤◌, Bool, true, false, List, [], ◌∷◌, ◌++◌, length, ap, sym, refl, subst, arith, Option, Some, append_assoc, length-append}
-use Rattle.std.specs.Prelude.{◌==◌, if◌then◌else◌, slice_index_or}
+use Rattle.std.specs.Prelude.{◌==◌, slice_index_or, if◌then◌else◌}
 use Rattle.std.proofs.lemmas.Bool.Decides.{nat_tests}
 use Rattle.std.proofs.lemmas.List.{length-map}
 use Rattle.std.proofs.Math.Seq.{get_or-append_seam}
@@ -29,7 +29,7 @@ use Rattle.laws_report.proofs.reports.Running.{told-more}
 use Rattle.laws_run.specs.home_headline.Cuts.{cuts_of}
 use Rattle.laws_report.specs.reports.Cuts.{cuts_in, lines_before}
 use Rattle.laws_report.specs.reports.Shown.{lines_behind, pulses_before, pulses_in, section_turn, sections_shown}
-use Rattle.laws_report.specs.reports.Body.{no_section}
+use Rattle.log_check.specs.Points.{no_section}
 use Rattle.laws_report.specs.reports.Headline.{kind_of, moves_of, plan_by}
 use Rattle.laws_report.specs.reports.Promises.{FollowsPlanBy}
 use Rattle.laws_report.proofs.reports.Ends.{section_end-after}

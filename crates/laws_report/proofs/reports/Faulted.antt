@@ -1,6 +1,6 @@
 -- The last turn of a run that ends for a read that failed.
 use Rattle.std.proofs.Common.{◌≡◌, ◌⊎◌, ◌∙◌, inl, inr, ℕ, ◌+◌, Bool, true, false, List, [], ◌∷◌, ◌++◌, length, Option, Some, None, ap, sym, refl, append-nil}
-use Rattle.std.specs.Prelude.{◌==◌, if◌then◌else◌, ◌||◌}
+use Rattle.std.specs.Prelude.{◌==◌, ◌||◌, if◌then◌else◌}
 use Rattle.std.specs.List.{flat_map}
 use Rattle.plan_types.specs.declared.cause.Cause.{Cause}
 use Rattle.plan_types.specs.declared.cause.Cause.TheVariants as cause
@@ -104,6 +104,10 @@ goes_none m switches before t h =
     let r = known_by m switches before in
     let free = (blames m switches r (length before) t.states t.note).goes h.0.goes_on in
     ap counts_of h.0.lines_are ∙ (counted m switches r (length before) t.states t.note free.0).on h.0.goes_on
+
+pub going_none : (m : Machine) (switches : List Switch) (before : List Came) (rs : List ReactorTurn) → AreReactorTurns m switches before rs → counts_of (gather (λ t. t.lines) rs) ≡ []
+going_none m switches before [] turns = refl
+going_none m switches before (t ∷ rs) turns = both_none t.lines (gather (λ (x : ReactorTurn). x.lines) rs) (goes_none m switches before t (turns.0, tt)) (going_none m switches (came_in t ∷ before) rs turns.1)
 
 pub plain_none : (m : Machine) (switches : List Switch) (before : List Came) (rs : List ReactorTurn) (end : ReactorTurn) (known : Known) (k : ℕ) → AreReactorTurns m switches before rs → end.lines ≡ first_lines m known k (news_of end.note) end.states
     → counts_of (gather (λ t. t.lines) (rs ++ end ∷ [])) ≡ []

@@ -24,13 +24,12 @@ use Rattle.laws_board.specs.plans.Lines.{TellTurns, head_in, heads_of, starts_at
 use Rattle.laws_board.proofs.plans.Beginning.{Spread}
 use Rattle.laws_run.specs.run_ends.Ends.{GoesThrough}
 use Rattle.laws_run.specs.run_lines.Due.{begun_lines}
-use Rattle.laws_homing.specs.home_plans.Notes.{AreInARow}
-use Rattle.laws_homing.proofs.home_parts.Ends.{Among, row_later, row_past}
-use Rattle.laws_homing.proofs.home_parts.Told.{row_from}
+use Rattle.laws_board.specs.plans.Rows.{AreInARow}
+use Rattle.laws_board.proofs.plans.Rows.{Among, row_from, row_later, row_past}
 use Rattle.laws_run.specs.home_headline.Cuts.{EndsIn, TellEnds, TellsSwitch, cut_in, cuts_of}
 use Rattle.laws_run.proofs.home_headline.Ended.{cut_same}
 use Rattle.laws_report.specs.reports.Cuts.{HaveCuts, IsCutOf, cuts_in, lines_before, scene_line}
-use Rattle.laws_report.specs.reports.Body.{no_section}
+use Rattle.log_check.specs.Points.{no_section}
 use Rattle.laws_report.specs.reports.Headline.{kind_of}
 use Rattle.laws_report.specs.reports.Shown.{begins, lines_behind, section_turn}
 use Rattle.log_check.specs.Points.{section_at}

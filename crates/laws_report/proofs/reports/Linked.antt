@@ -1,5 +1,5 @@
 -- The report of a run over links follows the plans.
-use Rattle.std.proofs.Common.{take-append-drop, ◌≡◌, ◌≢◌, ℕ, zero, suc, ◌+◌, ◌<◌, ◌≤◌, ◌⊎◌, Bool, true, false, All, List, [], ◌∷◌, ◌++◌, get_or, map, take, drop, length, Some, None, refl, ap, sym, ◌∙◌, subst, arith, inl, inr, append_assoc, append-nil, length-append}
+use Rattle.std.proofs.Common.{take-append-drop, ◌≡◌, ◌≢◌, ℕ, zero, suc, ◌+◌, ◌<◌, ◌≤◌, ◌⊎◌, Bool, true, false, All, List, [], ◌∷◌, ◌++◌, get_or, map, take, drop, length, Some, None, refl, ap, sym, ◌∙◌, subst, arith, inl, inr, append_assoc, append-nil}
 use Rattle.std.proofs.Math.Logic.{∥∥₁_elim, ∥∥₁_map}
 use Rattle.std.proofs.Props.{props}
 use Rattle.std.specs.Prelude.{◌-◌, ◌==◌, if◌then◌else◌}
@@ -30,6 +30,7 @@ use Rattle.host_reactor.specs.Running.{text_end}
 use Rattle.motion_work.specs.Seen.{AreStarted, IsPlanned, Started}
 use Rattle.session_lanes.specs.declared.near.LinkLog.{LinkLog}
 use Rattle.section_feed.specs.Fewer.{AreFirstLines}
+use Rattle.session_work.specs.declared.table.MotionTurn.{MotionTurn}
 use Rattle.session_work.specs.declared.table.ReactorTurn.{ReactorTurn}
 use Rattle.session_work.specs.Rows.{gather}
 use Rattle.session_work.proofs.Goes.{gather_on}
@@ -42,7 +43,7 @@ use Rattle.laws_board.specs.plans.Lines.{TellTurns, pulse_in, pulses_of}
 use Rattle.laws_board.proofs.plans.Beginning.{Spread}
 use Rattle.laws_board.proofs.plans.Spreading.{plans_spread}
 use Rattle.laws_board.specs.sections.Boards.{IsWindow, NextStart}
-use Rattle.laws_run.specs.run_headline.Timely.{clocks_heard, ready_heard}
+use Rattle.laws_run.specs.run_headline.Timely.{AreOfMoves, clocks_heard, ready_heard}
 use Rattle.laws_run.specs.run_ends.Ends.{GoesThrough}
 use Rattle.host_reactor.specs.Rows.{IsOwn}
 use Rattle.laws_run.specs.run_headline.Made.{IsNamed}
@@ -71,14 +72,15 @@ use Rattle.laws_run.specs.run_lines.Due.{AreFirst, begun_lines}
 use Rattle.laws_run.proofs.run_lines.Further.{Reach, reach}
 use Rattle.laws_run.proofs.run_lines.Heads.{ShowStarts, first_heads, whole_heads}
 use Rattle.laws_run.specs.run_ends.Boards.{counts_of}
-use Rattle.laws_report.specs.reports.Body.{cause_of, no_section}
+use Rattle.laws_report.specs.reports.Body.{cause_of}
+use Rattle.log_check.specs.Points.{no_section}
 use Rattle.laws_report.specs.reports.Headline.{kind_of, moves_of}
-use Rattle.laws_homing.proofs.home_plans.Noting.{begun_row}
+use Rattle.laws_board.proofs.plans.Rows.{begun_row}
 use Rattle.laws_run.specs.home_headline.Cuts.{TellEnds}
 use Rattle.laws_run.specs.home_headline.Follow.{AllShowBegun, AllShowHomes, HaveBegunLines, ShowHomes, ShowBegun}
 use Rattle.laws_run.specs.run_headline.Made.{IsMade}
-use Rattle.laws_run.specs.home_headline.Little.{AllHomeLittle, ShownHoldLittle}
-use Rattle.laws_run.proofs.home_headline.Clear.{clear_little}
+use Rattle.laws_run.specs.home_headline.Near.{AllKeepUp}
+use Rattle.laws_run.proofs.home_headline.Held.{near_keeps}
 use Rattle.laws_run.proofs.home_headline.Heads.{begun_heads, home_boards, homes_apart, homes_further, homes_sound, show_begun}
 use Rattle.laws_run.proofs.run_headline.Cutting.{run_front}
 use Rattle.laws_run.proofs.run_headline.Making.{front_made}
@@ -94,8 +96,9 @@ use Rattle.laws_run.proofs.home_wholes.Own.{run_own}
 use Rattle.laws_run.proofs.home_wholes.Shows.{all_wholes}
 use Rattle.laws_run.proofs.clear_homes.Clear as homed
 use Rattle.laws_run.proofs.clear_homes.First.{run_first, run_unswitched}
+use Rattle.laws_run.proofs.hindered_runs.Ending.{run_hindered}
+use Rattle.laws_run.proofs.missed_switches.Missing.{run_missed}
 use Rattle.laws_run.proofs.run_causes.Answering as answering
-use Rattle.laws_run.proofs.clear_homes.Through.{soon_all}
 use Rattle.laws_board.specs.causes.Short.{HaveShortDictionaries}
 use Rattle.laws_run.specs.clear_runs.Clear.{SendsAllSoon}
 use Rattle.laws_run.proofs.clear_runs.Stopped.{run_is_for}
@@ -103,7 +106,13 @@ use Rattle.laws_report.specs.reports.Promises.{FollowsPlanBy, IsCauseOf, lines_l
 use Rattle.laws_report.specs.reports.Homes.{ShowsBegun}
 use Rattle.laws_report.proofs.reports.Homes.{IsCompleteOfMovesBefore, IsCompleteOfMovesBy, ShowsHomes}
 use Rattle.laws_report.specs.reports.Linked.{EndsFor, EndsUnswitched, IsLinkReport, MeetPremise}
+use Rattle.laws_report.specs.page.Log.{log_of}
 use Rattle.laws_report.specs.page.Report.{Shows}
+use Rattle.laws_report.specs.reports.Read.{IsSceneFor}
+use Rattle.laws_report.specs.page.Steps.{counts_planned}
+use Rattle.laws_report.specs.reports.Checks.{check_cause}
+use Rattle.laws_report.specs.reports.Names.{HasNames}
+use Rattle.report_text.specs.Text.{report_text}
 use Rattle.laws_report.specs.reports.Cuts.{HaveCuts}
 use Rattle.laws_report.specs.reports.Shown.{lines_behind, pulses_before, pulses_in, section_turn, sections_shown}
 use Rattle.laws_report.proofs.reports.Behind.{AreNumbered, behind, behind_front, in_stays, next_begun, numbered_front}
@@ -367,7 +376,7 @@ read_causes : (x : DeskStop) (c : Cause) → c ≡ desk.cause_of x → (c ≡ ca
 read_causes stop.Memory c e = inl e
 read_causes stop.Failed c e = inr (inl e)
 
-some_turns : {T : Type 0} (xs : List T) (x : T) → (y : T) × (ys : List T) × (xs ++ x ∷ [] ≡ y ∷ ys)
+pub some_turns : {T : Type 0} (xs : List T) (x : T) → (y : T) × (ys : List T) × (xs ++ x ∷ [] ≡ y ∷ ys)
 some_turns [] x = (x, [], refl)
 some_turns (y ∷ xs) x = (y, xs ++ x ∷ [], refl)
 
@@ -451,11 +460,20 @@ take_in k (suc from) zero xs h = absurd (omega (arith, h))
 take_in k (suc from) (suc n) [] h = refl
 take_in k (suc from) (suc n) (x ∷ xs) h = take_in k from n xs (omega (arith, h))
 
+-- the section lines of those that were written have their numbers
+pub numbered_said : (m : Machine) (seen : Seen) (clocks : List Clocks) (ready : ℕ) (own : Cause) (first : ReactorTurn) (later : List ReactorTurn) (said rest : List ReportLine) → ShowBegun m seen clocks ready own first later → gather (λ t. t.lines) (first ∷ later) ≡ said ++ rest → AreNumbered 0 (heads_of said)
+numbered_said m seen clocks ready own first later said rest h shown_all =
+    let Numbered : List ReportLine → Type 0 = λ z. AreNumbered 0 z in
+    let its = begun_heads m seen clocks ready own first later h in
+    let all = numbered_front 0 (heads_of (gather (λ (t : ReactorTurn). t.lines) (first ∷ later))) its.front.0 (subst Numbered its.front.1 (numbered_begun 0 its.begun)) in
+    numbered_front 0 (heads_of said) (heads_of rest) (subst Numbered (ap heads_of shown_all ∙ flat_map-append head_in said rest) all)
+
 -- the cut lines of those that were written
 module _ (m : Machine) (switches : List Switch) (seen : Seen) (clocks : List Clocks) (ready : ℕ) (own c : Cause) (text : List ℕ) (said rest : List ReportLine) (spread : Spread 260 seen.begun) (same : seen.text ≡ text) (through : GoesThrough c → (rest ≡ []) × (c ≡ own)) where
   cuts_shown : (first : ReactorTurn) (later : List ReactorTurn) → ShowBegun m seen clocks ready own first later → TellEnds m switches seen.begun 0 (first ∷ later) → gather (λ t. t.lines) (first ∷ later) ≡ said ++ rest → HaveCuts m switches c (sections_over m text) said
   cuts_shown first later h ends shown_all =
-      have_cuts m switches (sections_over m text) (drop (length seen.begun) (sections_over m text)) seen.begun of_sections spread ready (begun_row m clocks ready seen.begun h.started) (first ∷ later) h.lines ends c said rest shown_all numbered (λ g. (
+      have_cuts m switches (sections_over m text) (drop (length seen.begun) (sections_over m text)) seen.begun of_sections spread ready (begun_row m clocks ready seen.begun h.started) (first ∷ later) h.lines ends c said rest shown_all
+      (numbered_said m seen clocks ready own first later said rest h shown_all) (λ g. (
         (through g).0,
         sym (ap length ((h.through (went g)).all ∙ ap (program_sections m) same)) ∙ length-map seen.begun (λ (x : Started). x.section),
         λ past s more cut.
@@ -470,22 +488,15 @@ module _ (m : Machine) (switches : List Switch) (seen : Seen) (clocks : List Clo
       went : GoesThrough c → GoesThrough own
       went g = subst (λ (z : Cause). GoesThrough z) (through g).1 g
 
-      numbered : AreNumbered 0 (heads_of said)
-      numbered =
-          let Numbered : List ReportLine → Type 0 = λ z. AreNumbered 0 z in
-          let its = begun_heads m seen clocks ready own first later h in
-          let all = numbered_front 0 (heads_of (gather (λ (t : ReactorTurn). t.lines) (first ∷ later))) its.front.0 (subst Numbered its.front.1 (numbered_begun 0 its.begun)) in
-          numbered_front 0 (heads_of said) (heads_of rest) (subst Numbered (ap heads_of shown_all ∙ flat_map-append head_in said rest) all)
-
   all_cuts : (turns : List ReactorTurn) → (x : ReactorTurn) × (xs : List ReactorTurn) × (turns ≡ x ∷ xs) → AllShowBegun m seen clocks ready own turns → TellEnds m switches seen.begun 0 turns → gather (λ t. t.lines) turns ≡ said ++ rest → HaveCuts m switches c (sections_over m text) said
   all_cuts [] some h ends shown_all = absurd (let e : [] ≡ some.0 ∷ some.1 = some.2 in cc)
   all_cuts (first ∷ later) some h ends shown_all = cuts_shown first later h ends shown_all
 
 -- those that were written show it
 module _ (m : Machine) (switches : List Switch) (seen : Seen) (clocks : List Clocks) (ready : ℕ) (own c : Cause) (text : List ℕ) (said rest : List ReportLine) (spread : Spread 260 seen.begun) (same : seen.text ≡ text) (through : GoesThrough c → (rest ≡ []) × (c ≡ own)) where
-  homes_shown : (turns : List ReactorTurn) → (x : ReactorTurn) × (xs : List ReactorTurn) × (turns ≡ x ∷ xs) → AllShowHomes m seen clocks ready own turns → TellEnds m switches seen.begun 0 turns → AllWholeHomes m seen clocks own turns → gather (λ t. t.lines) turns ≡ said ++ rest → ShowsHomes m switches text c said
-  homes_shown [] some all ends wholes shown_all = absurd (let e : [] ≡ some.0 ∷ some.1 = some.2 in cc)
-  homes_shown (first ∷ later) some h ends wholes shown_all = record {
+  pub homes_shown : (turns : List ReactorTurn) → (x : ReactorTurn) × (xs : List ReactorTurn) × (turns ≡ x ∷ xs) → AllShowHomes m seen clocks ready own turns → HaveCuts m switches c (sections_over m text) said → AllWholeHomes m seen clocks own turns → gather (λ t. t.lines) turns ≡ said ++ rest → ShowsHomes m switches text c said
+  homes_shown [] some all cuts wholes shown_all = absurd (let e : [] ≡ some.0 ∷ some.1 = some.2 in cc)
+  homes_shown (first ∷ later) some h cuts wholes shown_all = record {
     clocks = clocks;
     ready = ready;
     prefix = let At : List ReportLine → Type 0 = λ z. FollowsPlanBy clocks m (sections_over m text) z in follow_front clocks m text said rest (subst At shown_all (homes_follow m seen clocks ready own text first later spread h same));
@@ -505,7 +516,7 @@ module _ (m : Machine) (switches : List Switch) (seen : Seen) (clocks : List Clo
     all = λ g.
         let t = h.through (went g) in
         (t.all ∙ ap (program_sections m) same, same_heads said ∙ ap heads_of (sym (whole g)) ∙ whole_heads m seen clocks ready first later starts t.over);
-    cuts = cuts_shown m switches seen clocks ready own c text said rest spread same through first later (show_begun m seen clocks ready own first later h) ends shown_all;
+    cuts = cuts;
     boards = λ i turn e. home_boards m seen clocks ready own first later said rest (show_begun m seen clocks ready own first later h) shown_all (some_behind i turn said e);
     counts = λ g.
         let is = h.counts (went g) ∙ ap (λ z. report.Lines (program_end m z).lines (program_end m z).passed ∷ []) same in
@@ -635,20 +646,17 @@ module _ (m : Machine) (seen : Seen) (clocks : List Clocks) (ready : ℕ) (own c
       whole : GoesThrough c → gather (λ t. t.lines) (first ∷ later) ≡ said
       whole g = shown_all ∙ ap (λ z. said ++ z) (through g).0 ∙ append-nil said
 
--- with Prefix, where links hold little, and with what the ticks are that the boards' lines tell
-abbrev BegunSo : Machine → List ℕ → Cause → List ReportLine → Type 0 → Type 0
-BegunSo m text c said Little = (begun : ShowsBegun m text c said) × (Little → FollowsPlanBy begun.clocks m (sections_over m text) said)
-    × ((i turn : ℕ) → section_turn i said ≡ Some turn → (b : ℕ) → b < length m.boards → IsTimed begun.clocks begun.ready b)
+-- with what the ticks are that the boards' lines tell
+abbrev BegunSo : Machine → List ℕ → Cause → List ReportLine → Type 0
+BegunSo m text c said = (begun : ShowsBegun m text c said) × ((i turn : ℕ) → section_turn i said ≡ Some turn → (b : ℕ) → b < length m.boards → IsTimed begun.clocks begun.ready b)
 
--- and what is of pulses too, where this may be said of the turns
-module _ (m : Machine) (seen : Seen) (clocks : List Clocks) (ready : ℕ) (own c : Cause) (text : List ℕ) (said rest : List ReportLine) (spread : Spread 260 seen.begun) (same : seen.text ≡ text) (through : GoesThrough c → (rest ≡ []) × (c ≡ own)) (Little : Type 0) where
-  front_shown : (turns : List ReactorTurn) → (x : ReactorTurn) × (xs : List ReactorTurn) × (turns ≡ x ∷ xs) → AllShowBegun m seen clocks ready own turns → (seen.begun ≢ [] → (b : ℕ) → b < length m.boards → IsTimed clocks ready b) → (Little → AllShowHomes m seen clocks ready own turns) → gather (λ t. t.lines) turns ≡ said ++ rest
-      → BegunSo m text c said Little
+module _ (m : Machine) (seen : Seen) (clocks : List Clocks) (ready : ℕ) (own c : Cause) (text : List ℕ) (said rest : List ReportLine) (same : seen.text ≡ text) (through : GoesThrough c → (rest ≡ []) × (c ≡ own)) where
+  front_shown : (turns : List ReactorTurn) → (x : ReactorTurn) × (xs : List ReactorTurn) × (turns ≡ x ∷ xs) → AllShowBegun m seen clocks ready own turns → (seen.begun ≢ [] → (b : ℕ) → b < length m.boards → IsTimed clocks ready b) → gather (λ t. t.lines) turns ≡ said ++ rest
+      → BegunSo m text c said
   unfolding begun_shown
-  front_shown [] some b timed h shown_all = absurd (let e : [] ≡ some.0 ∷ some.1 = some.2 in cc)
-  front_shown (first ∷ later) some b timed h shown_all = (
+  front_shown [] some b timed shown_all = absurd (let e : [] ≡ some.0 ∷ some.1 = some.2 in cc)
+  front_shown (first ∷ later) some b timed shown_all = (
     begun_shown m seen clocks ready own c text said rest same through (first ∷ later) some b shown_all,
-    λ little. let At : List ReportLine → Type 0 = λ z. FollowsPlanBy clocks m (sections_over m text) z in follow_front clocks m text said rest (subst At shown_all (homes_follow m seen clocks ready own text first later spread (h little) same)),
     λ i turn e. timed (some_first m clocks ready seen.begun (first ∷ later) said rest b.late b.started b.lines shown_all (some_behind i turn said e)),
   )
 
@@ -680,11 +688,11 @@ nothing_written [] rest e = refl
 nothing_written (x ∷ said) rest e = absurd (let g : [] ≡ x ∷ (said ++ rest) = e in cc)
 
 -- the lines of some turns
-abbrev lines_of : List ReactorTurn → List ReportLine
+abbrev pub lines_of : List ReactorTurn → List ReportLine
 lines_of turns = gather (λ t. t.lines) turns
 
 -- memory was wanted, or not
-memory_or : (c : Cause) → (c ≡ cause.Memory) ⊎ (c ≡ cause.Memory → ⊥)
+pub memory_or : (c : Cause) → (c ≡ cause.Memory) ⊎ (c ≡ cause.Memory → ⊥)
 memory_or c = elim (cause_either c) [
   | inl e ↦ elim e [ inl x ↦ inl x | inr x ↦ inr (λ y. let g : cause.WriteFault ≡ cause.Memory = sym x ∙ y in cc) ]
   | inr not ↦ inr not.0
@@ -698,80 +706,80 @@ module _ {F S : Type 0} (f : Files F) (o : Sink S) (m : Machine) (s : Scene) (gc
       let w = r.cause_is not.0 not.1 in
       (w.0, w.2)
 
-  -- and the cut lines of any text
+  -- and the cut lines of any text, all or the first ones
   pub cut_lines : (r : IsReported f o m s gcode files files' out out' c lines counts links) (text : List ℕ) (made : IsMade m s r.runs.runs.0 r.runs.runs.1) → made.plans.seen.text ≡ text → (r.told.cause ≡ cause.Memory → ⊥)
-      → HaveCuts m s.switches c (sections_over m text) r.said
-  cut_lines r text made same other =
+      → (said rest : List ReportLine) (d : Cause) → (GoesThrough d → (rest ≡ []) × (d ≡ r.told.cause)) → gather (λ t. t.lines) (r.runs.runs.1 ++ r.runs.runs.2 ∷ []) ≡ said ++ rest → HaveCuts m s.switches d (sections_over m text) said
+  cut_lines r text made same other said rest d through shown =
       let seen = made.plans.seen in
-      all_cuts m s.switches seen (clocks_heard seen.told) (ready_heard seen.told) r.told.cause c text r.said r.rest (plans_spread m (length m.boards) r.runs.runs.0 made.plans) same (whole_of r) (r.runs.runs.1 ++ r.runs.runs.2 ∷ []) (some_turns r.runs.runs.1 r.runs.runs.2)
+      all_cuts m s.switches seen (clocks_heard seen.told) (ready_heard seen.told) r.told.cause d text said rest (plans_spread m (length m.boards) r.runs.runs.0 made.plans) same through (r.runs.runs.1 ++ r.runs.runs.2 ∷ []) (some_turns r.runs.runs.1 r.runs.runs.2)
       (all_begun m v s r.runs.runs.0 made.plans r.runs.runs.2 r.told.cause r.runs.runs.1 (facts f o m s gcode files files' out r.behind r.kept r.kept' r.told r.runs other))
-      (all_ends m v s r.runs.runs.0 made.plans r.runs.runs.2 r.told.cause r.runs.runs.1 (run_ended f o m s gcode files files' out r.behind r.kept r.kept' r.told r.runs other)) r.shown
+      (all_ends m v s r.runs.runs.0 made.plans r.runs.runs.2 r.told.cause r.runs.runs.1 (run_ended f o m s gcode files files' out r.behind r.kept r.kept' r.told r.runs other)) shown
 
   -- and of any text, all lines or the first ones
   pub home_lines : (r : IsReported f o m s gcode files files' out out' c lines counts links) (text : List ℕ) (made : IsMade m s r.runs.runs.0 r.runs.runs.1) → made.plans.seen.text ≡ text → (r.told.cause ≡ cause.Memory → ⊥)
-      → AllHomeLittle m s text r.runs.runs.0 (r.runs.runs.1 ++ r.runs.runs.2 ∷ []) → (said rest : List ReportLine) (d : Cause) → (GoesThrough d → (rest ≡ []) × (d ≡ r.told.cause))
+      → AllKeepUp m s text r.runs.runs.0 (r.runs.runs.1 ++ r.runs.runs.2 ∷ []) → (said rest : List ReportLine) (d : Cause) → (GoesThrough d → (rest ≡ []) × (d ≡ r.told.cause))
       → gather (λ t. t.lines) (r.runs.runs.1 ++ r.runs.runs.2 ∷ []) ≡ said ++ rest → ShowsHomes m s.switches text d said
   home_lines r text made same other little said rest d through shown =
       let seen = made.plans.seen in
       let turns = r.runs.runs.1 ++ r.runs.runs.2 ∷ [] in
-      let Little : List ℕ → Type 0 = λ z. AllHomeLittle m s z r.runs.runs.0 turns in
+      let Little : List ℕ → Type 0 = λ z. AllKeepUp m s z r.runs.runs.0 turns in
       let held = subst Little (sym same) little in
       let all = facts f o m s gcode files files' out r.behind r.kept r.kept' r.told r.runs other in
       homes_shown m s.switches seen (clocks_heard seen.told) (ready_heard seen.told) r.told.cause d text said rest (plans_spread m (length m.boards) r.runs.runs.0 made.plans) same through turns (some_turns r.runs.runs.1 r.runs.runs.2)
-      (all_shows m v s r.runs.runs.0 made.plans r.runs.runs.2 r.told.cause r.runs.runs.1 all short held)
-      (all_ends m v s r.runs.runs.0 made.plans r.runs.runs.2 r.told.cause r.runs.runs.1 (run_ended f o m s gcode files files' out r.behind r.kept r.kept' r.told r.runs other))
+      (all_shows m v s r.runs.runs.0 made.plans r.runs.runs.2 r.told.cause r.runs.runs.1 all short held) (cut_lines r text made same other said rest d through shown)
       (all_wholes m v s r.runs.runs.0 made.plans r.runs.runs.2 r.told.cause r.runs.runs.1 all short held) shown
 
+  -- each board keeps up in all its turns; or in those before the last one, where it ended for want of memory
+  abbrev pub KeepsUp : IsReported f o m s gcode files files' out out' c lines counts links → List ℕ → Type 0
+  KeepsUp r text =
+      ((r.told.cause ≡ cause.Memory → ⊥) → AllKeepUp m s text r.runs.runs.0 (r.runs.runs.1 ++ r.runs.runs.2 ∷ []))
+      × (r.told.cause ≡ cause.Memory → (front later : List MotionTurn) → r.runs.runs.0 ≡ front ++ later → length front + 1 ≡ length r.runs.runs.1 → AllKeepUp m s text front r.runs.runs.1)
+
   home_texts : (r : IsReported f o m s gcode files files' out out' c lines counts links) (text : List ℕ) → f.told files gcode ≡ Some text → (r.told.cause ≡ cause.Memory → ⊥)
-      → AllHomeLittle m s text r.runs.runs.0 (r.runs.runs.1 ++ r.runs.runs.2 ∷ []) → ∥ ShowsHomes m s.switches text c r.said ∥₁
+      → AllKeepUp m s text r.runs.runs.0 (r.runs.runs.1 ++ r.runs.runs.2 ∷ []) → ∥ ShowsHomes m s.switches text c r.said ∥₁
   home_texts r text told other little =
       ∥∥₁_map (run_made f o m s gcode files files' out r.behind r.kept r.kept' r.told r.runs text told r.fresh.at) (λ w. home_lines r text w.0 w.1 other little r.said r.rest c (whole_of r) r.shown)
 
-  -- whatever its links hold, and whatever ended it
-  abbrev HoldLittle : IsReported f o m s gcode files files' out out' c lines counts links → List ℕ → Type 0
-  HoldLittle r text = ShownHoldLittle m s text r.runs.runs.0 r.runs.runs.1 r.runs.runs.2 r.told.cause
+  -- one that ends for want of memory doesn't go through; and what it writes stands in the turns before the last one
+  pub none_through : (r : IsReported f o m s gcode files files' out out' c lines counts links) → r.told.cause ≡ cause.Memory → GoesThrough c → ⊥
+  none_through r memory g = (through_whole c g).0 ((whole_of r g).1 ∙ memory)
 
-  pub begun_texts : (r : IsReported f o m s gcode files files' out out' c lines counts links) (text : List ℕ) → f.told files gcode ≡ Some text → ∥ BegunSo m text c r.said (HoldLittle r text) ∥₁
+  pub before_last : (r : IsReported f o m s gcode files files' out out' c lines counts links) → r.told.cause ≡ cause.Memory → lines_of r.runs.runs.1 ≡ r.said ++ r.rest
+  before_last r memory =
+      let silent = run_silent f o m s gcode files files' out r.behind r.kept r.kept' r.told r.runs memory in
+      sym (gather_on (λ (t : ReactorTurn). t.lines) r.runs.runs.1 r.runs.runs.2 ∙ ap (λ z. gather (λ (t : ReactorTurn). t.lines) r.runs.runs.1 ++ z) silent ∙ append-nil (gather (λ (t : ReactorTurn). t.lines) r.runs.runs.1)) ∙ r.shown
+
+  pub none_written : (r : IsReported f o m s gcode files files' out out' c lines counts links) → r.told.cause ≡ cause.Memory → r.runs.runs.1 ≡ [] → r.said ≡ []
+  none_written r memory none = nothing_written r.said r.rest (sym (ap lines_of none) ∙ before_last r memory)
+
+  pub front_written : (r : IsReported f o m s gcode files files' out out' c lines counts links) → r.told.cause ≡ cause.Memory → (turns : List ReactorTurn) (last : ReactorTurn) → r.runs.runs.1 ≡ turns ++ last ∷ [] → lines_of (turns ++ last ∷ []) ≡ r.said ++ r.rest
+  front_written r memory turns last cut = sym (ap lines_of cut) ∙ before_last r memory
+
+  -- whatever its links hold, and whatever ended it
+  pub begun_texts : (r : IsReported f o m s gcode files files' out out' c lines counts links) (text : List ℕ) → f.told files gcode ≡ Some text → ∥ BegunSo m text c r.said ∥₁
   begun_texts r text told = elim (memory_or r.told.cause) [
     | inr other ↦ ∥∥₁_map (run_made f o m s gcode files files' out r.behind r.kept r.kept' r.told r.runs text told r.fresh.at) (λ w.
         let made = w.0 in
         let seen = made.plans.seen in
         let turns = r.runs.runs.1 ++ r.runs.runs.2 ∷ [] in
-        let Little : List ℕ → Type 0 = λ z. AllHomeLittle m s z r.runs.runs.0 turns in
         let all = facts f o m s gcode files files' out r.behind r.kept r.kept' r.told r.runs other in
-        front_shown m seen (clocks_heard seen.told) (ready_heard seen.told) r.told.cause c text r.said r.rest (plans_spread m (length m.boards) r.runs.runs.0 made.plans) w.1 (whole_of r) (HoldLittle r text) turns (some_turns r.runs.runs.1 r.runs.runs.2)
-        (all_begun m v s r.runs.runs.0 made.plans r.runs.runs.2 r.told.cause r.runs.runs.1 all)
-        (begun_timed m v s r.runs.runs.0 made.plans r.runs.runs.2 r.told.cause r.runs.runs.1 all (all_begun m v s r.runs.runs.0 made.plans r.runs.runs.2 r.told.cause r.runs.runs.1 all))
-        (λ little. all_shows m v s r.runs.runs.0 made.plans r.runs.runs.2 r.told.cause r.runs.runs.1 all short (subst Little (sym w.1) (little.0 other))) r.shown)
+        let begun = all_begun m v s r.runs.runs.0 made.plans r.runs.runs.2 r.told.cause r.runs.runs.1 all in
+        front_shown m seen (clocks_heard seen.told) (ready_heard seen.told) r.told.cause c text r.said r.rest w.1 (whole_of r) turns (some_turns r.runs.runs.1 r.runs.runs.2) begun
+        (begun_timed m v s r.runs.runs.0 made.plans r.runs.runs.2 r.told.cause r.runs.runs.1 all begun) r.shown)
     | inl memory ↦ elim (cut_last r.runs.runs.1) [
       | inl none ↦
-          let lines_are : [] ≡ r.said ++ r.rest = sym (ap lines_of none) ∙ sym (written memory) ∙ r.shown in
-          let At : List ReportLine → Type 0 = λ z. BegunSo m text c z (HoldLittle r text) in
-          ∣ subst At (sym (nothing_written r.said r.rest lines_are)) (nothing_shown m text c (none_through memory), λ little i turn s e h. absurd (no_turn turn e), λ i turn e. absurd (no_turn turn e)) ∣₁
+          let At : List ReportLine → Type 0 = λ z. BegunSo m text c z in
+          ∣ subst At (sym (none_written r memory none)) (nothing_shown m text c (none_through r memory), λ i turn e. absurd (no_turn turn e)) ∣₁
       | inr x ↦
           let turns = x.0 ++ x.1 ∷ [] in
-          let lines_are : lines_of turns ≡ r.said ++ r.rest = sym (ap lines_of x.2) ∙ sym (written memory) ∙ r.shown in
-          let size = ap length x.2 ∙ length-append x.0 (x.1 ∷ []) in
           let part = run_front f o m s gcode files files' out r.behind r.kept r.kept' r.told r.runs x.0 x.1 x.2 in
           ∥∥₁_map (front_made f o m s gcode files files' out r.behind r.kept r.kept' r.told r.runs text told r.fresh.at part.planned part.later part.are) (λ w.
           let seen = w.0.seen in
-          let long = part.long in
-          let Little : List ℕ → Type 0 = λ z. AllHomeLittle m s z part.planned turns in
-          let Held : List ReactorTurn → Type 0 = λ z. AllHomeLittle m s text part.planned z in
           let begun = all_begun m v s part.planned w.0 x.1 cause.ReadFault x.0 part.facts in
-          front_shown m seen (clocks_heard seen.told) (ready_heard seen.told) cause.ReadFault c text r.said r.rest (plans_spread m (length m.boards) part.planned w.0) w.1 (λ g. absurd (none_through memory g)) (HoldLittle r text) turns (some_turns x.0 x.1) begun
-          (begun_timed m v s part.planned w.0 x.1 cause.ReadFault x.0 part.facts begun)
-          (λ little. all_shows m v s part.planned w.0 x.1 cause.ReadFault x.0 part.facts short (subst Little (sym w.1) (subst Held x.2 (little.1 memory part.planned part.later part.are (omega (arith, long, size)))))) lines_are)
+          front_shown m seen (clocks_heard seen.told) (ready_heard seen.told) cause.ReadFault c text r.said r.rest w.1 (λ g. absurd (none_through r memory g)) turns (some_turns x.0 x.1) begun
+          (begun_timed m v s part.planned w.0 x.1 cause.ReadFault x.0 part.facts begun) (front_written r memory x.0 x.1 x.2))
     ]
   ]
-    where
-      none_through : r.told.cause ≡ cause.Memory → GoesThrough c → ⊥
-      none_through memory g = (through_whole c g).0 ((whole_of r g).1 ∙ memory)
-
-      written : r.told.cause ≡ cause.Memory → lines_of (r.runs.runs.1 ++ r.runs.runs.2 ∷ []) ≡ lines_of r.runs.runs.1
-      written memory =
-          let silent = run_silent f o m s gcode files files' out r.behind r.kept r.kept' r.told r.runs memory in
-          gather_on (λ (t : ReactorTurn). t.lines) r.runs.runs.1 r.runs.runs.2 ∙ ap (λ z. gather (λ (t : ReactorTurn). t.lines) r.runs.runs.1 ++ z) silent ∙ append-nil (gather (λ (t : ReactorTurn). t.lines) r.runs.runs.1)
 
   -- and so does one of any text, or a switch never closed
   homes_complete : (r : IsReported f o m s gcode files files' out out' c lines counts links) (text : List ℕ) → f.told files gcode ≡ Some text → ((line : ℕ) → (program_end m text).stop ≡ read.Stop line → ⊥)
@@ -787,9 +795,8 @@ module _ {F S : Type 0} (f : Files F) (o : Sink S) (m : Machine) (s : Scene) (gc
           | inr (inr (inr own)) ↦
               let other = λ (e : r.told.cause ≡ cause.Memory). not.0 (w.2 ∙ e) in
               let Through : Cause → Type 0 = λ z. GoesThrough z in
-              let little = clear_little m s text r.runs.runs.0 (r.runs.runs.1 ++ r.runs.runs.2 ∷ []) clear (soon_all m text r.runs.runs.0 sends) in
               elim (homed.run_through f o m s gcode files files' out r.behind r.kept r.kept' r.told r.runs v short text told r.fresh.at clear own other goes sends) [
-                | inl through ↦ inl (inl (∥∥₁_elim (home_texts r text told other little) (hlevel props) (λ z. z.cause (subst Through (sym w.2) through))))
+                | inl through ↦ inl (inl (∥∥₁_elim (begun_texts r text told) (hlevel props) (λ z. z.0.cause (subst Through (sym w.2) through))))
                 | inr e ↦ inr (e.0, w.2 ∙ e.1)
               ]
         ]
@@ -817,12 +824,19 @@ module _ {F S : Type 0} (f : Files F) (o : Sink S) (m : Machine) (s : Scene) (gc
   cause_ends r (cause.Late board first arrival spoiled spill) e =
       let is = of_late r board first arrival spoiled spill e in (
         run_late f o m s gcode files files' out r.behind r.kept r.kept' r.told r.runs v board first arrival spoiled spill is,
-        λ text told little sends. ∥∥₁_map (run_home_units f o m s gcode files files' out r.behind r.kept r.kept' r.told r.runs v short board first arrival spoiled spill text told r.fresh.at is little)
+        λ text told near sends. ∥∥₁_map (run_home_units f o m s gcode files files' out r.behind r.kept r.kept' r.told r.runs v short board first arrival spoiled spill text told r.fresh.at is (near_keeps m s text r.runs.runs.0 (r.runs.runs.1 ++ r.runs.runs.2 ∷ []) near))
             (λ w. record { made = w.0; of_text = w.1; late = w.2; heard = w.3.0; known = w.3.1; unit = w.3.3 (inl sends) }),
       )
-  cause_ends r (cause.Expired board turn) e = run_first f o m s gcode files files' out r.behind r.kept r.kept' r.told r.runs board turn
-      (of_run r (cause.Expired board turn) (λ g. let h : cause.Expired board turn ≡ cause.Memory = g in cc) (λ g. let h : cause.Expired board turn ≡ cause.WriteFault = g in cc) e)
-  cause_ends r (cause.NoSwitch section) e = run_unswitched f o m s gcode files files' out r.behind r.kept r.kept' r.told r.runs section (of_no_switch r section e)
+  cause_ends r (cause.Expired board turn) e =
+      let is = of_run r (cause.Expired board turn) (λ g. let h : cause.Expired board turn ≡ cause.Memory = g in cc) (λ g. let h : cause.Expired board turn ≡ cause.WriteFault = g in cc) e in (
+        run_first f o m s gcode files files' out r.behind r.kept r.kept' r.told r.runs board turn is,
+        λ text told little reads. run_hindered f o m s gcode files files' out r.behind r.kept r.kept' r.told r.runs v short text told r.fresh.at board turn is little reads,
+      )
+  cause_ends r (cause.NoSwitch section) e =
+      let is = of_no_switch r section e in (
+        run_unswitched f o m s gcode files files' out r.behind r.kept r.kept' r.told r.runs section is,
+        λ text told reads shut. ∥∥₁_map (run_missed f o m s gcode files files' out r.behind r.kept r.kept' r.told r.runs v short text told r.fresh.at reads shut) (λ w. record { made = w.0; of_text = w.1; misses = w.2 section is }),
+      )
   cause_ends r _ e = tt
 
   -- it ends as its text is read; or as no switch closed, and none did in time
@@ -835,11 +849,16 @@ module _ {F S : Type 0} (f : Files F) (o : Sink S) (m : Machine) (s : Scene) (gc
   ]
 
   -- with what its lines show
-  pub planned : (r : IsReported f o m s gcode files files' out out' c lines counts links)
-      → ((text : List ℕ) → f.told files gcode ≡ Some text → ∥ Shows (MeetPremise m s text r.runs.runs.0 r.runs.runs.1 r.runs.runs.2 r.told.cause) (r.told.cause ≢ cause.Memory) m s text c r.said ∥₁)
+  pub planned : IsSceneFor m s → (r : IsReported f o m s gcode files files' out out' c lines counts links)
+      → ((text : List ℕ) → f.told files gcode ≡ Some text → ∥ Shows (MeetPremise m s text r.runs.runs.0 r.runs.runs.1 r.runs.runs.2 r.told.cause) m s text c r.said ∥₁)
+      → ((text : List ℕ) → f.told files gcode ≡ Some text → GoesThrough c → AreOfMoves (sections_over m text) → MeetPremise m s text r.runs.runs.0 r.runs.runs.1 r.runs.runs.2 r.told.cause → counts ≡ counts_planned m (sections_over m text) (log_of r.said))
+      → ((text : List ℕ) → f.told files gcode ≡ Some text → GoesThrough c → HasNames m → MeetPremise m s text r.runs.runs.0 r.runs.runs.1 r.runs.runs.2 r.told.cause ⊎ (sections_over m text ≡ []) → check_cause m text (report_text m (r.said ++ report.End c ∷ [])) ≡ cause.Done)
       → IsLinkReport f o m s gcode files files' out out' c lines counts links
-  planned r shown = record {
+  planned scene r shown counted checks = record {
     reported = r;
+    scene = scene;
+    counted = counted;
+    checks = checks;
     names = λ own other.
         let w = r.cause_is other (λ e. subst IsOwn e own) in
         let Own : Cause → Type 0 = λ z. IsOwn z in
@@ -851,13 +870,15 @@ module _ {F S : Type 0} (f : Files F) (o : Sink S) (m : Machine) (s : Scene) (gc
     boards = λ text told. subst (λ z. ∥ AreLinksIn m s text r.told.cause r.runs.runs.0 r.runs.runs.1 r.runs.runs.2 z ∥₁) (sym r.links_are)
         (run_links f o m s gcode files files' out r.behind r.kept r.kept' r.told r.runs text told r.fresh.at);
     shows = shown;
-    memory = λ text told is. ∥∥₁_map (begun_texts r text told) (λ b. (b.0, b.1));
+    begun = λ text told. ∥∥₁_map (begun_texts r text told) (λ b. b.0);
+    memory = run_silent f o m s gcode files files' out r.behind r.kept r.kept' r.told r.runs;
     triggers = λ text told other reads. run_own f o m s gcode files files' out r.behind r.kept r.kept' r.told r.runs v short text told r.fresh.at other reads;
     complete = ends_as_read r;
     first_ticks = λ text told other reads takes. first_cuts.run_first f o m s gcode files files' out r.behind r.kept r.kept' r.told r.runs v short text told r.fresh.at other reads takes;
     last_cut = λ text told. run_last f o m s gcode files files' out r.behind r.kept r.kept' r.told r.runs v text told r.fresh.at;
     ends = cause_ends r c refl;
-    shutdowns = λ text told other little. run_home_tells f o m s gcode files files' out r.behind r.kept r.kept' r.told r.runs v short text told r.fresh.at other little;
+    shutdowns = λ text told other near.
+        run_home_tells f o m s gcode files files' out r.behind r.kept r.kept' r.told r.runs v short text told r.fresh.at other (near_keeps m s text r.runs.runs.0 (r.runs.runs.1 ++ r.runs.runs.2 ∷ []) near);
     times = λ text told. ∥∥₁_map (run_made f o m s gcode files files' out r.behind r.kept r.kept' r.told r.runs text told r.fresh.at) (λ w.
         let ts = r.runs.runs.0 in
         let rs = r.runs.runs.1 in

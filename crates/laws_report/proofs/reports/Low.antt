@@ -32,7 +32,7 @@ use Rattle.laws_run.specs.run_headline.Told.{AreTold}
 use Rattle.laws_run.specs.run_headline.Timely.{AreSound}
 use Rattle.laws_run.specs.run_lines.Due.{BoardsHave, StandApart, begun_lines}
 use Rattle.laws_run.specs.run_limits.Limits.{AreLow, greatest_tick, start_limit}
-use Rattle.laws_report.specs.reports.Body.{no_section}
+use Rattle.log_check.specs.Points.{no_section}
 use Rattle.laws_report.specs.reports.Headline.{moves_of, plan_by}
 use Rattle.laws_report.specs.reports.Promises.{FollowsPlanBy, sections_over}
 use Rattle.laws_run.specs.home_headline.Cuts.{cuts_of}

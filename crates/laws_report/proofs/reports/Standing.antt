@@ -1,6 +1,6 @@
 -- The lines of a run over links stand as a log wants them.
 use Rattle.std.proofs.Common.{◌≡◌, ◌∙◌, ℕ, ◌+◌, ◌-◌, ◌*◌, ◌^◌, ◌<◌, Bool, true, false, List, [], ◌∷◌, ◌++◌, length, ap, sym, refl, subst, arith, inl, inr, Option, Some, append_assoc, length-append}
-use Rattle.std.specs.Prelude.{if◌then◌else◌, min}
+use Rattle.std.specs.Prelude.{min, if◌then◌else◌}
 use Rattle.std.proofs.lemmas.Bool.Decides.{eqb_tells}
 use Rattle.plan_types.specs.declared.machine.Machine.{Machine}
 use Rattle.plan_types.specs.declared.plan.Pulse.{Pulse}

@@ -1,6 +1,6 @@
 -- The report of a run over links that begins no section.
-use Rattle.std.proofs.Common.{Some, ◌≡◌, ◌⊎◌, ◌∙◌, ℕ, zero, suc, ◌+◌, ◌-◌, ◌*◌, ◌^◌, ◌<◌, ◌≤◌, Bool, true, false, List, [], ◌∷◌, ◌++◌, All, length, map, ap, sym, refl, subst, arith, inl, inr, append_assoc, append-nil, length-append}
-use Rattle.std.specs.Prelude.{◌==◌, if◌then◌else◌, min}
+use Rattle.std.proofs.Common.{◌≡◌, ◌⊎◌, ◌∙◌, ℕ, zero, suc, ◌+◌, ◌-◌, ◌*◌, ◌^◌, ◌<◌, ◌≤◌, Bool, true, false, List, [], ◌∷◌, ◌++◌, All, length, map, ap, sym, refl, subst, arith, inl, inr, append_assoc, append-nil, length-append}
+use Rattle.std.specs.Prelude.{◌==◌, min, if◌then◌else◌}
 use Rattle.std.specs.List.{flat_map}
 use Rattle.std.proofs.lemmas.Grind.{flat_map-append}
 use Rattle.std.proofs.lemmas.Bool.Decides.{leb_tells}
@@ -73,7 +73,7 @@ use Rattle.log_text.specs.declared.line.LogLine.TheVariants as line
 use Rattle.laws_report.specs.reports.Further.{AllMayStand, further_told}
 use Rattle.laws_report.specs.reports.Logged.{AreOfRun, IsCauseOn, logged}
 use Rattle.laws_report.specs.reports.Through.{AreHeads}
-use Rattle.laws_report.proofs.reports.Faulted.{last_lines, plain_none}
+use Rattle.laws_report.proofs.reports.Faulted.{going_none, last_lines, plain_none}
 use Rattle.laws_report.proofs.reports.Further.{EachFurther, IsLongFurther}
 use Rattle.laws_report.proofs.reports.Shorts.{longs, shorts}
 use Rattle.laws_report.proofs.reports.Standing.{are_heads, some_pulse, uncut_told}
@@ -334,8 +334,7 @@ stop_small m read.End few = tt
 stop_small m (read.Stop line) few = omega (arith, few)
 stop_small m (read.Refused line kind) few = omega (arith, few)
 
-module _ (m : Machine) (v : IsValidMachine m) (s : Scene) (ts : List MotionTurn) (p : Plans m (length m.boards) ts) (end : ReactorTurn) (c : Cause) (first : ReactorTurn) (rest : List ReactorTurn) (f : Facts m s ts (first ∷ rest) end c)
-    (why : Some c ≡ (reacts m s.switches f.known (length (came_from [] (first ∷ rest))) end.states end.note).ordered.end) where
+module _ (m : Machine) (v : IsValidMachine m) (s : Scene) (ts : List MotionTurn) (p : Plans m (length m.boards) ts) (end : ReactorTurn) (c : Cause) (first : ReactorTurn) (rest : List ReactorTurn) (f : Facts m s ts (first ∷ rest) end c) where
   most : length (rest ++ end ∷ []) ≤ length p.made + 1
   most = few m v s ts p end c first rest f
 
@@ -361,14 +360,15 @@ module _ (m : Machine) (v : IsValidMachine m) (s : Scene) (ts : List MotionTurn)
       boards_append x.lines (l (xs ++ end ∷ [])) ∙ ap (λ z. boards_of x.lines ++ z) (lines_then xs) ∙ sym (append_assoc (boards_of x.lines) (boards_of (l xs)) (boards_of end.lines))
       ∙ ap (λ z. z ++ boards_of end.lines) (sym (boards_append x.lines (l xs)))
 
-  each : TellsEach m (length (first ∷ rest) + 1_260) (gather (λ t. t.lines) (first ∷ rest))
-  each = turns_each m s.switches (length (first ∷ rest)) [] (first ∷ rest) f.turns (omega arith)
-
-  boards_are : boards_of (gather (λ t. t.lines) (first ∷ (rest ++ end ∷ []))) ≡ lines_at each.ready 0 each.clocks
-  boards_are =
-      let last = ap boards_of f.lines_are ∙ end_none m s.switches f.known (length (came_from [] (first ∷ rest))) end.states end.note c (sym why) in
-      let lines = gather (λ (t : ReactorTurn). t.lines) (first ∷ rest) in
-      lines_then (first ∷ rest) ∙ ap (λ z. boards_of lines ++ z) last ∙ append-nil (boards_of lines) ∙ each.are
+  each : TellsEach m (length (first ∷ rest) + 1 + 1_260) (gather (λ t. t.lines) (first ∷ (rest ++ end ∷ [])))
+  each = elim f.last [
+    | inl why ↦
+        let own = turns_each m s.switches (length (first ∷ rest) + 1) [] (first ∷ rest) f.turns (omega arith) in
+        let last = ap boards_of f.lines_are ∙ end_none m s.switches f.known (length (came_from [] (first ∷ rest))) end.states end.note c (sym why) in
+        let lines = gather (λ (t : ReactorTurn). t.lines) (first ∷ rest) in
+        record { clocks = own.clocks; ready = own.ready; soon = own.soon; are = lines_then (first ∷ rest) ∙ ap (λ z. boards_of lines ++ z) last ∙ append-nil (boards_of lines) ∙ own.are; freqs = own.freqs }
+    | inr g ↦ turns_each m s.switches (length (first ∷ rest) + 1) [] (first ∷ (rest ++ end ∷ [])) g.0 (omega (arith, length-append rest (end ∷ [])))
+  ]
 
   abbrev pub All_lines : List ReportLine
   All_lines = gather (λ t. t.lines) (first ∷ (rest ++ end ∷ []))
@@ -379,12 +379,15 @@ module _ (m : Machine) (v : IsValidMachine m) (s : Scene) (ts : List MotionTurn)
       let read = read_few m p.seen.text in
       let deeds = read.deeds in
       let passed = read.passed in
-      elim (last_lines m s ts (first ∷ rest) end c f why) [
-        | inl own_one ↦ elim (counts_or m v s ts p end c first rest f own_one (long_own m v s ts p end c first rest f own_one)) [
-          | inl none ↦ subst AreLow (sym none) tt
-          | inr is ↦ subst AreLow (sym is) ((omega (arith, deeds), omega (arith, passed)), tt)
+      elim f.last [
+        | inr g ↦ subst AreLow (sym (going_none m s.switches [] (first ∷ (rest ++ end ∷ [])) g.0)) tt
+        | inl why ↦ elim (last_lines m s ts (first ∷ rest) end c f why) [
+          | inl own_one ↦ elim (counts_or m v s ts p end c first rest f own_one (long_own m v s ts p end c first rest f own_one)) [
+            | inl none ↦ subst AreLow (sym none) tt
+            | inr is ↦ subst AreLow (sym is) ((omega (arith, deeds), omega (arith, passed)), tt)
+          ]
+          | inr plain ↦ subst AreLow (sym (plain_none m s.switches [] (first ∷ rest) end (noted m end.note f.known) (length (came_from [] (first ∷ rest))) f.turns plain)) tt
         ]
-        | inr plain ↦ subst AreLow (sym (plain_none m s.switches [] (first ∷ rest) end (noted m end.note f.known) (length (came_from [] (first ∷ rest))) f.turns plain)) tt
       ]
 
   -- the cause of one that went through has small numbers
@@ -397,7 +400,7 @@ module _ (m : Machine) (v : IsValidMachine m) (s : Scene) (ts : List MotionTurn)
   -- where they tell no section, no pulse and no cut
   module _ (told_all : AreTold false m All_lines) (bare : AreBare m All_lines) where
     heads : AreHeads 0 All_lines
-    heads = are_heads false m each.ready 0 each.clocks All_lines told_all (uncut_told m All_lines told_all) bare.0 bare.1 boards_are
+    heads = are_heads false m each.ready 0 each.clocks All_lines told_all (uncut_told m All_lines told_all) bare.0 bare.1 each.are
 
     of_lines : EachFurther IsLongFurther (further_told (map logged All_lines)) → AreNamed m All_lines → AreOfRun m All_lines
     of_lines long names =
@@ -405,7 +408,7 @@ module _ (m : Machine) (v : IsValidMachine m) (s : Scene) (ts : List MotionTurn)
         let made = length-map p.made put_of in
         let small = p.small in
         let many = length-append rest (end ∷ []) in
-        bare_run m each.ready 0 each.clocks All_lines (omega (arith, soon, made, small, many, most)) told_all bare counts_low long names boards_are each.freqs
+        bare_run m each.ready 0 each.clocks All_lines (omega (arith, soon, made, small, many, most)) told_all bare counts_low long names each.are each.freqs
 
     pub shows_none : ShowsLines m All_lines ⊎ NoneDrifts All_lines → ShowsNone m All_lines
     shows_none (inr plain) = record { of_run = of_lines (none_long All_lines plain) (none_named m All_lines plain); may = none_stand m All_lines [] plain; heads = heads }

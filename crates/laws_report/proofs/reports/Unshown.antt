@@ -1,6 +1,6 @@
 -- The report of a run over links that has no line of a section.
-use Rattle.std.proofs.Common.{◌≡◌, ◌∙◌, ℕ, ◌+◌, ◌≤◌, Bool, true, false, List, [], ◌∷◌, ◌++◌, length, Option, Some, None, ap, sym, refl, subst, arith, append-nil, inl, inr}
 use Rattle.std.specs.Prelude.{if◌then◌else◌}
+use Rattle.std.proofs.Common.{◌≡◌, ◌∙◌, ℕ, ◌+◌, ◌<◌, ◌≤◌, Bool, true, false, List, [], ◌∷◌, ◌++◌, length, Option, Some, None, ap, sym, refl, subst, arith, append-nil, inl, inr}
 use Rattle.std.proofs.lemmas.Grind.{flat_map-append}
 use Rattle.std.proofs.lemmas.Bool.{cases_lt}
 use Rattle.std.proofs.lemmas.Bool.Decides.{eqb_tells}
@@ -10,7 +10,11 @@ use Rattle.plan_types.specs.declared.machine.Machine.{Machine}
 use Rattle.plan_types.specs.Machines.{IsValidMachine}
 use Rattle.report_text.specs.declared.line.ReportLine.{ReportLine}
 use Rattle.report_text.specs.declared.line.ReportLine.TheVariants as report
+use Rattle.plan_types.specs.declared.machine.BoardDef.{BoardDef}
 use Rattle.wire_scene.specs.declared.scene.Scene.{Scene}
+use Rattle.wire_scene.specs.declared.scene.Switch.{Switch}
+use Rattle.board_asking.specs.declared.asking.Asking.{Asking}
+use Rattle.board_asking.specs.Connecting.{all_connected, giving_up, listen_all, ready_all}
 use Rattle.host_reactor.specs.declared.ordered.Phase.TheVariants.{Connecting, Running, Stopping}
 use Rattle.host_reactor.specs.declared.ordered.Known.{Known}
 use Rattle.host_reactor.specs.Notes.{news_of, noted}
@@ -21,13 +25,14 @@ use Rattle.laws_board.proofs.clocks.Lines.{noted_phase}
 use Rattle.motion_work.specs.Seen.{Started}
 use Rattle.session_work.specs.declared.table.MotionTurn.{MotionTurn}
 use Rattle.session_work.specs.declared.table.ReactorTurn.{ReactorTurn}
+use Rattle.session_work.specs.Heads.{IsRow}
 use Rattle.session_work.specs.Rows.{gather}
 use Rattle.msg_code.specs.declared.talk.Note.{Note}
 use Rattle.msg_code.specs.declared.talk.State.{State}
 use Rattle.host_reactor.specs.declared.ordered.Begun.{Begun}
-use Rattle.host_reactor.specs.Reactor.{reacts}
+use Rattle.host_reactor.specs.Reactor.{asks_boards, is_connected_now, new_askings, reacts, unless_given_up}
 use Rattle.host_reactor.specs.Report.{drift_lines, first_lines, machine_line, pulse_lines, section_line}
-use Rattle.session_run.specs.Boards.{came_from}
+use Rattle.session_run.specs.Boards.{IsReactorTurn}
 use Rattle.laws_run.proofs.run_headline.Joining.{row_none}
 use Rattle.laws_board.specs.plans.Lines.{TellTurns, head_in, heads_of, starts_at}
 use Rattle.laws_board.specs.plans.Planned.{Plans}
@@ -123,18 +128,36 @@ alone_own m s ts end c f own other answers = by c refl (subst At (f.own own).0 (
         one d own other answers g = running g.0
 
 -- one that was told to stop before its first turn shows the line of the machine alone
-pub alone_plain : (m : Machine) (s : Scene) (ts : List MotionTurn) (end : ReactorTurn) (c : Cause) (f : Facts m s ts [] end c) → EndsPlain m [] end f.known → ShowsNone m (gather (λ t. t.lines) (end ∷ []))
-alone_plain m s ts end c f plain =
-    let states : end.states ≡ [] = elim f.row [ inl a ↦ a.1 | inr a ↦ absurd (omega (arith, a.0)) ] in
-    let note = row_none (length m.boards) end f.row in
-    let begun = ap (λ (o : Option Note). (noted m o f.known).begun) note ∙ f.begun in
-    let alone : first_lines m (noted m end.note f.known) 0 (news_of end.note) end.states ≡ report.Machine m.corexy (length m.boards) (length m.steppers) ∷ [] =
+pub alone_plain : (m : Machine) (switches : List Switch) (end : ReactorTurn) (r : Known) → IsRow (length m.boards) 0 end.states end.note → r.begun ≡ (known_by m switches []).begun → EndsPlain m [] end r → ShowsNone m (gather (λ t. t.lines) (end ∷ []))
+alone_plain m switches end r row same plain =
+    let states : end.states ≡ [] = elim row [ inl a ↦ a.1 | inr a ↦ absurd (omega (arith, a.0)) ] in
+    let note = row_none (length m.boards) end row in
+    let begun = ap (λ (o : Option Note). (noted m o r).begun) note ∙ same in
+    let alone : first_lines m (noted m end.note r) 0 (news_of end.note) end.states ≡ report.Machine m.corexy (length m.boards) (length m.steppers) ∷ [] =
     ap (λ (o : Option Begun). machine_line m 0 ++ (section_line 0 o ++ (drift_lines (news_of end.note) ++ pulse_lines m 0 end.states))) begun
     ∙ ap (λ (o : Option Note). machine_line m 0 ++ ([] ++ (drift_lines (news_of o) ++ pulse_lines m 0 end.states))) note ∙ ap (λ (z : List State). machine_line m 0 ++ ([] ++ ([] ++ pulse_lines m 0 z))) states in
     subst (λ (z : List ReportLine). ShowsNone m z) (sym (append-nil end.lines ∙ plain ∙ alone)) (record { of_run = ((refl, refl, refl), tt); may = (tt, tt); heads = tt })
 
+-- so does one that goes on behind it, as no board is connected yet
+unconnected : (m : Machine) (b : ℕ) (boards : List BoardDef) → 0 < length boards → all_connected (ready_all m b (listen_all (new_askings boards) [])) ≡ false
+unconnected m b [] some = absurd (omega (arith, some))
+unconnected m b (d ∷ boards) some = refl
+
+given_plain : (o : Option Cause) (m : Machine) (r : Known) (k : ℕ) (lines : List ReportLine) (askings : List Asking) → all_connected askings ≡ false → (unless_given_up o m r k lines askings).ordered.lines ≡ lines
+given_plain (Some cause) m r k lines askings e = refl
+given_plain None m r k lines askings e = ap (λ (b : Bool). (if b then is_connected_now m r k lines askings else asks_boards m r k lines askings).ordered.lines) e
+
+pub alone_goes : (m : Machine) (switches : List Switch) (end : ReactorTurn) → IsValidMachine m → IsReactorTurn m switches [] end → ShowsNone m (gather (λ t. t.lines) (end ∷ []))
+alone_goes m switches end valid goes =
+    let r = known_by m switches [] in
+    let askings = ready_all m 0 (listen_all (new_askings m.boards) []) in
+    let states : end.states ≡ [] = elim goes.row [ inl a ↦ a.1 | inr a ↦ absurd (omega (arith, a.0)) ] in
+    let note = row_none (length m.boards) end goes.row in
+    let Plain : List State × Option Note → Type 0 = λ z. (reacts m switches r 0 z.0 z.1).ordered.lines ≡ first_lines m (noted m z.1 r) 0 (news_of z.1) z.0 in
+    let first : Plain ([], None) = given_plain (giving_up 0 0 askings) m r 0 (first_lines m r 0 [] []) askings (unconnected m 0 m.boards valid.boards_some) in
+    alone_plain m switches end r goes.row refl (goes.lines_are ∙ subst Plain (λ j. (sym states j, sym note j)) first)
+
 module _ (m : Machine) (v : IsValidMachine m) (s : Scene) (ts : List MotionTurn) (p : Plans m (length m.boards) ts) (end : ReactorTurn) (c : Cause) (first : ReactorTurn) (rest : List ReactorTurn) (f : Facts m s ts (first ∷ rest) end c)
-    (why : Some c ≡ (reacts m s.switches f.known (length (came_from [] (first ∷ rest))) end.states end.note).ordered.end)
     (shows : ShowHomes m p.seen (clocks_heard p.seen.told) (ready_heard p.seen.told) c first (rest ++ end ∷ [])) (told : AreTold true m (gather (λ t. t.lines) (first ∷ (rest ++ end ∷ [])))) (uncut : cuts_of (gather (λ t. t.lines) (first ∷ (rest ++ end ∷ []))) ≡ [])
     (none : heads_of (gather (λ t. t.lines) (first ∷ (rest ++ end ∷ []))) ≡ []) where
   -- no pulse comes before the first section starts
@@ -150,5 +173,5 @@ module _ (m : Machine) (v : IsValidMachine m) (s : Scene) (ts : List MotionTurn)
   shown_none = by p.seen.begun refl
     where
       by : (begun : List Started) → p.seen.begun ≡ begun → ShowsNone m (gather (λ t. t.lines) (first ∷ (rest ++ end ∷ [])))
-      by [] e = shows_none m v s ts p end c first rest f why (told_uncut m (gather (λ t. t.lines) (first ∷ (rest ++ end ∷ []))) told uncut) (bare_none m v s ts p end c first rest f why e) (unbegun_lines m v s ts p end c first rest f)
-      by (x ∷ later) e = shows_none m v s ts p end c first rest f why (told_uncut m (gather (λ t. t.lines) (first ∷ (rest ++ end ∷ []))) told uncut) (still x later e) (unbegun_lines m v s ts p end c first rest f)
+      by [] e = shows_none m v s ts p end c first rest f (told_uncut m (gather (λ t. t.lines) (first ∷ (rest ++ end ∷ []))) told uncut) (bare_none m v s ts p end c first rest f e) (unbegun_lines m v s ts p end c first rest f)
+      by (x ∷ later) e = shows_none m v s ts p end c first rest f (told_uncut m (gather (λ t. t.lines) (first ∷ (rest ++ end ∷ []))) told uncut) (still x later e) (unbegun_lines m v s ts p end c first rest f)

@@ -2,8 +2,6 @@
 use Rattle.std.proofs.Common.{◌≡◌, ◌∙◌, ℕ, List, [], ◌∷◌, ◌++◌, length, map, ap, sym, refl, subst, arith, append-nil, Some}
 use Rattle.std.proofs.Math.Logic.{∥∥₁_elim, ∥∥₁_map}
 use Rattle.std.proofs.Props.{props}
-use Rattle.std.specs.Prelude.{Ok}
-use Rattle.cfg_text.specs.Reading.{reading}
 use Rattle.io_core.specs.declared.traits.Files.{Ghosts as Files}
 use Rattle.io_core.specs.declared.traits.Sink.{Ghosts as Sink}
 use Rattle.gcode_program.specs.Programs.{program_sections}
@@ -23,13 +21,13 @@ use Rattle.laws_report.specs.reports.Further.{further_told}
 use Rattle.laws_report.specs.reports.Logged.{IsCauseOn, logged}
 use Rattle.laws_report.specs.reports.Names.{HasNames}
 use Rattle.laws_report.specs.reports.Within.{GoWithin}
-use Rattle.laws_report.proofs.reports.Configured.{names-of-reading}
 use Rattle.laws_report.proofs.reports.Running.{within-checks}
 use Rattle.session_lanes.specs.declared.near.LinkLog.{LinkLog}
 use Rattle.session_lanes.specs.declared.near.Told.{Told}
 use Rattle.session_work.specs.declared.table.ReactorTurn.{ReactorTurn}
 use Rattle.session_work.specs.Rows.{gather}
 use Rattle.session_run.specs.declared.tell.Kept.{Kept}
+use Rattle.session_run.specs.Reported.{IsReported}
 use Rattle.session_run.specs.Runs.{RunsOver}
 use Rattle.host_reactor.specs.Reactor.{Run}
 use Rattle.wire_scene.specs.declared.scene.Scene.{Scene}
@@ -38,11 +36,10 @@ use Rattle.laws_board.specs.plans.Planned.{Plans}
 use Rattle.laws_run.specs.run_ends.Ends.{GoesThrough}
 use Rattle.laws_run.proofs.run_ends.Ending.{own_cause}
 use Rattle.laws_run.proofs.run_headline.Making.{run_made}
-use Rattle.laws_run.proofs.run_headline.Runs.{facts, run_ended}
-use Rattle.laws_run.proofs.run_headline.Showing.{Ended, Facts, alone_ends}
+use Rattle.laws_run.proofs.run_headline.Runs.{facts}
+use Rattle.laws_run.proofs.run_headline.Showing.{Facts, alone_ends}
 use Rattle.laws_report.specs.reports.Checks.{check_cause}
 use Rattle.laws_report.specs.reports.Promises.{sections_over}
-use Rattle.laws_report.specs.reports.Linked.{IsLinkReport}
 use Rattle.laws_report.proofs.reports.Linking.{written-whole}
 use Rattle.laws_report.proofs.reports.Unbegun.{ShowsNone, bare_none, cause_on, shows_none, told_none}
 use Rattle.laws_report.proofs.reports.UnbegunLines.{unbegun_lines}
@@ -77,14 +74,12 @@ module _ {F S : Type 0} (f : Files F) (o : Sink S) (m : Machine) (s : Scene) (na
       let Of : List ReactorTurn → Type 0 = λ z. Facts m s r.runs.0 z r.runs.2 t.cause in
       absurd (alone_ends m v s r.runs.0 p r.runs.2 t.cause (subst Of (sym e) (facts f o m s name files files' out out' kept kept' t r (written-whole t.cause through).0)) through)
   none_by v (first ∷ rest) p e none through =
-      let End : List ReactorTurn → Type 0 = λ z. Ended m s r.runs.0 z r.runs.2 t.cause in
+      let Of : List ReactorTurn → Type 0 = λ z. Facts m s r.runs.0 z r.runs.2 t.cause in
       let begun = none_begun p.seen.begun p.of_text.0 (sym none ∙ p.of_text.1) in
-      let ended = subst End (sym e) (run_ended f o m s name files files' out out' kept kept' t r (written-whole t.cause through).0) in
-      let own = ended.facts in
-      let why = ended.end_is in
+      let own = subst Of (sym e) (facts f o m s name files files' out out' kept kept' t r (written-whole t.cause through).0) in
       let one = own_cause t.cause through in (
-        cause_on m v s r.runs.0 p r.runs.2 t.cause first rest own why through,
-        shows_none m v s r.runs.0 p r.runs.2 t.cause first rest own why (told_none m v s r.runs.0 p r.runs.2 t.cause first rest own why begun one) (bare_none m v s r.runs.0 p r.runs.2 t.cause first rest own why begun)
+        cause_on m v s r.runs.0 p r.runs.2 t.cause first rest own through,
+        shows_none m v s r.runs.0 p r.runs.2 t.cause first rest own (told_none m v s r.runs.0 p r.runs.2 t.cause first rest own begun one) (bare_none m v s r.runs.0 p r.runs.2 t.cause first rest own begun)
             (unbegun_lines m v s r.runs.0 p r.runs.2 t.cause first rest own),
       )
 
@@ -94,19 +89,15 @@ module _ {F S : Type 0} (f : Files F) (o : Sink S) (m : Machine) (s : Scene) (na
       let None_in : List ℕ → Type 0 = λ z. program_sections m z ≡ [] in
       none_by v r.runs.1 w.0.plans refl (subst None_in (sym w.1) none) through)
 
-module _ {F S : Type 0} (f : Files F) (o : Sink S) (printer : List ℕ) (m : Machine) (s : Scene) (gcode : List ℕ) (files files' : F) (out out' : S) (c : Cause) (lines : List ReportLine) (counts : List ℕ) (links : List LinkLog) (configured : reading printer ≡ Ok m)
-    (r : IsLinkReport f o m s gcode files files' out out' c lines counts links) (text : List ℕ) (told : f.told files gcode ≡ Some text) (none : sections_over m text ≡ []) (through : GoesThrough c) where
-  none_valid : IsValidMachine m
-  none_valid = subst (λ (x : Machine). IsValidMachine x) r.reported.runs.printer r.reported.runs.fresh.machine
-
-  pub none-links : check_cause m text (report_text m (r.reported.said ++ report.End c ∷ [])) ≡ cause.Done
+module _ {F S : Type 0} (f : Files F) (o : Sink S) (m : Machine) (s : Scene) (gcode : List ℕ) (files files' : F) (out out' : S) (c : Cause) (lines : List ReportLine) (counts : List ℕ) (links : List LinkLog) (valid : IsValidMachine m)
+    (own : IsReported f o m s gcode files files' out out' c lines counts links) (text : List ℕ) (told : f.told files gcode ≡ Some text) (none : sections_over m text ≡ []) (names : HasNames m) (through : GoesThrough c) where
+  pub none-links : check_cause m text (report_text m (own.said ++ report.End c ∷ [])) ≡ cause.Done
   none-links =
-      let own = r.reported in
       let not = written-whole c through in
       let w = own.cause_is not.0 not.1 in
       let said : gather (λ (t : ReactorTurn). t.lines) (own.runs.runs.1 ++ own.runs.runs.2 ∷ []) ≡ own.said = own.shown ∙ ap (λ (z : List ReportLine). own.said ++ z) w.0 ∙ append-nil own.said in
       let Through : Cause → Type 0 = λ z. GoesThrough z in
-      let shown = none_shown f o m s gcode files files' out own.behind own.kept own.kept' own.told own.runs none_valid text told own.fresh.at none (subst Through w.2 through) in
+      let shown = none_shown f o m s gcode files files' out own.behind own.kept own.kept' own.told own.runs valid text told own.fresh.at none (subst Through w.2 through) in
       let Of : Cause → Type 0 = λ z. IsCauseOn m z in
       ∥∥₁_elim shown (hlevel props)
-      (λ shows. none-checks m text c own.said (names-of-reading printer m configured) none_valid none (subst Of (sym w.2) shows.0) (subst (λ (z : List ReportLine). ShowsNone m z) said shows.1))
+      (λ shows. none-checks m text c own.said names valid none (subst Of (sym w.2) shows.0) (subst (λ (z : List ReportLine). ShowsNone m z) said shows.1))

@@ -15,9 +15,9 @@ use Rattle.laws_report.specs.reports.Shown.{sections_shown}
 use Rattle.laws_report.specs.page.Clocks.{AreNearBoards}
 use Rattle.laws_report.specs.page.Log.{Follows, SaysLog, StartsOnTime, log_of}
 
--- What the lines of a run show of a text, as they were printed, with those of pulses: where the run met its premise
--- (`near`); where it did not end for want of memory (`other`); and in any case.
-pub record Shows (near other : Type 0) (m : Machine) (s : Scene) (text : List ℕ) (c : Cause)
+-- What the lines of a run show of a text, as they were printed, with those of pulses, whatever ended the run: where it
+-- met its premise (`near`), and in any case.
+pub record Shows (near : Type 0) (m : Machine) (s : Scene) (text : List ℕ) (c : Cause)
     (said : List ReportLine) : Type 0 where
   -- Prefix, Whole and Sections: what is printed follows the plan of the text, by the clock lines that it tells, as far
   -- as the run came
@@ -27,9 +27,9 @@ pub record Shows (near other : Type 0) (m : Machine) (s : Scene) (text : List �
   -- Text: the log is what the printed text says, where the names of the machine are words, as those that a
   -- configuration gives
   pub says : near → HasNames m → SaysLog m (report_text m said) (log_of said)
-  -- Cuts: each stands in the section that it names, which homes, and tells of its axis's endstop; and there is one
-  -- where the next section has its line
-  pub cuts : other → HaveCuts m s.switches c (sections_over m text) said
+  -- Cuts: in any case each stands in the section that it names, which homes, and tells of its axis's endstop; and there
+  -- is one where the next section has its line
+  pub cuts : HaveCuts m s.switches c (sections_over m text) said
   -- Clock lines: in any case, where a section has its line, each that is printed is near its board's clock
   pub clocks : sections_shown said ≢ [] → AreNearBoards m (log_of said)
   -- Sections: in any case the section lines are those of the first sections of the text, in order, and of all where the

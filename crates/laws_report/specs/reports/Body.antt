@@ -5,13 +5,8 @@ use Rattle.plan_types.specs.declared.cause.Cause.TheVariants as cause
 use Rattle.plan_types.specs.declared.plan.ReadStop.{ReadStop}
 use Rattle.plan_types.specs.declared.plan.ReadStop.TheVariants.{End, Stop, Refused}
 use Rattle.plan_types.specs.declared.plan.Section.{Section}
-use Rattle.plan_types.specs.declared.plan.SectionKind.TheVariants.{Moves}
 use Rattle.report_text.specs.declared.line.ReportLine.{ReportLine}
 use Rattle.report_text.specs.declared.line.ReportLine.TheVariants as report
-
--- what stands for a section that is not there
-abbrev pub no_section : Section
-no_section = record { kind = Moves; moves = []; dwell = 0 }
 
 -- the cause with which a run ends that nothing cuts
 abbrev pub cause_of : ReadStop → Cause

@@ -35,17 +35,7 @@ IsCauseOf wanted given = (given ≡ wanted) ⊎ ((given ≡ cause.Memory) ⊎ ((
 abbrev pub lines_line : List ReportLine → Option (ℕ × ℕ)
 lines_line [] = None
 lines_line (report.Lines accepted passed ∷ lines) = Some (accepted, passed)
-lines_line (report.Section i turn kind ∷ lines) = lines_line lines
-lines_line (report.Pulse board stepper tick up ∷ lines) = lines_line lines
-lines_line (report.Machine corexy boards steppers ∷ lines) = lines_line lines
-lines_line (report.Board board freq turn tick ∷ lines) = lines_line lines
-lines_line (report.Cut section board pin tick from ∷ lines) = lines_line lines
-lines_line (report.Drift board sent clock from ∷ lines) = lines_line lines
-lines_line (report.Out board pin tick on ∷ lines) = lines_line lines
-lines_line (report.Fit section stepper pulses planned early late ∷ lines) = lines_line lines
-lines_line (report.Made seed moves ∷ lines) = lines_line lines
-lines_line (report.Count stepper pulses ∷ lines) = lines_line lines
-lines_line (report.End c ∷ lines) = lines_line lines
+lines_line (_ ∷ lines) = lines_line lines
 
 -- Bytes: a front of the text of the lines is written, and the whole of it but for want of memory and a write that failed.
 abbrev pub WritesText : Machine → Option (List ℕ) → Option (List ℕ) → Cause → List ReportLine → Type 0

@@ -12,16 +12,7 @@ pulses_before s (report.Pulse board stepper tick up ∷ lines) =
     let here : Pulse = record { tick = tick; stepper = stepper; up = up } in
     let others = pulses_before s lines in
     (if stepper == s then here ∷ others else others)
-pulses_before s (report.Machine corexy boards steppers ∷ lines) = pulses_before s lines
-pulses_before s (report.Board board freq turn tick ∷ lines) = pulses_before s lines
-pulses_before s (report.Cut section board pin tick from ∷ lines) = pulses_before s lines
-pulses_before s (report.Drift board sent clock from ∷ lines) = pulses_before s lines
-pulses_before s (report.Lines accepted passed ∷ lines) = pulses_before s lines
-pulses_before s (report.Out board pin tick on ∷ lines) = pulses_before s lines
-pulses_before s (report.Fit section stepper pulses planned early late ∷ lines) = pulses_before s lines
-pulses_before s (report.Made seed moves ∷ lines) = pulses_before s lines
-pulses_before s (report.Count stepper pulses ∷ lines) = pulses_before s lines
-pulses_before s (report.End cause ∷ lines) = pulses_before s lines
+pulses_before s (_ ∷ lines) = pulses_before s lines
 
 -- the pulses of a stepper between the line of a section and the next section line, or the end
 abbrev pub pulses_in : ℕ → ℕ → List ReportLine → List Pulse
@@ -30,33 +21,13 @@ pulses_in i s (report.Section j turn kind ∷ lines) =
     let here = pulses_before s lines in
     let later = pulses_in i s lines in
     (if j == i then here else later)
-pulses_in i s (report.Pulse board stepper tick up ∷ lines) = pulses_in i s lines
-pulses_in i s (report.Machine corexy boards steppers ∷ lines) = pulses_in i s lines
-pulses_in i s (report.Board board freq turn tick ∷ lines) = pulses_in i s lines
-pulses_in i s (report.Cut section board pin tick from ∷ lines) = pulses_in i s lines
-pulses_in i s (report.Drift board sent clock from ∷ lines) = pulses_in i s lines
-pulses_in i s (report.Lines accepted passed ∷ lines) = pulses_in i s lines
-pulses_in i s (report.Out board pin tick on ∷ lines) = pulses_in i s lines
-pulses_in i s (report.Fit section stepper pulses planned early late ∷ lines) = pulses_in i s lines
-pulses_in i s (report.Made seed moves ∷ lines) = pulses_in i s lines
-pulses_in i s (report.Count stepper pulses ∷ lines) = pulses_in i s lines
-pulses_in i s (report.End cause ∷ lines) = pulses_in i s lines
+pulses_in i s (_ ∷ lines) = pulses_in i s lines
 
 -- the section lines, in order
 abbrev pub sections_shown : List ReportLine → List ReportLine
 sections_shown [] = []
 sections_shown (report.Section i turn kind ∷ lines) = report.Section i turn kind ∷ sections_shown lines
-sections_shown (report.Pulse board stepper tick up ∷ lines) = sections_shown lines
-sections_shown (report.Machine corexy boards steppers ∷ lines) = sections_shown lines
-sections_shown (report.Board board freq turn tick ∷ lines) = sections_shown lines
-sections_shown (report.Cut section board pin tick from ∷ lines) = sections_shown lines
-sections_shown (report.Drift board sent clock from ∷ lines) = sections_shown lines
-sections_shown (report.Lines accepted passed ∷ lines) = sections_shown lines
-sections_shown (report.Out board pin tick on ∷ lines) = sections_shown lines
-sections_shown (report.Fit section stepper pulses planned early late ∷ lines) = sections_shown lines
-sections_shown (report.Made seed moves ∷ lines) = sections_shown lines
-sections_shown (report.Count stepper pulses ∷ lines) = sections_shown lines
-sections_shown (report.End cause ∷ lines) = sections_shown lines
+sections_shown (_ ∷ lines) = sections_shown lines
 
 -- the turn that the line of a section shows
 abbrev pub section_turn : ℕ → List ReportLine → Option ℕ
@@ -64,17 +35,7 @@ section_turn i [] = None
 section_turn i (report.Section j turn kind ∷ lines) =
     let later = section_turn i lines in
     (if j == i then Some turn else later)
-section_turn i (report.Pulse board stepper tick up ∷ lines) = section_turn i lines
-section_turn i (report.Machine corexy boards steppers ∷ lines) = section_turn i lines
-section_turn i (report.Board board freq turn tick ∷ lines) = section_turn i lines
-section_turn i (report.Cut section board pin tick from ∷ lines) = section_turn i lines
-section_turn i (report.Drift board sent clock from ∷ lines) = section_turn i lines
-section_turn i (report.Lines accepted passed ∷ lines) = section_turn i lines
-section_turn i (report.Out board pin tick on ∷ lines) = section_turn i lines
-section_turn i (report.Fit section stepper pulses planned early late ∷ lines) = section_turn i lines
-section_turn i (report.Made seed moves ∷ lines) = section_turn i lines
-section_turn i (report.Count stepper pulses ∷ lines) = section_turn i lines
-section_turn i (report.End cause ∷ lines) = section_turn i lines
+section_turn i (_ ∷ lines) = section_turn i lines
 
 -- a line begins the section of a number
 abbrev pub begins : ℕ → ReportLine → Bool

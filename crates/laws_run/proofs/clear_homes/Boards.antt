@@ -9,15 +9,14 @@ use Rattle.wire_scene.specs.declared.scene.Scene.{Scene}
 use Rattle.link_work.specs.Switches.{pins_of}
 use Rattle.host_reactor.specs.Runs.{Came}
 use Rattle.laws_board.specs.turns.Turns.{BoardTurn}
-use Rattle.laws_board.specs.clocks.Runs.{IsInRun, UnitsFit}
+use Rattle.laws_board.specs.clocks.Runs.{IsInRun}
 use Rattle.laws_board.proofs.clocks.Orders.{order_length}
 use Rattle.motion_work.specs.Told.{Told}
 use Rattle.session_work.specs.declared.table.MotionTurn.{MotionTurn}
 use Rattle.session_work.specs.declared.table.ReactorTurn.{ReactorTurn}
 use Rattle.session_run.specs.Boards.{came_from}
 use Rattle.laws_board.specs.sections.Boards.{OnBoard}
-use Rattle.laws_board.specs.sections.Homes.{AreOut, IsHomeBoard}
-use Rattle.laws_board.specs.plans.Homed.{runs_on}
+use Rattle.laws_board.specs.sections.Homes.{IsHomeBoard}
 use Rattle.laws_run.specs.lanes.Boards.{IsInWhole, behind}
 use Rattle.laws_run.specs.lanes.Turns.{came_before}
 use Rattle.laws_board.specs.plans.Lines.{TookNotes}
@@ -26,8 +25,8 @@ use Rattle.laws_board.proofs.plans.Running.{started_in}
 use Rattle.laws_run.specs.run_headline.Timely.{AreSound, link_of}
 use Rattle.laws_run.proofs.run_headline.Boarded.{Ready, came_cut, ready, sound_of, valid_at}
 use Rattle.laws_run.proofs.run_headline.Showing.{Facts, front_notes, took_notes}
-use Rattle.laws_homing.specs.home_plans.Notes.{AreInARow}
-use Rattle.laws_homing.proofs.home_plans.Noting.{begun_row}
+use Rattle.laws_board.specs.plans.Rows.{AreInARow}
+use Rattle.laws_board.proofs.plans.Rows.{begun_row}
 use Rattle.laws_homing.specs.home_parts.Answers.{ArePastConnecting, IsPlannedBy, MayHome}
 use Rattle.laws_homing.specs.home_parts.Cuts.{cuts_on}
 use Rattle.laws_homing.specs.home_parts.Known.{KnowsLately, StartInRange}
@@ -35,15 +34,15 @@ use Rattle.laws_board.specs.causes.Short.{HaveShortDictionaries}
 use Rattle.laws_run.specs.clock_ages.Renewed.{StayYoung}
 use Rattle.laws_run.proofs.clock_ages.Own.{Own}
 use Rattle.laws_run.proofs.clock_ages.Renews.{renews}
-use Rattle.laws_run.specs.home_headline.Little.{HomesLittle}
-use Rattle.laws_run.proofs.home_headline.Board.{Followed, boarded, here, homing_in, lines_of}
+use Rattle.laws_run.specs.home_headline.Near.{KeepsUp}
+use Rattle.laws_run.proofs.home_headline.Board.{Followed, boarded, here, lines_of}
 use Rattle.laws_run.proofs.home_headline.Clocks.{run_knows}
 use Rattle.laws_run.proofs.home_headline.Planned.{planned_by}
 use Rattle.laws_run.proofs.home_headline.Ranges.{may_all, on_small, range_all, starts_soon}
 
 module _ (m : Machine) (v : IsValidMachine m) (s : Scene) (ts : List MotionTurn) (p : Plans m (length m.boards) ts) (t : Told) (first : ReactorTurn) (rest : List ReactorTurn) (end : ReactorTurn) (c : Cause) (told : p.seen.told ≡ Some t) (f : Facts m s ts (first ∷ rest) end c)
     (long : length (rest ++ end ∷ []) ≤ length p.made) (short : HaveShortDictionaries m)
-    (little : (b : ℕ) → b < length m.boards → (w : IsInWhole m s.switches b (clock_of (board_at m b)) (link_of m s b) ts first (rest ++ end ∷ [])) → HomesLittle m s b ts first (rest ++ end ∷ []) (length p.made) t p.seen.begun w) where
+    (little : (b : ℕ) → b < length m.boards → (w : IsInWhole m s.switches b (clock_of (board_at m b)) (link_of m s b) ts first (rest ++ end ∷ [])) → KeepsUp m s b ts first (rest ++ end ∷ []) p.seen.begun w) where
   notes : TookNotes (map (λ d. d.note) p.made) (first ∷ rest)
   notes = front_notes m v s ts p end c first rest f (took_notes m v s ts p end c first rest f long)
 
@@ -91,12 +90,7 @@ module _ (m : Machine) (v : IsValidMachine m) (s : Scene) (ts : List MotionTurn)
   formed = may_all m v ts p t told
 
   pub on : (b : ℕ) (h : b < length m.boards) → IsHomeBoard b s.entries By N (cuts_on m t.clocks N p.seen.begun b) (Here b h)
-  on b h = boarded m v s ts p t first rest end told f.ahead b f.words_left (whole b h) turn h f.turns f.words notes long (little b h (whole b h)) (lines b h) sound formed (range b h)
-
-  -- and what it was sent
-  pub fits : (b : ℕ) (h : b < length m.boards) → AreOut (length p.made) (runs_on m t.clocks p.seen.begun b) → UnitsFit (Turns_of b h)
-  fits b h out =
-      (homing_in m v s ts p t first rest end told f.ahead b f.words_left (whole b h) turn h f.turns f.words notes long (little b h (whole b h)) (lines b h) sound formed (range b h)).fits out
+  on b h = boarded m v s ts p t first rest end told f.ahead b f.words_left (whole b h) turn h f.turns f.words notes long (lines b h) sound formed (range b h) (little b h (whole b h))
 
   pub run_of : (b : ℕ) (h : b < length m.boards) → IsInRun m s.switches (pins_of (board_at m b) b s.switches) s.entries b Came_all (Turns_of b h)
   run_of b h =

@@ -12,7 +12,8 @@ use Rattle.motion_work.specs.Seen.{Started}
 use Rattle.session_work.specs.declared.table.MotionTurn.{MotionTurn}
 use Rattle.laws_board.specs.plans.Planned.{Plans}
 use Rattle.laws_homing.specs.home_runs.Words.{BeginsNone}
-use Rattle.laws_homing.specs.home_plans.Notes.{AreInARow, CameNotes, IsNoteOf}
+use Rattle.laws_homing.specs.home_plans.Notes.{CameNotes, IsNoteOf}
+use Rattle.laws_board.specs.plans.Rows.{AreInARow}
 use Rattle.laws_homing.specs.home_parts.Answers.{ArePastConnecting, IsPlannedBy}
 use Rattle.laws_homing.specs.clear_groups.Runs.{BeginsWell, IsBegunWell, IsTracked}
 use Rattle.laws_homing.proofs.home_plans.Fresh.{IsFresh, note_begins}
@@ -49,7 +50,7 @@ module _ (m : Machine) (switches : List Switch) (ts : List MotionTurn) (p : Plan
             tracked = subst (λ (n : ℕ). Tracked n h.group.last) (sym start) (subst (λ (n : ℕ). Tracked f.1.start n) (sym last) both.1);
           }
 
-  wells : (ahead behind : List Came) → came ≡ ahead ++ behind → GoesOn m switches behind → CameNotes p.seen.begun behind → ArePastConnecting m switches ready behind → BeginsWell m switches lines (ready + 1) till behind
+  pub wells : (ahead behind : List Came) → came ≡ ahead ++ behind → GoesOn m switches behind → CameNotes p.seen.begun behind → ArePastConnecting m switches ready behind → BeginsWell m switches lines (ready + 1) till behind
   wells ahead [] are on notes past = tt
   wells ahead (c ∷ before) are on notes past =
       let rest : came ≡ (ahead ++ c ∷ []) ++ before = are ∙ sym (append_assoc ahead (c ∷ []) before) in

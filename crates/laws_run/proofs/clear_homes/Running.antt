@@ -9,15 +9,11 @@ use Rattle.plan_types.specs.Clock.{clock_of}
 use Rattle.msg_code.specs.declared.talk.ShutNews.{ShutNews}
 use Rattle.msg_code.specs.declared.talk.State.{State}
 use Rattle.wire_scene.specs.declared.scene.Entry.{Entry}
-use Rattle.board_sim.specs.Fair.{commands_of}
 use Rattle.board_world.specs.World.{Core, run, start}
-use Rattle.link_work.specs.Limits.{AllKeepLimits}
 use Rattle.link_work.specs.Runs.{queued_in}
-use Rattle.link_work.specs.Stands.{first_state, orders}
+use Rattle.link_work.specs.Stands.{first_state}
 use Rattle.link_work.specs.Told.{IsShutNews}
-use Rattle.link_work.proofs.Late.{limits_split}
 use Rattle.laws_board.specs.turns.Turns.{AreBoardTurns, BoardTurn, latest_state, stands_after}
-use Rattle.laws_board.specs.clocks.Runs.{orders_in}
 use Rattle.laws_board.specs.sections.Boards.{OnBoard}
 use Rattle.laws_board.specs.sections.Homes.{IsHomeBoard, RunSection}
 use Rattle.laws_board.specs.sections.Links.{AreTold, steps_of, turns_told}
@@ -28,8 +24,7 @@ use Rattle.laws_board.proofs.sections.Linking.{turns_are}
 use Rattle.laws_board.proofs.sections.Wholes.{sent_orders}
 use Rattle.laws_run.proofs.home_headline.Good.{board_good, board_may}
 use Rattle.laws_run.proofs.home_headline.Stop.{never_shut, runs_so}
-use Rattle.laws_homing.proofs.clear_boards.Standing.{runs_through}
-use Rattle.laws_homing.proofs.clear_boards.Turned.{ran}
+use Rattle.laws_homing.proofs.home_runs.Staging.{ran_turns}
 use Rattle.laws_homing.specs.clear_groups.Sections.{ShutNone}
 
 none_told : (o : BoardState) (news : Option ShutNews) → IsShutNews o news → o ≡ Running → news ≡ None
@@ -55,18 +50,16 @@ end_none place entries ready turns ss x k front last are never late =
     none_told k.end.core.board.controller.state last.shut ends.1 (runs_so k.end.core.board.controller.state last.shut may ends.1 late stop)
 
 -- a board that runs behind some turns ran in each of them
-none_before : (b : BoardDef) (pins : List (List Level)) (place : ℕ) (entries : List Entry) (turns : List BoardTurn) → entries ≡ [] → AreBoardTurns (clock_of b) (first_state b pins place entries) turns → AllKeepLimits (orders_in turns)
+pub none_before : (b : BoardDef) (pins : List (List Level)) (place : ℕ) (entries : List Entry) (turns : List BoardTurn) → AreBoardTurns (clock_of b) (first_state b pins place entries) turns
     → (stands_after (first_state b pins place entries) turns).core.board.controller.state ≡ Running → ShutNone turns
-none_before b pins place entries [] clear are limits runs = tt
-none_before b pins place entries (t ∷ before) clear are limits runs =
-    let first = first_state b pins place entries in
+none_before b pins place entries [] are runs = tt
+none_before b pins place entries (t ∷ before) are runs =
     let shut = none_told t.after.core.board.controller.state t.state.shut are.0.1.shut runs in
-    let past = ran (stands_after first before).core.board (commands_of (queued_in (orders t.control t.batch))) (runs_through b pins place entries t before clear are limits shut) in
-    (shut, none_before b pins place entries before clear are.1 (limits_split (orders_in before) (orders t.control t.batch ∷ []) limits).0 past)
+    (shut, none_before b pins place entries before are.1 (ran_turns (clock_of b) (first_state b pins place entries) (t ∷ []) before are runs))
 
-pub all_none : (b : BoardDef) (pins : List (List Level)) (place : ℕ) (entries : List Entry) (turns : List BoardTurn) (last : State) → entries ≡ [] → AreBoardTurns (clock_of b) (first_state b pins place entries) turns → AllKeepLimits (orders_in turns)
+pub all_none : (b : BoardDef) (pins : List (List Level)) (place : ℕ) (entries : List Entry) (turns : List BoardTurn) (last : State) → AreBoardTurns (clock_of b) (first_state b pins place entries) turns
     → latest_state turns ≡ last ∷ [] → last.shut ≡ None → ShutNone turns
-all_none b pins place entries [] last clear are limits at shut = tt
-all_none b pins place entries (t ∷ before) last clear are limits at shut =
+all_none b pins place entries [] last are at shut = tt
+all_none b pins place entries (t ∷ before) last are at shut =
     let same : t.state ≡ last = cc in
-    none_before b pins place entries (t ∷ before) clear are limits (runs_on t.after.core.board.controller.state t.state.shut are.0.1.shut (ap (λ (y : State). y.shut) same ∙ shut))
+    none_before b pins place entries (t ∷ before) are (runs_on t.after.core.board.controller.state t.state.shut are.0.1.shut (ap (λ (y : State). y.shut) same ∙ shut))

@@ -78,17 +78,18 @@ use Rattle.plan_types.specs.declared.machine.BoardDef.{BoardDef}
 use Rattle.plan_types.specs.declared.levels.Level.{Level}
 use Rattle.plan_types.specs.declared.plan.SectionKind.TheVariants.{Moves}
 use Rattle.laws_board.specs.clocks.Runs.{orders_in}
-use Rattle.laws_board.specs.sections.Homes.{AreOut, IsHomeBoard}
-use Rattle.laws_board.specs.plans.Homed.{runs_on}
+use Rattle.laws_board.specs.sections.Homes.{IsHomeBoard}
 use Rattle.laws_run.proofs.run_headline.Boarded.{Ready, came_cut, came_split, lined, ready, took, took_long, valid_at}
 use Rattle.laws_run.proofs.run_headline.Plain.{all_moves}
 use Rattle.laws_run.proofs.run_headline.Showing.{came_long, cut_last, front_notes, in_none, long_own, not_told, took_notes, turns_cut}
 use Rattle.laws_homing.specs.home_plans.Notes.{CameNotes, WasBegun}
 use Rattle.laws_homing.proofs.home_plans.Knowing.{now_was}
 use Rattle.laws_homing.specs.home_parts.Cuts.{cuts_on}
-use Rattle.laws_run.specs.home_headline.Little.{HomesLittle, SendsAllInTime}
+use Rattle.laws_run.specs.home_headline.Near.{KeepsUp}
+use Rattle.laws_run.specs.home_headline.Little.{SendsAllInTime}
 use Rattle.laws_run.proofs.home_headline.Board.{here}
-use Rattle.laws_run.proofs.home_headline.Clear.{time_out}
+use Rattle.laws_run.proofs.home_headline.Clear.{time_near}
+use Rattle.laws_run.proofs.clear_homes.Timed.{sent_fits, sent_keeps}
 use Rattle.laws_run.proofs.home_headline.Planned.{all_notes}
 use Rattle.laws_board.specs.causes.Short.{HaveShortDictionaries}
 use Rattle.laws_run.specs.clear_runs.Clear.{SendsAllSoon}
@@ -102,6 +103,7 @@ use Rattle.trigger_group.specs.declared.order.End.TheVariants as end_of
 use Rattle.laws_homing.specs.missed_groups.Ticks.{IsSwitchTick}
 use Rattle.laws_run.proofs.clear_runs.Through.{first_none, spilled}
 use Rattle.laws_run.proofs.run_headline.Asked.{whole_by}
+use Rattle.laws_board.specs.sections.Runs.{AreSpilled}
 
 -- those that are sent soon are sent in time
 pub soon_all : (m : Machine) (text : List ℕ) (ts : List MotionTurn) → SendsAllSoon m text ts → SendsAllInTime m text ts
@@ -180,13 +182,18 @@ module _ (m : Machine) (v : IsValidMachine m) (short : HaveShortDictionaries m) 
     notes : TookNotes (map (λ t. t.note) p.made) (first ∷ (rest ++ end ∷ []))
     notes = took_notes m v s ts p end c first rest f long
 
-    -- no board holds anything long
-    little : (t : Told) → p.seen.told ≡ Some t → (b : ℕ) → b < length m.boards → (x : IsInWhole m s.switches b (clock_of (board_at m b)) (link_of m s b) ts first (rest ++ end ∷ []))
-        → HomesLittle m s b ts first (rest ++ end ∷ []) (length p.made) t p.seen.begun x
-    little t told b low x = let out = time_out m p.seen.text ts (soon_all m p.seen.text ts sends) p t b refl told low in record { timely = inl (10_700, omega arith, out.1, inl clear); sets_up = inl (inl (clear, out.0)) }
+    -- no unit is sent too late
+    sents : (t : Told) → p.seen.told ≡ Some t → (b : ℕ) → b < length m.boards → AreSpilled (length p.made) 10_700 (parts_on m t.clocks p.seen.begun b)
+    sents t told b low = time_near m p.seen.text ts (soon_all m p.seen.text ts sends) p t b refl told low
 
-    outs : (t : Told) → p.seen.told ≡ Some t → (b : ℕ) → b < length m.boards → AreOut (length p.made) (runs_on m t.clocks p.seen.begun b)
-    outs t told b low = (time_out m p.seen.text ts (soon_all m p.seen.text ts sends) p t b refl told low).0
+    -- each board keeps up
+    little : (t : Told) → p.seen.told ≡ Some t → (b : ℕ) → b < length m.boards → (x : IsInWhole m s.switches b (clock_of (board_at m b)) (link_of m s b) ts first (rest ++ end ∷ []))
+        → KeepsUp m s b ts first (rest ++ end ∷ []) p.seen.begun x
+    little t told b low x = sent_keeps m v s ts p t first rest end c told f short clear (sents t told) b low x
+
+    -- and its units fit
+    fits_of : (t : Told) → p.seen.told ≡ Some t → (b : ℕ) (low : b < length m.boards) → UnitsFit (behind [] (f.boards b first rest low refl).made)
+    fits_of t told b low = sent_fits m v s ts p t first rest end c told f short clear (sents t told) b low (f.boards b first rest low refl)
 
     -- where the planner was told no clock lines, none homes
     none_moves : p.seen.told ≡ None → AllMoves All_came
@@ -263,7 +270,7 @@ module _ (m : Machine) (v : IsValidMachine m) (short : HaveShortDictionaries m) 
 
         told_fits : UnitsFit (behind [] w.made)
         unfolding w
-        told_fits = boards.fits m v s ts p t first rest end c told f long short (little t told) b low (outs t told b low)
+        told_fits = fits_of t told b low
 
         -- the line of an exact clock
         exact : (board_at m b).drift ≡ pos 0 → (k : ℕ) → length (came_from [] Ready_in.past) ≤ k → board_tick (clock_of (board_at m b)) k ≤ lines_tick (clocks_at t.clocks b) ((k + 0) * turn_ns)
@@ -425,7 +432,7 @@ module _ (m : Machine) (v : IsValidMachine m) (short : HaveShortDictionaries m) 
             in_none begun.0 begun.1 begun.2 p.seen.begun (not_told m v s ts p end c none) begun.4
         by (Some t) some =
             let is = expired_of Now.clocks (length All_came) board turn end.states Now.homing e in
-            never_expired m v s ts p t first rest end c some f long short (little t some) clear not_stopping (have 0 v.boards_some) (λ b low. in_time b low) notes (outs t some) is.0 is.1 board turn is.2
+            never_expired m v s ts p t first rest end c some f long short (little t some) clear not_stopping (have 0 v.boards_some) (λ b low. in_time b low) notes (fits_of t some) is.0 is.1 board turn is.2
 
     -- where one answers that no switch closed, none did in time
     missed_so : (section : ℕ) → (homing_turn Now.clocks (length All_came) end.states Now.homing).end ≡ Some (cause.NoSwitch section) → MissesSwitch m s p.seen section
@@ -442,7 +449,7 @@ module _ (m : Machine) (v : IsValidMachine m) (short : HaveShortDictionaries m) 
                 → WasBegun p.seen.begun (Some h) → MissesSwitch m s p.seen section
             by_told None told h is answers number was = absurd (in_none was.0 was.1 was.2 p.seen.begun (not_told m v s ts p end c told) was.4)
             by_told (Some t) told h is answers number was =
-                let late = never_missed m v s ts p t first rest end c told f long short (little t told) clear not_stopping (have 0 v.boards_some) (λ b low. in_time b low) notes (outs t told) h is answers in
+                let late = never_missed m v s ts p t first rest end c told f long short (little t told) clear not_stopping (have 0 v.boards_some) (λ b low. in_time b low) notes (fits_of t told) h is answers in
                 let Late : ℕ → ℕ → ℕ → Type 0 = λ axis start last. (tick : ℕ) → IsSwitchTick m (pins_of (board_at m (axis_at m axis).board) (axis_at m axis).board s.switches) (axis_at m axis).board (axis_at m axis)
                 (lines_tick (clocks_at t.clocks (axis_at m axis).board) (start * turn_ns)) tick → lines_tick (clocks_at t.clocks (axis_at m axis).board) ((last + 1) * turn_ns) ≤ tick in
                 let at_last : Late h.axis h.start was.1.last = subst (λ (n : ℕ). Late h.axis h.start n) was.10 late in

@@ -39,9 +39,7 @@ use Rattle.laws_run.proofs.run_headline.Showing.{Facts, came_long}
 use Rattle.laws_homing.specs.home_plans.Notes.{CameNotes, WasBegun}
 use Rattle.laws_homing.specs.home_parts.Cuts.{cuts_on}
 use Rattle.motion_work.specs.Known.{lines_by}
-use Rattle.laws_board.specs.sections.Homes.{AreOut}
-use Rattle.laws_board.specs.plans.Homed.{runs_on}
-use Rattle.laws_run.specs.home_headline.Little.{HomesLittle}
+use Rattle.laws_run.specs.home_headline.Near.{KeepsUp}
 use Rattle.laws_run.proofs.home_headline.Clocks.{end_knows}
 use Rattle.laws_run.proofs.home_headline.Planned.{all_notes}
 use Rattle.laws_run.proofs.home_headline.Ranges.{own_small}
@@ -66,16 +64,17 @@ use Rattle.laws_run.proofs.clear_homes.Bounds.{starts_by}
 use Rattle.laws_run.proofs.clear_homes.Lines.{lines_known, tracked_by}
 use Rattle.laws_run.proofs.clear_homes.Opened.{begin_well}
 use Rattle.laws_run.proofs.clear_homes.Running.{all_none, end_none}
+use Rattle.laws_board.specs.clocks.Runs.{UnitsFit}
 
 -- what each of some boards did; of no other board anything
-turns_by : (b n : ℕ) (f : (i : ℕ) → i < n → List BoardTurn) → ((b < n) ⊎ (n ≤ b)) → List BoardTurn
+pub turns_by : (b n : ℕ) (f : (i : ℕ) → i < n → List BoardTurn) → ((b < n) ⊎ (n ≤ b)) → List BoardTurn
 turns_by b n f (inl low) = f b low
 turns_by b n f (inr far) = []
 
-is_low : (b n : ℕ) → (b < n) ⊎ (n ≤ b)
+pub is_low : (b n : ℕ) → (b < n) ⊎ (n ≤ b)
 is_low b n = elim (leb_tells (b + 1) n) [ inl p ↦ (let q = p.1 in inl (omega (arith, q))) | inr p ↦ (let q = p.1 in inr (omega (arith, q))) ]
 
-turns_same : (b n : ℕ) (f : (i : ℕ) → i < n → List BoardTurn) (o : (b < n) ⊎ (n ≤ b)) (low : b < n) → turns_by b n f o ≡ f b low
+pub turns_same : (b n : ℕ) (f : (i : ℕ) → i < n → List BoardTurn) (o : (b < n) ⊎ (n ≤ b)) (low : b < n) → turns_by b n f o ≡ f b low
 unfolding turns_by
 turns_same b n f (inl p) low = let low_prop : IsProp (b < n) = hlevel props in ap (λ (h : b < n). f b h) (low_prop p low)
 turns_same b n f (inr p) low = absurd (omega (arith, p, low))
@@ -86,9 +85,9 @@ some_turn (t ∷ turns) some = t
 
 module _ (m : Machine) (v : IsValidMachine m) (s : Scene) (ts : List MotionTurn) (p : Plans m (length m.boards) ts) (t : Told) (first : ReactorTurn) (rest : List ReactorTurn) (end : ReactorTurn) (c : Cause) (told : p.seen.told ≡ Some t) (f : Facts m s ts (first ∷ rest) end c)
     (long : length (rest ++ end ∷ []) ≤ length p.made) (short : HaveShortDictionaries m)
-    (little : (b : ℕ) → b < length m.boards → (w : IsInWhole m s.switches b (clock_of (board_at m b)) (link_of m s b) ts first (rest ++ end ∷ [])) → HomesLittle m s b ts first (rest ++ end ∷ []) (length p.made) t p.seen.begun w)
+    (little : (b : ℕ) → b < length m.boards → (w : IsInWhole m s.switches b (clock_of (board_at m b)) (link_of m s b) ts first (rest ++ end ∷ [])) → KeepsUp m s b ts first (rest ++ end ∷ []) p.seen.begun w)
     (clear : s.entries ≡ []) (stop : (line : ℕ) → (known_by m s.switches (came_from [] (first ∷ rest))).phase ≡ Stopping line → ⊥) (have : HaveStates m (came_in end ∷ came_from [] (first ∷ rest)))
-    (in_time : (b : ℕ) → b < length m.boards → (state : State) (n : ShutNews) → item b end.states ≡ state ∷ [] → state.shut ≡ Some n → n.reason ≡ 1 → ⊥) (notes : TookNotes (map (λ d. d.note) p.made) (first ∷ (rest ++ end ∷ []))) (outs : (b : ℕ) → b < length m.boards → AreOut (length p.made) (runs_on m t.clocks p.seen.begun b)) where
+    (in_time : (b : ℕ) → b < length m.boards → (state : State) (n : ShutNews) → item b end.states ≡ state ∷ [] → state.shut ≡ Some n → n.reason ≡ 1 → ⊥) (notes : TookNotes (map (λ d. d.note) p.made) (first ∷ (rest ++ end ∷ []))) (fits : (b : ℕ) (h : b < length m.boards) → UnitsFit (behind [] (f.boards b first rest h refl).made)) where
   abbrev Came_all : List Came
   Came_all = came_from [] (first ∷ rest)
 
@@ -123,8 +122,7 @@ module _ (m : Machine) (v : IsValidMachine m) (s : Scene) (ts : List MotionTurn)
   plain b h =
       let run = boards.run_of m v s ts p t first rest end c told f long short little b h in
       let home = boards.on m v s ts p t first rest end c told f long short little b h in
-      let units = boards.fits m v s ts p t first rest end c told f long short little b h (outs b h) in
-      let limits = all_limits m s.switches (Pins b) s.entries b Came_all (Turns b h) v run stop units in
+      let limits = all_limits m s.switches (Pins b) s.entries b Came_all (Turns b h) v run stop (fits b h) in
       let none = end_none b s.entries From (length (rest ++ end ∷ [])) (cuts_on m t.clocks (length (rest ++ end ∷ [])) p.seen.begun b) (boards.Here m v s ts p t first rest end c told f long short little b h) home (last b h).front (last b h).last (last b h).are
       (never_stop m s.switches (Pins b) s.entries b Came_all (Turns b h) run stop) (λ n shut one. in_time b h (last b h).last n (last b h).at shut one) in
       let size = count b h in
@@ -134,7 +132,7 @@ module _ (m : Machine) (v : IsValidMachine m) (s : Scene) (ts : List MotionTurn)
       record {
         run = run;
         limits = limits;
-        none_shut = all_none (board_at m b) (Pins b) b s.entries (Turns b h) (last b h).last clear run.turns_are limits (latest b h) none;
+        none_shut = all_none (board_at m b) (Pins b) b s.entries (Turns b h) (last b h).last run.turns_are (latest b h) none;
         in_range = omega (arith, range);
       }
 

@@ -19,7 +19,7 @@ use Rattle.laws_run.proofs.run_headline.Cutting.{run_front}
 use Rattle.laws_run.proofs.run_headline.Making.{front_made}
 use Rattle.laws_run.specs.home_headline.Follow.{AllShowBegun, AllShowHomes}
 use Rattle.laws_board.specs.causes.Short.{HaveShortDictionaries}
-use Rattle.laws_run.specs.home_headline.Little.{AllHomeLittle}
+use Rattle.laws_run.specs.home_headline.Near.{AllKeepUp}
 use Rattle.laws_run.proofs.home_headline.Sections.{all_begun}
 use Rattle.laws_run.proofs.home_headline.Shows.{all_shows}
 
@@ -27,11 +27,11 @@ pub run_before : {F S : Type 0} (f : Files F) (o : Sink S) (m : Machine) (s : Sc
     → f.told files name ≡ Some text → kept.at ≡ 0 → (turns : List ReactorTurn) (last : ReactorTurn) → r.runs.1 ≡ turns ++ last ∷ []
     → ∥ ((front : List MotionTurn) × (later : List MotionTurn) × (r.runs.0 ≡ front ++ later) × (length front ≡ length turns) × (p : Plans m (length m.boards) front) × (p.seen.text ≡ text)
     × AllShowBegun m p.seen (clocks_heard p.seen.told) (ready_heard p.seen.told) cause.ReadFault (turns ++ last ∷ [])
-    × (HaveShortDictionaries m → AllHomeLittle m s text front (turns ++ last ∷ []) → AllShowHomes m p.seen (clocks_heard p.seen.told) (ready_heard p.seen.told) cause.ReadFault (turns ++ last ∷ []))) ∥₁
+    × (HaveShortDictionaries m → AllKeepUp m s text front (turns ++ last ∷ []) → AllShowHomes m p.seen (clocks_heard p.seen.told) (ready_heard p.seen.told) cause.ReadFault (turns ++ last ∷ []))) ∥₁
 run_before f o m s name files files' out out' kept kept' t r v text told at turns last cut =
     let part = run_front f o m s name files files' out out' kept kept' t r turns last cut in
     ∥∥₁_map (front_made f o m s name files files' out out' kept kept' t r text told at part.planned part.later part.are) (λ w.
-    let Little : List ℕ → Type 0 = λ z. AllHomeLittle m s z part.planned (turns ++ last ∷ []) in (
+    let Little : List ℕ → Type 0 = λ z. AllKeepUp m s z part.planned (turns ++ last ∷ []) in (
       part.planned,
       part.later,
       part.are,

@@ -28,6 +28,7 @@ use Rattle.session_work.specs.Leads.{last_words}
 use Rattle.session_work.specs.Rows.{gather}
 use Rattle.session_run.specs.Boards.{AreReactorTurns, came_from, came_in}
 use Rattle.laws_board.specs.sections.Boards.{OnBoard}
+use Rattle.laws_board.specs.sections.Courses.{AllHeed}
 use Rattle.laws_board.specs.sections.Homes.{AreOut, AreSoon, HasUnits, IsHomeBoard, IsHomeRun, IsSplitIn, RunSection, SetsAny, lost_at}
 use Rattle.board_world.specs.World.{start}
 use Rattle.laws_board.specs.sections.Links.{AreTold, ends_of, steps_of, turns_told}
@@ -48,15 +49,15 @@ use Rattle.laws_board.specs.plans.Homed.{runs_on, stops_of}
 use Rattle.laws_board.specs.plans.Lines.{TookNotes}
 use Rattle.laws_board.specs.plans.Planned.{Plans}
 use Rattle.laws_board.proofs.plans.Running.{started_in}
-use Rattle.laws_run.specs.run_headline.Timely.{AreSound, link_of}
+use Rattle.laws_run.specs.run_headline.Timely.{AreSound, IsTimelyIn, link_of}
 use Rattle.laws_run.proofs.run_headline.Boarded.{Ready, came_cut, lines_renewed, ready, run_of, valid_at}
 use Rattle.laws_run.proofs.run_headline.Fronts.{controls_limited, front_of, limited, one_less, stepper_made}
 use Rattle.laws_run.proofs.run_headline.Showing.{came_long}
 use Rattle.laws_homing.specs.home_runs.Ended.{AreToldIn}
 use Rattle.laws_homing.proofs.home_runs.Along.{all_settled}
 use Rattle.laws_homing.proofs.home_runs.Homed.{all_homed, home_board}
-use Rattle.laws_homing.specs.home_plans.Notes.{AreInARow, CameNotes}
-use Rattle.laws_homing.proofs.home_plans.Noting.{begun_row}
+use Rattle.laws_homing.specs.home_plans.Notes.{CameNotes}
+use Rattle.laws_board.specs.plans.Rows.{AreInARow}
 use Rattle.laws_homing.specs.home_parts.Answers.{ArePastConnecting, IsPlannedBy, MayHome, TakeSetUps}
 use Rattle.laws_homing.specs.home_parts.Cuts.{AreOverBefore, cut_on, cuts_on, over_in}
 use Rattle.laws_homing.specs.home_parts.Known.{KnowsLately, StartInRange}
@@ -67,11 +68,12 @@ use Rattle.laws_homing.proofs.home_parts.Movers.{all_movers}
 use Rattle.laws_homing.proofs.home_parts.Set.{all_set}
 use Rattle.laws_homing.specs.fired_runs.Since.{AllReadTrue, AreReadSo}
 use Rattle.laws_homing.proofs.home_parts.Apart.{so_begun}
-use Rattle.laws_homing.proofs.home_parts.Told.{all_told, row_from}
+use Rattle.laws_homing.proofs.home_parts.Told.{all_told}
+use Rattle.laws_board.proofs.plans.Rows.{begun_row, row_from}
 use Rattle.laws_run.specs.clock_ages.Renewed.{StayYoung}
 use Rattle.laws_run.proofs.clock_ages.Own.{AreRenewed, Own, follow_on}
-use Rattle.laws_run.specs.home_headline.Little.{HomesLittle, SetsUp}
-use Rattle.laws_run.proofs.home_headline.Clear.{clear_set_ups}
+use Rattle.laws_run.specs.home_headline.Little.{HomesLittle}
+use Rattle.laws_run.specs.home_headline.Near.{KeepsUp, SetsUp}
 use Rattle.laws_run.proofs.home_headline.Clocks.{run_knows}
 use Rattle.laws_run.proofs.home_headline.Made.{IsOwn, set_own, units_own}
 use Rattle.laws_run.proofs.home_headline.Planned.{planned_by}
@@ -107,7 +109,7 @@ followed m b turns ready clocks begun r =
     let y = follow_on m b turns ready (0 + Total m clocks begun) (clocks_at clocks b) r in
     record { tracked = y.0; over = subst Until (sym y.1) (plans_before m clocks begun 0) }
 
--- a board in turns that its link told of, where few of them were spoiled, or no unit is taken late
+-- a board in turns that its link told of
 module _ (m : Machine) (v : IsValidMachine m) (s : Scene) (b ready until lasts : ℕ) (ts : List MotionTurn) (p : Plans m (length m.boards) ts) (t : Told) (turns : List BoardTurn) (states : List State) (end : LinkState) (small : b < length m.boards)
     (are : AreBoardTurns (clock_of (board_at m b)) (link_of m s b) turns) (upto : length turns ≤ lasts + 349)
     (run : IsHomeRun (Own m b lasts) (clocks_at t.clocks b) (board_at m b).freq (board_at m b).slots ready (stops_of p.seen.begun) (cuts_on m t.clocks until p.seen.begun b) (orders_in turns))
@@ -121,10 +123,14 @@ module _ (m : Machine) (v : IsValidMachine m) (s : Scene) (b ready until lasts :
   abbrev Few : ℕ → (os : List Orders) → AreTold Clock 0 os states (link_of m s b) end → Type 0
   Few late os told = (k : ℕ) → spoiled (take k (ends_of Clock 0 os (link_of m s b) end (turns_told Clock 0 os states (link_of m s b) end told))) ≤ 10_700 - late
 
-  abbrev Near : (os : List Orders) → AreTold Clock 0 os states (link_of m s b) end → Type 0
-  Near os told =
-      ((late : ℕ) × (late ≤ 10_700) × AreSpilled (length (orders_in turns)) late (map (λ x. x.section) (cuts_on m t.clocks until p.seen.begun b)) × Few late os told)
-      ⊎ AllTimely (start (board_at m b) (pins_of (board_at m b) b s.switches)) (steps_of Clock 0 os (link_of m s b) end (turns_told Clock 0 os states (link_of m s b) end told))
+  -- few of the turns were spoiled, and no unit is sent too late
+  abbrev Little : (os : List Orders) → AreTold Clock 0 os states (link_of m s b) end → Type 0
+  Little os told =
+      (late : ℕ) × (late ≤ 10_700) × AreSpilled (length (orders_in turns)) late (map (λ x. x.section) (cuts_on m t.clocks until p.seen.begun b)) × Few late os told
+
+  -- no unit is taken late
+  abbrev Timely : (os : List Orders) → AreTold Clock 0 os states (link_of m s b) end → Type 0
+  Timely os told = AllTimely (start (board_at m b) (pins_of (board_at m b) b s.switches)) (steps_of Clock 0 os (link_of m s b) end (turns_told Clock 0 os states (link_of m s b) end told))
 
   abbrev Result : Type 0
   Result = (k : IsHomeBoard b s.entries ready (length turns) (cuts_on m t.clocks until p.seen.begun b) (record {
@@ -136,33 +142,43 @@ module _ (m : Machine) (v : IsValidMachine m) (s : Scene) (b ready until lasts :
     states = states;
   })) × (k.split.tail ≡ split.tail)
 
-  home_here : (told : AreTold Clock 0 (orders_in turns) states (link_of m s b) end) → Near (orders_in turns) told → Result
-  unfolding home_board
-  home_here told near =
+  heeds : (told : AreTold Clock 0 (orders_in turns) states (link_of m s b) end)
+      → AllHeed split.front split.tail (start (board_at m b) (pins_of (board_at m b) b s.switches)) (steps_of Clock 0 (orders_in turns) (link_of m s b) end (turns_told Clock 0 (orders_in turns) states (link_of m s b) end told))
+  heeds told =
+      let def = board_at m b in
+      board_heeds m v s.switches (pins_of def b s.switches) s.entries b def.freq def.slots ready t.first until (Own m b lasts) (clocks_at t.clocks b) t.clocks p.seen.begun came turns run split sections in_run notes far row end (turns_told Clock 0 (orders_in turns) states (link_of m s b) end told)
+
+  timely_here : (told : AreTold Clock 0 (orders_in turns) states (link_of m s b) end) → Little (orders_in turns) told → Timely (orders_in turns) told
+  timely_here told (late, most, spills, few) =
       let def = board_at m b in
       let pins = pins_of def b s.switches in
       let ss = cuts_on m t.clocks until p.seen.begun b in
       let valid = valid_at m.boards b small v.boards in
       let link = turns_told Clock 0 (orders_in turns) states (link_of m s b) end told in
-      let heed = board_heeds m v s.switches pins s.entries b def.freq def.slots ready t.first until (Own m b lasts) (clocks_at t.clocks b) t.clocks p.seen.begun came turns run split sections in_run notes far row end link in
       let homed = all_homed m s.switches pins s.entries b def.freq def.slots ready (Own m b lasts) (clocks_at t.clocks b) (stops_of p.seen.begun) ss turns run split sections in
       let settled = all_settled m s.switches pins s.entries b (lost_at (length (orders_in turns)) split.tail) split.front split.tail turns (stops_of p.seen.begun) end link v are
       (front_queued (orders_in turns) split.front split.tail split.are) split.are homed in
-      let Timely : Type 0 = AllTimely (start def pins) (steps_of Clock 0 (orders_in turns) (link_of m s b) end link) in
-      let timely : Timely = elim near [
-        | inr t ↦ t
-        | inl x ↦
-            let (late, most, spills, few) = x in
-            let own = own_on def (length (orders_in turns)) (lasts + 349) valid (let size = order_length turns in omega (arith, size, upto)) in
-            home_timely def pins b s.entries (Own m b lasts) (clocks_at t.clocks b) ready (10_700 - late) late (length (orders_in turns)) (stops_of p.seen.begun) ss (orders_in turns) end link own run split settled heed
-            spills (omega arith) controls few (ten_seconds def (length (orders_in turns)) (Own m b lasts) (10_700 - late) late own (omega (arith, most)))
-      ] in
-      (home_board m s.switches pins s.entries b ready (Own m b lasts) (clocks_at t.clocks b) (stops_of p.seen.begun) ss turns states end told v small are (own_on def (length turns) (lasts + 349) valid upto) run split timely heed sections, refl)
+      let own = own_on def (length (orders_in turns)) (lasts + 349) valid (let size = order_length turns in omega (arith, size, upto)) in
+      home_timely def pins b s.entries (Own m b lasts) (clocks_at t.clocks b) ready (10_700 - late) late (length (orders_in turns)) (stops_of p.seen.begun) ss (orders_in turns) end link own run split settled (heeds told)
+      spills (omega arith) controls few (ten_seconds def (length (orders_in turns)) (Own m b lasts) (10_700 - late) late own (omega (arith, most)))
 
-  home_by : (os : List Orders) → orders_in turns ≡ os → (told : AreTold Clock 0 os states (link_of m s b) end) → Near os told → Result
-  home_by os same told near =
-      let At : List Orders → Type 0 = λ z. (x : AreTold Clock 0 z states (link_of m s b) end) → Near z x → Result in
-      subst At same home_here told near
+  home_here : (told : AreTold Clock 0 (orders_in turns) states (link_of m s b) end) → Timely (orders_in turns) told → Result
+  unfolding home_board
+  home_here told timely = (
+    home_board m s.switches (pins_of (board_at m b) b s.switches) s.entries b ready (Own m b lasts) (clocks_at t.clocks b) (stops_of p.seen.begun) (cuts_on m t.clocks until p.seen.begun b) turns states end told v small are
+        (own_on (board_at m b) (length turns) (lasts + 349) (valid_at m.boards b small v.boards) upto) run split timely (heeds told) sections,
+    refl,
+  )
+
+  timely_by : (os : List Orders) → orders_in turns ≡ os → (told : AreTold Clock 0 os states (link_of m s b) end) → Little os told → Timely os told
+  timely_by os same told little =
+      let At : List Orders → Type 0 = λ z. (x : AreTold Clock 0 z states (link_of m s b) end) → Little z x → Timely z x in
+      subst At same timely_here told little
+
+  home_by : (os : List Orders) → orders_in turns ≡ os → (told : AreTold Clock 0 os states (link_of m s b) end) → Timely os told → Result
+  home_by os same told timely =
+      let At : List Orders → Type 0 = λ z. (x : AreTold Clock 0 z states (link_of m s b) end) → Timely z x → Result in
+      subst At same home_here told timely
 
 pub end_at : (m : Machine) (clocks : List Clocks) (until : ℕ) (xs : List Started) (x : Started) (later : List Started) → AreOverBefore m clocks until (xs ++ x ∷ later) → over_in x.section.kind m clocks x < until
 end_at m clocks until [] x later h = h.0
@@ -184,15 +200,13 @@ starts_behind m v b turns ready first clocks begun there l row early past x late
     let behind_so = l.tracked.behind (x.start - 1) (omega (arith, early, start)) (omega (arith, over, after)) in
     subst (λ (n : ℕ). board_tick (clock_of (board_at m b)) (x.start - 1) ≤ lines_tick (clocks_at clocks b) (n * turn_ns)) next (omega (arith, same, behind_so))
 
--- Homing sections are told of: in a scene without entries, or where the board takes the set-ups in time, or where its reports are read true.
+-- Homing sections are told of: where the board takes the set-ups in time, or where its reports are read true.
 pub told_by : (m : Machine) (v : IsValidMachine m) (s : Scene) (ts : List MotionTurn) (p : Plans m (length m.boards) ts) (t : Told) (b turns ready : ℕ) (whole : List Came) (made : List BoardTurn) → b < length m.boards → Followed m b turns t.clocks ready p.seen.begun
     → ready + 260 ≤ t.first → AreInARow t.first p.seen.begun → IsPlannedBy m s.switches (length m.boards) ts p whole → KnowsLately m s.switches t.clocks whole → ArePastConnecting m s.switches ready whole → length whole ≤ turns + 1
-    → AreBoardTurns (clock_of (board_at m b)) (link_of m s b) made
-    → ((s.entries ≡ []) × ((done : List Orders) (o : Orders) (more : List Orders) → orders_in made ≡ done ++ (o ∷ more) → AllKeepLimits done)) ⊎ (TakeSetUps m (pins_of (board_at m b) b s.switches) s.entries b p.seen.begun made ⊎ AllReadTrue m s.switches b whole made)
+    → TakeSetUps m (pins_of (board_at m b) b s.switches) s.entries b p.seen.begun made ⊎ AllReadTrue m s.switches b whole made
     → TakeSetUps m (pins_of (board_at m b) b s.switches) s.entries b p.seen.begun made ⊎ AreReadSo m s.switches b whole made
-told_by m v s ts p t b turns ready whole made there l early row by knows connected long are (inl clear) = inl (clear_set_ups m (pins_of (board_at m b) b s.switches) s.entries b made clear.0 are clear.1 t.first p.seen.begun (omega (arith, early)) row)
-told_by m v s ts p t b turns ready whole made there l early row by knows connected long are (inr (inl takes)) = inl takes
-told_by m v s ts p t b turns ready whole made there l early row by knows connected long are (inr (inr reads)) =
+told_by m v s ts p t b turns ready whole made there l early row by knows connected long (inl takes) = inl takes
+told_by m v s ts p t b turns ready whole made there l early row by knows connected long (inr reads) =
     let so = so_begun m s.switches b ts p ready t.first t.clocks whole early row by connected l.tracked.kept knows
     (λ past x later axis cut home low. starts_behind m v b turns ready t.first t.clocks p.seen.begun there l row early past x later cut (omega (arith, low, long))) in
     inr (record { apart = so.0; reads = reads; behind = so.1 })
@@ -218,8 +232,7 @@ module _ (m : Machine) (v : IsValidMachine m) (s : Scene) (ts : List MotionTurn)
       → Followed m b (length rest) t.clocks (length (came_from [] r.past)) p.seen.begun
   lines_of b w r h renewed = followed m b (length rest) (length (came_from [] r.past)) t.clocks p.seen.begun (lines_renewed m v s ts p t first rest end told b r w h renewed)
 
-  -- what a board was sent in a run in which axes home, of the sections as far as their units are released before a turn, and that it took the
-  -- set-ups of those that home in time, or that its reports are read true
+  -- what a board was sent in a run in which axes home, of the sections as far as their units are released before a turn
   pub record Homing (until b : ℕ) (r : Ready m v s ts p t first rest end told) (turns : List BoardTurn) : Type 0 where
     pub by : IsPlannedBy m s.switches (length m.boards) ts p (came_from [] (first ∷ rest))
     pub known : KnowsLately m s.switches t.clocks (came_from [] (first ∷ rest)) × ArePastConnecting m s.switches (length (came_from [] r.past)) (came_from [] (first ∷ rest))
@@ -232,12 +245,11 @@ module _ (m : Machine) (v : IsValidMachine m) (s : Scene) (ts : List MotionTurn)
     pub soon : AreOut (length p.made) (runs_on m t.clocks p.seen.begun b) → (n : ℕ) → AreSoon n (cuts_on m t.clocks until p.seen.begun b)
     pub fits : AreOut (length p.made) (runs_on m t.clocks p.seen.begun b) → UnitsFit turns
     pub limits : AreOut (length p.made) (runs_on m t.clocks p.seen.begun b) → (done : List Orders) (o : Orders) (more : List Orders) → orders_in turns ≡ done ++ (o ∷ more) → AllKeepLimits done
-    pub set_ups : TakeSetUps m (pins_of (board_at m b) b s.switches) s.entries b p.seen.begun turns ⊎ AreReadSo m s.switches b (came_from [] (first ∷ rest)) turns
 
   -- a turn up to which the planner made all turns of the run, and behind it none
   module _ (until n b : ℕ) (left : List WordMsg) (w : IsInWhole m s.switches b (clock_of (board_at m b)) (link_of m s b) ts first (rest ++ end ∷ [])) (r : Ready m v s ts p t first rest end told) (h : b < length m.boards) (turns_are : AreReactorTurns m s.switches [] (first ∷ rest))
       (words : gather (λ x. x.word ∷ []) (first ∷ rest) ++ last_words (length (first ∷ rest)) n ≡ gather (λ x. x.words) ts ++ left) (notes : TookNotes (map (λ d. d.note) p.made) (first ∷ rest)) (low : until ≤ length p.made)
-      (far : (length (rest ++ end ∷ []) ≤ until) ⊎ (length p.made ≤ until)) (few : length (rest ++ end ∷ []) ≤ length p.made + 1) (up : SetsUp m s b ts first (rest ++ end ∷ []) (length p.made) t p.seen.begun w)
+      (far : (length (rest ++ end ∷ []) ≤ until) ⊎ (length p.made ≤ until)) (few : length (rest ++ end ∷ []) ≤ length p.made + 1)
       (lines : Followed m b (length rest) t.clocks (length (came_from [] r.past)) p.seen.begun) (sound : AreSound m t.clocks t.first) (formed : MayHome m p.seen.begun) (range : StartInRange (clocks_at t.clocks b) p.seen.begun) where
     -- what the board was sent
     pub homing_so : Homing until b r (behind [] w.made)
@@ -287,69 +299,67 @@ module _ (m : Machine) (v : IsValidMachine m) (s : Scene) (ts : List MotionTurn)
         turns_fit (Own m b (length rest)) (clocks_at t.clocks b) (board_at m b).freq (board_at m b).slots (length before) (length turns) (stops_of p.seen.begun) (cuts_on m t.clocks until p.seen.begun b) [] turns home (soon out (length turns)) (omega arith) in
         let Limits : Type 0 = (done : List Orders) (o : Orders) (more : List Orders) → orders_in turns ≡ done ++ (o ∷ more) → AllKeepLimits done in
         let limits : Out → Limits = λ out. limited m v s.switches pins s.entries b whole turns run (fits out) in
-        let Reads : List Came → Type 0 = λ z. TakeSetUps m pins s.entries b p.seen.begun turns ⊎ AllReadTrue m s.switches b z turns in
-        let Ups : Type 0 = ((s.entries ≡ []) × Limits) ⊎ Reads whole in
-        let ups : Ups = elim up [
-          | inl x ↦ elim x [ inl clear ↦ inl (clear.0, limits clear.1) | inr takes ↦ inr (inl takes) ]
-          | inr reads ↦ inr (subst Reads (came_cut [] first rest end) (inr reads))
-        ] in
-        let set_ups = told_by m v s ts p t b (length rest) (length before) whole turns h lines r.early row by known.0 known.1 (let d = came_long [] (first ∷ rest) in omega (arith, d)) w.turns_are ups in
-        record { by = by; known = known; run = run; count = count; home = home; split = split; controls = controls_limited m v s.switches pins s.entries b whole turns run; soon = soon; fits = fits; limits = limits; set_ups = set_ups }
+        record { by = by; known = known; run = run; count = count; home = home; split = split; controls = controls_limited m v s.switches pins s.entries b whole turns run; soon = soon; fits = fits; limits = limits }
 
-  -- where the board holds nothing long
-  module _ (until n b : ℕ) (left : List WordMsg) (w : IsInWhole m s.switches b (clock_of (board_at m b)) (link_of m s b) ts first (rest ++ end ∷ [])) (r : Ready m v s ts p t first rest end told) (h : b < length m.boards) (turns_are : AreReactorTurns m s.switches [] (first ∷ rest))
-      (words : gather (λ x. x.word ∷ []) (first ∷ rest) ++ last_words (length (first ∷ rest)) n ≡ gather (λ x. x.words) ts ++ left) (notes : TookNotes (map (λ d. d.note) p.made) (first ∷ rest)) (low : until ≤ length p.made)
-      (far : (length (rest ++ end ∷ []) ≤ until) ⊎ (length p.made ≤ until)) (few : length (rest ++ end ∷ []) ≤ length p.made + 1) (little : HomesLittle m s b ts first (rest ++ end ∷ []) (length p.made) t p.seen.begun w)
-      (lines : Followed m b (length rest) t.clocks (length (came_from [] r.past)) p.seen.begun) (sound : AreSound m t.clocks t.first) (formed : MayHome m p.seen.begun) (range : StartInRange (clocks_at t.clocks b) p.seen.begun) where
-    pub homing_by : Homing until b r (behind [] w.made)
-    homing_by = homing_so until n b left w r h turns_are words notes low far few little.sets_up lines sound formed range
+    -- the set-ups were taken in time, or the reports are read so
+    pub ups_so : SetsUp m s b ts first (rest ++ end ∷ []) p.seen.begun w → TakeSetUps m (pins_of (board_at m b) b s.switches) s.entries b p.seen.begun (behind [] w.made) ⊎ AreReadSo m s.switches b (came_from [] (first ∷ rest)) (behind [] w.made)
+    ups_so up =
+        let x = homing_so in
+        let turns = behind [] w.made in
+        let whole = came_from [] (first ∷ rest) in
+        let Ups : List Came → Type 0 = λ z. TakeSetUps m (pins_of (board_at m b) b s.switches) s.entries b p.seen.begun turns ⊎ AllReadTrue m s.switches b z turns in
+        told_by m v s ts p t b (length rest) (length (came_from [] r.past)) whole turns h lines r.early (begun_row m t.clocks t.first p.seen.begun (started_in m ts p t told)) x.by x.known.0 x.known.1
+        (let d = came_long [] (first ∷ rest) in omega (arith, d)) (subst Ups (came_cut [] first rest end) up)
 
-    -- so it is a board of such a run
-    pub boarded_until : (k : IsHomeBoard b s.entries (length (came_from [] r.past)) (length (rest ++ end ∷ [])) (cuts_on m t.clocks until p.seen.begun b) (here_by until b w)) × (k.split.tail ≡ homing_by.split.tail)
-    boarded_until =
+    -- so the homing sections that have ended are told of
+    told_so : SetsUp m s b ts first (rest ++ end ∷ []) p.seen.begun w → AreToldIn m s.switches (pins_of (board_at m b) b s.switches) s.entries b (stops_of p.seen.begun) (cuts_on m t.clocks until p.seen.begun b) (behind [] w.made)
+    told_so up =
+        let x = homing_so in
+        all_told m s.switches (pins_of (board_at m b) b s.switches) s.entries b (length (came_from [] r.past)) until ts p t (came_from [] (first ∷ rest)) (behind [] w.made) x.by told r.early x.known.1 formed x.run (ups_so up)
+
+    many : length (behind [] w.made) ≡ length (rest ++ end ∷ [])
+    many = let a = order_length (behind [] w.made) in let count = homing_so.count in omega (arith, a, count)
+
+    upto : length (behind [] w.made) ≤ length rest + 349
+    upto = let size = length-append rest (end ∷ []) in let long = many in omega (arith, long, size)
+
+    row : AreInARow t.first p.seen.begun
+    row = begun_row m t.clocks t.first p.seen.begun (started_in m ts p t told)
+
+    -- where it holds little it is timely
+    pub timely_until : HomesLittle m s b ts first (rest ++ end ∷ []) (length p.made) t p.seen.begun w → IsTimelyIn m s b ts first (rest ++ end ∷ []) w
+    timely_until little =
         let clock = clock_of (board_at m b) in
         let pins = pins_of (board_at m b) b s.switches in
         let turns = behind [] w.made in
-        let before = came_from [] r.past in
-        let whole = came_from [] (first ∷ rest) in
-        let told_is = told in
-        let x = homing_by in
-        let count = x.count in
-        let sections = all_told m s.switches pins s.entries b (length before) until ts p t whole turns x.by told r.early x.known.1 formed x.run x.set_ups in
-        let many : length turns ≡ length (rest ++ end ∷ []) = (let a = order_length turns in omega (arith, a, count)) in
-        let Long : ℕ → Type 0 = λ n. (k : IsHomeBoard b s.entries (length before) n (cuts_on m t.clocks until p.seen.begun b) (here_by until b w)) × (k.split.tail ≡ homing_by.split.tail) in
+        let x = homing_so in
         let after = stands_after (link_of m s b) turns in
-        let told = turns_told clock 0 (orders_of w.made) (states_of w.made) (link_of m s b) after w.told in
-        let Few : ℕ → Type 0 = λ late. (k : ℕ) → spoiled (take k (ends_of clock 0 (orders_of w.made) (link_of m s b) after told)) ≤ 10_700 - late in
-        let Timely : Type 0 = AllTimely (start (board_at m b) pins) (steps_of clock 0 (orders_of w.made) (link_of m s b) after told) in
-        let ss = cuts_on m t.clocks until p.seen.begun b in
-        let Near : Type 0 = ((late : ℕ) × (late ≤ 10_700) × AreSpilled (length (orders_in turns)) late (map (λ (y : RunSection). y.section) ss) × Few late) ⊎ Timely in
-        let near : Near = elim little.timely [
-          | inl g ↦
-              let (late, most, spilled, spoils) = g in
-              let spills = spilled_before until (length p.made) late (parts_on m t.clocks p.seen.begun b) low spilled in
-              let few : Few late = elim spoils [ inl e ↦ (λ k. omega (arith, calm_links clock (board_at m b) pins b s.entries (orders_of w.made) after told k e)) | inr f ↦ f ] in
-              inl (late, most, cuts_spilled m t.clocks (length (orders_in turns)) until late b p.seen.begun spills, few)
-          | inr g ↦ inr g
-        ] in
-        let early = r.early in
-        subst Long many (home_by m v s b (length before) until (length rest) ts p t turns (states_of w.made) (stands_after (link_of m s b) turns) h w.turns_are (let size = length-append rest (end ∷ []) in omega (arith, many, size)) x.home x.split x.controls
-        sections whole x.run x.by.notes (omega (arith, early)) (begun_row m t.clocks t.first p.seen.begun (started_in m ts p t told_is)) (orders_of w.made) w.in_order w.told near)
+        let all = turns_told clock 0 (orders_of w.made) (states_of w.made) (link_of m s b) after w.told in
+        let late = little.late in
+        let spills = spilled_before until (length p.made) late (parts_on m t.clocks p.seen.begun b) low little.spilled in
+        let few : (k : ℕ) → spoiled (take k (ends_of clock 0 (orders_of w.made) (link_of m s b) after all)) ≤ 10_700 - late =
+        elim little.few [ inl e ↦ (λ k. omega (arith, calm_links clock (board_at m b) pins b s.entries (orders_of w.made) after all k e)) | inr f ↦ f ] in
+        timely_by m v s b (length (came_from [] r.past)) until (length rest) ts p t turns (states_of w.made) after h w.turns_are upto x.home x.split x.controls
+        (told_so little.sets_up) (came_from [] (first ∷ rest)) x.run x.by.notes (let early = r.early in omega (arith, early)) row (orders_of w.made) w.in_order w.told
+        (late, little.most, cuts_spilled m t.clocks (length (orders_in turns)) until late b p.seen.begun spills, few)
 
-    pub boarded_by : IsHomeBoard b s.entries (length (came_from [] r.past)) (length (rest ++ end ∷ [])) (cuts_on m t.clocks until p.seen.begun b) (here_by until b w)
-    boarded_by = boarded_until.0
+    -- where it keeps up it is a board of such a run
+    pub boarded_until : KeepsUp m s b ts first (rest ++ end ∷ []) p.seen.begun w
+        → (k : IsHomeBoard b s.entries (length (came_from [] r.past)) (length (rest ++ end ∷ [])) (cuts_on m t.clocks until p.seen.begun b) (here_by until b w)) × (k.split.tail ≡ homing_so.split.tail)
+    boarded_until keeps =
+        let turns = behind [] w.made in
+        let x = homing_so in
+        let Long : ℕ → Type 0 = λ n. (k : IsHomeBoard b s.entries (length (came_from [] r.past)) n (cuts_on m t.clocks until p.seen.begun b) (here_by until b w)) × (k.split.tail ≡ homing_so.split.tail) in
+        subst Long many (home_by m v s b (length (came_from [] r.past)) until (length rest) ts p t turns (states_of w.made) (stands_after (link_of m s b) turns) h w.turns_are upto x.home x.split x.controls
+        (told_so keeps.sets_up) (came_from [] (first ∷ rest)) x.run x.by.notes (let early = r.early in omega (arith, early)) row (orders_of w.made) w.in_order w.told keeps.timely)
+
+    pub boarded_by : KeepsUp m s b ts first (rest ++ end ∷ []) p.seen.begun w → IsHomeBoard b s.entries (length (came_from [] r.past)) (length (rest ++ end ∷ [])) (cuts_on m t.clocks until p.seen.begun b) (here_by until b w)
+    boarded_by keeps = (boarded_until keeps).0
 
   -- where the planner made as many turns as the run has
-  pub homing_in : (n b : ℕ) (left : List WordMsg) (w : IsInWhole m s.switches b (clock_of (board_at m b)) (link_of m s b) ts first (rest ++ end ∷ [])) (r : Ready m v s ts p t first rest end told) → b < length m.boards → AreReactorTurns m s.switches [] (first ∷ rest)
-      → gather (λ x. x.word ∷ []) (first ∷ rest) ++ last_words (length (first ∷ rest)) n ≡ gather (λ x. x.words) ts ++ left → TookNotes (map (λ d. d.note) p.made) (first ∷ rest) → length (rest ++ end ∷ []) ≤ length p.made
-      → HomesLittle m s b ts first (rest ++ end ∷ []) (length p.made) t p.seen.begun w → Followed m b (length rest) t.clocks (length (came_from [] r.past)) p.seen.begun → AreSound m t.clocks t.first → MayHome m p.seen.begun → StartInRange (clocks_at t.clocks b) p.seen.begun
-      → Homing (length (rest ++ end ∷ [])) b r (behind [] w.made)
-  homing_in n b left w r h turns_are words notes long little lines sound formed range =
-      homing_by (length (rest ++ end ∷ [])) n b left w r h turns_are words notes long (inl (omega arith)) (omega (arith, long)) little lines sound formed range
-
   pub boarded : (n b : ℕ) (left : List WordMsg) (w : IsInWhole m s.switches b (clock_of (board_at m b)) (link_of m s b) ts first (rest ++ end ∷ [])) (r : Ready m v s ts p t first rest end told) → b < length m.boards → AreReactorTurns m s.switches [] (first ∷ rest)
       → gather (λ x. x.word ∷ []) (first ∷ rest) ++ last_words (length (first ∷ rest)) n ≡ gather (λ x. x.words) ts ++ left → TookNotes (map (λ d. d.note) p.made) (first ∷ rest) → length (rest ++ end ∷ []) ≤ length p.made
-      → HomesLittle m s b ts first (rest ++ end ∷ []) (length p.made) t p.seen.begun w → Followed m b (length rest) t.clocks (length (came_from [] r.past)) p.seen.begun → AreSound m t.clocks t.first → MayHome m p.seen.begun → StartInRange (clocks_at t.clocks b) p.seen.begun
+      → Followed m b (length rest) t.clocks (length (came_from [] r.past)) p.seen.begun → AreSound m t.clocks t.first → MayHome m p.seen.begun → StartInRange (clocks_at t.clocks b) p.seen.begun → KeepsUp m s b ts first (rest ++ end ∷ []) p.seen.begun w
       → IsHomeBoard b s.entries (length (came_from [] r.past)) (length (rest ++ end ∷ [])) (cuts_on m t.clocks (length (rest ++ end ∷ [])) p.seen.begun b) (here b w)
-  boarded n b left w r h turns_are words notes long little lines sound formed range =
-      boarded_by (length (rest ++ end ∷ [])) n b left w r h turns_are words notes long (inl (omega arith)) (omega (arith, long)) little lines sound formed range
+  boarded n b left w r h turns_are words notes long lines sound formed range keeps =
+      boarded_by (length (rest ++ end ∷ [])) n b left w r h turns_are words notes long (inl (omega arith)) (omega (arith, long)) lines sound formed range keeps

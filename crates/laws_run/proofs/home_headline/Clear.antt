@@ -1,5 +1,5 @@
 -- In a scene without entries a board takes the set-up of each homing section in time, as a whole run goes.
-use Rattle.std.proofs.Common.{◌≡◌, ℕ, ◌+◌, ◌-◌, ◌<◌, ◌≤◌, List, [], ◌∷◌, ◌++◌, length, ap, sym, ◌∙◌, subst, arith, inl, append_assoc, length-append}
+use Rattle.std.proofs.Common.{◌≡◌, ℕ, ◌+◌, ◌-◌, ◌<◌, ◌≤◌, List, [], ◌∷◌, ◌++◌, length, ap, sym, ◌∙◌, subst, arith, append_assoc, length-append}
 use Rattle.plan_types.specs.declared.levels.Level.{Level}
 use Rattle.plan_types.specs.declared.machine.Machine.{Machine}
 use Rattle.plan_types.specs.Clock.{clock_of}
@@ -12,22 +12,18 @@ use Rattle.laws_board.specs.turns.Turns.{AreBoardTurns, BoardTurn}
 use Rattle.laws_board.specs.clocks.Runs.{orders_in}
 use Rattle.laws_board.proofs.clocks.Orders.{order_length}
 use Rattle.motion_work.specs.Boards.{parts_on}
-use Rattle.motion_work.specs.Seen.{Started, part_on}
-use Rattle.plan_types.specs.Lines.{Clocks}
+use Rattle.motion_work.specs.Seen.{Started}
 use Rattle.step_feed.specs.Pacing.{Release}
-use Rattle.laws_board.specs.sections.Homes.{AreOut, AreOutBy}
 use Rattle.laws_board.specs.sections.Runs.{AreSpilled, IsSpilled}
-use Rattle.laws_board.specs.plans.Homed.{runs_on}
 use Rattle.laws_homing.specs.home_runs.Sections.{TakesSetUp}
 use Rattle.laws_homing.proofs.home_runs.Clear.{clear_set_up, first_turns}
 use Rattle.laws_homing.proofs.home_runs.Settled.{later_orders}
 use Rattle.laws_homing.proofs.home_runs.Windows.{begun}
-use Rattle.laws_homing.specs.home_plans.Notes.{AreInARow}
+use Rattle.laws_board.specs.plans.Rows.{AreInARow}
 use Rattle.session_work.specs.declared.table.MotionTurn.{MotionTurn}
-use Rattle.session_work.specs.declared.table.ReactorTurn.{ReactorTurn}
-use Rattle.wire_scene.specs.declared.scene.Scene.{Scene}
 use Rattle.laws_homing.specs.home_parts.Answers.{TakeSetUps}
-use Rattle.laws_run.specs.home_headline.Little.{AllHomeLittle, SendsAllInTime, SendsAllOut}
+use Rattle.laws_run.specs.home_headline.Little.{SendsAllInTime, SendsNear}
+use Rattle.section_units.specs.Sections.{BoardSection}
 
 -- a set-up that was taken in time in some turns was so in more
 longer : (first : LinkState) (start : ℕ) (later turns : List BoardTurn) → TakesSetUp first start turns → TakesSetUp first start (later ++ turns)
@@ -74,30 +70,13 @@ module _ (m : Machine) (pins : List (List Level)) (entries : List Entry) (b : �
       ((λ axis homes later past cut long. one_set_up later past s.start cut (omega (arith, low, starts)) (omega (arith, ends, long))), clear_set_ups (s.end + 260) begun (omega arith) row.2)
 
 -- where no unit is sent behind the turn in which it is due, none is late
-spilled_out : (turns end : ℕ) (rs : List Release) → IsSpilled turns 0 rs → AreOutBy turns end rs
-spilled_out turns end [] s = tt
-spilled_out turns end (r ∷ rs) s = ((λ due late. let soon = s.0 due in absurd (omega (arith, soon, late))), spilled_out turns end rs s.1)
-
 spilled_more : (turns n : ℕ) (rs : List Release) → IsSpilled turns 0 rs → IsSpilled turns n rs
 spilled_more turns n [] s = tt
 spilled_more turns n (r ∷ rs) s = ((λ due. let soon = s.0 due in omega (arith, soon)), spilled_more turns n rs s.1)
 
-parts_out : (m : Machine) (clocks : List Clocks) (turns n b : ℕ) (begun : List Started) → AreSpilled turns 0 (parts_on m clocks begun b) → AreOut turns (runs_on m clocks begun b) × AreSpilled turns n (parts_on m clocks begun b)
-parts_out m clocks turns n b [] s = (tt, tt)
-parts_out m clocks turns n b (x ∷ begun) s =
-    let rs = (part_on m clocks x b).releases in
-    let rest = parts_out m clocks turns n b begun s.1 in
-    (((λ moves. spilled_out turns x.end rs s.0), rest.0), (spilled_more turns n rs s.0, rest.1))
+parts_more : (turns n : ℕ) (ss : List BoardSection) → AreSpilled turns 0 ss → AreSpilled turns n ss
+parts_more turns n [] s = tt
+parts_more turns n (x ∷ ss) s = (spilled_more turns n x.releases s.0, parts_more turns n ss s.1)
 
-pub time_out : (m : Machine) (text : List ℕ) (planned : List MotionTurn) → SendsAllInTime m text planned → SendsAllOut m text planned
-time_out m text planned sends = λ p t b same told low.
-    (let x = sends p t b same told low in let y = parts_out m t.clocks (length p.made) 10_700 b p.seen.begun x in y)
-
--- where all units are sent in time, or so late at most, nothing is held long
-pub out_little : (m : Machine) (s : Scene) (text : List ℕ) (planned : List MotionTurn) (turns : List ReactorTurn) → s.entries ≡ [] → SendsAllOut m text planned → AllHomeLittle m s text planned turns
-out_little m s text planned [] e sends = tt
-out_little m s text planned (first ∷ rest) e sends = λ p t b same told some low w.
-    (let x = sends p t b same told low in record { timely = inl (10_700, omega arith, x.1, inl e); sets_up = inl (inl (e, x.0)) })
-
-pub clear_little : (m : Machine) (s : Scene) (text : List ℕ) (planned : List MotionTurn) (turns : List ReactorTurn) → s.entries ≡ [] → SendsAllInTime m text planned → AllHomeLittle m s text planned turns
-clear_little m s text planned turns e sends = out_little m s text planned turns e (time_out m text planned sends)
+pub time_near : (m : Machine) (text : List ℕ) (planned : List MotionTurn) → SendsAllInTime m text planned → SendsNear m text planned
+time_near m text planned sends = λ p t b same told low. (let x = sends p t b same told low in parts_more (length p.made) 10_700 (parts_on m t.clocks p.seen.begun b) x)

@@ -10,9 +10,11 @@ use Rattle.host_reactor.specs.Runs.{Came, GoesOn, last_turn}
 use Rattle.motion_work.specs.Seen.{Started}
 use Rattle.session_work.specs.declared.table.MotionTurn.{MotionTurn}
 use Rattle.laws_board.specs.plans.Planned.{Plans}
-use Rattle.laws_homing.specs.home_plans.Notes.{AreInARow, CameNotes, WasBegun}
+use Rattle.laws_homing.specs.home_plans.Notes.{CameNotes, WasBegun}
+use Rattle.laws_board.specs.plans.Rows.{AreInARow}
 use Rattle.laws_homing.specs.home_parts.Answers.{IsPlannedBy, TellsIn}
-use Rattle.laws_homing.proofs.home_parts.Ends.{Among, among_here, ends_told, in_row, ready, row_later, row_past}
+use Rattle.laws_homing.proofs.home_parts.Ends.{ends_told, in_row, ready}
+use Rattle.laws_board.proofs.plans.Rows.{Among, among_here, row_later, row_past}
 use Rattle.laws_homing.proofs.home_parts.Known.{known_silent, none_tells, tells_known}
 use Rattle.laws_homing.proofs.home_parts.Told.{tells_now, tells_tail}
 use Rattle.laws_run.specs.home_headline.Cuts.{TellsCut, cuts_of}

@@ -61,7 +61,7 @@ board_may place entries ready turns ss x k =
     subst May (sym is) (reason_is x.board x.pins k.own k.stops x.orders steps (board_good place entries ready turns ss x k))
 
 -- turns of the same orders have one end
-same_end : (clock : BoardClock) (turn : ℕ) (os : List Orders) (l m n : LinkState) → AreTurns clock turn os l m → AreTurns clock turn os l n → m ≡ n
+pub same_end : (clock : BoardClock) (turn : ℕ) (os : List Orders) (l m n : LinkState) → AreTurns clock turn os l m → AreTurns clock turn os l n → m ≡ n
 same_end clock turn [] l m n s t = s ∙ sym t
 same_end clock turn (o ∷ os) l m n s t =
     let one : t.0 ≡ s.0 = one_end clock turn o l t.0 s.0 t.1 s.1 in

@@ -22,7 +22,7 @@ use Rattle.laws_board.specs.plans.Planned.{AreKnown, Plans}
 use Rattle.laws_board.proofs.plans.Cutting.{homed_of}
 use Rattle.laws_board.proofs.plans.Running.{started_in}
 use Rattle.laws_run.proofs.clock_ages.Own.{Own}
-use Rattle.laws_homing.specs.home_plans.Notes.{AreInARow}
+use Rattle.laws_board.specs.plans.Rows.{AreInARow}
 use Rattle.laws_homing.specs.home_parts.Answers.{MayHome}
 use Rattle.laws_homing.specs.home_parts.Cuts.{AreOverBefore}
 use Rattle.laws_homing.proofs.home_parts.Cut.{over_late}

@@ -44,13 +44,13 @@ use Rattle.laws_run.proofs.run_headline.Runs.{facts}
 use Rattle.laws_run.proofs.run_headline.Showing.{Facts, all_lines, alone_ends, boards_told, counts_so, first_pulses, further_by, heard, in_none, lines_all, long_own, not_told, sound_by, started, starts_late, through_long, untold_alone}
 use Rattle.laws_run.specs.home_headline.Follow.{AllShowHomes, FollowHomes, ShowHomes}
 use Rattle.laws_board.specs.causes.Short.{HaveShortDictionaries}
-use Rattle.laws_run.specs.home_headline.Little.{AllHomeLittle}
+use Rattle.laws_run.specs.home_headline.Near.{AllKeepUp}
 use Rattle.laws_run.proofs.home_headline.Following.{follows}
 
 module _ (m : Machine) (v : IsValidMachine m) (s : Scene) (ts : List MotionTurn) (p : Plans m (length m.boards) ts) (end : ReactorTurn) (c : Cause) where
-  module _ (first : ReactorTurn) (rest : List ReactorTurn) (f : Facts m s ts (first ∷ rest) end c) (short : HaveShortDictionaries m) (little : AllHomeLittle m s p.seen.text ts (first ∷ (rest ++ end ∷ []))) where
+  module _ (first : ReactorTurn) (rest : List ReactorTurn) (f : Facts m s ts (first ∷ rest) end c) (short : HaveShortDictionaries m) (little : AllKeepUp m s p.seen.text ts (first ∷ (rest ++ end ∷ []))) where
     by_told : (t : Told) (past : List Started) (x : Started) (later : List Started) → p.seen.told ≡ Some t → p.seen.begun ≡ past ++ x ∷ later → FollowHomes m t p.seen first (rest ++ end ∷ [])
-    by_told t past x later told cut = follows m v s ts p t first rest end c told f short (λ b h w. little p t b refl told (λ none. in_none past x later p.seen.begun none cut) h w)
+    by_told t past x later told cut = follows m v s ts p t first rest end c told f short (λ b h w. little p b refl (λ none. in_none past x later p.seen.begun none cut) h w)
 
     -- a run that went through has read on
     long : GoesThrough c → length (rest ++ end ∷ []) ≤ length p.made
@@ -171,15 +171,15 @@ module _ (m : Machine) (v : IsValidMachine m) (s : Scene) (ts : List MotionTurn)
           let within = w.within in
           omega (arith, late, begins, order, within, none)
 
-  pub all_shows : (rs : List ReactorTurn) → Facts m s ts rs end c → HaveShortDictionaries m → AllHomeLittle m s p.seen.text ts (rs ++ end ∷ []) → AllShowHomes m p.seen (clocks_heard p.seen.told) (ready_heard p.seen.told) c (rs ++ end ∷ [])
+  pub all_shows : (rs : List ReactorTurn) → Facts m s ts rs end c → HaveShortDictionaries m → AllKeepUp m s p.seen.text ts (rs ++ end ∷ []) → AllShowHomes m p.seen (clocks_heard p.seen.told) (ready_heard p.seen.told) c (rs ++ end ∷ [])
   all_shows [] f short little = shows_alone f
   all_shows (first ∷ rest) f short little = shows first rest f short little
 
 pub run_shows : {F S : Type 0} (f : Files F) (o : Sink S) (m : Machine) (s : Scene) (name : List ℕ) (files files' : F) (out out' : S) (kept kept' : Kept) (t : near.Told Run) (r : RunsOver f o m s name files out kept t files' out' kept') → IsValidMachine m → HaveShortDictionaries m → (text : List ℕ)
-    → f.told files name ≡ Some text → kept.at ≡ 0 → ∥ ((made : IsMade m s r.runs.0 r.runs.1) × (made.plans.seen.text ≡ text) × ((t.cause ≡ cause.Memory → ⊥) → AllHomeLittle m s text r.runs.0 (r.runs.1 ++ r.runs.2 ∷ [])
+    → f.told files name ≡ Some text → kept.at ≡ 0 → ∥ ((made : IsMade m s r.runs.0 r.runs.1) × (made.plans.seen.text ≡ text) × ((t.cause ≡ cause.Memory → ⊥) → AllKeepUp m s text r.runs.0 (r.runs.1 ++ r.runs.2 ∷ [])
     → AllShowHomes m made.plans.seen (clocks_heard made.plans.seen.told) (ready_heard made.plans.seen.told) t.cause (r.runs.1 ++ r.runs.2 ∷ []))) ∥₁
 run_shows f o m s name files files' out out' kept kept' t r v short text told at =
     ∥∥₁_map (run_made f o m s name files files' out out' kept kept' t r text told at) (λ w.
     let made = w.0 in
-    let Little : List ℕ → Type 0 = λ z. AllHomeLittle m s z r.runs.0 (r.runs.1 ++ r.runs.2 ∷ []) in
+    let Little : List ℕ → Type 0 = λ z. AllKeepUp m s z r.runs.0 (r.runs.1 ++ r.runs.2 ∷ []) in
     (made, w.1, λ other little. all_shows m v s r.runs.0 made.plans r.runs.2 t.cause r.runs.1 (facts f o m s name files files' out out' kept kept' t r other) short (subst Little (sym w.1) little)))

@@ -55,16 +55,18 @@ use Rattle.laws_run.proofs.run_headline.Runs.{facts, run_ended}
 use Rattle.laws_run.proofs.run_headline.Showing.{Ended, Facts, alone_ends, came_long, few, hears, in_none, long_own, notes_before, starts_late, through_long, took_notes, untold_alone}
 use Rattle.laws_run.proofs.run_headline.Telling.{first_told}
 use Rattle.laws_homing.specs.home_runs.Words.{TellsHomed}
-use Rattle.laws_homing.specs.home_plans.Notes.{AreInARow, CameNotes, WasBegun}
+use Rattle.laws_homing.specs.home_plans.Notes.{CameNotes, WasBegun}
+use Rattle.laws_board.specs.plans.Rows.{AreInARow}
 use Rattle.laws_homing.proofs.home_plans.Knowing.{now_was}
 use Rattle.laws_homing.specs.home_parts.Answers.{IsPlannedBy, TellsIn}
 use Rattle.laws_homing.proofs.home_parts.Ends.{ends_low, ends_told, in_row, ready, waits_silent}
 use Rattle.laws_homing.proofs.home_parts.Known.{known_silent, none_tells, tells_known}
-use Rattle.laws_homing.proofs.home_parts.Told.{row_from, tells_now, tells_tail}
+use Rattle.laws_homing.proofs.home_parts.Told.{tells_now, tells_tail}
+use Rattle.laws_board.proofs.plans.Rows.{row_from}
 use Rattle.laws_run.specs.home_headline.Cuts.{EndsIn, TellEnds, TellsNone, TellsSwitch, cuts_of}
 use Rattle.laws_run.specs.home_headline.Follow.{AllShowHomes}
 use Rattle.laws_board.specs.causes.Short.{HaveShortDictionaries}
-use Rattle.laws_run.specs.home_headline.Little.{AllHomeLittle}
+use Rattle.laws_run.specs.home_headline.Near.{AllKeepUp}
 use Rattle.laws_run.proofs.home_headline.Cuts.{answer_of, end_of, told_cut, told_section, turn_cuts, uncut, uncut_both}
 use Rattle.laws_run.proofs.home_headline.Ended.{goes_behind, notes_behind, some_same}
 use Rattle.laws_run.proofs.home_headline.Planned.{all_notes, planned_by}
@@ -167,7 +169,7 @@ tells_ahead : (m : Machine) (switches : List Switch) (ahead : List Came) (c : Ca
 tells_ahead m switches [] c before t = inl (refl, t)
 tells_ahead m switches (x ∷ ahead) c before t = inr (tells_ahead m switches ahead c before t)
 
-ends_snoc : (m : Machine) (switches : List Switch) (begun : List Started) (k : ℕ) (xs : List ReactorTurn) (y : ReactorTurn) → TellEnds m switches begun k xs → TellsSwitch m switches begun (k + length xs) y.lines ⊎ TellsNone begun (k + length xs) y.lines
+pub ends_snoc : (m : Machine) (switches : List Switch) (begun : List Started) (k : ℕ) (xs : List ReactorTurn) (y : ReactorTurn) → TellEnds m switches begun k xs → TellsSwitch m switches begun (k + length xs) y.lines ⊎ TellsNone begun (k + length xs) y.lines
     → TellEnds m switches begun k (xs ++ y ∷ [])
 ends_snoc m switches begun k [] y tells one =
     let e : k + 0 ≡ k = omega arith in
@@ -382,12 +384,12 @@ run_last f o m s name files files' out out' kept kept' t r v text told at = by t
 
 pub run_ends : {F S : Type 0} (f : Files F) (o : Sink S) (m : Machine) (s : Scene) (name : List ℕ) (files files' : F) (out out' : S) (kept kept' : Kept) (t : near.Told Run) (r : RunsOver f o m s name files out kept t files' out' kept') → IsValidMachine m → (text : List ℕ)
     → f.told files name ≡ Some text → kept.at ≡ 0 → ∥ ((made : IsMade m s r.runs.0 r.runs.1) × (made.plans.seen.text ≡ text)
-    × ((t.cause ≡ cause.Memory → ⊥) → HaveShortDictionaries m → AllHomeLittle m s text r.runs.0 (r.runs.1 ++ r.runs.2 ∷ []) → AllShowHomes m made.plans.seen (clocks_heard made.plans.seen.told) (ready_heard made.plans.seen.told) t.cause (r.runs.1 ++ r.runs.2 ∷ []))
+    × ((t.cause ≡ cause.Memory → ⊥) → HaveShortDictionaries m → AllKeepUp m s text r.runs.0 (r.runs.1 ++ r.runs.2 ∷ []) → AllShowHomes m made.plans.seen (clocks_heard made.plans.seen.told) (ready_heard made.plans.seen.told) t.cause (r.runs.1 ++ r.runs.2 ∷ []))
     × ((t.cause ≡ cause.Memory → ⊥) → TellEnds m s.switches made.plans.seen.begun 0 (r.runs.1 ++ r.runs.2 ∷ []))) ∥₁
 run_ends f o m s name files files' out out' kept kept' t r v text told at =
     ∥∥₁_map (run_made f o m s name files files' out out' kept kept' t r text told at) (λ w.
     let made = w.0 in
-    let Little : List ℕ → Type 0 = λ z. AllHomeLittle m s z r.runs.0 (r.runs.1 ++ r.runs.2 ∷ []) in (
+    let Little : List ℕ → Type 0 = λ z. AllKeepUp m s z r.runs.0 (r.runs.1 ++ r.runs.2 ∷ []) in (
       made,
       w.1,
       λ other short little. all_shows m v s r.runs.0 made.plans r.runs.2 t.cause r.runs.1 (facts f o m s name files files' out out' kept kept' t r other) short (subst Little (sym w.1) little),

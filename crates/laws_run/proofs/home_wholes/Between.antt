@@ -22,8 +22,9 @@ use Rattle.laws_board.proofs.clocks.Lines.{as_long}
 use Rattle.motion_work.specs.Seen.{Started}
 use Rattle.laws_board.specs.plans.Homed.{stops_of}
 use Rattle.laws_homing.specs.home_runs.Settled.{AreHomed}
-use Rattle.laws_homing.specs.home_plans.Notes.{AreInARow, CameNotes}
-use Rattle.laws_homing.proofs.home_parts.Told.{row_from}
+use Rattle.laws_homing.specs.home_plans.Notes.{CameNotes}
+use Rattle.laws_board.specs.plans.Rows.{AreInARow}
+use Rattle.laws_board.proofs.plans.Rows.{row_from}
 use Rattle.laws_run.specs.home_wholes.Still.{IsStillAt, IsStillIn}
 use Rattle.laws_run.proofs.home_wholes.Places.{Prefix, answered, brought, orders_front, prefix_of, stands_so, still_turns}
 use Rattle.laws_run.proofs.home_wholes.Resting.{rests_at}

@@ -37,11 +37,10 @@ use Rattle.laws_run.specs.home_wholes.Own.{AllSwitchesReadTrue, AllTakeInTime, I
 use Rattle.laws_run.specs.run_headline.Made.{IsMade}
 use Rattle.laws_run.specs.run_headline.Timely.{link_of}
 use Rattle.laws_run.proofs.home_headline.Switches.{all_ends}
-use Rattle.laws_run.proofs.home_wholes.Lines.{in_time}
 use Rattle.laws_run.proofs.home_wholes.Own.{none_ends, own_turns}
 use Rattle.laws_run.proofs.run_headline.Making.{run_made}
 use Rattle.laws_run.proofs.run_headline.Runs.{run_ended}
-use Rattle.laws_run.proofs.run_headline.Showing.{Ended, Facts, not_told}
+use Rattle.laws_run.proofs.run_headline.Showing.{Ended, Facts, in_none, not_told}
 
 -- a line that tells of a switch has one section
 one_line : (m : Machine) (switches : List Switch) (i j : ℕ) (a b : AxisDef) (tick at : ℕ) → cut_line m switches i a (Some tick) ≡ cut_line m switches j b (Some at) → i ≡ j
@@ -64,7 +63,7 @@ module _ (m : Machine) (v : IsValidMachine m) (s : Scene) (ts : List MotionTurn)
       let pins = pins_of (board_at m k.board) k.board s.switches in
       let same : k.x ≡ e.s = one_place k.past k.x k.later e.past e.s e.later (sym k.cut ∙ e.cut) (sym k.number ∙ sym same_number ∙ e.number_is) in
       let ends : k.x.end ≡ length before = ap (λ (z : Started). z.end) same ∙ e.end in
-      let all = in_time m v s ts p t first rest end c told f short k.board k.there k.w (takes p t k.board refl told k.there k.w) in
+      let all = takes p k.board refl (λ none. in_none k.past k.x k.later p.seen.begun none k.cut) k.there k.w in
       let Takes : List Started → Type 0 = λ z. TakeSetUps m pins s.entries k.board z (behind [] k.w.made) in
       let took = take_at m pins s.entries k.board k.past k.x k.later k.axis (behind [] k.w.made) k.home (subst Takes k.cut all) k.others k.turns k.are (k.long ∙ sym ends) in
       let are = begun clock link k.others k.turns (subst (λ (z : List BoardTurn). AreBoardTurns clock link z) k.are k.w.turns_are) in

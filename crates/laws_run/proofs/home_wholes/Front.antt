@@ -70,7 +70,7 @@ orders_front clocks freq slots until end stops xs later turn (o ∷ os) ps i row
     )
 
 -- clocks that are set
-sets_front : (oid : ℕ) (s : BoardSection) (turn : ℕ) (os ps : List Orders) → s.start ≤ turn + length os + 250 → SetsIn oid s turn (os ++ ps) → SetsIn oid s turn os
+pub sets_front : (oid : ℕ) (s : BoardSection) (turn : ℕ) (os ps : List Orders) → s.start ≤ turn + length os + 250 → SetsIn oid s turn (os ++ ps) → SetsIn oid s turn os
 sets_front oid s turn [] ps h x = absurd (omega (arith, h, late turn ps x))
   where
     late : (turn : ℕ) (ps : List Orders) → SetsIn oid s turn ps → turn + 252 ≤ s.start
@@ -92,7 +92,7 @@ units_front oid [] later u = absurd u
 units_front oid (s ∷ xs) later (inl u) = inl u
 units_front oid (s ∷ xs) later (inr u) = inr (units_front oid xs later u)
 
-any_front : (oid : ℕ) (os ps : List Orders) → SetsAny oid os → SetsAny oid (os ++ ps)
+pub any_front : (oid : ℕ) (os ps : List Orders) → SetsAny oid os → SetsAny oid (os ++ ps)
 any_front oid [] ps u = absurd u
 any_front oid (o ∷ os) ps (inl u) = inl u
 any_front oid (o ∷ os) ps (inr u) = inr (any_front oid os ps u)

@@ -45,19 +45,17 @@ use Rattle.laws_run.specs.run_headline.Timely.{AreSound, link_of}
 use Rattle.laws_run.proofs.run_headline.Boarded.{Ready, came_cut, ready, sound_of, took, valid_at}
 use Rattle.laws_run.proofs.run_headline.Showing.{Facts, all_lines, few, long_or, notes_before}
 use Rattle.laws_homing.specs.home_runs.Ended.{AreToldIn}
-use Rattle.laws_homing.specs.home_plans.Notes.{AreInARow}
-use Rattle.laws_homing.proofs.home_plans.Noting.{begun_row}
+use Rattle.laws_board.specs.plans.Rows.{AreInARow}
 use Rattle.laws_homing.specs.fired_runs.Since.{AreReadSo}
 use Rattle.laws_homing.specs.home_parts.Answers.{ArePastConnecting, IsPlannedBy, MayHome, TakeSetUps}
 use Rattle.laws_homing.specs.home_parts.Cuts.{AreOverBefore, cut_on, cuts_on, over_in}
 use Rattle.laws_homing.specs.home_parts.Known.{KnowsLately, StartInRange}
-use Rattle.laws_homing.proofs.home_parts.Told.{all_told, row_from}
+use Rattle.laws_homing.proofs.home_parts.Told.{all_told}
 use Rattle.laws_board.specs.causes.Short.{HaveShortDictionaries}
 use Rattle.laws_run.proofs.clock_ages.Own.{Own}
 use Rattle.laws_run.proofs.clock_ages.Renews.{renews}
-use Rattle.laws_run.specs.home_headline.Little.{HomesLittle, TakesInTime}
-use Rattle.laws_run.proofs.home_headline.Clear.{clear_set_ups}
-use Rattle.laws_run.proofs.home_headline.Board.{Followed, Homing, boarded_until, end_at, here_by, homing_by, homing_so, lines_of}
+use Rattle.laws_run.specs.home_headline.Near.{KeepsUp}
+use Rattle.laws_run.proofs.home_headline.Board.{Followed, Homing, boarded_until, end_at, here_by, homing_so, lines_of, ups_so}
 use Rattle.laws_run.proofs.home_headline.Clocks.{run_knows}
 use Rattle.laws_run.proofs.home_headline.Planned.{planned_by}
 use Rattle.laws_run.proofs.home_headline.Ranges.{may_all, on_small, range_all, starts_soon}
@@ -65,7 +63,7 @@ use Rattle.laws_run.specs.home_wholes.Still.{IsStillIn}
 use Rattle.laws_run.proofs.home_wholes.Board.{idle_whole, passed_whole}
 use Rattle.laws_run.proofs.home_wholes.Lost.{still_at}
 use Rattle.laws_run.proofs.home_headline.Uncut.{cut_many, kept_before, kept_released, planned_at}
-use Rattle.laws_homing.proofs.home_parts.Ends.{Among, among_here, among_parts, row_past}
+use Rattle.laws_board.proofs.plans.Rows.{Among, among_here, among_parts, begun_row, row_from, row_past}
 use Rattle.laws_homing.proofs.home_parts.Lines.{next_behind}
 
 none_some : {X : Type 0} {x : X} → None ≡ Some x → ⊥
@@ -81,10 +79,10 @@ before_last ready past x later before y axis are moves home row =
 
 module _ (m : Machine) (v : IsValidMachine m) (s : Scene) (ts : List MotionTurn) (p : Plans m (length m.boards) ts) (t : Told) (first : ReactorTurn) (rest : List ReactorTurn) (end : ReactorTurn) (c : Cause) (told : p.seen.told ≡ Some t) (f : Facts m s ts (first ∷ rest) end c)
     (short : HaveShortDictionaries m) where
-  notes : TookNotes (map (λ d. d.note) p.made) (first ∷ rest)
+  pub notes : TookNotes (map (λ d. d.note) p.made) (first ∷ rest)
   notes = notes_before m v s ts p end c first rest f
 
-  most : length (rest ++ end ∷ []) ≤ length p.made + 1
+  pub most : length (rest ++ end ∷ []) ≤ length p.made + 1
   most = few m v s ts p end c first rest f
 
   tells : TellTurns m p.seen.begun 0 (first ∷ (rest ++ end ∷ []))
@@ -122,7 +120,7 @@ module _ (m : Machine) (v : IsValidMachine m) (s : Scene) (ts : List MotionTurn)
   pub row : AreInARow t.first p.seen.begun
   row = begun_row m t.clocks t.first p.seen.begun (started_in m ts p t told)
 
-  sound : AreSound m t.clocks t.first
+  pub sound : AreSound m t.clocks t.first
   sound = sound_of m v s ts p t first rest end told turn whole
 
   pub range : (b : ℕ) → b < length m.boards → StartInRange (clocks_at t.clocks b) p.seen.begun
@@ -154,23 +152,14 @@ module _ (m : Machine) (v : IsValidMachine m) (s : Scene) (ts : List MotionTurn)
   pub took_states : (b : ℕ) (h : b < length m.boards) → TookStates b (rest ++ end ∷ []) (Here b h).states
   took_states b h = took b (rest ++ end ∷ []) (Here b h).states (whole b h).states
 
-  -- where the scene has no entries a board takes the set-ups in time, and else where it does so
-  pub in_time : (b : ℕ) → b < length m.boards → (w : IsInWhole m s.switches b (clock_of (board_at m b)) (link_of m s b) ts first (rest ++ end ∷ [])) → TakesInTime m s b ts first (rest ++ end ∷ []) (length p.made) t p.seen.begun w
-      → TakeSetUps m (pins_of (board_at m b) b s.switches) s.entries b p.seen.begun (behind [] w.made)
-  in_time b h w (inr takes) = takes
-  in_time b h w (inl clear) =
-      let g = homing_so m v s ts p t first rest end told Made f.ahead b f.words_left w turn h f.turns f.words notes (omega arith) (inr (omega arith)) most (inl (inl clear)) (lines b h) sound formed (range b h) in
-      let early = turn.early in
-      clear_set_ups m (pins_of (board_at m b) b s.switches) s.entries b (behind [] w.made) clear.0 w.turns_are (g.limits clear.1) t.first p.seen.begun (omega (arith, early)) row
+  pub homing_of : (b : ℕ) (h : b < length m.boards) → Homing m v s ts p t first rest end told Made b turn (Turns_of b h)
+  homing_of b h = homing_so m v s ts p t first rest end told Made f.ahead b f.words_left (whole b h) turn h f.turns f.words notes (omega arith) (inr (omega arith)) most (lines b h) sound formed (range b h)
 
-  -- where each board holds nothing long
-  module _ (little : (b : ℕ) → b < length m.boards → (w : IsInWhole m s.switches b (clock_of (board_at m b)) (link_of m s b) ts first (rest ++ end ∷ [])) → HomesLittle m s b ts first (rest ++ end ∷ []) (length p.made) t p.seen.begun w) where
-    pub homing_of : (b : ℕ) (h : b < length m.boards) → Homing m v s ts p t first rest end told Made b turn (Turns_of b h)
-    homing_of b h = homing_by m v s ts p t first rest end told Made f.ahead b f.words_left (whole b h) turn h f.turns f.words notes (omega arith) (inr (omega arith)) most (little b h (whole b h)) (lines b h) sound formed (range b h)
-
+  -- where each board keeps up
+  module _ (little : (b : ℕ) → b < length m.boards → (w : IsInWhole m s.switches b (clock_of (board_at m b)) (link_of m s b) ts first (rest ++ end ∷ [])) → KeepsUp m s b ts first (rest ++ end ∷ []) p.seen.begun w) where
     pub on_until : (b : ℕ) (h : b < length m.boards) → (k : IsHomeBoard b s.entries By N (cuts_on m t.clocks Made p.seen.begun b) (Here b h)) × (k.split.tail ≡ (homing_of b h).split.tail)
     unfolding homing_of
-    on_until b h = boarded_until m v s ts p t first rest end told Made f.ahead b f.words_left (whole b h) turn h f.turns f.words notes (omega arith) (inr (omega arith)) most (little b h (whole b h)) (lines b h) sound formed (range b h)
+    on_until b h = boarded_until m v s ts p t first rest end told Made f.ahead b f.words_left (whole b h) turn h f.turns f.words notes (omega arith) (inr (omega arith)) most (lines b h) sound formed (range b h) (little b h (whole b h))
 
     pub on : (b : ℕ) (h : b < length m.boards) → IsHomeBoard b s.entries By N (cuts_on m t.clocks Made p.seen.begun b) (Here b h)
     on b h = (on_until b h).0
@@ -180,7 +169,7 @@ module _ (m : Machine) (v : IsValidMachine m) (s : Scene) (ts : List MotionTurn)
 
     -- the sections that home are told of
     pub set_ups : (b : ℕ) (h : b < length m.boards) → TakeSetUps m (pins_of (board_at m b) b s.switches) s.entries b p.seen.begun (Turns_of b h) ⊎ AreReadSo m s.switches b Came_all (Turns_of b h)
-    set_ups b h = (homing_of b h).set_ups
+    set_ups b h = ups_so m v s ts p t first rest end told Made f.ahead b f.words_left (whole b h) turn h f.turns f.words notes (omega arith) (inr (omega arith)) most (lines b h) sound formed (range b h) (little b h (whole b h)).sets_up
 
     sections_told : (b : ℕ) (h : b < length m.boards) → AreToldIn m s.switches (pins_of (board_at m b) b s.switches) s.entries b (stops_of p.seen.begun) (cuts_on m t.clocks Made p.seen.begun b) (Turns_of b h)
     sections_told b h = all_told m s.switches (pins_of (board_at m b) b s.switches) s.entries b By Made ts p t Came_all (Turns_of b h) by told turn.early connected formed (run_of b h) (set_ups b h)

@@ -30,10 +30,11 @@ use Rattle.laws_board.specs.sections.Links.{steps_of}
 use Rattle.laws_board.proofs.sections.Stepping.{none_heed}
 use Rattle.laws_board.specs.plans.Homed.{is_home, stops_of}
 use Rattle.laws_homing.specs.home_parts.Cuts.{cuts_on}
-use Rattle.laws_homing.specs.home_plans.Notes.{AreInARow, CameNotes}
+use Rattle.laws_homing.specs.home_plans.Notes.{CameNotes}
+use Rattle.laws_board.specs.plans.Rows.{AreInARow}
 use Rattle.laws_homing.specs.home_runs.Ended.{AreToldIn}
 use Rattle.laws_homing.proofs.home_runs.Homed.{all_homed}
-use Rattle.laws_homing.proofs.home_parts.Told.{row_from}
+use Rattle.laws_board.proofs.plans.Rows.{row_from}
 use Rattle.laws_run.specs.home_wholes.Still.{IsStillIn}
 use Rattle.laws_run.proofs.home_wholes.Between.{still_between}
 use Rattle.laws_run.proofs.home_wholes.Heeding.{still_heeds}

@@ -10,9 +10,9 @@ use Rattle.laws_board.proofs.sections.HeededLinks.{ten_seconds}
 use Rattle.laws_board.proofs.orders.Going.{own_on}
 use Rattle.laws_homing.specs.home_parts.Cuts.{AreOverBefore}
 use Rattle.laws_homing.specs.home_parts.Known.{StartInRange}
-use Rattle.laws_homing.specs.home_plans.Notes.{AreInARow}
+use Rattle.laws_board.specs.plans.Rows.{AreInARow}
 use Rattle.laws_homing.proofs.home_parts.Cut.{over_late}
-use Rattle.laws_homing.proofs.home_parts.Told.{row_from}
+use Rattle.laws_board.proofs.plans.Rows.{row_from}
 use Rattle.laws_run.proofs.clock_ages.Own.{Own}
 use Rattle.laws_run.proofs.run_headline.Boarded.{valid_at}
 use Rattle.laws_run.proofs.home_headline.Board.{Followed, end_at}

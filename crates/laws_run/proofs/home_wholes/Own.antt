@@ -14,7 +14,7 @@ use Rattle.plan_types.specs.Sections.{clocks_at}
 use Rattle.plan_types.proofs.OwnTicks.{rise}
 use Rattle.laws_homing.specs.home_parts.Answers.{ArePastConnecting}
 use Rattle.laws_homing.specs.home_parts.Known.{KnowsLately, StartInRange}
-use Rattle.laws_homing.specs.home_plans.Notes.{AreInARow}
+use Rattle.laws_board.specs.plans.Rows.{AreInARow}
 use Rattle.laws_homing.proofs.clear_groups.Known.{answered_late}
 use Rattle.laws_homing.proofs.switch_runs.Exact.{exact_tick, knew_tick}
 use Rattle.laws_run.specs.clear_homes.Closes.{ClosesAt}
@@ -54,7 +54,8 @@ use Rattle.laws_homing.proofs.fired_runs.Seeing.{answered_read}
 use Rattle.laws_homing.specs.home_plans.Notes.{CameNotes, WasBegun}
 use Rattle.laws_homing.proofs.home_plans.Knowing.{now_was}
 use Rattle.laws_homing.proofs.home_parts.Apart.{so_begun}
-use Rattle.laws_homing.proofs.home_parts.Told.{row_from, so_at, split_at}
+use Rattle.laws_homing.proofs.home_parts.Told.{so_at, split_at}
+use Rattle.laws_board.proofs.plans.Rows.{row_from}
 use Rattle.laws_homing.specs.switch_runs.Taken.{IsTriggerOf}
 use Rattle.laws_run.specs.home_headline.Cuts.{TellEnds, TellsAnswer}
 use Rattle.laws_run.specs.home_wholes.Own.{AllSwitchesReadTrue, IsTriggerIn, TellTriggers, TellTriggersBehind}
@@ -69,7 +70,7 @@ use Rattle.laws_run.proofs.run_headline.Making.{run_made}
 use Rattle.laws_run.proofs.run_headline.Runs.{run_ended}
 use Rattle.laws_run.proofs.run_headline.Showing.{Ended, Facts, in_none, not_told}
 
-axis_board : (m : Machine) (axes : List AxisDef) (i : ℕ) → i < length axes → All (IsValidAxis m) axes → (get_or axes i no_axis).board < length m.boards
+pub axis_board : (m : Machine) (axes : List AxisDef) (i : ℕ) → i < length axes → All (IsValidAxis m) axes → (get_or axes i no_axis).board < length m.boards
 axis_board m [] i low all = absurd (omega (arith, low))
 axis_board m (a ∷ axes) zero low all = (All-head (IsValidAxis m) a axes all).board
 axis_board m (a ∷ axes) (suc i) low all = axis_board m axes i (omega (arith, low)) (All-tail (IsValidAxis m) a axes all)

@@ -22,10 +22,10 @@ use Rattle.laws_board.proofs.clocks.Orders.{order_length}
 use Rattle.motion_work.specs.Seen.{Started}
 use Rattle.laws_board.specs.plans.Homed.{is_home, is_set_in, stops_of}
 use Rattle.laws_homing.proofs.home_runs.Settled.{later_orders}
-use Rattle.laws_homing.specs.home_plans.Notes.{AreInARow, CameNotes, WasBegun}
+use Rattle.laws_homing.specs.home_plans.Notes.{CameNotes, WasBegun}
+use Rattle.laws_board.specs.plans.Rows.{AreInARow}
 use Rattle.laws_homing.proofs.home_plans.Knowing.{now_was}
-use Rattle.laws_homing.proofs.home_parts.Ends.{Among, among_here, row_later, row_past}
-use Rattle.laws_homing.proofs.home_parts.Told.{row_from}
+use Rattle.laws_board.proofs.plans.Rows.{Among, among_here, row_from, row_later, row_past}
 use Rattle.laws_run.proofs.home_wholes.Resting.{AllAnswered}
 use Rattle.laws_run.specs.home_wholes.Still.{BringStill, EachStill}
 use Rattle.laws_run.proofs.home_wholes.Starting.{IsSettingUp, control_either}

@@ -68,7 +68,7 @@ use Rattle.laws_run.proofs.run_headline.Showing.{Facts, alone_ends, came_long, c
 use Rattle.laws_run.specs.home_headline.Follow.{AllShowHomes, FollowHomes}
 use Rattle.laws_run.specs.home_headline.Cuts.{TellEnds}
 use Rattle.laws_board.specs.causes.Short.{HaveShortDictionaries}
-use Rattle.laws_run.specs.home_headline.Little.{AllHomeLittle, HomesLittle}
+use Rattle.laws_run.specs.home_headline.Near.{AllKeepUp, KeepsUp}
 use Rattle.laws_run.proofs.home_headline.Switches.{all_ends}
 use Rattle.laws_run.proofs.home_headline.Following.{follows}
 use Rattle.laws_run.proofs.home_headline.Shows.{all_shows}
@@ -105,7 +105,7 @@ module _ (m : Machine) (v : IsValidMachine m) (s : Scene) (ts : List MotionTurn)
       let At : Known → Type 0 = λ r. EndsSo m (noted m end.note r) (length (came_from [] rs)) end.states c in
       subst At own.0 (ends_so m s.switches f.known (length (came_from [] rs)) end.states end.note c own.1 f.other (sym (ends_own m s ts rs end c f (own_cause c g))))
 
-  module _ (first : ReactorTurn) (rest : List ReactorTurn) (f : Facts m s ts (first ∷ rest) end c) (short : HaveShortDictionaries m) (little : AllHomeLittle m s p.seen.text ts (first ∷ (rest ++ end ∷ []))) where
+  module _ (first : ReactorTurn) (rest : List ReactorTurn) (f : Facts m s ts (first ∷ rest) end c) (short : HaveShortDictionaries m) (little : AllKeepUp m s p.seen.text ts (first ∷ (rest ++ end ∷ []))) where
     abbrev Came_all : List Came
     Came_all = came_from [] (first ∷ rest)
 
@@ -174,8 +174,8 @@ module _ (m : Machine) (v : IsValidMachine m) (s : Scene) (ts : List MotionTurn)
         gone m p.seen.text p.seen.begun (length (first ∷ rest)) (length Came_all) Last_known end.states w.0 counts (omega (arith, size)) (of_sections m ts p) w.2
 
     module _ (t : Told) (told : p.seen.told ≡ Some t) (some : p.seen.begun ≢ []) where
-      small : (b : ℕ) → b < length m.boards → (w : IsInWhole m s.switches b (clock_of (board_at m b)) (link_of m s b) ts first (rest ++ end ∷ [])) → HomesLittle m s b ts first (rest ++ end ∷ []) (length p.made) t p.seen.begun w
-      small b h w = little p t b refl told some h w
+      small : (b : ℕ) → b < length m.boards → (w : IsInWhole m s.switches b (clock_of (board_at m b)) (link_of m s b) ts first (rest ++ end ∷ [])) → KeepsUp m s b ts first (rest ++ end ∷ []) p.seen.begun w
+      small b h w = little p b refl some h w
 
       by_told : FollowHomes m t p.seen first (rest ++ end ∷ [])
       by_told = follows m v s ts p t first rest end c told f short small
@@ -317,19 +317,19 @@ module _ (m : Machine) (v : IsValidMachine m) (s : Scene) (ts : List MotionTurn)
             absurd (omega (arith, late, begins, order, within));
       }
 
-  pub all_wholes : (rs : List ReactorTurn) → Facts m s ts rs end c → HaveShortDictionaries m → AllHomeLittle m s p.seen.text ts (rs ++ end ∷ []) → AllWholeHomes m p.seen (clocks_heard p.seen.told) c (rs ++ end ∷ [])
+  pub all_wholes : (rs : List ReactorTurn) → Facts m s ts rs end c → HaveShortDictionaries m → AllKeepUp m s p.seen.text ts (rs ++ end ∷ []) → AllWholeHomes m p.seen (clocks_heard p.seen.told) c (rs ++ end ∷ [])
   all_wholes [] f short little = wholes_alone f
   all_wholes (first ∷ rest) f short little = wholes first rest f short little
 
 pub run_wholes : {F S : Type 0} (f : Files F) (o : Sink S) (m : Machine) (s : Scene) (name : List ℕ) (files files' : F) (out out' : S) (kept kept' : Kept) (t : near.Told Run) (r : RunsOver f o m s name files out kept t files' out' kept') → IsValidMachine m → (text : List ℕ)
-    → f.told files name ≡ Some text → kept.at ≡ 0 → ∥ ((made : IsMade m s r.runs.0 r.runs.1) × (made.plans.seen.text ≡ text) × ((t.cause ≡ cause.Memory → ⊥) → HaveShortDictionaries m → AllHomeLittle m s text r.runs.0 (r.runs.1 ++ r.runs.2 ∷ [])
+    → f.told files name ≡ Some text → kept.at ≡ 0 → ∥ ((made : IsMade m s r.runs.0 r.runs.1) × (made.plans.seen.text ≡ text) × ((t.cause ≡ cause.Memory → ⊥) → HaveShortDictionaries m → AllKeepUp m s text r.runs.0 (r.runs.1 ++ r.runs.2 ∷ [])
     → AllShowHomes m made.plans.seen (clocks_heard made.plans.seen.told) (ready_heard made.plans.seen.told) t.cause (r.runs.1 ++ r.runs.2 ∷ [])
     × AllWholeHomes m made.plans.seen (clocks_heard made.plans.seen.told) t.cause (r.runs.1 ++ r.runs.2 ∷ []))
     × ((t.cause ≡ cause.Memory → ⊥) → TellEnds m s.switches made.plans.seen.begun 0 (r.runs.1 ++ r.runs.2 ∷ []))) ∥₁
 run_wholes f o m s name files files' out out' kept kept' t r v text told at =
     ∥∥₁_map (run_made f o m s name files files' out out' kept kept' t r text told at) (λ w.
     let made = w.0 in
-    let Little : List ℕ → Type 0 = λ z. AllHomeLittle m s z r.runs.0 (r.runs.1 ++ r.runs.2 ∷ []) in (
+    let Little : List ℕ → Type 0 = λ z. AllKeepUp m s z r.runs.0 (r.runs.1 ++ r.runs.2 ∷ []) in (
       made,
       w.1,
       λ other short little.

@@ -11,7 +11,6 @@ use Rattle.link_work.specs.Stands.{Seen, StandsFor, orders}
 use Rattle.link_work.specs.Told.{IsTold}
 use Rattle.link_work.specs.Turn.{IsTurn, LinkState}
 use Rattle.host_reactor.specs.Runs.{Came, known_by, last_turn, state_at}
-use Rattle.host_reactor.specs.Running.{any_out}
 use Rattle.laws_board.specs.turns.Turns.{AreBoardTurns, BoardTurn, IsBoardOf, control_at, latest_state, stands_after}
 use Rattle.laws_board.specs.sections.Links.{AreTold}
 use Rattle.session_work.specs.declared.table.LinkTurn.{LinkTurn}

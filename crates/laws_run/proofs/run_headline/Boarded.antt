@@ -54,7 +54,7 @@ use Rattle.laws_board.specs.plans.Planned.{AreKnown, Plans, puts_of, words_in}
 use Rattle.laws_board.proofs.plans.Running.{all_sent, run_is, sections_are, sent_on}
 use Rattle.laws_run.specs.clock_ages.Renewed.{StayYoung}
 use Rattle.laws_run.proofs.clock_ages.Own.{AreRenewed, Own}
-use Rattle.laws_run.specs.run_headline.Timely.{AreSound, HoldsLittle, TakesNear, link_of}
+use Rattle.laws_run.specs.run_headline.Timely.{AreSound, HoldsLittle, IsTimelyIn, link_of}
 use Rattle.laws_run.proofs.run_headline.Asked.{asked_late}
 use Rattle.laws_run.proofs.run_headline.Holding.{may_each}
 use Rattle.laws_run.proofs.run_headline.Fronts.{IsFirst, controlled, controls_limited, first_sampled, followed, front_of, one_less, sampled_later, stepper_made}
@@ -388,9 +388,9 @@ module _ (m : Machine) (v : IsValidMachine m) (s : Scene) (ts : List MotionTurn)
       let Fronts : List Orders → Type 0 = λ os. (done : List Orders) (o : Orders) (more : List Orders) → os ≡ done ++ o ∷ more → ControlsKeep done in
       subst Fronts w.in_order (controls_limited m v s.switches (pins_of (board_at m b) b s.switches) s.entries b (came_from [] (first ∷ rest)) (behind [] w.made) x.run)
 
-  -- a board that is spoiled little takes all near, whether or not a unit was sent late
+  -- a board that is spoiled little is timely, whether or not a unit was sent late
   pub few_near : (b : ℕ) (r : Ready) (w : IsInWhole m s.switches b (clock_of (board_at m b)) (link_of m s b) ts first (rest ++ end ∷ [])) → b < length m.boards → AreMoves p.seen.begun → AllMoves (came_from [] (first ∷ rest)) → length (rest ++ end ∷ []) ≤ length p.made
-      → StayYoung m b (clocks_at t.clocks b) (length rest) → HoldsLittle m s b ts first (rest ++ end ∷ []) w → TakesNear m s b ts first (rest ++ end ∷ []) w
+      → StayYoung m b (clocks_at t.clocks b) (length rest) → HoldsLittle m s b ts first (rest ++ end ∷ []) w → IsTimelyIn m s b ts first (rest ++ end ∷ []) w
   few_near b r w h homes moves goes renewed little =
       let x = placed b r w h homes moves goes renewed in
       let def = board_at m b in
@@ -399,8 +399,6 @@ module _ (m : Machine) (v : IsValidMachine m) (s : Scene) (ts : List MotionTurn)
       let parts = parts_on m t.clocks p.seen.begun b in
       let after = stands_after (link_of m s b) (behind [] w.made) in
       let all = turns_told clock 0 (orders_of w.made) (states_of w.made) (link_of m s b) after w.told in
-      record {
-        timely = few_heeded def pins b s.entries (Own m b (length rest)) (clocks_at t.clocks b) (length (came_from [] r.past)) 10_000 (length p.made) parts (orders_of w.made) after all (subst (λ n. AreOwn def n (Own m b (length rest))) (sym x.count) (own_to b h)) x.is (sent_on m t.clocks (length p.made) b p.seen.begun h homes (all_sent m (length m.boards) ts p t told)) (omega (arith, x.count, goes))
-            (controls_before b r w x)
-            (λ k. elim little.few [ inl e ↦ omega (arith, calm_links clock def pins b s.entries (orders_of w.made) after all k e) | inr f ↦ f k ]) (ten_seconds def (length (rest ++ end ∷ [])) 10_000 (Own m b (length rest)) (own_to b h) (omega arith));
-      }
+      few_heeded def pins b s.entries (Own m b (length rest)) (clocks_at t.clocks b) (length (came_from [] r.past)) 10_000 (length p.made) parts (orders_of w.made) after all (subst (λ n. AreOwn def n (Own m b (length rest))) (sym x.count) (own_to b h)) x.is (sent_on m t.clocks (length p.made) b p.seen.begun h homes (all_sent m (length m.boards) ts p t told)) (omega (arith, x.count, goes))
+      (controls_before b r w x)
+      (λ k. elim little.few [ inl e ↦ omega (arith, calm_links clock def pins b s.entries (orders_of w.made) after all k e) | inr f ↦ f k ]) (ten_seconds def (length (rest ++ end ∷ [])) 10_000 (Own m b (length rest)) (own_to b h) (omega arith))

@@ -12,7 +12,6 @@ use Rattle.motion_work.specs.Seen.{AreStarted, Started}
 use Rattle.motion_work.proofs.Turning.{planned_late}
 use Rattle.session_work.specs.declared.table.ReactorTurn.{ReactorTurn}
 use Rattle.session_work.specs.Rows.{gather}
-use Rattle.board_world.specs.World.{start}
 use Rattle.laws_board.specs.sections.Boards.{AreEnded, NextStart, Times}
 use Rattle.laws_board.specs.plans.Boards.{TookStates, lines_between, times_of}
 

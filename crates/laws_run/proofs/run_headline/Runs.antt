@@ -1,13 +1,12 @@
 -- What a whole run shows, whatever threads it went in.
-use Rattle.std.proofs.Common.{◌≡◌, ◌⊎◌, ℕ, ◌<◌, List, [], ◌∷◌, ◌++◌, length, Some, refl, sym, ◌∙◌, subst, arith, inl, inr}
+use Rattle.std.proofs.Common.{◌≡◌, ◌⊎◌, ℕ, ◌<◌, List, [], ◌∷◌, length, Some, refl, sym, ◌∙◌, subst, arith, inl, inr}
 use Rattle.plan_types.specs.declared.cause.Cause.{Cause}
 use Rattle.plan_types.specs.declared.cause.Cause.TheVariants as cause
 use Rattle.plan_types.specs.declared.machine.Machine.{Machine}
 use Rattle.plan_types.specs.Clock.{clock_of}
-use Rattle.plan_types.specs.Machines.{IsValidMachine, board_at}
+use Rattle.plan_types.specs.Machines.{board_at}
 use Rattle.io_core.specs.declared.traits.Files.{Ghosts as Files}
 use Rattle.io_core.specs.declared.traits.Sink.{Ghosts as Sink}
-use Rattle.gcode_program.specs.Programs.{program_sections}
 use Rattle.wire_scene.specs.declared.scene.Scene.{Scene}
 use Rattle.link_work.specs.Stands.{Seen as LinkSeen}
 use Rattle.host_reactor.specs.Reactor.{Run, first_run}
@@ -37,13 +36,12 @@ use Rattle.host_reactor.specs.Runs.{known_by}
 use Rattle.laws_run.specs.run_ends.Ends.{EndsSo, order}
 use Rattle.laws_run.proofs.run_ends.Coming.{first_comes, none_comes}
 use Rattle.laws_run.proofs.run_ends.Ending.{ends_so}
-use Rattle.laws_board.specs.causes.Short.{HaveShortDictionaries}
 use Rattle.laws_run.specs.run_headline.Made.{IsNamed, NoneSo}
-use Rattle.laws_run.specs.run_headline.Timely.{AllTakeNear, AreOfMoves, HoldsNothingLong, link_of}
+use Rattle.laws_run.specs.run_headline.Timely.{link_of}
 use Rattle.laws_run.proofs.run_headline.Faults as faults
 use Rattle.laws_run.proofs.run_headline.Heard.{stops_left}
 use Rattle.laws_run.proofs.run_headline.Making.{put_is, run_turns}
-use Rattle.laws_run.proofs.run_headline.Showing.{Ended, Facts, came_long, ends_own, first_at, go_on, near_little, none_told, shows_link, turns_cut}
+use Rattle.laws_run.proofs.run_headline.Showing.{Ended, Facts, came_long, ends_own, first_at, go_on, shows_link, turns_cut}
 
 pub row_full : (n k : ℕ) (t : ReactorTurn) → 0 < k → IsRow n k t.states t.note → length t.states ≡ n
 row_full n k t h (inl a) = absurd (omega (arith, h, a.0))
@@ -124,17 +122,3 @@ module _ {F S : Type 0} (f : Files F) (o : Sink S) (m : Machine) (s : Scene) (na
       let Turns : List ReactorTurn → Type 0 = λ z. AreReactorTurns m s.switches [] z in
       let parts = turns_cut m s.switches [] past (turn ∷ later) (subst Turns cut (run_turns f o m s name files files' out out' kept kept' t r)) in
       none_comes m s.switches (known_by m s.switches (came_from [] past)) (length (came_from [] past)) turn.states turn.note parts.1.0.goes_on c so
-
-  -- a run that holds nothing long takes all near
-  takes : (v : IsValidMachine m) → HaveShortDictionaries m → (rs : List ReactorTurn) (text : List ℕ) → rs ≡ r.runs.1 → (t.cause ≡ cause.Memory → ⊥) → AreOfMoves (program_sections m text) → HoldsNothingLong m s text r.runs.0 (rs ++ r.runs.2 ∷ [])
-      → AllTakeNear m s text r.runs.0 (rs ++ r.runs.2 ∷ [])
-  takes v short [] text e other moves holds = λ p u b same told low long w.
-      let Of : List ReactorTurn → Type 0 = λ z. Facts m s r.runs.0 z r.runs.2 t.cause in
-      absurd (none_told m v s r.runs.0 p r.runs.2 t.cause u told (subst Of (sym e) (facts other)))
-  takes v short (first ∷ rest) text e other moves holds = λ p u b same told low long w.
-      let Moves : List ℕ → Type 0 = λ z. AreOfMoves (program_sections m z) in
-      let Of : List ReactorTurn → Type 0 = λ z. Facts m s r.runs.0 z r.runs.2 t.cause in
-      near_little m v s r.runs.0 p r.runs.2 t.cause first rest (subst Of (sym e) (facts other)) (subst Moves (sym same) moves) short u told b low long w (holds p u b same told low long w)
-
-  pub run_near : IsValidMachine m → HaveShortDictionaries m → (text : List ℕ) → (t.cause ≡ cause.Memory → ⊥) → AreOfMoves (program_sections m text) → HoldsNothingLong m s text r.runs.0 (r.runs.1 ++ r.runs.2 ∷ []) → AllTakeNear m s text r.runs.0 (r.runs.1 ++ r.runs.2 ∷ [])
-  run_near v short text other moves holds = takes v short r.runs.1 text refl other moves holds

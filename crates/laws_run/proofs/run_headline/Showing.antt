@@ -1,5 +1,5 @@
 -- What a whole run shows of the sections that its planner begun.
-use Rattle.std.proofs.Common.{◌≡◌, ◌≢◌, ℕ, suc, ◌+◌, ◌-◌, ◌<◌, ◌≤◌, ◌⊎◌, List, [], ◌∷◌, ◌++◌, All, map, length, Option, Some, None, refl, ap, sym, ◌∙◌, subst, arith, inl, inr, append_assoc, append-nil, length-append}
+use Rattle.std.proofs.Common.{◌≡◌, ◌≢◌, ℕ, suc, ◌+◌, ◌<◌, ◌≤◌, ◌⊎◌, List, [], ◌∷◌, ◌++◌, All, map, length, Option, Some, None, refl, ap, sym, ◌∙◌, subst, arith, inl, inr, append_assoc, append-nil, length-append}
 use Rattle.std.proofs.lemmas.Bool.Decides.{leb_tells}
 use Rattle.std.proofs.lemmas.List.{length-map}
 use Rattle.gcode_program.specs.Programs.{program_end, program_sections}
@@ -42,7 +42,7 @@ use Rattle.laws_board.proofs.plans.Spreading.{IsLate, plans_spread, turns_late}
 use Rattle.laws_board.proofs.plans.Telling.{all_tell, begin_snoc, notes_tell, put_begin}
 use Rattle.plan_types.specs.Clock.{clock_of}
 use Rattle.laws_run.specs.lanes.Boards.{IsInWhole}
-use Rattle.laws_run.specs.run_headline.Timely.{AreHeard, AreOfMoves, AreSound, AreThrough, HoldsLittle, TakesNear, TellBoards, clocks_heard, link_of, ready_heard}
+use Rattle.laws_run.specs.run_headline.Timely.{AreHeard, AreOfMoves, AreSound, AreThrough, HoldsLittle, IsTimelyIn, TellBoards, clocks_heard, link_of, ready_heard}
 use Rattle.laws_run.specs.run_headline.Further.{TellFurther}
 use Rattle.laws_run.proofs.run_headline.Reporting.{told_further}
 use Rattle.laws_run.specs.run_ends.Ends.{EndsSo, GoesThrough, WentThrough, reading_of}
@@ -58,7 +58,7 @@ use Rattle.laws_run.proofs.run_ends.Ending.{AtLast, AtStop, ends_so, own_cause, 
 use Rattle.laws_run.proofs.run_headline.Boarded.{among_turn, came_split, few_near, ready, sound_of}
 use Rattle.laws_run.proofs.run_headline.Going.{Gone, gone}
 use Rattle.laws_run.proofs.run_headline.Heard.{long_or_none, notes_cut}
-use Rattle.laws_run.proofs.run_headline.Joining.{lines_are, of_sections, row_none}
+use Rattle.laws_run.proofs.run_headline.Joining.{of_sections, row_none}
 use Rattle.laws_run.proofs.run_headline.Plain.{all_moves}
 use Rattle.laws_run.proofs.run_headline.Further.{noted_boards}
 use Rattle.laws_run.proofs.run_headline.Words.{Among, among_left, gather_words, last_tells, made_numbered, news_in, turns_tell}
@@ -400,9 +400,9 @@ module _ (m : Machine) (v : IsValidMachine m) (s : Scene) (ts : List MotionTurn)
       pub long : (length (rest ++ end ∷ []) ≤ length p.made) ⊎ Unread
       long = long_moves (homes_never (length p.made) p.seen.begun kinds)
 
-      -- a run that holds nothing long takes all near
+      -- a board of a run that holds nothing long is timely
       pub near_little : HaveShortDictionaries m → (t : Told) → p.seen.told ≡ Some t → (b : ℕ) → b < length m.boards → length (rest ++ end ∷ []) ≤ length p.made → (w : IsInWhole m s.switches b (clock_of (board_at m b)) (link_of m s b) ts first (rest ++ end ∷ []))
-          → HoldsLittle m s b ts first (rest ++ end ∷ []) w → TakesNear m s b ts first (rest ++ end ∷ []) w
+          → HoldsLittle m s b ts first (rest ++ end ∷ []) w → IsTimelyIn m s b ts first (rest ++ end ∷ []) w
       near_little short t told b h l w little =
           few_near m v s ts p t first rest end told b (ready m v s ts p t first rest end told f.ahead f.words_left f.turns f.words) w h (none_homes p.seen.begun kinds)
           (all_moves m p.seen.text p.seen.begun p.made first rest kinds p.put (front_notes (took_notes l))) l (renews_by t told short l b h) little

@@ -18,16 +18,16 @@ use Rattle.laws_board.proofs.plans.Running.{started_in}
 use Rattle.laws_run.specs.run_headline.Timely.{AreSound, link_of}
 use Rattle.laws_run.proofs.run_headline.Boarded.{Lined, Ready, lined, ready, sound_of, valid_at}
 use Rattle.laws_run.proofs.run_headline.Showing.{Facts, few, notes_before}
-use Rattle.laws_homing.specs.home_plans.Notes.{AreInARow}
-use Rattle.laws_homing.proofs.home_plans.Noting.{begun_row}
+use Rattle.laws_board.specs.plans.Rows.{AreInARow}
+use Rattle.laws_board.proofs.plans.Rows.{begun_row}
 use Rattle.laws_homing.specs.home_parts.Answers.{MayHome}
 use Rattle.laws_homing.specs.home_parts.Cuts.{cuts_on}
 use Rattle.laws_homing.specs.home_parts.Known.{StartInRange}
 use Rattle.laws_board.specs.causes.Short.{HaveShortDictionaries}
 use Rattle.laws_run.proofs.clock_ages.Own.{Own}
 use Rattle.laws_run.proofs.clock_ages.Renews.{renews}
-use Rattle.laws_run.specs.home_headline.Little.{HomesLittle}
-use Rattle.laws_run.proofs.home_headline.Board.{Followed, Homing, boarded_by, here_by, homing_by, lines_of}
+use Rattle.laws_run.specs.home_headline.Near.{KeepsUp}
+use Rattle.laws_run.proofs.home_headline.Board.{Followed, Homing, boarded_by, here_by, homing_so, lines_of}
 use Rattle.laws_run.proofs.home_headline.Ranges.{may_all, on_small, range_all, starts_soon}
 
 module _ (m : Machine) (v : IsValidMachine m) (s : Scene) (ts : List MotionTurn) (p : Plans m (length m.boards) ts) (t : Told) (first : ReactorTurn) (rest : List ReactorTurn) (end : ReactorTurn) (c : Cause) (told : p.seen.told ≡ Some t) (f : Facts m s ts (first ∷ rest) end c)
@@ -65,11 +65,11 @@ module _ (m : Machine) (v : IsValidMachine m) (s : Scene) (ts : List MotionTurn)
     pub sampled : Lined m v s ts p t first rest end told b (behind [] w.made) By
     sampled = lined m v s ts p t first rest end told b turn w h
 
-    module _ (little : HomesLittle m s b ts first (rest ++ end ∷ []) (length p.made) t p.seen.begun w) where
-      -- what a board was sent
-      pub homing : Homing m v s ts p t first rest end told (length p.made) b turn (behind [] w.made)
-      homing = homing_by m v s ts p t first rest end told (length p.made) f.ahead b f.words_left w turn h f.turns f.words front_notes (omega arith) (inr (omega arith)) (few m v s ts p end c first rest f) little (lines b h) sound formed (range b h)
+    -- what a board was sent
+    pub homing : Homing m v s ts p t first rest end told (length p.made) b turn (behind [] w.made)
+    homing = homing_so m v s ts p t first rest end told (length p.made) f.ahead b f.words_left w turn h f.turns f.words front_notes (omega arith) (inr (omega arith)) (few m v s ts p end c first rest f) (lines b h) sound formed (range b h)
 
-      -- and what it did
-      pub on : IsHomeBoard b s.entries By (length (rest ++ end ∷ [])) (cuts_on m t.clocks (length p.made) p.seen.begun b) (here_by m v s ts p t first rest end told (length p.made) b w)
-      on = boarded_by m v s ts p t first rest end told (length p.made) f.ahead b f.words_left w turn h f.turns f.words front_notes (omega arith) (inr (omega arith)) (few m v s ts p end c first rest f) little (lines b h) sound formed (range b h)
+    -- and what it did, where it keeps up
+    pub on : KeepsUp m s b ts first (rest ++ end ∷ []) p.seen.begun w
+        → IsHomeBoard b s.entries By (length (rest ++ end ∷ [])) (cuts_on m t.clocks (length p.made) p.seen.begun b) (here_by m v s ts p t first rest end told (length p.made) b w)
+    on keeps = boarded_by m v s ts p t first rest end told (length p.made) f.ahead b f.words_left w turn h f.turns f.words front_notes (omega arith) (inr (omega arith)) (few m v s ts p end c first rest f) (lines b h) sound formed (range b h) keeps

@@ -35,7 +35,7 @@ use Rattle.laws_board.specs.plans.Given.{TookControls}
 use Rattle.laws_board.specs.plans.Planned.{Plans}
 use Rattle.laws_homing.specs.home_parts.Cuts.{cuts_on}
 use Rattle.laws_board.specs.causes.Short.{HaveShortDictionaries}
-use Rattle.laws_run.specs.home_headline.Little.{AllHomeLittle}
+use Rattle.laws_run.specs.home_headline.Near.{AllKeepUp}
 use Rattle.laws_run.specs.run_headline.Timely.{link_of}
 use Rattle.laws_run.proofs.clear_runs.Punctual.{NoUnits}
 use Rattle.laws_run.proofs.home_headline.Board.{here_by}
@@ -46,7 +46,7 @@ use Rattle.laws_run.proofs.run_headline.Cutting.{run_front}
 use Rattle.laws_run.proofs.run_headline.Making.{front_made, run_made}
 use Rattle.laws_run.proofs.run_headline.Plain.{AllMoves, all_moves}
 use Rattle.laws_run.proofs.run_headline.Runs.{facts}
-use Rattle.laws_run.proofs.run_headline.Showing.{Facts, in_none, long, not_told, notes_before}
+use Rattle.laws_run.proofs.run_headline.Showing.{Facts, in_none, not_told, notes_before}
 use Rattle.laws_run.specs.run_lates.Late.{AllMayTell, MayTell}
 use Rattle.laws_run.proofs.run_lates.Boards as boards
 use Rattle.laws_run.proofs.run_lates.Unbegun.{unbegun}
@@ -78,13 +78,13 @@ module _ (m : Machine) (v : IsValidMachine m) (s : Scene) (ts : List MotionTurn)
     none_may e Running is = tt
     none_may e (Shut reason tick at) is = inr (controls_may (board_at m b) (pins_of (board_at m b) b s.switches) b s.entries (behind [] w.made) reason tick at w.turns_are (none_sent e) (none_controls e) is)
 
-    told_may : HaveShortDictionaries m → AllHomeLittle m s p.seen.text ts (first ∷ (rest ++ end ∷ [])) → (t : Told) → p.seen.told ≡ Some t → p.seen.begun ≢ [] → MayBe End_state
+    told_may : HaveShortDictionaries m → AllKeepUp m s p.seen.text ts (first ∷ (rest ++ end ∷ [])) → (t : Told) → p.seen.told ≡ Some t → p.seen.begun ≢ [] → MayBe End_state
     told_may short little t told some =
-        let k = boards.on m v s ts p t first rest end c told f short b low w (little p t b refl told some low w) in
+        let k = boards.on m v s ts p t first rest end c told f short b low w (little p b refl some low w) in
         may_at b s.entries (boards.By m v s ts p t first rest end c told f short) (length (rest ++ end ∷ [])) (cuts_on m t.clocks (length p.made) p.seen.begun b) (here_by m v s ts p t first rest end told (length p.made) b w) (stands_after (link_of m s b) (behind [] w.made)) k
         (turns_in_order (clock_of (board_at m b)) (link_of m s b) (behind [] w.made) w.turns_are)
 
-    pub may : HaveShortDictionaries m → AllHomeLittle m s p.seen.text ts (first ∷ (rest ++ end ∷ [])) → (o : Option Told) (begun : List Started) → p.seen.told ≡ o → p.seen.begun ≡ begun → MayBe End_state
+    pub may : HaveShortDictionaries m → AllKeepUp m s p.seen.text ts (first ∷ (rest ++ end ∷ [])) → (o : Option Told) (begun : List Started) → p.seen.told ≡ o → p.seen.begun ≡ begun → MayBe End_state
     may short little None begun e are = none_may (not_told m v s ts p end c e) End_state refl
     may short little (Some t) [] e are = none_may are End_state refl
     may short little (Some t) (x ∷ begun) e are = told_may short little t e (λ none. in_none [] x begun p.seen.begun none are)
@@ -106,25 +106,25 @@ alone_tell m s ts end c f =
 
 -- in any run, by what is known of it
 home_tells : (m : Machine) (v : IsValidMachine m) (s : Scene) (ts : List MotionTurn) (p : Plans m (length m.boards) ts) (end : ReactorTurn) (c : Cause) (rs : List ReactorTurn) → Facts m s ts rs end c → HaveShortDictionaries m
-    → AllHomeLittle m s p.seen.text ts (rs ++ end ∷ []) → AllMayTell (rs ++ end ∷ [])
+    → AllKeepUp m s p.seen.text ts (rs ++ end ∷ []) → AllMayTell (rs ++ end ∷ [])
 home_tells m v s ts p end c [] g short little = alone_tell m s ts end c g
 home_tells m v s ts p end c (first ∷ rest) g short little = all_tell m v s ts p end c first rest g (λ b low w. may m v s ts p end c first rest g b low w short little p.seen.told p.seen.begun refl refl)
 
 module _ {F S : Type 0} (f : Files F) (o : Sink S) (m : Machine) (s : Scene) (name : List ℕ) (files files' : F) (out out' : S) (kept kept' : Kept) (t : near.Told Run) (r : RunsOver f o m s name files out kept t files' out' kept') (v : IsValidMachine m) (short : HaveShortDictionaries m)
     (text : List ℕ) (told : f.told files name ≡ Some text) (at : kept.at ≡ 0) where
-  pub run_home_tells : (t.cause ≡ cause.Memory → ⊥) → AllHomeLittle m s text r.runs.0 (r.runs.1 ++ r.runs.2 ∷ []) → ∥ AllMayTell (r.runs.1 ++ r.runs.2 ∷ []) ∥₁
+  pub run_home_tells : (t.cause ≡ cause.Memory → ⊥) → AllKeepUp m s text r.runs.0 (r.runs.1 ++ r.runs.2 ∷ []) → ∥ AllMayTell (r.runs.1 ++ r.runs.2 ∷ []) ∥₁
   run_home_tells other little =
       ∥∥₁_map (run_made f o m s name files files' out out' kept kept' t r text told at) (λ w.
-      let Little : List ℕ → Type 0 = λ z. AllHomeLittle m s z r.runs.0 (r.runs.1 ++ r.runs.2 ∷ []) in
+      let Little : List ℕ → Type 0 = λ z. AllKeepUp m s z r.runs.0 (r.runs.1 ++ r.runs.2 ∷ []) in
       home_tells m v s r.runs.0 w.0.plans r.runs.2 t.cause r.runs.1 (facts f o m s name files files' out out' kept kept' t r other) short (subst Little (sym w.1) little))
 
   -- so before its last turn, whatever ended it
   pub run_front_tells : (turns : List ReactorTurn) (last : ReactorTurn) → r.runs.1 ≡ turns ++ last ∷ [] → ∥ ((front : List MotionTurn) × (later : List MotionTurn) × (r.runs.0 ≡ front ++ later) × (length front ≡ length turns)
-      × (AllHomeLittle m s text front (turns ++ last ∷ []) → AllMayTell (turns ++ last ∷ []))) ∥₁
+      × (AllKeepUp m s text front (turns ++ last ∷ []) → AllMayTell (turns ++ last ∷ []))) ∥₁
   run_front_tells turns last cut =
       let part = run_front f o m s name files files' out out' kept kept' t r turns last cut in
       ∥∥₁_map (front_made f o m s name files files' out out' kept kept' t r text told at part.planned part.later part.are) (λ w.
-      let Little : List ℕ → Type 0 = λ z. AllHomeLittle m s z part.planned (turns ++ last ∷ []) in (
+      let Little : List ℕ → Type 0 = λ z. AllKeepUp m s z part.planned (turns ++ last ∷ []) in (
         part.planned,
         part.later,
         part.are,

@@ -62,7 +62,8 @@ use Rattle.laws_run.specs.lanes.Boards.{behind}
 use Rattle.laws_board.specs.plans.Homed.{runs_on}
 use Rattle.laws_board.specs.plans.Planned.{Plans}
 use Rattle.laws_board.specs.causes.Short.{HaveShortDictionaries}
-use Rattle.laws_run.specs.home_headline.Little.{AllHomeLittle, HomesLittle, SendsOut}
+use Rattle.laws_run.specs.home_headline.Near.{AllKeepUp, KeepsUp}
+use Rattle.laws_run.specs.home_headline.Little.{SendsOut}
 use Rattle.laws_run.specs.run_headline.Made.{IsMade}
 use Rattle.laws_run.specs.run_headline.Timely.{link_of}
 use Rattle.laws_run.proofs.run_headline.Fronts.{limited}
@@ -220,7 +221,7 @@ lines_near m v b there lasts turns ready far clocks all tracked kept first held 
 
 -- in a run in which axes home
 module _ (m : Machine) (v : IsValidMachine m) (s : Scene) (ts : List MotionTurn) (p : Plans m (length m.boards) ts) (t : Told) (first : ReactorTurn) (rest : List ReactorTurn) (end : ReactorTurn) (c : Cause) (told : p.seen.told ≡ Some t) (f : Facts m s ts (first ∷ rest) end c)
-    (short : HaveShortDictionaries m) (b due arrival spoiled spill : ℕ) (x : ComesLate m s b due arrival spoiled spill ts first (rest ++ end ∷ [])) (little : HomesLittle m s b ts first (rest ++ end ∷ []) (length p.made) t p.seen.begun x.w) where
+    (short : HaveShortDictionaries m) (b due arrival spoiled spill : ℕ) (x : ComesLate m s b due arrival spoiled spill ts first (rest ++ end ∷ [])) (little : KeepsUp m s b ts first (rest ++ end ∷ []) p.seen.begun x.w) where
   abbrev By : ℕ
   By = boards.By m v s ts p t first rest end c told f short
 
@@ -228,7 +229,7 @@ module _ (m : Machine) (v : IsValidMachine m) (s : Scene) (ts : List MotionTurn)
   Sections = cuts_on m t.clocks (length p.made) p.seen.begun b
 
   sent : Homing m v s ts p t first rest end told (length p.made) b (boards.turn m v s ts p t first rest end c told f short) (behind [] x.w.made)
-  sent = boards.homing m v s ts p t first rest end c told f short b x.there x.w little
+  sent = boards.homing m v s ts p t first rest end c told f short b x.there x.w
 
   far : length (rest ++ end ∷ []) + 250 ≤ length rest + 349 + 1
   far = let size = length-append rest (end ∷ []) in omega (arith, size)
@@ -283,14 +284,14 @@ late_none m v s ts p end c first rest f b due arrival spoiled spill x none =
 
 module _ {F S : Type 0} (f : Files F) (o : Sink S) (m : Machine) (s : Scene) (name : List ℕ) (files files' : F) (out out' : S) (kept kept' : Kept) (t : near.Told Run) (r : RunsOver f o m s name files out kept t files' out' kept') (v : IsValidMachine m) (short : HaveShortDictionaries m)
     (b due arrival spoiled spill : ℕ) where
-  home_units : (p : Plans m (length m.boards) r.runs.0) (told : Option Told) (begun : List Started) → p.seen.told ≡ told → p.seen.begun ≡ begun → (rs : List ReactorTurn) → Facts m s r.runs.0 rs r.runs.2 t.cause → AllHomeLittle m s p.seen.text r.runs.0 (rs ++ r.runs.2 ∷ [])
+  home_units : (p : Plans m (length m.boards) r.runs.0) (told : Option Told) (begun : List Started) → p.seen.told ≡ told → p.seen.begun ≡ begun → (rs : List ReactorTurn) → Facts m s r.runs.0 rs r.runs.2 t.cause → AllKeepUp m s p.seen.text r.runs.0 (rs ++ r.runs.2 ∷ [])
       → (c : ComesLateIn m s b due arrival spoiled spill r.runs.0 rs r.runs.2) → (heard : Told) × (p.seen.told ≡ Some heard) × IsLateUnit (parts_on m heard.clocks p.seen.begun b) arrival due
       × (SendsOut m p.seen.text r.runs.0 ⊎ HasFewUnits m s b due arrival spoiled spill r.runs.0 rs r.runs.2 c → HasLateUnitIn m s b due arrival spoiled spill r.runs.0 rs r.runs.2 heard.clocks p.seen.begun c)
   home_units p told begun is are [] g little c = absurd c
   home_units p None begun is are (first ∷ rest) g little c = absurd (late_none m v s r.runs.0 p r.runs.2 t.cause first rest g b due arrival spoiled spill c (not_told m v s r.runs.0 p r.runs.2 t.cause is))
   home_units p (Some heard) [] is are (first ∷ rest) g little c = absurd (late_none m v s r.runs.0 p r.runs.2 t.cause first rest g b due arrival spoiled spill c are)
   home_units p (Some heard) (x ∷ begun) is are (first ∷ rest) g little c =
-      let own = little p heard b refl is (λ none. in_none [] x begun p.seen.begun none are) c.there c.w in
+      let own = little p b refl (λ none. in_none [] x begun p.seen.begun none are) c.there c.w in
       let unit = home_unit m v s r.runs.0 p heard first rest r.runs.2 t.cause is g short b due arrival spoiled spill c own in (
         heard,
         is,
@@ -308,12 +309,12 @@ module _ {F S : Type 0} (f : Files F) (o : Sink S) (m : Machine) (s : Scene) (na
     late : Late_in
     late = run_late f o m s name files files' out out' kept kept' t r v b due arrival spoiled spill e
 
-    pub run_home_units : AllHomeLittle m s text r.runs.0 (r.runs.1 ++ r.runs.2 ∷ []) → ∥ ((made : IsMade m s r.runs.0 r.runs.1) × (made.plans.seen.text ≡ text) × (c : Late_in)
+    pub run_home_units : AllKeepUp m s text r.runs.0 (r.runs.1 ++ r.runs.2 ∷ []) → ∥ ((made : IsMade m s r.runs.0 r.runs.1) × (made.plans.seen.text ≡ text) × (c : Late_in)
         × ((heard : Told) × (made.plans.seen.told ≡ Some heard) × IsLateUnit (parts_on m heard.clocks made.plans.seen.begun b) arrival due × (SendsOut m text r.runs.0 ⊎ HasFewUnits m s b due arrival spoiled spill r.runs.0 r.runs.1 r.runs.2 c
         → HasLateUnitIn m s b due arrival spoiled spill r.runs.0 r.runs.1 r.runs.2 heard.clocks made.plans.seen.begun c))) ∥₁
     run_home_units little =
         ∥∥₁_map (run_made f o m s name files files' out out' kept kept' t r text told at) (λ w.
-        let Little : List ℕ → Type 0 = λ z. AllHomeLittle m s z r.runs.0 (r.runs.1 ++ r.runs.2 ∷ []) in
+        let Little : List ℕ → Type 0 = λ z. AllKeepUp m s z r.runs.0 (r.runs.1 ++ r.runs.2 ∷ []) in
         let Sends : List ℕ → Type 0 = λ z. SendsOut m z r.runs.0 in
         let x = home_units w.0.plans w.0.plans.seen.told w.0.plans.seen.begun refl refl r.runs.1 (facts f o m s name files files' out out' kept kept' t r other) (subst Little (sym w.1) little) late in
         (w.0, w.1, late, (x.0, x.1, x.2, λ small. elim small [ inl sends ↦ x.3 (inl (subst Sends (sym w.1) sends)) | inr fits ↦ x.3 (inr fits) ])))

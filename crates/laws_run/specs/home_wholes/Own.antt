@@ -1,5 +1,5 @@
 -- The answer of a homing section is its trigger tick, in a whole run in which axes home.
-use Rattle.std.specs.Prelude.{◌≡◌, ◌<◌, ℕ, List, [], ◌∷◌, ◌++◌, Some, length}
+use Rattle.std.specs.Prelude.{◌≡◌, ◌≢◌, ◌<◌, ℕ, List, [], ◌∷◌, ◌++◌, length}
 use Rattle.plan_types.specs.declared.machine.Machine.{Machine}
 use Rattle.plan_types.specs.declared.plan.SectionKind.TheVariants.{Home}
 use Rattle.plan_types.specs.Clock.{clock_of}
@@ -9,7 +9,6 @@ use Rattle.link_work.specs.Switches.{pins_of}
 use Rattle.host_reactor.specs.Runs.{Came}
 use Rattle.laws_board.specs.turns.Turns.{BoardTurn}
 use Rattle.motion_work.specs.Seen.{Started}
-use Rattle.motion_work.specs.Told.{Told}
 use Rattle.session_work.specs.declared.table.MotionTurn.{MotionTurn}
 use Rattle.session_work.specs.declared.table.ReactorTurn.{ReactorTurn}
 use Rattle.session_run.specs.Boards.{came_in}
@@ -19,9 +18,9 @@ use Rattle.laws_run.specs.lanes.Turns.{came_before}
 use Rattle.laws_run.specs.run_headline.Timely.{link_of}
 use Rattle.laws_homing.specs.fired_runs.Since.{AllRead, ReadsSwitchTrue}
 use Rattle.laws_homing.specs.switch_runs.Taken.{IsTriggerOf}
+use Rattle.laws_homing.specs.home_parts.Answers.{TakeSetUps}
 use Rattle.laws_run.specs.clear_homes.Closes.{ClosesFirst}
 use Rattle.laws_run.specs.home_headline.Cuts.{TellsAnswer}
-use Rattle.laws_run.specs.home_headline.Little.{TakesInTime}
 
 -- Of each board of a whole run, of which the planner made some turns and the reactor these, each report that readings
 -- triggered its trigger, which counts for a homing section with its endstop, is read true: as a tick since which the
@@ -75,10 +74,10 @@ TellTriggers m s seen planned [] last = Unit {0}
 TellTriggers m s seen planned (first ∷ rest) last =
     TellTriggersBehind m s seen planned first (rest ++ last ∷ []) [] (first ∷ rest)
 
--- Each board of a whole run of a text takes the set-up of each homing section in time.
+-- Each board of a whole run of a text takes the set-up of each homing section that was begun in time.
 abbrev pub AllTakeInTime : Machine → Scene → List ℕ → List MotionTurn → List ReactorTurn → Type 0
 AllTakeInTime m s text planned [] = Unit {0}
 AllTakeInTime m s text planned (first ∷ rest) =
-    (p : Plans m (length m.boards) planned) (t : Told) (b : ℕ) → p.seen.text ≡ text → p.seen.told ≡ Some t →
-    b < length m.boards → (w : IsInWhole m s.switches b (clock_of (board_at m b)) (link_of m s b) planned first rest) →
-    TakesInTime m s b planned first rest (length p.made) t p.seen.begun w
+    (p : Plans m (length m.boards) planned) (b : ℕ) → p.seen.text ≡ text → p.seen.begun ≢ [] → b < length m.boards →
+    (w : IsInWhole m s.switches b (clock_of (board_at m b)) (link_of m s b) planned first rest) →
+    TakeSetUps m (pins_of (board_at m b) b s.switches) s.entries b p.seen.begun (behind [] w.made)

@@ -1,5 +1,5 @@
 -- When no line of a whole run holds a command for long, and what the report then shows.
-use Rattle.std.specs.Prelude.{◌≡◌, ◌⊎◌, ℕ, ◌+◌, ◌^◌, ◌<◌, ◌≤◌, true, All, List, [], ◌∷◌, ◌++◌, Option, None, Some, length, map, take}
+use Rattle.std.specs.Prelude.{◌≡◌, ◌≢◌, ◌⊎◌, ℕ, ◌+◌, ◌^◌, ◌<◌, ◌≤◌, true, All, List, [], ◌∷◌, ◌++◌, Option, None, Some, length, map, take}
 use Rattle.gcode_program.specs.Programs.{program_end, program_sections}
 use Rattle.plan_types.specs.declared.cause.Cause.{Cause}
 use Rattle.plan_types.specs.declared.machine.Machine.{Machine}
@@ -43,18 +43,25 @@ pub record HoldsLittle (m : Machine) (s : Scene) (b : ℕ) (planned : List Motio
   pub few : (s.entries ≡ []) ⊎ ((k : ℕ) → spoiled (take k (ends_of (clock_of (board_at m b)) 0 (orders_of w.made) (link_of m s b) (stands_after (link_of m s b) (behind [] w.made))
       (turns_told (clock_of (board_at m b)) 0 (orders_of w.made) (states_of w.made) (link_of m s b) (stands_after (link_of m s b) (behind [] w.made)) w.told))) ≤ 10_000)
 
--- A board in a whole run takes all near: while it runs it takes no unit half a round of the 32-bit clock or more after its first tick.
-pub record TakesNear (m : Machine) (s : Scene) (b : ℕ) (planned : List MotionTurn) (first : ReactorTurn) (rest : List ReactorTurn)
-    (w : IsInWhole m s.switches b (clock_of (board_at m b)) (link_of m s b) planned first rest) : Type 0 where
-  pub timely : AllTimely (start (board_at m b) (pins_of (board_at m b) b s.switches)) (steps_of (clock_of (board_at m b)) 0 (orders_of w.made) (link_of m s b) (stands_after (link_of m s b) (behind [] w.made))
-      (turns_told (clock_of (board_at m b)) 0 (orders_of w.made) (states_of w.made) (link_of m s b) (stands_after (link_of m s b) (behind [] w.made)) w.told))
+-- A board in a whole run is timely: while it runs it takes no unit half a round of its 32-bit clock, 2^31 ticks, or more
+-- after the unit's first tick.
+abbrev pub IsTimelyIn : (m : Machine) (s : Scene) (b : ℕ) (planned : List MotionTurn) (first : ReactorTurn)
+    (rest : List ReactorTurn)
+    (w : IsInWhole m s.switches b (clock_of (board_at m b)) (link_of m s b) planned first rest) → Type 0
+IsTimelyIn m s b planned first rest w =
+    AllTimely (start (board_at m b) (pins_of (board_at m b) b s.switches))
+    (steps_of (clock_of (board_at m b)) 0 (orders_of w.made) (link_of m s b)
+    (stands_after (link_of m s b) (behind [] w.made))
+    (turns_told (clock_of (board_at m b)) 0 (orders_of w.made) (states_of w.made) (link_of m s b)
+    (stands_after (link_of m s b) (behind [] w.made)) w.told))
 
--- so each board of a whole run of a text, of which the planner made all turns, and the reactor these
-abbrev pub AllTakeNear : Machine → Scene → List ℕ → List MotionTurn → List ReactorTurn → Type 0
-AllTakeNear m s text planned [] = Unit {0}
-AllTakeNear m s text planned (first ∷ rest) =
-    (p : Plans m (length m.boards) planned) (t : Told) (b : ℕ) → p.seen.text ≡ text → p.seen.told ≡ Some t → b < length m.boards → length rest ≤ length p.made →
-    (w : IsInWhole m s.switches b (clock_of (board_at m b)) (link_of m s b) planned first rest) → TakesNear m s b planned first rest w
+-- so each board of a whole run of a text in which a section was begun, by the turns of the planner and of the reactor
+abbrev pub AllAreTimely : Machine → Scene → List ℕ → List MotionTurn → List ReactorTurn → Type 0
+AllAreTimely m s text planned [] = Unit {0}
+AllAreTimely m s text planned (first ∷ rest) =
+    (p : Plans m (length m.boards) planned) (b : ℕ) → p.seen.text ≡ text → p.seen.begun ≢ [] → b < length m.boards →
+    (w : IsInWhole m s.switches b (clock_of (board_at m b)) (link_of m s b) planned first rest) →
+    IsTimelyIn m s b planned first rest w
 
 -- so each board of a whole run of a text, of which the planner made all turns, holds nothing long
 abbrev pub HoldsNothingLong : Machine → Scene → List ℕ → List MotionTurn → List ReactorTurn → Type 0

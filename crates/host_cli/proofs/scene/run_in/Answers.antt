@@ -1,4 +1,4 @@
-use Rattle.std.proofs.Common.{◌≡◌, ◌∙◌, subst, sym}
+use Rattle.std.proofs.Common.{◌≡◌, ◌∙◌, inr, subst, sym}
 use Rattle.host_cli.specs.Answers.{IsRunCause}
 use Rattle.host_cli.specs.Scenes.{ShowsRun}
 use Rattle.plan_types.specs.declared.cause.Cause.TheVariants as cause
@@ -38,7 +38,7 @@ returns-in-Ok-clause-shows g c = λ text s told is short.
     let same = one-scene c.args.machine.now text c.in-Ok.scene s (c.in-Ok.ensures.scene text told) is in
     shows-from g.F.Files g.S.Sink c.args.machine.now s c.args.gcode.now c.args.files.now c.read_scene_file.new.files c.run_on.new.files c.args.out.now c.run_on.new.out c.run_on.result.cause c.run_on.result.report c.read_scene_file.ensures.same
     (subst (λ (x : Scene). ShowsRun g.F.Files g.S.Sink c.args.machine.now x c.args.gcode.now c.read_scene_file.new.files c.run_on.new.files c.args.out.now c.run_on.new.out c.run_on.result.cause c.run_on.result.report) same
-    (c.run_on.ensures.shows short))
+    (c.run_on.ensures.shows short (inr (text, c.in-Ok.ensures.scene text told))))
 
 pub returns-in-Ok-clause-not_usage : goal.returns-in-Ok-clause-not_usage
 returns-in-Ok-clause-not_usage g c = λ is. subst IsRunCause is c.run_on.ensures.named

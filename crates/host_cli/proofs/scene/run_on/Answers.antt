@@ -8,12 +8,12 @@ use Rattle.host_cli.proofs.Whole.{fault-machine, for-cause}
 use Rattle.host_cli.proofs.scene.run_on.Goals as goal
 
 pub returns-in-Ok-clause-shows : goal.returns-in-Ok-clause-shows
-returns-in-Ok-clause-shows g c = λ short.
+returns-in-Ok-clause-shows g c = λ short scene.
     shows-from g.F.Files g.S.Sink c.args.machine.now c.args.scene.now c.args.gcode.now c.args.files.now c.find_file.new.files c.run_found.new.files c.args.out.now c.run_found.new.out c.run_found.result.cause
-    c.run_found.result.report c.find_file.ensures.same (c.run_found.ensures.shows short)
+    c.run_found.result.report c.find_file.ensures.same (c.run_found.ensures.shows short scene)
 
 pub returns-in-Err-clause-shows : goal.returns-in-Err-clause-shows
-returns-in-Err-clause-shows g c = λ short.
+returns-in-Err-clause-shows g c = λ short scene.
     stop-shows g.F.Files g.S.Sink c.args.scene.now c.args.gcode.now c.args.files.now c.find_file.new.files c.args.out.now c.refuse.new.out c.refuse.result.cause c.refuse.result.report c.args.machine.now c.in-Err.cause (inr c.in-Err.ensures.fault) c.refuse.ensures.refused
 
 pub returns-in-Err-clause-named : goal.returns-in-Err-clause-named

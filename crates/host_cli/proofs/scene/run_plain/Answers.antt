@@ -1,4 +1,4 @@
-use Rattle.std.proofs.Common.{◌≡◌, ◌∙◌, Ok, sym, subst}
+use Rattle.std.proofs.Common.{◌≡◌, ◌∙◌, inl, Ok, sym, subst}
 use Rattle.plan_types.specs.declared.cause.Cause.TheVariants as cause
 use Rattle.plan_types.specs.declared.machine.Machine.{Machine}
 use Rattle.wire_scene.specs.declared.scene.Scene.{Scene}
@@ -20,7 +20,7 @@ returns-in-Ok-clause-shows g c = λ printer m told is.
     let none = empty-scene c.empty-scene.result c.empty-scene.ensures.entries c.empty-scene.ensures.switches in
     shows-from g.F.Files g.S.Sink m no_scene c.args.gcode.now c.args.files.now c.read_machine.new.files c.run_on.new.files c.args.out.now c.run_on.new.out c.run_on.result.cause c.run_on.result.report c.read_machine.ensures.same
     (subst (λ (x : Machine × Scene). ShowsRun g.F.Files g.S.Sink x.0 x.1 c.args.gcode.now c.read_machine.new.files c.run_on.new.files c.args.out.now c.run_on.new.out c.run_on.result.cause c.run_on.result.report) (λ i. (same i, none i))
-    (c.run_on.ensures.shows (subst (λ (x : Machine). HaveShortDictionaries x) (sym same) (short_dictionaries printer m is))))
+    (c.run_on.ensures.shows (subst (λ (x : Machine). HaveShortDictionaries x) (sym same) (short_dictionaries printer m is)) (inl none)))
 
 pub returns-in-Ok-clause-config_only : goal.returns-in-Ok-clause-config_only
 returns-in-Ok-clause-config_only g c = λ printer line kind told is. absurd (subst IsRunCause is c.run_on.ensures.named)

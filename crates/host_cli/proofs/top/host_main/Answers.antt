@@ -1,9 +1,11 @@
-use Rattle.std.proofs.Common.{Option, inl, sym, subst}
+use Rattle.std.proofs.Common.{Option, inl, map, sym, subst}
+use Rattle.std.specs.Prelude.{string_bytes}
 use Rattle.command_words.specs.Forms.{Asked}
 use Rattle.io_core.specs.contracts.sure.SureSinkSink.TheImpl.{ghosts as sink_ghosts}
 use Rattle.generated_load.specs.contracts.load_file.LoadFilesFiles.TheImpl.{ghosts as load_ghosts}
 use Rattle.host_cli.specs.Asks.{Answers}
 use Rattle.host_cli.proofs.Asked.{ends-both, unread}
+use Rattle.host_cli.proofs.Few.{few-moves}
 use Rattle.host_cli.proofs.top.host_main.Goals as goal
 
 pub returns-in-Ok-Run-clause-answers : goal.returns-in-Ok-Run-clause-answers
@@ -17,6 +19,9 @@ returns-in-Ok-Scene-clause-answers g c =
     let form = rw c.in-Ok-Scene.field-0-is at c.in-Ok-Scene.ensures.form in
     let A : Option Asked → Type 0 = λ x. Answers g.F.Files g.S.Sink load_ghosts sink_ghosts c.args.files.now c.run_scene.new.files c.args.out.now c.run_scene.new.out c.run_scene.result x in
     subst A (sym form) (λ printer told. record { read = λ m is text seen. record { read = λ s read. c.run_scene.ensures.shows printer text m s told seen is read; fault = λ line kind read. c.run_scene.ensures.scene printer text m line kind told seen is read }; fault = λ line kind is. c.run_scene.ensures.config printer line kind told is })
+
+pub run_load-requires-clause-few : goal.run_load-requires-clause-few
+run_load-requires-clause-few g c = λ _ _. few-moves (map string_bytes c.args.words.now) c.in-Ok-Make.seed c.in-Ok-Make.moves (rw c.in-Ok-Make.field-0-is at c.in-Ok-Make.ensures.form)
 
 pub returns-in-Ok-Make-clause-answers : goal.returns-in-Ok-Make-clause-answers
 returns-in-Ok-Make-clause-answers g c =

@@ -3,7 +3,7 @@ use Rattle.laws_homing.proofs.clear_boards.clear_states_tell_of_triggers.Goals a
 
 pub returns : goal.returns
 returns e = record {
-  able = λ b pins place entries t before clocks oid clock when base limit until none are limits small spoken tells is. tells_able b pins place entries t before none are limits clocks oid clock when base limit until small spoken tells is;
-  fired = λ b pins place entries t before oid clock base limit until none are limits small spoken tells. tells_firing b pins place entries t before none are limits oid clock base limit until small spoken tells;
-  all = λ b pins place entries t before clocks start last base limit until none are limits spoken numbered counts. all_fired_in b pins place entries t before none are limits clocks start last base limit until spoken numbered counts;
+  able = λ b pins place entries t before clocks oid clock when base limit until rests are small spoken tells is. tells_able b pins place entries t before rests are clocks oid clock when base limit until small spoken tells is;
+  fired = λ b pins place entries t before oid clock base limit until rests are small spoken tells. tells_firing b pins place entries t before rests are oid clock base limit until small spoken tells;
+  all = λ b pins place entries t before clocks start last base limit until rests are spoken numbered counts. all_fired_in b pins place entries t before rests are clocks start last base limit until spoken numbered counts;
 }

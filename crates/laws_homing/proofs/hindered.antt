@@ -1,0 +1,4 @@
+pub mod Resting
+pub mod Prepared
+pub mod Expired
+pub mod Told

@@ -1,0 +1,11 @@
+pub mod Boarded
+pub mod Waits
+pub mod Known
+pub mod Only
+pub mod Missing
+pub mod Meek
+pub mod Orders
+pub mod Cause
+pub mod Stays
+pub mod Truth
+pub mod Relays

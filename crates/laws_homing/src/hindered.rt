@@ -1,0 +1,67 @@
+//! What a homing section that ends as a board expired tells of its links, in any scene, as laws.
+
+ghost use Rattle.std.specs.Prelude.{◌≡◌, ◌⊎◌, ◌≤◌, ◌+◌, ◌*◌, ℕ, List, [], ◌∷◌, ◌++◌, length};
+ghost use Rattle.plan_types.specs.declared.levels.Level.{Level};
+ghost use Rattle.plan_types.specs.declared.machine.BoardDef.{BoardDef};
+ghost use Rattle.plan_types.specs.declared.machine.Machine.{Machine};
+ghost use Rattle.plan_types.specs.Clock.{clock_of, turn_ns};
+ghost use Rattle.plan_types.specs.Lines.{Clocks, lines_tick};
+ghost use Rattle.plan_types.specs.Machines.{IsValidMachine};
+ghost use Rattle.wire_scene.specs.declared.scene.Entry.{Entry};
+ghost use Rattle.wire_scene.specs.declared.scene.Switch.{Switch};
+ghost use Rattle.link_work.specs.Limits.{AllKeepLimits};
+ghost use Rattle.link_work.specs.Stands.{first_state};
+ghost use Rattle.board_asking.specs.Machine.{trigger_of};
+ghost use Rattle.trigger_group.specs.declared.order.Member.{Member};
+ghost use Rattle.host_reactor.specs.Runs.{Came};
+ghost use Rattle.laws_board.specs.turns.Turns.{AreBoardTurns, BoardTurn};
+ghost use Rattle.laws_board.specs.clocks.Runs.{orders_in};
+ghost use Rattle.laws_homing.specs.home_runs.Told.{IsMember};
+ghost use Rattle.laws_homing.specs.clear_boards.Rests.{RestsFrom};
+ghost use Rattle.laws_homing.specs.clear_groups.Sections.{IsFollowed, IsHomingSection, turns_of};
+ghost use Rattle.laws_homing.specs.clear_groups.SetUp.{AllOfTurn, IsNewAt};
+ghost use Rattle.laws_homing.specs.fired_runs.Since.{BeginsApart, IsFiredAt, ReadsAsTold, ReadsSwitchTrue, ReadsTrue};
+ghost use Rattle.laws_homing.specs.hindered.Hindered.{HinderedIn, IsGoingOn, SomeHinderedIn};
+
+/// The law of rest: in one of some turns, from a number on, a link was hindered, or it rests over each that begins
+/// behind the first of these; so the links of some boards.
+pub fn links_rest_or_are_hindered()
+    ensures link { (from to : ℕ) (turns : List BoardTurn) → length turns ≤ to + 1 →
+        HinderedIn from to turns ⊎ RestsFrom (from + 1) turns }
+    ensures links { (from to : ℕ) (members : List Member) (all : List (ℕ → BoardTurn)) → length all ≤ to + 1 →
+        SomeHinderedIn from to members all ⊎ ((b : ℕ) → IsMember b members → RestsFrom (from + 1) (turns_of b all)) }
+{}
+
+/// The law of clear links: in a scene without entries, where what is queued keeps the limits, a link rests over each
+/// turn.
+pub fn clear_links_rest()
+    ensures { (b : BoardDef) (pins : List (List Level)) (place : ℕ) (entries : List Entry) (from : ℕ)
+        (turns : List BoardTurn) → entries ≡ [] → AreBoardTurns (clock_of b) (first_state b pins place entries) turns →
+        AllKeepLimits (orders_in turns) → RestsFrom from turns }
+{}
+
+/// The law of boards that expire, in any scene: where as a turn ends the trigger of a board stands expired (2), of a
+/// homing section of which it is a member, since a tick that isn't that of the turn behind the section's last one, the
+/// link of a member's board was hindered in a turn up to this one, from 252 turns before the section's start on, or from
+/// an earlier one. What it takes is that the section was known in the turn behind that one and its group new, that clock
+/// lines follow the boards, and that what these tell of their triggers is read true (`IsGoingOn`).
+pub fn boards_expire_where_links_are_hindered()
+    ensures { (m : Machine) (switches : List Switch) (pins : ℕ → List (List Level)) (entries : List Entry)
+        (lines : ℕ → Clocks) (ready since start last until : ℕ) (members : List Member) → IsValidMachine m →
+        ((b : ℕ) → IsMember b members → IsFollowed m b (lines b) ready start last until) → ready + 255 ≤ start →
+        since + 252 ≤ start → start ≤ last → (c : Came) (before : List Came) (all : List (ℕ → BoardTurn)) →
+        IsHomingSection (λ b. IsGoingOn m switches (pins b) entries b) m switches lines (since + 1) start members c
+        before all → AllOfTurn (c ∷ before) → BeginsApart m switches (c ∷ before) → length before + 276 ≤ until →
+        IsNewAt m switches start last members (since + 1) (c ∷ before) → (b tick : ℕ) → IsMember b members →
+        (tick ≡ lines_tick (lines b) ((last + 1) * turn_ns) → ⊥) → (later : List BoardTurn) (t : BoardTurn)
+        (past : List BoardTurn) → turns_of b all ≡ later ++ t ∷ past → start ≤ length past + 250 →
+        IsFiredAt (trigger_of m b) 2 tick t.after.core.board → SomeHinderedIn since (length past) members all }
+{}
+
+/// The law of reports that are read as what they told (`ReadsAsTold`): they are read true, and so are those that
+/// readings triggered the trigger.
+pub fn reports_read_as_told_are_read_true()
+    ensures { (m : Machine) (switches : List Switch) (b : ℕ) (c : Came) (before : List Came)
+        (turns : List BoardTurn) → ReadsAsTold m switches b c before turns →
+        ReadsTrue m switches b c before turns × ReadsSwitchTrue m switches b c before turns }
+{}

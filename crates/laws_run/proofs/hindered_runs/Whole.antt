@@ -1,0 +1,380 @@
+-- A whole run in which axes home, in any scene, and in which a board told that it expired: the link of a member's board was hindered.
+use Rattle.std.proofs.Common.{◌≡◌, ◌⊎◌, ℕ, ◌+◌, ◌-◌, ◌*◌, ◌<◌, ◌≤◌, inl, inr, List, [], ◌∷◌, ◌++◌, length, map, Option, Some, None, refl, ap, sym, ◌∙◌, subst, arith, length-append}
+use Rattle.std.proofs.Props.{props}
+use Rattle.std.proofs.lemmas.Bool.Decides.{leb_tells}
+use Rattle.std.proofs.lemmas.List.{length-map}
+use Rattle.plan_types.specs.declared.cause.Cause.{Cause}
+use Rattle.plan_types.specs.declared.levels.Level.{Level}
+use Rattle.plan_types.specs.declared.machine.Machine.{Machine}
+use Rattle.plan_types.specs.declared.plan.SectionKind.TheVariants.{Home}
+use Rattle.plan_types.specs.Clock.{board_tick, clock_of, turn_ns}
+use Rattle.plan_types.specs.Lines.{Clocks, lines_tick}
+use Rattle.plan_types.specs.Machines.{IsValidMachine, board_at}
+use Rattle.plan_types.specs.Sections.{clocks_at}
+use Rattle.msg_code.specs.declared.talk.ShutNews.{ShutNews}
+use Rattle.msg_code.specs.declared.talk.State.{State}
+use Rattle.wire_scene.specs.declared.scene.Scene.{Scene}
+use Rattle.wire_scene.specs.declared.scene.Switch.{Switch}
+use Rattle.wire_scene.specs.declared.scene.Entry.{Entry}
+use Rattle.link_work.specs.Switches.{pins_of}
+use Rattle.trigger_group.specs.declared.seen.Fired.{Fired}
+use Rattle.trigger_group.specs.declared.order.Member.{Member}
+use Rattle.axis_homing.specs.declared.homing.Homing.{Homing}
+use Rattle.axis_homing.specs.Rising.{members_of}
+use Rattle.host_reactor.specs.declared.ordered.Phase.TheVariants.{Connecting, Stopping}
+use Rattle.host_reactor.specs.Notes.{noted}
+use Rattle.host_reactor.specs.Runs.{Came, GoesOn, HaveStates, known_by, state_at}
+use Rattle.laws_board.specs.turns.Turns.{BoardTurn, latest_state}
+use Rattle.laws_board.specs.clocks.Runs.{IsInRun}
+use Rattle.laws_board.proofs.clocks.Lines.{run_before}
+use Rattle.motion_work.specs.Known.{lines_by}
+use Rattle.motion_work.specs.Seen.{Started}
+use Rattle.motion_work.specs.Told.{Told}
+use Rattle.session_work.specs.declared.table.MotionTurn.{MotionTurn}
+use Rattle.session_work.specs.declared.table.ReactorTurn.{ReactorTurn}
+use Rattle.session_work.specs.Rows.{item}
+use Rattle.session_run.specs.Boards.{came_from, came_in}
+use Rattle.laws_board.specs.causes.Short.{HaveShortDictionaries}
+use Rattle.laws_board.specs.plans.Lines.{TookNotes}
+use Rattle.laws_board.specs.plans.Planned.{Plans, put_of}
+use Rattle.board_asking.specs.Machine.{trigger_of}
+use Rattle.laws_homing.specs.switch_runs.Reports.{WasReported}
+use Rattle.laws_homing.proofs.clear_boards.Clocking.{line_ahead}
+use Rattle.laws_homing.proofs.hindered.Told.{Told as Told_so, read_more, stands_late, told_switch, told_true, was_told}
+use Rattle.laws_homing.specs.fired_runs.Since.{AllRead, AreBehind, AreRead, BeginsApart, IsFiredAt, ReadsAsTold, ReadsSwitchTrue, ReadsTrue}
+use Rattle.laws_homing.specs.hindered.Hindered.{HinderedIn, IsGoingOn, SomeHinderedIn}
+use Rattle.laws_homing.specs.home_parts.Cuts.{cuts_on}
+use Rattle.laws_homing.specs.home_plans.Notes.{CameNotes}
+use Rattle.laws_homing.specs.home_runs.Sections.{HomesFrom}
+use Rattle.laws_homing.specs.home_runs.Told.{IsMember}
+use Rattle.laws_homing.specs.clear_groups.Runs.{BeginsWell, IsTracked}
+use Rattle.laws_homing.specs.clear_groups.Sections.{BeginsNoneFrom, IsFollowed, IsHomingSection, KnowsLines, turns_of}
+use Rattle.laws_homing.specs.clear_groups.SetUp.{AllOfTurn, IsNewAt}
+use Rattle.laws_homing.proofs.clear_groups.Begun.{Began, began}
+use Rattle.laws_homing.proofs.clear_groups.Joined.{join, tracked_later}
+use Rattle.laws_homing.proofs.clear_groups.Newly.{new_later}
+use Rattle.laws_homing.proofs.clear_groups.Noted.{board_followed, states_of_turn}
+use Rattle.laws_homing.proofs.hindered.Expired.{stood}
+use Rattle.laws_run.specs.hindered_runs.Hindered.{HasHindered, IsHinderedIn}
+use Rattle.laws_run.specs.home_headline.Near.{AllReadAsTold, KeepsUp}
+use Rattle.laws_run.specs.home_wholes.Own.{AllSwitchesReadTrue}
+use Rattle.laws_run.specs.lanes.Boards.{IsInWhole, behind, states_of}
+use Rattle.laws_run.specs.run_headline.Timely.{link_of}
+use Rattle.laws_run.proofs.clear_homes.Boards as boards
+use Rattle.laws_run.proofs.clear_homes.Bounds.{starts_by}
+use Rattle.laws_run.proofs.clear_homes.Lines.{lines_known, tracked_by}
+use Rattle.laws_run.proofs.clear_homes.Opened.{begin_well}
+use Rattle.laws_run.proofs.clear_homes.Running.{all_none, end_none}
+use Rattle.laws_run.proofs.clear_runs.Bare.{latest_behind}
+use Rattle.laws_run.proofs.clock_ages.Own.{follow_to}
+use Rattle.laws_run.proofs.home_headline.Clocks.{end_knows}
+use Rattle.laws_run.proofs.home_headline.Planned.{all_notes}
+use Rattle.laws_run.proofs.home_headline.Ranges.{own_small}
+use Rattle.laws_run.proofs.home_headline.Unasked.{never_stop}
+use Rattle.laws_run.proofs.home_wholes.Own.{all_so}
+use Rattle.laws_run.proofs.lanes.Items.{item_state}
+use Rattle.laws_run.proofs.run_headline.Boarded.{Ready, came_cut, came_split, lines_renewed, ready, took, valid_at}
+use Rattle.laws_run.proofs.run_headline.Going.{Lasts, lasts}
+use Rattle.laws_run.proofs.run_headline.Showing.{Facts, came_long}
+
+-- from a later turn on
+homes_later : (m : Machine) (switches : List Switch) (from at start : ℕ) (ms : List Member) (came : List Came) → from ≤ at → HomesFrom m switches from start ms came → HomesFrom m switches at start ms came
+homes_later m switches from at start ms [] l k = tt
+homes_later m switches from at start ms (c ∷ before) l k = ((λ late. k.0 (omega (arith, l, late))), homes_later m switches from at start ms before l k.1)
+
+begins_later : (from at : ℕ) (came : List Came) → from ≤ at → BeginsNoneFrom from came → BeginsNoneFrom at came
+begins_later from at [] l k = tt
+begins_later from at (c ∷ before) l k = ((λ late. k.0 (omega (arith, l, late))), begins_later from at before l k.1)
+
+-- sections that are begun well are begun apart
+well_apart : (m : Machine) (switches : List Switch) (lines : ℕ → ℕ → Clocks) (ready till : ℕ) (came : List Came) → BeginsWell m switches lines ready till came → BeginsApart m switches came
+well_apart m switches lines ready till [] w = tt
+well_apart m switches lines ready till (c ∷ before) w = (elim w.0 [ inl calm ↦ inl calm | inr x ↦ inr (x.0, λ h is. ((x.1 h is).connected, (x.1 h is).soon)) ], well_apart m switches lines ready till before w.1)
+
+-- states come a turn later
+all_of_turn : (m : Machine) (switches : List Switch) (pins : ℕ → List (List Level)) (entries : List Entry) (c : Came) (before : List Came) (all : List (ℕ → BoardTurn)) → length all ≡ length before → HaveStates m (c ∷ before)
+    → ((b : ℕ) → b < length m.boards → IsInRun m switches (pins b) entries b before (turns_of b all) × (state_at b c.states ≡ latest_state (turns_of b all))) → AllOfTurn (c ∷ before)
+all_of_turn m switches pins entries c [] all size have runs = (states_of_turn m switches pins entries c [] all have runs, tt)
+all_of_turn m switches pins entries c (d ∷ past) [] size have runs = absurd (omega (arith, size))
+all_of_turn m switches pins entries c (d ∷ past) (j ∷ js) size have runs = (
+  states_of_turn m switches pins entries c (d ∷ past) (j ∷ js) have runs,
+  all_of_turn m switches pins entries d past js (omega (arith, size)) have.1
+      (λ b l. (run_before m switches (pins b) entries b d past (j b) (turns_of b js) (runs b l).0, (runs b l).0.both.0)),
+)
+
+-- one of some members
+some_of : (from to : ℕ) (ms : List Member) (all : List (ℕ → BoardTurn)) → SomeHinderedIn from to ms all → (b : ℕ) × IsMember b ms × HinderedIn from to (turns_of b all)
+some_of from to [] all h = absurd h
+some_of from to (x ∷ xs) all (inl h) = (x.board, inl refl, h)
+some_of from to (x ∷ xs) all (inr h) = let rest = some_of from to xs all h in (rest.0, inr rest.1, rest.2)
+
+-- what is read before the last turn
+drop_last : (R : Came → List Came → List BoardTurn → Type 0) (c : Came) (came : List Came) (turns : List BoardTurn) → AreRead R (c ∷ came) turns → AllRead R came turns
+drop_last R c came [] k = tt
+drop_last R c came (t ∷ earlier) k = k.1
+
+some_same : (g h : Homing) (o : Option Homing) → o ≡ Some g → o ≡ Some h → g ≡ h
+some_same g h None e f = absurd (let bad : None ≡ Some g = e in cc)
+some_same g h (Some x) e f = (let a : x ≡ g = cc in let z : x ≡ h = cc in sym a ∙ z)
+
+-- what each of some boards did; of no other board anything
+turns_by : (b n : ℕ) (f : (i : ℕ) → i < n → List BoardTurn) → ((b < n) ⊎ (n ≤ b)) → List BoardTurn
+turns_by b n f (inl low) = f b low
+turns_by b n f (inr far) = []
+
+is_low : (b n : ℕ) → (b < n) ⊎ (n ≤ b)
+is_low b n = elim (leb_tells (b + 1) n) [ inl p ↦ (let q = p.1 in inl (omega (arith, q))) | inr p ↦ (let q = p.1 in inr (omega (arith, q))) ]
+
+turns_same : (b n : ℕ) (f : (i : ℕ) → i < n → List BoardTurn) (o : (b < n) ⊎ (n ≤ b)) (low : b < n) → turns_by b n f o ≡ f b low
+unfolding turns_by
+turns_same b n f (inl p) low = let low_prop : IsProp (b < n) = hlevel props in ap (λ (h : b < n). f b h) (low_prop p low)
+turns_same b n f (inr p) low = absurd (omega (arith, p, low))
+
+some_turn : (turns : List BoardTurn) → 0 < length turns → BoardTurn
+some_turn [] some = absurd (omega (arith, some))
+some_turn (t ∷ turns) some = t
+
+module _ (m : Machine) (v : IsValidMachine m) (s : Scene) (ts : List MotionTurn) (p : Plans m (length m.boards) ts) (t : Told) (first : ReactorTurn) (rest : List ReactorTurn) (end : ReactorTurn) (c : Cause) (told : p.seen.told ≡ Some t) (f : Facts m s ts (first ∷ rest) end c)
+    (long : length (rest ++ end ∷ []) ≤ length p.made) (short : HaveShortDictionaries m)
+    (little : (b : ℕ) → b < length m.boards → (w : IsInWhole m s.switches b (clock_of (board_at m b)) (link_of m s b) ts first (rest ++ end ∷ [])) → KeepsUp m s b ts first (rest ++ end ∷ []) p.seen.begun w)
+    (stop : (line : ℕ) → (known_by m s.switches (came_from [] (first ∷ rest))).phase ≡ Stopping line → ⊥) (have : HaveStates m (came_in end ∷ came_from [] (first ∷ rest)))
+    (in_time : (b : ℕ) → b < length m.boards → (state : State) (n : ShutNews) → item b end.states ≡ state ∷ [] → state.shut ≡ Some n → n.reason ≡ 1 → ⊥) (notes : TookNotes (map (λ d. d.note) p.made) (first ∷ (rest ++ end ∷ [])))
+    (reads : AllReadAsTold m s ts (first ∷ rest) end) where
+  abbrev Came_all : List Came
+  Came_all = came_from [] (first ∷ rest)
+
+  abbrev Turn : Ready m v s ts p t first rest end told
+  Turn = ready m v s ts p t first rest end told f.ahead f.words_left f.turns f.words
+
+  abbrev From : ℕ
+  From = length (came_from [] Turn.past)
+
+  abbrev Whole : (b : ℕ) → b < length m.boards → IsInWhole m s.switches b (clock_of (board_at m b)) (link_of m s b) ts first (rest ++ end ∷ [])
+  Whole b h = f.boards b first rest h refl
+
+  abbrev Turns : (b : ℕ) → b < length m.boards → List BoardTurn
+  Turns b h = behind [] (Whole b h).made
+
+  abbrev Pins : ℕ → List (List Level)
+  Pins b = pins_of (board_at m b) b s.switches
+
+  last : (b : ℕ) (h : b < length m.boards) → Lasts b rest end (states_of (Whole b h).made)
+  last b h = lasts b rest end (states_of (Whole b h).made) (took b (rest ++ end ∷ []) (states_of (Whole b h).made) (Whole b h).states)
+
+  latest : (b : ℕ) (h : b < length m.boards) → latest_state (Turns b h) ≡ (last b h).last ∷ []
+  latest b h = latest_behind [] (Whole b h).made (last b h).front (last b h).last (last b h).are
+
+  count : (b : ℕ) (h : b < length m.boards) → length (Turns b h) ≡ length (rest ++ end ∷ [])
+  count b h = boards.count m v s ts p t first rest end c told f long short little b h
+
+  many : length Came_all ≡ length (rest ++ end ∷ [])
+  many = let size = came_long [] (first ∷ rest) in let more = length-append rest (end ∷ []) in omega (arith, size, more)
+
+  abbrev All_read : (Came → List Came → List BoardTurn → Type 0) → (b : ℕ) → (w : IsInWhole m s.switches b (clock_of (board_at m b)) (link_of m s b) ts first (rest ++ end ∷ [])) → Type 0
+  All_read R b w = AllRead R Came_all (behind [] w.made)
+
+  read_so : (R : Came → List Came → List BoardTurn → Type 0) (b : ℕ) → b < length m.boards → ((d : Came) (before : List Came) (past : List BoardTurn) → ReadsAsTold m s.switches b d before past → R d before past)
+      → (w : IsInWhole m s.switches b (clock_of (board_at m b)) (link_of m s b) ts first (rest ++ end ∷ [])) → All_read R b w
+  read_so R b h f w = drop_last R (came_in end) Came_all (behind [] w.made) (read_more (ReadsAsTold m s.switches b) R (came_in end ∷ Came_all) (behind [] w.made) f (reads b h w))
+
+  switches : AllSwitchesReadTrue m s ts (first ∷ (rest ++ end ∷ []))
+  switches b h w =
+      let Reads : List Came → Type 0 = λ z. AllRead (ReadsSwitchTrue m s.switches b) z (behind [] w.made) in
+      subst Reads (sym (came_cut [] first rest end)) (read_so (ReadsSwitchTrue m s.switches b) b h (λ d before past k. told_switch m s.switches b d before past k) w)
+
+  going : (b : ℕ) (h : b < length m.boards) → IsGoingOn m s.switches (Pins b) s.entries b Came_all (Turns b h)
+  going b h =
+      let run = boards.run_of m v s ts p t first rest end c told f long short little b h in
+      let home = boards.on m v s ts p t first rest end c told f long short little b h in
+      let none = end_none b s.entries From (length (rest ++ end ∷ [])) (cuts_on m t.clocks (length (rest ++ end ∷ [])) p.seen.begun b) (boards.Here m v s ts p t first rest end c told f long short little b h) home (last b h).front (last b h).last (last b h).are
+      (never_stop m s.switches (Pins b) s.entries b Came_all (Turns b h) run stop) (λ n shut one. in_time b h (last b h).last n (last b h).at shut one) in
+      let size = count b h in
+      let small = p.small in
+      let made = length-map p.made put_of in
+      let range = own_small (board_at m b) (valid_at m.boards b h v.boards) (length (Turns b h)) (omega (arith, size, long, small, made)) in
+      let so = all_so m v s ts p t first rest end c told f short switches b h in
+      record {
+        run = run;
+        none_shut = all_none (board_at m b) (Pins b) b s.entries (Turns b h) (last b h).last run.turns_are (latest b h) none;
+        in_range = omega (arith, range);
+        reads = read_so (ReadsTrue m s.switches b) b h (λ d before past k. told_true m s.switches b d before past k) (Whole b h);
+        reads_switch = so.1;
+        behind = so.2;
+      }
+
+  given : CameNotes p.seen.begun (came_in end ∷ Came_all)
+  given =
+      let Notes : List Came → Type 0 = λ z. CameNotes p.seen.begun z in
+      subst Notes (came_split [] (first ∷ rest) end []) (all_notes m p.seen.text p.seen.begun p.made first (rest ++ end ∷ []) p.put notes)
+
+  knows : ((known_by m s.switches Came_all).phase ≡ Connecting → ⊥) × ((noted m end.note (known_by m s.switches Came_all)).clocks ≡ map (lines_by (length Came_all + 276)) t.clocks)
+  knows = end_knows m v s ts p t first rest end told Turn f.turns (boards.sound m v s ts p t first rest end c told f long short little) notes
+
+  -- each section's own clock lines, which are all, track the boards until here
+  abbrev Lines : ℕ → ℕ → Clocks
+  Lines start b = clocks_at t.clocks b
+
+  abbrev Till : ℕ
+  Till = length Came_all + 276
+
+  tracked : (past : List Started) (x : Started) (later : List Started) (axis : ℕ) → p.seen.begun ≡ past ++ x ∷ later → x.section.kind ≡ Home axis
+      → (x.start ≤ x.last) × ((b : ℕ) → b < length m.boards → IsTracked m b (Lines x.start b) (From + 1) x.last Till)
+  tracked past x later axis cut home = (
+    starts_by m ts p t told past x later axis cut home,
+    λ b h. (
+        let own : ℕ → ℕ = λ n. board_tick (clock_of (board_at m b)) n in
+        let l = follow_to m b (length rest) From (clocks_at t.clocks b) (lines_renewed m v s ts p t first rest end told b Turn (Whole b h) h (boards.renewed m v s ts p t first rest end c told f long short little b h)) in
+        let low = l.1 in
+        let all = many in
+        let more = length-append rest (end ∷ []) in
+        let late = tracked_later own (clocks_at t.clocks b) From (From + 1) (omega arith) l.0 in
+        let same = late.1 in
+        let y = tracked_by own (clocks_at t.clocks b) (From + 1) Till late.0 (omega (arith, low, same, all, more)) in
+        let is = y.1 in
+        let few = p.small in
+        let size = length-map p.made put_of in
+        (y.0, omega (arith, is), omega (arith, is, few, size, all, long))),
+  )
+
+  well : BeginsWell m s.switches Lines (From + 1) Till (came_in end ∷ Came_all)
+  well =
+      let by = boards.by m v s ts p t first rest end c told f long short little in
+      let row = boards.row m v s ts p t first rest end c told f long short little in
+      let known = boards.known m v s ts p t first rest end c told f long short little in
+      begin_well m s.switches ts p Lines From Till t.first Turn.early row tracked Came_all by known.1 (came_in end) given.0 knows.0
+
+  -- what all boards did, turn by turn
+  all : (js : List (ℕ → BoardTurn)) × (length js ≡ length Came_all) × ((b : ℕ) → (low : b < length m.boards) → turns_of b js ≡ Turns b low)
+  all =
+      let n = length m.boards in
+      let size = many in
+      let some = v.boards_some in
+      let own = count 0 some in
+      let more = length-append rest (end ∷ []) in
+      let d = some_turn (Turns 0 some) (omega (arith, own, more)) in
+      let js = join n (length Came_all) d (λ i. turns_by i n Turns (is_low i n)) (λ i low. ap length (turns_same i n Turns (is_low i n) low) ∙ count i low ∙ sym size) in
+      (js.0, js.1, λ i low. js.2 i low ∙ turns_same i n Turns (is_low i n) low)
+
+  runs : (i : ℕ) → i < length m.boards → IsGoingOn m s.switches (Pins i) s.entries i Came_all (turns_of i all.0)
+  runs i low = subst (λ (turns : List BoardTurn). IsGoingOn m s.switches (Pins i) s.entries i Came_all turns) (sym (all.2 i low)) (going i low)
+
+  here : (i : ℕ) (low : i < length m.boards) → state_at i end.states ≡ latest_state (Turns i low)
+  here i low = item_state i end.states ∙ (last i low).at ∙ sym (latest i low)
+
+  states : (i : ℕ) → i < length m.boards → state_at i end.states ≡ latest_state (turns_of i all.0)
+  states i low = here i low ∙ ap latest_state (sym (all.2 i low))
+
+  of_turn : AllOfTurn (came_in end ∷ Came_all)
+  of_turn = all_of_turn m s.switches Pins s.entries (came_in end) Came_all all.0 all.1 have (λ i low. ((runs i low).run, states i low))
+
+  goes : GoesOn m s.switches Came_all
+  goes = (boards.by m v s ts p t first rest end c told f long short little).goes_on
+
+  apart : BeginsApart m s.switches (came_in end ∷ Came_all)
+  apart = well_apart m s.switches Lines (From + 1) Till (came_in end ∷ Came_all) well
+
+  lines_of : (start : ℕ) → KnowsLines m s.switches start (Lines start) (came_in end ∷ Came_all)
+  lines_of start =
+      let sound = boards.sound m v s ts p t first rest end c told f long short little in
+      lines_known m s.switches t.clocks start (came_in end ∷ Came_all) sound.clocks_are.count sound.kept ((λ past. knows.1), (boards.known m v s ts p t first rest end c told f long short little).0)
+
+  -- the homing section that is known
+  module _ (h : Homing) (is : (noted m end.note (known_by m s.switches Came_all)).homing ≡ Some h) where
+    abbrev Since : ℕ
+    Since = h.start - 252
+
+    abbrev Members : List Member
+    Members = members_of h.group
+
+    x : Began m s.switches Lines (From + 1) Till (came_in end) Came_all h
+    x = began m s.switches Lines (From + 1) Till (came_in end) Came_all goes of_turn well h is
+
+    soon_since : (x.from ≤ Since + 1) × (Since + 1 + 251 ≤ h.start) × (Since + 252 ≤ h.start)
+    soon_since = (let soon = x.soon in let far = x.far in (omega (arith, soon, far), omega (arith, far), omega (arith, far)))
+
+    section : IsHomingSection (λ i. IsGoingOn m s.switches (Pins i) s.entries i) m s.switches (Lines h.start) (Since + 1) h.start Members (came_in end) Came_all all.0
+    section = record {
+      goes_on = goes;
+      long = all.1;
+      homes = homes_later m s.switches x.from (Since + 1) h.start Members (came_in end ∷ Came_all) soon_since.0 x.homes;
+      begins = begins_later x.from (Since + 1) (came_in end ∷ Came_all) soon_since.0 x.begins;
+      knows = lines_of h.start;
+      plain = λ i on. runs i (x.within i on);
+      states = λ i on. states i (x.within i on);
+    }
+
+    followed : (i : ℕ) → IsMember i Members → IsFollowed m i (Lines h.start i) (From + 1) h.start h.group.last Till
+    followed i on =
+        let low = x.within i on in
+        let k = x.tracked i low in
+        let far = x.far in
+        board_followed m i (Lines h.start i) (From + 1) h.start h.group.last Till v low k.0 (omega (arith, far)) x.order k.1 k.2
+
+    new : IsNewAt m s.switches h.start h.group.last Members (Since + 1) (came_in end ∷ Came_all)
+    new = new_later m s.switches x.from h.start h.group.last Members x.soon (Since + 1) (came_in end) Came_all soon_since.0 soon_since.1 goes x.homes x.begins of_turn x.new
+
+    -- where a board told that it expired, in a turn that isn't past the section's last one
+    module _ (board turn tick : ℕ) (member : IsMember board Members) (in_last : turn ≤ h.group.last) (report : WasReported m s.switches board h.start (record { reason = 2; tick = tick; turn = turn }) (came_in end ∷ Came_all)) where
+      abbrev Own : ℕ → ℕ
+      Own k = board_tick (clock_of (board_at m board)) k
+
+      low : board < length m.boards
+      low = x.within board member
+
+      abbrev Report : Fired
+      Report = record { reason = 2; tick = tick; turn = turn }
+
+      own_run : IsInRun m s.switches (Pins board) s.entries board Came_all (Turns board low)
+      own_run = boards.run_of m v s ts p t first rest end c told f long short little board low
+
+      last_start : (g : Homing) → (noted m end.note (known_by m s.switches Came_all)).homing ≡ Some g → g.start ≤ length Came_all
+          → Own (g.start - 1) ≤ lines_tick (clocks_at (noted m end.note (known_by m s.switches Came_all)).clocks board) (g.start * turn_ns)
+      last_start g is_g late =
+          let far = x.far in
+          let order = x.order in
+          let at = followed board member in
+          let alike = ((lines_of h.start).0 knows.0 h is refl board low).1 in
+          let start : h.start ≡ g.start = ap (λ (z : Homing). z.start) (some_same h g (noted m end.note (known_by m s.switches Came_all)).homing is is_g) in
+          let same_tick = alike.ticks h.start (omega (arith, late, start)) in
+          let ends = at.ends in
+          let ahead = line_ahead Own (Lines h.start board) (From + 1) (h.start - 1) h.start at.tracked (omega (arith, far)) (omega (arith, ends, order, late, start)) (omega (arith, far)) in
+          let By : ℕ → Type 0 = λ k. Own (k - 1) ≤ lines_tick (clocks_at (noted m end.note (known_by m s.switches Came_all)).clocks board) (k * turn_ns) in
+          let now : By h.start = omega (arith, ahead, same_tick) in
+          subst By start now
+
+      behind_last : AreBehind m s.switches board (came_in end ∷ Came_all)
+      behind_last = (last_start, (all_so m v s ts p t first rest end c told f short switches board low).2)
+
+      so : Told_so m v s.switches (Pins board) s.entries board x.from h.start h.group.last Till (Lines h.start) (From + 1) Members member (let soon = x.soon in omega (arith, soon)) (followed board member) (let far = x.far in omega (arith, far)) Report in_last (Turns board low)
+      so = was_told m v s.switches (Pins board) s.entries board x.from h.start h.group.last Till (Lines h.start) (From + 1) Members member (let soon = x.soon in omega (arith, soon)) (followed board member) (let far = x.far in omega (arith, far)) Report in_last
+          (came_in end) Came_all (Turns board low) own_run (here board low) x.homes (lines_of h.start) (reads board low (Whole board low)) behind_last (omega arith) report
+
+      hindered : (later : List BoardTurn) (at : BoardTurn) (past : List BoardTurn) → Turns board low ≡ later ++ at ∷ past → IsFiredAt (trigger_of m board) 2 tick at.after.core.board → HasHindered m s ts first rest end h (length past)
+      hindered later at past are stands =
+          let late = stands_late m v s.switches (Pins board) s.entries board x.from h.start h.group.last Till (Lines h.start) (From + 1) Members member (let soon = x.soon in omega (arith, soon)) (followed board member) (let far = x.far in omega (arith, far)) Report in_last
+          Came_all later at past (Turns board low) own_run are stands so.late in
+          let early = so.early in
+          let far = x.far in
+          let found = some_of Since (length past) Members all.0
+          (stood m v s.switches Pins s.entries (Lines h.start) (From + 1) Since h.start h.group.last Till Members followed (omega (arith, far)) soon_since.2 x.order board tick member (λ e. omega (arith, e, early)) later at past
+          (came_in end) Came_all all.0 section of_turn apart (omega arith) new (all.2 board low ∙ are) late stands) in
+          let there = x.within found.0 found.1 in
+          record {
+            board = found.0;
+            member = found.1;
+            there = there;
+            w = Whole found.0 there;
+            hindered = subst (λ (turns : List BoardTurn). HinderedIn Since (length past) turns) (all.2 found.0 there) found.2;
+          }
+
+      pub hindered_in : IsHinderedIn m s ts first rest end board turn
+      hindered_in = record {
+        homing = h;
+        known = is;
+        tick = tick;
+        told = report;
+        there = low;
+        w = Whole board low;
+        expired = so.was;
+        hindered = hindered;
+      }

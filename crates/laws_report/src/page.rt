@@ -4,7 +4,7 @@ ghost use Rattle.std.specs.Prelude.{◌≡◌, ◌≢◌, ◌++◌, ◌∷◌, [
 ghost use Rattle.cfg_text.specs.Reading.{reading};
 ghost use Rattle.laws_report.specs.reports.Checks.{check_cause};
 ghost use Rattle.laws_report.specs.reports.Promises.{sections_over};
-ghost use Rattle.laws_report.specs.reports.Linked.{IsLinkReport, MeetPremise};
+ghost use Rattle.laws_report.specs.reports.Linked.{IsLinkReport, KeepUp, MeetPremise};
 ghost use Rattle.plan_types.specs.declared.machine.Machine.{Machine};
 ghost use Rattle.report_text.specs.declared.line.ReportLine.{ReportLine};
 ghost use Rattle.report_text.specs.declared.line.ReportLine.TheVariants as report;
@@ -12,7 +12,6 @@ ghost use Rattle.report_text.specs.Text.{report_text};
 ghost use Rattle.laws_report.specs.page.Report.{Shows};
 ghost use Rattle.laws_report.specs.page.Log.{Follows, SaysLog, StartsOnTime, log_of};
 ghost use Rattle.laws_run.specs.run_ends.Ends.{GoesThrough};
-ghost use Rattle.laws_run.specs.home_headline.Near.{AllKeepUp};
 ghost use Rattle.session_lanes.specs.declared.near.LinkLog.{LinkLog};
 ghost use Rattle.wire_scene.specs.declared.scene.Scene.{Scene};
 
@@ -38,21 +37,21 @@ pub fn printed_lines_follow_the_plan<F: Files, S: Sink>()
 {}
 
 /// The law of boards that keep up: less than that they take all near is enough for what a run shows, and for its check.
-/// Where each board is timely, and it takes the set-up of each homing section in time, or its reports are read true
-/// (`AllKeepUp`), the run shows the same (`Shows`); and where it went through its report checks.
+/// Where each board is timely, and it takes the set-up of each homing section in time, or its reports are read true, in
+/// all turns or, where memory ran out, in those before the last one (`KeepUp`), the run shows the same (`Shows`), whatever
+/// ended it; and where it went through its report checks.
 pub fn runs_that_keep_up_show_the_same<F: Files, S: Sink>()
     ensures shows { (printer : List ℕ) (m : Machine) (s : Scene) (gcode : List ℕ) (files files' : F) (out out' : S)
         (c : Cause) (lines : List ReportLine) (counts : List ℕ) (links : List LinkLog) → reading printer ≡ Ok m →
         (r : IsLinkReport F.Files S.Sink m s gcode files files' out out' c lines counts links) →
         (text : List ℕ) → F.told files gcode ≡ Some text →
-        AllKeepUp m s text r.reported.runs.runs.0 (r.reported.runs.runs.1 ++ r.reported.runs.runs.2 ∷ []) →
-        r.reported.told.cause ≢ Cause.Memory →
+        KeepUp m s text r.reported.runs.runs.0 r.reported.runs.runs.1 r.reported.runs.runs.2 r.reported.told.cause →
         ∥ Shows (Unit {0}) m s text c r.reported.said ∥₁ }
     ensures checks { (printer : List ℕ) (m : Machine) (s : Scene) (gcode : List ℕ) (files files' : F) (out out' : S)
         (c : Cause) (lines : List ReportLine) (counts : List ℕ) (links : List LinkLog) → reading printer ≡ Ok m →
         (r : IsLinkReport F.Files S.Sink m s gcode files files' out out' c lines counts links) →
         (text : List ℕ) → F.told files gcode ≡ Some text →
-        AllKeepUp m s text r.reported.runs.runs.0 (r.reported.runs.runs.1 ++ r.reported.runs.runs.2 ∷ []) →
+        KeepUp m s text r.reported.runs.runs.0 r.reported.runs.runs.1 r.reported.runs.runs.2 r.reported.told.cause →
         GoesThrough c →
         check_cause m text (report_text m (r.reported.said ++ report.End c ∷ [])) ≡ Cause.Done }
 {}

@@ -13,10 +13,10 @@ use Rattle.wire_scene.specs.declared.scene.Scene.{Scene}
 use Rattle.laws_board.specs.causes.Short.{HaveShortDictionaries}
 use Rattle.laws_run.specs.run_ends.Ends.{GoesThrough}
 use Rattle.laws_run.specs.run_headline.Timely.{AreOfMoves, HoldsNothingLong}
-use Rattle.laws_run.specs.home_headline.Near.{AllKeepUp, AllTakeNear}
+use Rattle.laws_run.specs.home_headline.Near.{AllTakeNear}
 use Rattle.laws_report.specs.reports.Checks.{check_cause}
 use Rattle.laws_report.specs.reports.Promises.{sections_over}
-use Rattle.laws_report.specs.reports.Linked.{IsLinkReport}
+use Rattle.laws_report.specs.reports.Linked.{IsLinkReport, KeepUp}
 use Rattle.laws_report.specs.reports.Names.{HasNames}
 use Rattle.laws_report.specs.page.Report.{Shows}
 use Rattle.plan_types.specs.Machines.{IsValidMachine}
@@ -35,21 +35,19 @@ module _ {F S : Type 0} (f : Files F) (o : Sink S) (m : Machine) (s : Scene) (gc
       run_near f o m s gcode files files' out own.behind own.kept own.kept' own.told own.runs valid text moves short other holds
 
   -- what a run shows whose boards keep up
-  pub keep-show : HaveShortDictionaries m → f.told files gcode ≡ Some text → AllKeepUp m s text r.reported.runs.runs.0 (r.reported.runs.runs.1 ++ r.reported.runs.runs.2 ∷ []) → (r.reported.told.cause ≡ cause.Memory → ⊥) → ∥ Shows (Unit {0}) m s text c r.reported.said ∥₁
-  keep-show short told keeps other =
+  pub keep-show : HaveShortDictionaries m → f.told files gcode ≡ Some text → KeepUp m s text r.reported.runs.runs.0 r.reported.runs.runs.1 r.reported.runs.runs.2 r.reported.told.cause → ∥ Shows (Unit {0}) m s text c r.reported.said ∥₁
+  keep-show short told keeps =
       let own = r.reported in
       let valid : IsValidMachine m = subst (λ (x : Machine). IsValidMachine x) own.runs.printer own.runs.fresh.machine in
-      shown_where f o m s gcode files files' out out' c lines counts links valid short r.scene own text told (Unit {0}) (λ _. (λ _. keeps, λ is. absurd (other is)))
+      shown_where f o m s gcode files files' out out' c lines counts links valid short r.scene own text told (Unit {0}) (λ _. keeps)
 
   -- and its check
-  pub keep-check : HaveShortDictionaries m → HasNames m → f.told files gcode ≡ Some text → AllKeepUp m s text r.reported.runs.runs.0 (r.reported.runs.runs.1 ++ r.reported.runs.runs.2 ∷ []) → GoesThrough c
+  pub keep-check : HaveShortDictionaries m → HasNames m → f.told files gcode ≡ Some text → KeepUp m s text r.reported.runs.runs.0 r.reported.runs.runs.1 r.reported.runs.runs.2 r.reported.told.cause → GoesThrough c
       → check_cause m text (report_text m (r.reported.said ++ report.End c ∷ [])) ≡ cause.Done
   keep-check short names told keeps through =
       let own = r.reported in
-      let not = written-whole c through in
-      let other = λ (g : own.told.cause ≡ cause.Memory). not.0 ((own.cause_is not.0 not.1).2 ∙ g) in
       let valid : IsValidMachine m = subst (λ (x : Machine). IsValidMachine x) own.runs.printer own.runs.fresh.machine in
-      checked f o m s gcode files files' out out' c lines counts links valid short r.scene own text told through names (inl (λ _. keeps, λ is. absurd (other is)))
+      checked f o m s gcode files files' out out' c lines counts links valid short r.scene own text told through names (inl keeps)
 
   -- what is written is the report, where nothing was written before
   pub as-written : GoesThrough c → (log : List ℕ) → o.written out ≡ Some [] → o.written out' ≡ Some log → check_cause m text (report_text m (r.reported.said ++ report.End c ∷ [])) ≡ cause.Done → check_cause m text log ≡ cause.Done

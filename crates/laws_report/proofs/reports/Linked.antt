@@ -3,7 +3,7 @@ use Rattle.std.proofs.Common.{take-append-drop, ◌≡◌, ◌≢◌, ℕ, zero,
 use Rattle.std.proofs.Math.Logic.{∥∥₁_elim, ∥∥₁_map}
 use Rattle.std.proofs.Props.{props}
 use Rattle.std.specs.Prelude.{◌-◌, ◌==◌, if◌then◌else◌}
-use Rattle.std.proofs.lemmas.List.{length-drop, length-map, length-take-le, take-take, take_all}
+use Rattle.std.proofs.lemmas.List.{length-append, length-drop, length-map, length-take-le, take-take, take_all}
 use Rattle.std.proofs.lemmas.List.Elements.{All-head, All-tail}
 use Rattle.plan_types.specs.declared.cause.Cause.{Cause}
 use Rattle.plan_types.specs.declared.cause.Cause.TheVariants as cause
@@ -105,7 +105,7 @@ use Rattle.laws_run.proofs.clear_runs.Stopped.{run_is_for}
 use Rattle.laws_report.specs.reports.Promises.{FollowsPlanBy, IsCauseOf, lines_line, sections_over}
 use Rattle.laws_report.specs.reports.Homes.{ShowsBegun}
 use Rattle.laws_report.proofs.reports.Homes.{IsCompleteOfMovesBefore, IsCompleteOfMovesBy, ShowsHomes}
-use Rattle.laws_report.specs.reports.Linked.{EndsFor, EndsUnswitched, IsLinkReport, MeetPremise}
+use Rattle.laws_report.specs.reports.Linked.{EndsFor, EndsUnswitched, IsLinkReport, KeepUp, MeetPremise}
 use Rattle.laws_report.specs.page.Log.{log_of}
 use Rattle.laws_report.specs.page.Report.{Shows}
 use Rattle.laws_report.specs.reports.Read.{IsSceneFor}
@@ -492,6 +492,13 @@ module _ (m : Machine) (switches : List Switch) (seen : Seen) (clocks : List Clo
   all_cuts [] some h ends shown_all = absurd (let e : [] ≡ some.0 ∷ some.1 = some.2 in cc)
   all_cuts (first ∷ later) some h ends shown_all = cuts_shown first later h ends shown_all
 
+-- the pulses of those that were written
+said_follow : (m : Machine) (seen : Seen) (clocks : List Clocks) (ready : ℕ) (own : Cause) (text : List ℕ) (said rest : List ReportLine) → Spread 260 seen.begun → seen.text ≡ text → (first : ReactorTurn) (later : List ReactorTurn)
+    → ShowHomes m seen clocks ready own first later → gather (λ t. t.lines) (first ∷ later) ≡ said ++ rest → FollowsPlanBy clocks m (sections_over m text) said
+said_follow m seen clocks ready own text said rest spread same first later h shown_all =
+    let At : List ReportLine → Type 0 = λ z. FollowsPlanBy clocks m (sections_over m text) z in
+    follow_front clocks m text said rest (subst At shown_all (homes_follow m seen clocks ready own text first later spread h same))
+
 -- those that were written show it
 module _ (m : Machine) (switches : List Switch) (seen : Seen) (clocks : List Clocks) (ready : ℕ) (own c : Cause) (text : List ℕ) (said rest : List ReportLine) (spread : Spread 260 seen.begun) (same : seen.text ≡ text) (through : GoesThrough c → (rest ≡ []) × (c ≡ own)) where
   pub homes_shown : (turns : List ReactorTurn) → (x : ReactorTurn) × (xs : List ReactorTurn) × (turns ≡ x ∷ xs) → AllShowHomes m seen clocks ready own turns → HaveCuts m switches c (sections_over m text) said → AllWholeHomes m seen clocks own turns → gather (λ t. t.lines) turns ≡ said ++ rest → ShowsHomes m switches text c said
@@ -499,7 +506,7 @@ module _ (m : Machine) (switches : List Switch) (seen : Seen) (clocks : List Clo
   homes_shown (first ∷ later) some h cuts wholes shown_all = record {
     clocks = clocks;
     ready = ready;
-    prefix = let At : List ReportLine → Type 0 = λ z. FollowsPlanBy clocks m (sections_over m text) z in follow_front clocks m text said rest (subst At shown_all (homes_follow m seen clocks ready own text first later spread h same));
+    prefix = said_follow m seen clocks ready own text said rest spread same first later h shown_all;
     whole = λ g.
         let Whole : List ReportLine → Type 0 = λ z. IsCompleteOfMovesBy clocks m (sections_over m text) z in
         subst Whole (whole g) (homes_whole m seen clocks ready own text first later spread h same (wholes.whole (went g)) (went g));
@@ -598,15 +605,16 @@ module _ (m : Machine) (switches : List Switch) (seen : Seen) (clocks : List Clo
       whole g = shown_all ∙ ap (λ z. said ++ z) (through g).0 ∙ append-nil said
 
 -- and what is not of pulses
-module _ (m : Machine) (seen : Seen) (clocks : List Clocks) (ready : ℕ) (own c : Cause) (text : List ℕ) (said rest : List ReportLine) (same : seen.text ≡ text) (through : GoesThrough c → (rest ≡ []) × (c ≡ own)) where
-  begun_shown : (turns : List ReactorTurn) → (x : ReactorTurn) × (xs : List ReactorTurn) × (turns ≡ x ∷ xs) → AllShowBegun m seen clocks ready own turns → gather (λ t. t.lines) turns ≡ said ++ rest → ShowsBegun m text c said
-  begun_shown [] some h shown_all = absurd (let e : [] ≡ some.0 ∷ some.1 = some.2 in cc)
-  begun_shown (first ∷ later) some h shown_all = record {
+module _ (Keeps : Type 0) (m : Machine) (seen : Seen) (clocks : List Clocks) (ready : ℕ) (own c : Cause) (text : List ℕ) (said rest : List ReportLine) (spread : Spread 260 seen.begun) (same : seen.text ≡ text) (through : GoesThrough c → (rest ≡ []) × (c ≡ own)) where
+  begun_shown : (turns : List ReactorTurn) → (x : ReactorTurn) × (xs : List ReactorTurn) × (turns ≡ x ∷ xs) → AllShowBegun m seen clocks ready own turns → (Keeps → AllShowHomes m seen clocks ready own turns) → gather (λ t. t.lines) turns ≡ said ++ rest → ShowsBegun Keeps m text c said
+  begun_shown [] some h homes shown_all = absurd (let e : [] ≡ some.0 ∷ some.1 = some.2 in cc)
+  begun_shown (first ∷ later) some h homes shown_all = record {
     clocks = clocks;
     ready = ready;
     begun = own_lines.begun;
     of_text = own_lines.of_text ∙ ap (λ z. take (length own_lines.begun) (program_sections m z)) same;
     started = own_lines.started;
+    follows = λ keeps. said_follow m seen clocks ready own text said rest spread same first later (homes keeps) shown_all;
     sections = (
       heads_of rest ++ own_lines.front.0,
       own_lines.front.1 ∙ ap (λ z. z ++ own_lines.front.0) both ∙ append_assoc (heads_of said) (heads_of rest) own_lines.front.0 ∙ ap (λ z. z ++ (heads_of rest ++ own_lines.front.0)) (sym (same_heads said)),
@@ -647,16 +655,16 @@ module _ (m : Machine) (seen : Seen) (clocks : List Clocks) (ready : ℕ) (own c
       whole g = shown_all ∙ ap (λ z. said ++ z) (through g).0 ∙ append-nil said
 
 -- with what the ticks are that the boards' lines tell
-abbrev BegunSo : Machine → List ℕ → Cause → List ReportLine → Type 0
-BegunSo m text c said = (begun : ShowsBegun m text c said) × ((i turn : ℕ) → section_turn i said ≡ Some turn → (b : ℕ) → b < length m.boards → IsTimed begun.clocks begun.ready b)
+abbrev BegunSo : Type 0 → Machine → List ℕ → Cause → List ReportLine → Type 0
+BegunSo Keeps m text c said = (begun : ShowsBegun Keeps m text c said) × ((i turn : ℕ) → section_turn i said ≡ Some turn → (b : ℕ) → b < length m.boards → IsTimed begun.clocks begun.ready b)
 
-module _ (m : Machine) (seen : Seen) (clocks : List Clocks) (ready : ℕ) (own c : Cause) (text : List ℕ) (said rest : List ReportLine) (same : seen.text ≡ text) (through : GoesThrough c → (rest ≡ []) × (c ≡ own)) where
-  front_shown : (turns : List ReactorTurn) → (x : ReactorTurn) × (xs : List ReactorTurn) × (turns ≡ x ∷ xs) → AllShowBegun m seen clocks ready own turns → (seen.begun ≢ [] → (b : ℕ) → b < length m.boards → IsTimed clocks ready b) → gather (λ t. t.lines) turns ≡ said ++ rest
-      → BegunSo m text c said
+module _ (Keeps : Type 0) (m : Machine) (seen : Seen) (clocks : List Clocks) (ready : ℕ) (own c : Cause) (text : List ℕ) (said rest : List ReportLine) (spread : Spread 260 seen.begun) (same : seen.text ≡ text) (through : GoesThrough c → (rest ≡ []) × (c ≡ own)) where
+  front_shown : (turns : List ReactorTurn) → (x : ReactorTurn) × (xs : List ReactorTurn) × (turns ≡ x ∷ xs) → AllShowBegun m seen clocks ready own turns → (Keeps → AllShowHomes m seen clocks ready own turns) → (seen.begun ≢ [] → (b : ℕ) → b < length m.boards → IsTimed clocks ready b) → gather (λ t. t.lines) turns ≡ said ++ rest
+      → BegunSo Keeps m text c said
   unfolding begun_shown
-  front_shown [] some b timed shown_all = absurd (let e : [] ≡ some.0 ∷ some.1 = some.2 in cc)
-  front_shown (first ∷ later) some b timed shown_all = (
-    begun_shown m seen clocks ready own c text said rest same through (first ∷ later) some b shown_all,
+  front_shown [] some b homes timed shown_all = absurd (let e : [] ≡ some.0 ∷ some.1 = some.2 in cc)
+  front_shown (first ∷ later) some b homes timed shown_all = (
+    begun_shown Keeps m seen clocks ready own c text said rest spread same through (first ∷ later) some b homes shown_all,
     λ i turn e. timed (some_first m clocks ready seen.begun (first ∷ later) said rest b.late b.started b.lines shown_all (some_behind i turn said e)),
   )
 
@@ -664,13 +672,14 @@ no_turn : (turn : ℕ) → None ≡ Some turn → ⊥
 no_turn turn e = cc
 
 -- where nothing was written
-nothing_shown : (m : Machine) (text : List ℕ) (c : Cause) → (GoesThrough c → ⊥) → ShowsBegun m text c []
-nothing_shown m text c not = record {
+nothing_shown : (Keeps : Type 0) (m : Machine) (text : List ℕ) (c : Cause) → (GoesThrough c → ⊥) → ShowsBegun Keeps m text c []
+nothing_shown Keeps m text c not = record {
   clocks = [];
   ready = 260;
   begun = [];
   of_text = refl;
   started = tt;
+  follows = λ keeps i turn s e low. absurd (no_turn turn e);
   sections = ([], refl);
   all = λ g. absurd (not g);
   boards = λ i turn e. absurd (no_turn turn e);
@@ -731,9 +740,7 @@ module _ {F S : Type 0} (f : Files F) (o : Sink S) (m : Machine) (s : Scene) (gc
 
   -- each board keeps up in all its turns; or in those before the last one, where it ended for want of memory
   abbrev pub KeepsUp : IsReported f o m s gcode files files' out out' c lines counts links → List ℕ → Type 0
-  KeepsUp r text =
-      ((r.told.cause ≡ cause.Memory → ⊥) → AllKeepUp m s text r.runs.runs.0 (r.runs.runs.1 ++ r.runs.runs.2 ∷ []))
-      × (r.told.cause ≡ cause.Memory → (front later : List MotionTurn) → r.runs.runs.0 ≡ front ++ later → length front + 1 ≡ length r.runs.runs.1 → AllKeepUp m s text front r.runs.runs.1)
+  KeepsUp r text = KeepUp m s text r.runs.runs.0 r.runs.runs.1 r.runs.runs.2 r.told.cause
 
   home_texts : (r : IsReported f o m s gcode files files' out out' c lines counts links) (text : List ℕ) → f.told files gcode ≡ Some text → (r.told.cause ≡ cause.Memory → ⊥)
       → AllKeepUp m s text r.runs.runs.0 (r.runs.runs.1 ++ r.runs.runs.2 ∷ []) → ∥ ShowsHomes m s.switches text c r.said ∥₁
@@ -756,7 +763,7 @@ module _ {F S : Type 0} (f : Files F) (o : Sink S) (m : Machine) (s : Scene) (gc
   front_written r memory turns last cut = sym (ap lines_of cut) ∙ before_last r memory
 
   -- whatever its links hold, and whatever ended it
-  pub begun_texts : (r : IsReported f o m s gcode files files' out out' c lines counts links) (text : List ℕ) → f.told files gcode ≡ Some text → ∥ BegunSo m text c r.said ∥₁
+  pub begun_texts : (r : IsReported f o m s gcode files files' out out' c lines counts links) (text : List ℕ) → f.told files gcode ≡ Some text → ∥ BegunSo (KeepsUp r text) m text c r.said ∥₁
   begun_texts r text told = elim (memory_or r.told.cause) [
     | inr other ↦ ∥∥₁_map (run_made f o m s gcode files files' out r.behind r.kept r.kept' r.told r.runs text told r.fresh.at) (λ w.
         let made = w.0 in
@@ -764,19 +771,25 @@ module _ {F S : Type 0} (f : Files F) (o : Sink S) (m : Machine) (s : Scene) (gc
         let turns = r.runs.runs.1 ++ r.runs.runs.2 ∷ [] in
         let all = facts f o m s gcode files files' out r.behind r.kept r.kept' r.told r.runs other in
         let begun = all_begun m v s r.runs.runs.0 made.plans r.runs.runs.2 r.told.cause r.runs.runs.1 all in
-        front_shown m seen (clocks_heard seen.told) (ready_heard seen.told) r.told.cause c text r.said r.rest w.1 (whole_of r) turns (some_turns r.runs.runs.1 r.runs.runs.2) begun
+        let Little : List ℕ → Type 0 = λ z. AllKeepUp m s z r.runs.runs.0 turns in
+        front_shown (KeepsUp r text) m seen (clocks_heard seen.told) (ready_heard seen.told) r.told.cause c text r.said r.rest (plans_spread m (length m.boards) r.runs.runs.0 made.plans) w.1 (whole_of r) turns (some_turns r.runs.runs.1 r.runs.runs.2) begun
+        (λ keeps. all_shows m v s r.runs.runs.0 made.plans r.runs.runs.2 r.told.cause r.runs.runs.1 all short (subst Little (sym w.1) (keeps.0 other)))
         (begun_timed m v s r.runs.runs.0 made.plans r.runs.runs.2 r.told.cause r.runs.runs.1 all begun) r.shown)
     | inl memory ↦ elim (cut_last r.runs.runs.1) [
       | inl none ↦
-          let At : List ReportLine → Type 0 = λ z. BegunSo m text c z in
-          ∣ subst At (sym (none_written r memory none)) (nothing_shown m text c (none_through r memory), λ i turn e. absurd (no_turn turn e)) ∣₁
+          let At : List ReportLine → Type 0 = λ z. BegunSo (KeepsUp r text) m text c z in
+          ∣ subst At (sym (none_written r memory none)) (nothing_shown (KeepsUp r text) m text c (none_through r memory), λ i turn e. absurd (no_turn turn e)) ∣₁
       | inr x ↦
           let turns = x.0 ++ x.1 ∷ [] in
           let part = run_front f o m s gcode files files' out r.behind r.kept r.kept' r.told r.runs x.0 x.1 x.2 in
+          let long = part.long in
+          let size = ap length x.2 ∙ length-append x.0 (x.1 ∷ []) in
           ∥∥₁_map (front_made f o m s gcode files files' out r.behind r.kept r.kept' r.told r.runs text told r.fresh.at part.planned part.later part.are) (λ w.
           let seen = w.0.seen in
           let begun = all_begun m v s part.planned w.0 x.1 cause.ReadFault x.0 part.facts in
-          front_shown m seen (clocks_heard seen.told) (ready_heard seen.told) cause.ReadFault c text r.said r.rest w.1 (λ g. absurd (none_through r memory g)) turns (some_turns x.0 x.1) begun
+          let Little : List ℕ × List ReactorTurn → Type 0 = λ z. AllKeepUp m s z.0 part.planned z.1 in
+          front_shown (KeepsUp r text) m seen (clocks_heard seen.told) (ready_heard seen.told) cause.ReadFault c text r.said r.rest (plans_spread m (length m.boards) part.planned w.0) w.1 (λ g. absurd (none_through r memory g)) turns (some_turns x.0 x.1) begun
+          (λ keeps. all_shows m v s part.planned w.0 x.1 cause.ReadFault x.0 part.facts short (subst Little (λ j. (sym w.1 j, x.2 j)) (keeps.1 memory part.planned part.later part.are (omega (arith, long, size)))))
           (begun_timed m v s part.planned w.0 x.1 cause.ReadFault x.0 part.facts begun) (front_written r memory x.0 x.1 x.2))
     ]
   ]

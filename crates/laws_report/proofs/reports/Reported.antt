@@ -72,8 +72,8 @@ many : (i : ℕ) (ss : List Started) → length (begun_lines i ss) ≡ length ss
 many i [] = refl
 many i (s ∷ ss) = ap suc (many (i + 1) ss)
 
-all-shown : (m : Machine) (text : List ℕ) (c : Cause) (said : List ReportLine) → ShowsBegun m text c said → GoesThrough c → length (sections_shown said) ≡ length (sections_over m text)
-all-shown m text c said begun gone =
+all-shown : (Keeps : Type 0) (m : Machine) (text : List ℕ) (c : Cause) (said : List ReportLine) → ShowsBegun Keeps m text c said → GoesThrough c → length (sections_shown said) ≡ length (sections_over m text)
+all-shown Keeps m text c said begun gone =
     let all = begun.all gone in
     ap length all.1 ∙ many 0 begun.begun ∙ sym (length-map begun.begun (λ (x : Started). x.section)) ∙ ap length all.0
 
@@ -104,7 +104,7 @@ module _ {F S : Type 0} (f : Files F) (o : Sink S) (m : Machine) (s : Scene) (gc
             near-boards m b.clocks b.ready b.last r.said (b.sound 0 first.0 first.1) (b.boards 0 first.0 first.1) (begun.1 0 first.0 first.1) (b.further 0 first.0 first.1) (b.named 0 first.0 first.1);
         says = λ p. (prints p).says;
         sections = first-lines 0 b.begun (sections_over m text) (sections_shown r.said) b.sections.0 b.of_text b.sections.1;
-        all = all-shown m text c r.said b;
+        all = all-shown (KeepsUp f o m s gcode files files' out out' c lines counts links valid short r text) m text c r.said b;
         counts = b.counts;
         cause = b.cause;
       }))

@@ -12,11 +12,12 @@ use Rattle.laws_run.specs.run_headline.Further.{AreNamed, BoardsFirst, TellsFurt
 use Rattle.laws_run.specs.run_headline.Timely.{AreSound}
 use Rattle.laws_run.specs.run_lines.Due.{BoardsHave, begun_lines}
 use Rattle.laws_report.specs.reports.Body.{cause_of}
-use Rattle.laws_report.specs.reports.Promises.{lines_line, sections_over}
+use Rattle.laws_report.specs.reports.Promises.{FollowsPlanBy, lines_line, sections_over}
 use Rattle.laws_report.specs.reports.Shown.{section_turn, sections_shown}
 
--- What the lines of a run over links show of the sections of a text, of moves or homing, whatever its links hold.
-pub record ShowsBegun (m : Machine) (text : List ℕ) (c : Cause) (said : List ReportLine) : Type 0 where
+-- What the lines of a run over links show of the sections of a text, of moves or homing, whatever its links hold, and
+-- of their pulses where its boards keep up (`keeps`).
+pub record ShowsBegun (keeps : Type 0) (m : Machine) (text : List ℕ) (c : Cause) (said : List ReportLine) : Type 0 where
   -- the boards' clock lines, as the planner heard them, and the turn from which on the first section may start
   pub clocks : List Clocks
   pub ready : ℕ
@@ -25,6 +26,8 @@ pub record ShowsBegun (m : Machine) (text : List ℕ) (c : Cause) (said : List R
   pub begun : List Started
   pub of_text : map (λ s. s.section) begun ≡ take (length begun) (sections_over m text)
   pub started : AreStarted m clocks ready begun
+  -- Prefix: by these clock lines the pulses of each stepper in each section fit the first of its planned steps
+  pub follows : keeps → FollowsPlanBy clocks m (sections_over m text) said
   -- Sections: the section lines are the first of theirs, and all where the run went through
   pub sections : (rest : List ReportLine) × (begun_lines 0 begun ≡ sections_shown said ++ rest)
   pub all : GoesThrough c → (map (λ s. s.section) begun ≡ sections_over m text) × (sections_shown said ≡ begun_lines 0 begun)

@@ -27,7 +27,7 @@ use Rattle.laws_run.specs.run_headline.Timely.{AreOfMoves}
 use Rattle.session_run.specs.Desks.{lines_of}
 use Rattle.motion_work.specs.Told.{Told as Heard}
 use Rattle.laws_run.specs.home_headline.Little.{SendsOut}
-use Rattle.laws_run.specs.home_headline.Near.{AllReadAsTold, AllTakeNear, ShownTakeNear}
+use Rattle.laws_run.specs.home_headline.Near.{AllKeepUp, AllReadAsTold, AllTakeNear, ShownKeepUp, ShownTakeNear}
 use Rattle.laws_run.specs.home_wholes.Own.{AllSwitchesReadTrue, AllTakeInTime, TellTriggers}
 use Rattle.laws_run.specs.clear_homes.Closes.{MissesSwitch, TellFirst}
 use Rattle.laws_run.specs.clear_homes.First.{IsFirstExpired, IsUnswitched}
@@ -54,6 +54,13 @@ abbrev pub MeetPremise : Machine → Scene → List ℕ → List MotionTurn → 
 MeetPremise m s text planned turns end c =
     (c ≢ cause.Memory → AllTakeNear m s text planned (turns ++ end ∷ []))
     × (c ≡ cause.Memory → ShownTakeNear m s text planned turns)
+
+-- What is less than the premise, and enough for what a run shows: each board keeps up, in all turns; or in those before
+-- the last one, where the run ended for want of memory.
+abbrev pub KeepUp : Machine → Scene → List ℕ → List MotionTurn → List ReactorTurn → ReactorTurn → Cause → Type 0
+KeepUp m s text planned turns end c =
+    (c ≢ cause.Memory → AllKeepUp m s text planned (turns ++ end ∷ []))
+    × (c ≡ cause.Memory → ShownKeepUp m s text planned turns)
 
 -- Steps that came too late are those of a unit of the plan of a text, with its spoiled turns and its spill.
 pub record AreOfUnit (m : Machine) (s : Scene) (text : List ℕ) (board first arrival spoiled spill : ℕ)
@@ -125,8 +132,11 @@ pub record IsLinkReport {F S : Type 0} (f : Files F) (o : Sink S) (m : Machine) 
   pub shows : (text : List ℕ) → f.told files gcode ≡ Some text →
       ∥ Shows (MeetPremise m s text reported.runs.runs.0 reported.runs.runs.1 reported.runs.runs.2 reported.told.cause)
       m s text c reported.said ∥₁
-  -- Begun: they show the sections that were begun, by the clock lines that the planner heard
-  pub begun : (text : List ℕ) → f.told files gcode ≡ Some text → ∥ ShowsBegun m text c reported.said ∥₁
+  -- Begun: they show the sections that were begun, by the clock lines that the planner heard, and where each board keeps
+  -- up the pulses too
+  pub begun : (text : List ℕ) → f.told files gcode ≡ Some text →
+      ∥ ShowsBegun (KeepUp m s text reported.runs.runs.0 reported.runs.runs.1 reported.runs.runs.2 reported.told.cause)
+      m text c reported.said ∥₁
   -- Memory: where memory ran out the last turn has no lines, so all that was printed is of the turns before it
   pub memory : reported.told.cause ≡ cause.Memory → reported.runs.runs.2.lines ≡ []
   -- Boards: each board's lists in `links` hold the units of the text's sections, each in its turn, in order and with

@@ -80,3 +80,9 @@ AllKeepUp m s text planned (first ∷ rest) =
     (p : Plans m (length m.boards) planned) (b : ℕ) → p.seen.text ≡ text → p.seen.begun ≢ [] → b < length m.boards →
     (w : IsInWhole m s.switches b (clock_of (board_at m b)) (link_of m s b) planned first rest) →
     KeepsUp m s b planned first rest p.seen.begun w
+
+-- So each board of a run that ended for want of memory, in the turns before the last one, which has no lines.
+abbrev pub ShownKeepUp : Machine → Scene → List ℕ → List MotionTurn → List ReactorTurn → Type 0
+ShownKeepUp m s text planned turns =
+    (front later : List MotionTurn) → planned ≡ front ++ later → length front + 1 ≡ length turns →
+    AllKeepUp m s text front turns

@@ -1,6 +1,6 @@
 -- A log that checks follows the plan.
-use Rattle.std.proofs.Common.{◌≡◌, ◌≢◌, ◌∙◌, ℕ, zero, suc, ◌+◌, ◌<◌, ◌≤◌, Bool, true, false, List, [], ◌∷◌, ◌++◌, length, get_or, map, ap, sym, refl, subst, arith, Option, Some, None, append-nil}
-use Rattle.std.specs.Prelude.{◌==◌, ◌&&◌, ◌||◌, nat_le, nat_lt, if◌then◌else◌, slice_index_or, Ok, Err}
+use Rattle.std.proofs.Common.{◌≡◌, ◌∙◌, ℕ, zero, suc, ◌+◌, ◌<◌, ◌≤◌, Bool, true, false, List, [], ◌∷◌, ◌++◌, length, get_or, map, ap, sym, refl, subst, arith, Option, Some, None, append-nil}
+use Rattle.std.specs.Prelude.{◌==◌, ◌&&◌, ◌||◌, nat_le, nat_lt, slice_index_or, Ok, Err}
 use Rattle.std.proofs.lemmas.Bool.Decides.{nat_tests}
 use Rattle.std.proofs.lemmas.List.FromFn.{get_or-map-range_with_len, length-map-range_with_len}
 use Rattle.log_text.specs.declared.line.LogLine.{LogLine}
@@ -10,19 +10,17 @@ use Rattle.log_text.specs.Words.{Text}
 use Rattle.log_check.specs.declared.tally.Tally.{Tally}
 use Rattle.log_check.specs.declared.further.Further.{Further}
 use Rattle.log_check.specs.Behind.{begun, clocks, further_of, further_said, is_cut, pulses, start, with_one}
-use Rattle.log_check.specs.Faults.{fault_at, have_room, is_short, lacks, may_start, no_tally, open_fault, ready, same_kind, section_fault}
-use Rattle.log_check.specs.Points.{Point, bases_by, end_by, plans, plans_by, point, section_at}
+use Rattle.log_check.specs.Faults.{fault_at, have_room, is_short, lacks, may_start, no_tally, ready, same_kind, section_fault}
+use Rattle.log_check.specs.Points.{bases_by, plans, point, section_at}
 use Rattle.log_check.specs.Pulses.{no_step, tally_of, tick_before}
-use Rattle.log_check.specs.Verdicts.{Verdict, at_last, by_fault, by_line, end_cause, log_verdict, misfit_at, verdict, with_pulse_of}
+use Rattle.log_check.specs.Verdicts.{Verdict, by_fault, by_line, end_cause, verdict}
 use Rattle.log_check.proofs.Tests.{both-first, both-second}
 use Rattle.log_check.proofs.Pointing.{board-first}
 use Rattle.log_check.proofs.Sounding.{fault-open}
 use Rattle.laws_report.specs.logs.Follows.{FitsHere, FollowsPlan, IsNext, IsWholeHere, all_said, base_at, freq_at, further_among, in_order, ok_line, plan_at}
 use Rattle.laws_report.proofs.logs.Fitting.{fits-few, fits-more, fits-none, length-in_order, pulse-fits}
-use Rattle.plan_types.specs.declared.cause.Cause.{Cause}
 use Rattle.plan_types.specs.declared.cause.Cause.TheVariants as cause
 use Rattle.plan_types.specs.declared.cause.MisfitKind.{MisfitKind}
-use Rattle.plan_types.specs.declared.cause.MisfitKind.TheVariants as misfit
 use Rattle.plan_types.specs.declared.machine.Machine.{Machine}
 use Rattle.plan_types.specs.declared.plan.Planned.{Planned}
 use Rattle.plan_types.specs.declared.plan.Pulse.{Pulse}

@@ -1,24 +1,23 @@
 -- A log that follows the plan, and whose lines stand where they may, checks.
-use Rattle.std.proofs.Common.{◌≡◌, ◌∙◌, ℕ, zero, suc, ◌+◌, ◌<◌, ◌≤◌, Bool, true, false, List, [], ◌∷◌, ◌++◌, length, get_or, map, ap, sym, refl, subst, arith, Option, Some, None, append-nil, append_assoc}
-use Rattle.std.specs.Prelude.{◌==◌, ◌&&◌, ◌||◌, nat_le, nat_lt, if◌then◌else◌, slice_index_or, Ok, Err}
+use Rattle.std.proofs.Common.{◌≡◌, ◌∙◌, ℕ, zero, suc, ◌+◌, ◌<◌, ◌≤◌, Bool, true, false, List, [], ◌∷◌, ◌++◌, length, get_or, map, ap, sym, refl, subst, arith, Some, None, append_assoc}
+use Rattle.std.specs.Prelude.{◌==◌, ◌&&◌, ◌||◌, nat_le, nat_lt, if◌then◌else◌, slice_index_or, Ok}
 use Rattle.std.proofs.lemmas.Bool.Decides.{nat_tests}
-use Rattle.std.proofs.lemmas.List.FromFn.{get_or-map-range_with_len, length-map-range_with_len}
+use Rattle.std.proofs.lemmas.List.FromFn.{length-map-range_with_len}
 use Rattle.log_text.specs.declared.line.LogLine.{LogLine}
 use Rattle.log_text.specs.declared.line.LogLine.TheVariants as line
-use Rattle.log_text.specs.Said.{Said, line_said}
+use Rattle.log_text.specs.Said.{line_said}
 use Rattle.log_text.specs.Words.{Text}
 use Rattle.log_check.specs.declared.tally.Tally.{Tally}
 use Rattle.log_check.specs.declared.further.Further.{Further}
-use Rattle.log_check.specs.Behind.{begun, clocks, further_said, is_cut, is_ended, pulses, start, told}
+use Rattle.log_check.specs.Behind.{begun, clocks, further_said, is_cut, is_ended, pulses, told}
 use Rattle.log_check.specs.Faults.{fault_at, fault_if, have_room, is_short, lacks, may_cut, may_follow, may_start, no_tally, open_fault, ready, same_kind, section_fault}
-use Rattle.log_check.specs.Points.{Point, plans, point, section_at}
-use Rattle.log_check.specs.Pulses.{no_step, pulse_fault, tick_before}
+use Rattle.log_check.specs.Points.{plans, point, section_at}
+use Rattle.log_check.specs.Pulses.{no_step, tick_before}
 use Rattle.log_check.specs.Verdicts.{Verdict, by_fault, by_line, end_cause, verdict}
 use Rattle.laws_report.specs.logs.Follows.{FitsHere, FollowsPlan, IsNext, IsWholeHere, StandsWell, all_said, base_at, freq_at, further_among, in_order, ok_line, plan_at}
 use Rattle.laws_report.proofs.logs.Fitting.{fits-last, length-in_order, no-pulse-fault}
-use Rattle.laws_report.proofs.logs.Following.{Fine, base-is, no-plan, said-among, tally-made}
+use Rattle.laws_report.proofs.logs.Following.{Fine, base-is, said-among, tally-made}
 use Rattle.plan_types.specs.declared.cause.Cause.TheVariants as cause
-use Rattle.plan_types.specs.declared.cause.MisfitKind.{MisfitKind}
 use Rattle.plan_types.specs.declared.cause.MisfitKind.TheVariants as misfit
 use Rattle.plan_types.specs.declared.machine.Machine.{Machine}
 use Rattle.plan_types.specs.declared.plan.Planned.{Planned}

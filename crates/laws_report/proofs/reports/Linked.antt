@@ -30,7 +30,6 @@ use Rattle.host_reactor.specs.Running.{text_end}
 use Rattle.motion_work.specs.Seen.{AreStarted, IsPlanned, Started}
 use Rattle.session_lanes.specs.declared.near.LinkLog.{LinkLog}
 use Rattle.section_feed.specs.Fewer.{AreFirstLines}
-use Rattle.session_work.specs.declared.table.MotionTurn.{MotionTurn}
 use Rattle.session_work.specs.declared.table.ReactorTurn.{ReactorTurn}
 use Rattle.session_work.specs.Rows.{gather}
 use Rattle.session_work.proofs.Goes.{gather_on}

@@ -38,8 +38,8 @@ pub fn printed_lines_follow_the_plan<F: Files, S: Sink>()
 
 /// The law of boards that keep up: less than that they take all near is enough for what a run shows, and for its check.
 /// Where each board is timely, and it takes the set-up of each homing section in time, or its reports are read true, in
-/// all turns or, where memory ran out, in those before the last one (`KeepUp`), the run shows the same (`Shows`), whatever
-/// ended it; and where it went through its report checks.
+/// all turns or, where memory ran out, in those before the last one (`KeepUp`), the run shows the same (`Shows`),
+/// whatever ended it; and where it went through its report checks.
 pub fn runs_that_keep_up_show_the_same<F: Files, S: Sink>()
     ensures shows { (printer : List ℕ) (m : Machine) (s : Scene) (gcode : List ℕ) (files files' : F) (out out' : S)
         (c : Cause) (lines : List ReportLine) (counts : List ℕ) (links : List LinkLog) → reading printer ≡ Ok m →

@@ -132,8 +132,8 @@ pub record IsLinkReport {F S : Type 0} (f : Files F) (o : Sink S) (m : Machine) 
   pub shows : (text : List ℕ) → f.told files gcode ≡ Some text →
       ∥ Shows (MeetPremise m s text reported.runs.runs.0 reported.runs.runs.1 reported.runs.runs.2 reported.told.cause)
       m s text c reported.said ∥₁
-  -- Begun: they show the sections that were begun, by the clock lines that the planner heard, and where each board keeps
-  -- up the pulses too
+  -- Begun: they show the sections that were begun, by the clock lines that the planner heard, and where each board
+  -- keeps up the pulses too
   pub begun : (text : List ℕ) → f.told files gcode ≡ Some text →
       ∥ ShowsBegun (KeepUp m s text reported.runs.runs.0 reported.runs.runs.1 reported.runs.runs.2 reported.told.cause)
       m text c reported.said ∥₁

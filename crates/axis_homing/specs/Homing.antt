@@ -44,9 +44,11 @@ members_from m axis moving b [] = []
 members_from m axis moving b (d ∷ boards) =
     member_where b (axis.board == b) (moving_on b moving m.steppers) ++ members_from m axis moving (b + 1) boards
 
+-- the homing of a section that starts in a turn, where its members may be a group
 abbrev pub homing_with : ℕ → ℕ → ℕ → Option GroupState → Option Homing
 homing_with section axis turn None = None
-homing_with section axis turn (Some group) = Some (record { section = section; axis = axis; start = turn; group = group })
+homing_with section axis turn (Some group) =
+    Some (record { section = section; axis = axis; start = turn; group = group })
 
 -- the homing of a section of which a note tells
 abbrev pub homing_of : Machine → ℕ → SectionKind → ℕ → ℕ → ℕ → Option Homing
@@ -54,6 +56,7 @@ homing_of m section Moves turn last moving = None
 homing_of m section (Home axis) turn last moving =
     homing_with section axis turn (group_where (members_from m (axis_at m axis) moving 0 m.boards) turn last)
 
+-- a group behind a report at a tick of a board, where that tick lies in a turn of the run
 abbrev pub came_at : ℕ → TrigState → ℕ → Option ℕ → GroupState → GroupState
 came_at b s tick None g = g
 came_at b s tick (Some turn) g = came b s tick turn g
@@ -64,11 +67,13 @@ hears_report clocks b turn s g =
     let at = nearest (turn_tick clocks turn) s.clock in
     came_at b s at (turn_in_run clocks at) g
 
+-- a group behind an answer of a board: a trigger's report is heard, and nothing else is
 abbrev pub hears_answer : Clocks → ℕ → ℕ → Cmd → GroupState → GroupState
 hears_answer clocks b turn (cmd.TrsyncState oid can_trigger reason clock) g =
     hears_report clocks b turn (record { can = not (can_trigger == 0); reason = reason; clock = clock }) g
 hears_answer clocks b turn answer g = g
 
+-- a group behind the answers of a board that came in a turn, one after the other
 abbrev pub hears_news : Clocks → ℕ → ℕ → List News → GroupState → GroupState
 hears_news clocks b turn [] g = g
 hears_news clocks b turn (n ∷ news) g = hears_news clocks b turn news (hears_answer clocks b turn n.answer g)
@@ -77,6 +82,7 @@ hears_news clocks b turn (n ∷ news) g = hears_news clocks b turn news (hears_a
 abbrev pub hears_state : Clocks → ℕ → ℕ → State → GroupState → GroupState
 hears_state clocks b start s g = if nat_le start (s.turn + 1) then hears_news clocks b s.turn s.news g else g
 
+-- a group behind the states of the boards, from a board on
 abbrev pub hears_states : List Clocks → ℕ → ℕ → List State → GroupState → GroupState
 hears_states [] b start states g = g
 hears_states (c ∷ clocks) b start [] g = g
@@ -95,6 +101,7 @@ abbrev pub place_from : ℕ → ℕ → List ℕ → ℕ
 place_from place pin [] = place
 place_from place pin (p ∷ pins) = if p == pin then place else place_from (place + 1) pin pins
 
+-- a switch's level as a number
 abbrev pub flag : Bool → ℕ
 flag true = 1
 flag false = 0
@@ -102,30 +109,69 @@ flag false = 0
 -- the command of an order to a board: the clocks are those of the start, reports come every 5 turns, and the endstop is
 -- read every 100 µs, and four times 15 µs apart where it has the level
 abbrev pub order_command : Machine → Clocks → ℕ → ℕ → AxisDef → Order → Cmd
-order_command m clocks b start axis (order.Reset i) = cmd.ResetStepClock (stepper_at m i).oid (low (turn_tick clocks start))
+order_command m clocks b start axis (order.Reset i) =
+    cmd.ResetStepClock (stepper_at m i).oid (low (turn_tick clocks start))
 order_command m clocks b start axis (order.Stop i) = cmd.StepperStopOnTrigger (stepper_at m i).oid (trigger_of m b)
-order_command m clocks b start axis order.Start = cmd.TrsyncStart (trigger_of m b) (low (turn_tick clocks start)) ((board_at m b).freq * 5 / 1_000) 2
-order_command m clocks b start axis (order.Timeout turn) = cmd.TrsyncSetTimeout (trigger_of m b) (low (turn_tick clocks turn))
+order_command m clocks b start axis order.Start =
+    cmd.TrsyncStart (trigger_of m b) (low (turn_tick clocks start)) ((board_at m b).freq * 5 / 1_000) 2
+order_command m clocks b start axis (order.Timeout turn) =
+    cmd.TrsyncSetTimeout (trigger_of m b) (low (turn_tick clocks turn))
 order_command m clocks b start axis order.Home =
-    cmd.EndstopHome (place_from (trigger_of m b + 1) axis.pin (endstop_pins m b)) (low (turn_tick clocks start)) ((board_at m b).freq * 15 / 1_000_000) 4
-    ((board_at m b).freq / 10_000) (flag axis.pressed) (trigger_of m b) 1
+    cmd.EndstopHome (place_from (trigger_of m b + 1) axis.pin (endstop_pins m b)) (low (turn_tick clocks start))
+    ((board_at m b).freq * 15 / 1_000_000) 4 ((board_at m b).freq / 10_000) (flag axis.pressed) (trigger_of m b) 1
 order_command m clocks b start axis order.Trigger = cmd.TrsyncTrigger (trigger_of m b) 3
 
+-- the command that an order becomes, where it goes to this board
 abbrev pub command_to : Machine → Clocks → ℕ → ℕ → AxisDef → Ctl → List Cmd
 command_to m clocks b start axis c = if c.board == b then order_command m clocks b start axis c.what ∷ [] else []
 
 -- the commands of a turn's orders to a board
 abbrev pub commands_to : Machine → Clocks → ℕ → ℕ → AxisDef → List Ctl → List Cmd
 commands_to m clocks b start axis [] = []
-commands_to m clocks b start axis (c ∷ ctls) = command_to m clocks b start axis c ++ commands_to m clocks b start axis ctls
+commands_to m clocks b start axis (c ∷ ctls) =
+    command_to m clocks b start axis c ++ commands_to m clocks b start axis ctls
 
 -- what homing does in a turn, by the answer
 abbrev pub by_answer : ℕ → Homing → Option End → HomingTurn
-by_answer k h None = record { section = h.section; start = h.start; axis = h.axis; ctls = record { items = orders h.group k }; cut = None; end = None }
-by_answer k h (Some (end.Endstop tick)) = record { section = h.section; start = h.start; axis = h.axis; ctls = record { items = [] }; cut = Some tick; end = None }
-by_answer k h (Some end.NoSwitch) = record { section = h.section; start = h.start; axis = h.axis; ctls = record { items = [] }; cut = None; end = Some (cause.NoSwitch h.section) }
-by_answer k h (Some (end.Expired b turn)) = record { section = h.section; start = h.start; axis = h.axis; ctls = record { items = [] }; cut = None; end = Some (cause.Expired b turn) }
+by_answer k h None =
+    record {
+      section = h.section;
+      start = h.start;
+      axis = h.axis;
+      ctls = record { items = orders h.group k };
+      cut = None;
+      end = None;
+    }
+by_answer k h (Some (end.Endstop tick)) =
+    record {
+      section = h.section;
+      start = h.start;
+      axis = h.axis;
+      ctls = record { items = [] };
+      cut = Some tick;
+      end = None;
+    }
+by_answer k h (Some end.NoSwitch) =
+    record {
+      section = h.section;
+      start = h.start;
+      axis = h.axis;
+      ctls = record { items = [] };
+      cut = None;
+      end = Some (cause.NoSwitch h.section);
+    }
+by_answer k h (Some (end.Expired b turn)) =
+    record {
+      section = h.section;
+      start = h.start;
+      axis = h.axis;
+      ctls = record { items = [] };
+      cut = None;
+      end = Some (cause.Expired b turn);
+    }
 
+-- the homing section behind a turn, by the group's answer: while it has none, the group as it is after the
+-- turn
 abbrev pub goes_on_homing : ℕ → Homing → Option End → Option Homing
 goes_on_homing k h None = Some (record h { group = after h.group k })
 goes_on_homing k h (Some end) = None
@@ -134,16 +180,17 @@ goes_on_homing k h (Some end) = None
 abbrev pub hears_all : List Clocks → List State → Homing → Homing
 hears_all clocks states h = record h { group = hears_states clocks 0 h.start states h.group }
 
--- what homing does in a turn, by the answer
--- what homing does in a turn
+-- what homing does in a turn, behind the boards' states: nothing, where no axis homes
 abbrev pub homing_turn : List Clocks → ℕ → List State → Option Homing → HomingTurn
-homing_turn clocks k states None = record { section = 0; start = 0; axis = 0; ctls = record { items = [] }; cut = None; end = None }
+homing_turn clocks k states None =
+    record { section = 0; start = 0; axis = 0; ctls = record { items = [] }; cut = None; end = None }
 homing_turn clocks k states (Some h) = let g = hears_all clocks states h in by_answer k g (answer_in k g.start g.group)
 
 -- the homing section behind a turn; none once its group answered
 abbrev pub homing_after : List Clocks → ℕ → List State → Option Homing → Option Homing
 homing_after clocks k states None = None
-homing_after clocks k states (Some h) = let g = hears_all clocks states h in goes_on_homing k g (answer_in k g.start g.group)
+homing_after clocks k states (Some h) =
+    let g = hears_all clocks states h in goes_on_homing k g (answer_in k g.start g.group)
 
 -- a homing section and its group start in the same turn
 abbrev pub StartsTogether : Option Homing → Type 0

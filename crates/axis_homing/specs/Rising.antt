@@ -10,10 +10,11 @@ use Rattle.axis_homing.specs.declared.homing.Homing.{Homing}
 abbrev pub members_of : GroupState → List Member
 members_of g = map (λ (s : Seen). s.member) g.members
 
+-- the members of a group stand in the order of their boards
 abbrev pub IsRising : GroupState → Type 0
 IsRising g = BoardsRise (members_of g)
 
--- the members of a homing section, where there is one
+-- so the members of a homing section, where there is one
 abbrev pub HomingRises : Option Homing → Type 0
 HomingRises None = Unit {0}
 HomingRises (Some h) = IsRising h.group

@@ -26,8 +26,8 @@ pub struct Homing {
     pub group: Group,
 }
 
-/// What homing does in a turn for a section, its start and its axis: the orders to the boards; the tick of the switch, where the group
-/// answered so; the end, where it answered otherwise.
+/// What homing does in a turn for a section, its start and its axis: the orders to the boards; the tick of
+/// the switch, where the group answered so; the end, where it answered otherwise.
 #[derive(Drop)]
 pub struct HomingTurn {
     pub section: u64,

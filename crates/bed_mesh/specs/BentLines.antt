@@ -17,8 +17,8 @@ at place k = slice_index_or place k (pos 0)
 abbrev pub raised : Mesh → List ℤ → ℤ
 raised t place = at place 2 +ℤ height t (at place 0) (at place 1)
 
--- The line of a move at a speed in nm/s, from one place to another over a bed: x and y of the place, its z with the bed's
--- height there, the change of E, and the speed in mm per minute.
+-- The line of a move at a speed in nm/s, from one place to another over a bed: x and y of the place, its z
+-- with the bed's height there, the change of E, and the speed in mm per minute.
 unfoldable pub move_line : Mesh → ℕ → List ℤ → List ℤ → List ℕ
 move_line t speed from place =
     word (codes "G1 X") (at place 0) ++ (word (codes " Y") (at place 1) ++ (word (codes " Z") (raised t place)
@@ -46,8 +46,11 @@ abbrev pub letter_if : Bool → List ℕ → List ℕ
 letter_if true letter = letter
 letter_if false letter = []
 
+-- the line that homes these axes
 abbrev pub home_line : List Bool → List ℕ
-home_line axes = joined (codes "G28" ∷ letter_if (slice_index_or axes 0 false) (codes " X") ∷ letter_if (slice_index_or axes 1 false) (codes " Y") ∷ letter_if (slice_index_or axes 2 false) (codes " Z") ∷ [])
+home_line axes =
+    joined (codes "G28" ∷ letter_if (slice_index_or axes 0 false) (codes " X")
+    ∷ letter_if (slice_index_or axes 1 false) (codes " Y") ∷ letter_if (slice_index_or axes 2 false) (codes " Z") ∷ [])
 
 -- the lines of what a line of G-code does, over a bed, where this acceleration was written last
 abbrev pub lines_by : Mesh → ℕ → Action → List (List ℕ)

@@ -12,9 +12,12 @@ abbrev pub rungs : ℤ → ℕ → ℕ → List ℤ
 rungs first step zero = []
 rungs first step (suc count) = first ∷ rungs (first +ℤ pos step) step count
 
--- the distances from a start to the lines of a grid, in the order in which a move to an end comes to them; below 0 behind the start
+-- the distances from a start to the lines of a grid, in the order in which a move to an end comes to them;
+-- below 0 behind the start
 abbrev pub distances : Grid → ℤ → ℤ → List ℤ
-distances g start end = if int_lt end start then rungs (start -ℤ (g.from +ℤ pos (extent g))) g.step g.count else rungs (g.from -ℤ start) g.step g.count
+distances g start end =
+    if int_lt end start then rungs (start -ℤ (g.from +ℤ pos (extent g))) g.step g.count
+    else rungs (g.from -ℤ start) g.step g.count
 
 -- the distances that lie strictly between the ends of a move of this length
 abbrev pub between : ℕ → List ℤ → List ℕ
@@ -44,8 +47,9 @@ breadth m k = max 1 (unsigned_abs (change m k))
 abbrev pub scaled : ℕ → List ℕ → List ℕ
 scaled parts = map (λ d. d * parts)
 
--- Into how many parts a move is thought to be divided. The fraction of the move at which it crosses a line of x is a distance by the
--- change of x, and likewise of y; in these parts both are whole numbers, and their order is that of the fractions.
+-- Into how many parts a move is thought to be divided. The fraction of the move at which it crosses a line of
+-- x is a distance by the change of x, and likewise of y; in these parts both are whole numbers, and their
+-- order is that of the fractions.
 abbrev pub parts_of : Move → ℕ
 parts_of m = breadth m 0 * breadth m 1
 
@@ -61,12 +65,15 @@ coordinate_behind m n k = slice_index_or m.from k (pos 0) +ℤ int_div_euclid (c
 
 -- where a move is behind so many parts; on a line that it crosses there, its coordinate is the line's
 unfoldable pub place_behind : Move → ℕ → List ℤ
-place_behind m n = coordinate_behind m n 0 ∷ coordinate_behind m n 1 ∷ coordinate_behind m n 2 ∷ coordinate_behind m n 3 ∷ []
+place_behind m n =
+    coordinate_behind m n 0 ∷ coordinate_behind m n 1 ∷ coordinate_behind m n 2 ∷ coordinate_behind m n 3 ∷ []
 
--- the ends of a move that is cut at each line of x or y strictly between its ends: its cuts in order, and then its target
+-- the ends of a move that is cut at each line of x or y strictly between its ends: its cuts in order, and
+-- then its target
 unfoldable pub ends : Mesh → Move → List (List ℤ)
 ends t m = map (place_behind m) (cut_parts t m) ++ m.to ∷ []
 
 -- a place is no farther from a move's start than its target, along each coordinate
 pub record IsOnTheWay (m : Move) (place : List ℤ) : Type 0 where
-  pub near : (k : ℕ) → k < 4 → unsigned_abs (slice_index_or place k (pos 0) -ℤ slice_index_or m.from k (pos 0)) ≤ unsigned_abs (change m k)
+  pub near : (k : ℕ) → k < 4 →
+      unsigned_abs (slice_index_or place k (pos 0) -ℤ slice_index_or m.from k (pos 0)) ≤ unsigned_abs (change m k)

@@ -29,11 +29,14 @@ corner m i j = slice_index_or m.heights (j * m.x.count + i) (pos 0)
 -- weighted with the areas opposite to them, rounded down.
 unfoldable pub blend : ℕ → ℕ → ℤ → ℤ → ℤ → ℤ → ℕ → ℕ → ℤ
 blend dx dy h00 h10 h01 h11 u w =
-    int_div_euclid (((h00 *ℤ pos ((dx - u) * (dy - w))) +ℤ (h10 *ℤ pos (u * (dy - w)))) +ℤ ((h01 *ℤ pos ((dx - u) * w)) +ℤ (h11 *ℤ pos (u * w)))) (pos (dx * dy))
+    int_div_euclid (((h00 *ℤ pos ((dx - u) * (dy - w))) +ℤ (h10 *ℤ pos (u * (dy - w))))
+    +ℤ ((h01 *ℤ pos ((dx - u) * w)) +ℤ (h11 *ℤ pos (u * w))))
+    (pos (dx * dy))
 
 -- the height in a cell of a mesh
 abbrev pub cell_height : Mesh → ℕ → ℕ → ℕ → ℕ → ℤ
-cell_height m i j u w = blend m.x.step m.y.step (corner m i j) (corner m (i + 1) j) (corner m i (j + 1)) (corner m (i + 1) (j + 1)) u w
+cell_height m i j u w =
+    blend m.x.step m.y.step (corner m i j) (corner m (i + 1) j) (corner m i (j + 1)) (corner m (i + 1) (j + 1)) u w
 
 -- the height at a place
 unfoldable pub height : Mesh → ℤ → ℤ → ℤ

@@ -13,7 +13,8 @@ pub record HasRoom (start : ℕ) (s : State) (text : List ℕ) : Type 0 where
   pub near : start + length text ≤ 1_073_741_825
 
 -- these lines were written behind a text, before which so many bytes stand, and were all accepted
-pub record AreWritten (start : ℕ) (s : State) (old : List ℕ) (lines : List (List ℕ)) (t : State) (new : List ℕ) : Type 0 where
+pub record AreWritten (start : ℕ) (s : State) (old : List ℕ) (lines : List (List ℕ)) (t : State) (new : List ℕ)
+    : Type 0 where
   pub accepted_is : accepted (start + length old) s lines ≡ Ok t
   pub text : new ≡ old ++ text_of lines
   pub room : HasRoom start t new

@@ -27,14 +27,17 @@ pub record IsAdded (t : Mesh) (old : Writer) (action : Action) (new : Writer) : 
   pub space : HasSpace new
 
 -- a line was read, and a writer added the lines of what it does
-pub record IsStep (t : Mesh) (size start : ℕ) (s : State) (line : List ℕ) (old : Writer) (action : Action) (u : State) (new : Writer) : Type 0 where
+pub record IsStep (t : Mesh) (size start : ℕ) (s : State) (line : List ℕ) (old : Writer) (action : Action) (u : State)
+    (new : Writer) : Type 0 where
   pub reads : line_result size start s line ≡ Ok (u, action)
   pub added : IsAdded t old action new
 
 -- why a writer stops at a line
 abbrev pub IsHalt : Mesh → ℕ → ℕ → State → List ℕ → Pen → Halt → Type 0
 IsHalt t size start s line p Memory = ⊤
-IsHalt t size start s line p (Refused kind) = (number : ℕ) (passed : Bool) (rest : State → Pen → Sheet) → behind_line t number passed p (line_result size start s line) rest ≡ refused number kind
+IsHalt t size start s line p (Refused kind) =
+    (number : ℕ) (passed : Bool) (rest : State → Pen → Sheet) →
+    behind_line t number passed p (line_result size start s line) rest ≡ refused number kind
 
 -- a line that is refused leaves what was written before it
 abbrev pub IsKept : Halt → Writer → Writer → Type 0

@@ -12,9 +12,11 @@ use Rattle.bed_mesh.specs.declared.fault.MeshFault.TheVariants.{At, Memory}
 use Rattle.bed_mesh.specs.declared.mesh.Grid.{Grid}
 use Rattle.bed_mesh.specs.declared.mesh.Mesh.{Mesh}
 
+-- a text or a word, as its bytes
 abbrev pub Text : Type 0
 Text = List ℕ
 
+-- a list is empty
 abbrev pub is_none : {A : Type 0} → List A → Bool
 is_none [] = true
 is_none (x ∷ xs) = false
@@ -23,6 +25,7 @@ is_none (x ∷ xs) = false
 abbrev pub whole_word : ℤ × Text → Option ℤ
 whole_word found = if is_none found.1 then Some found.0 else None
 
+-- the number that a word is, in millionths, if it is one
 abbrev pub word_number : Text → Option ℤ
 word_number word = option_and_then whole_word (number_at 9 word)
 
@@ -32,6 +35,7 @@ before_numbers None others = None
 before_numbers (Some n) None = None
 before_numbers (Some n) (Some others) = Some (n ∷ others)
 
+-- the numbers that words are, in millionths, where each of them is one
 abbrev pub word_numbers : List Text → Option (List ℤ)
 word_numbers [] = Some []
 word_numbers (word ∷ words) = before_numbers (word_number word) (word_numbers words)
@@ -44,16 +48,22 @@ numbers_of count words = if length words == count then word_numbers words else N
 abbrev pub is_whole : ℤ → Bool
 is_whole n = unsigned_abs n % 1_000_000 == 0
 
+-- a number is one of these limits or between them
 abbrev pub is_between : ℤ → ℤ → ℤ → Bool
 is_between low high n = not (int_lt n low) && not (int_lt high n)
 
 -- a first line and its distance to the next within the limits
 abbrev pub is_grid : ℤ → ℤ → ℤ → Bool
-is_grid from step count = is_between (negsuc 499_999_999) (pos 500_000_000) from && (is_between (pos 1_000_000) (pos 500_000_000) step && is_between (pos 2_000_000) (pos 64_000_000) count)
+is_grid from step count =
+    is_between (negsuc 499_999_999) (pos 500_000_000) from
+    && (is_between (pos 1_000_000) (pos 500_000_000) step && is_between (pos 2_000_000) (pos 64_000_000) count)
 
+-- the lines of a grid along one axis: the first one, the distance from one to the next, in nanometres, and
+-- how many they are
 abbrev pub grid_of : ℤ → ℤ → ℤ → Grid
 grid_of from step count = record { from = from; step = unsigned_abs step; count = unsigned_abs count / 1_000_000 }
 
+-- such lines, where they are within the limits
 abbrev pub grid_if : ℤ → ℤ → ℤ → Option Grid
 grid_if from step count = if is_grid from step count then Some (grid_of from step count) else None
 
@@ -64,6 +74,7 @@ chosen true None y = Err OutOfLimit
 chosen true (Some x) None = Err OutOfLimit
 chosen true (Some x) (Some y) = Ok (x, y)
 
+-- the grids of x and y from six numbers: where each begins, its steps and its counts
 abbrev pub six_grids : ℤ → ℤ → ℤ → ℤ → ℤ → ℤ → Result (Grid × Grid) MeshKind
 six_grids x y dx dy nx ny = chosen (is_whole nx && is_whole ny) (grid_if x dx nx) (grid_if y dy ny)
 
@@ -81,6 +92,7 @@ head_of (word ∷ words) = if bytes_eq word (codes "mesh") then grids_of (number
 abbrev pub is_height : ℤ → Bool
 is_height h = nat_le (unsigned_abs h) 5_000_000
 
+-- heights that are all within the limits; numbers that aren't read are a bad line
 abbrev pub limited : Option (List ℤ) → Result (List ℤ) MeshKind
 limited None = Err BadLine
 limited (Some heights) = if list_all is_height heights then Ok heights else Err OutOfLimit
@@ -94,6 +106,7 @@ abbrev pub with_front : List ℤ → Result (List ℤ) MeshFault → Result (Lis
 with_front front (Ok heights) = Ok (front ++ heights)
 with_front front (Err fault) = Err fault
 
+-- a row of heights before the later rows, or the first fault
 abbrev pub before_rows : ℕ → Result (List ℤ) MeshKind → Result (List ℤ) MeshFault → Result (List ℤ) MeshFault
 before_rows number (Ok row) later = with_front row later
 before_rows number (Err kind) later = Err (At number kind)
@@ -105,21 +118,25 @@ rows_of count zero (line ∷ lines) = Err (At line.0 BadLine)
 rows_of count (suc rows) [] = Err (At 0 Missing)
 rows_of count (suc rows) (line ∷ lines) = before_rows line.0 (row_of count line.1) (rows_of count rows lines)
 
+-- a bed with these grids and these heights, or the first fault
 abbrev pub with_heights : Grid × Grid → Result (List ℤ) MeshFault → Result Mesh MeshFault
 with_heights grids (Ok heights) = Ok (record { x = grids.0; y = grids.1; heights = heights })
 with_heights grids (Err fault) = Err fault
 
+-- a bed by its first line and the lines below it
 abbrev pub below_head : ℕ → Result (Grid × Grid) MeshKind → List (ℕ × List Text) → Result Mesh MeshFault
 below_head number (Err kind) lines = Err (At number kind)
 below_head number (Ok grids) lines = with_heights grids (rows_of grids.0.count grids.1.count lines)
 
+-- a bed by the lines that have words, of which the first one tells the grids
 abbrev pub table_of : List (ℕ × List Text) → Result Mesh MeshFault
 table_of [] = Err (At 0 Missing)
 table_of (line ∷ lines) = below_head line.0 (head_of line.1) lines
 
 -- the mesh of a text, or its first fault; `#` begins a comment
 unfoldable pub reading : Text → Result Mesh MeshFault
-reading text = if nat_lt 1_048_576 (length text) then Err (At 0 TooLarge) else table_of (worded_lines 35 1 (lines_of text))
+reading text =
+    if nat_lt 1_048_576 (length text) then Err (At 0 TooLarge) else table_of (worded_lines 35 1 (lines_of text))
 
 -- a reader's answer is this, but for want of memory
 abbrev pub Answers : {A : Type 0} → Result A MeshFault → Result A MeshFault → Type 0

@@ -2,6 +2,7 @@
 use Rattle.std.specs.Prelude.{◌≡◌, ℕ, ◌+◌, ℤ, List, ◌++◌, length, Option, Some, None}
 use Rattle.bed_mesh.specs.Tables.{Text, word_numbers}
 
+-- numbers before others, where those are read
 abbrev pub before_all : List ℤ → Option (List ℤ) → Option (List ℤ)
 before_all front None = None
 before_all front (Some others) = Some (front ++ others)

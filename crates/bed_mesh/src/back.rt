@@ -35,7 +35,8 @@ impl From<AllocError> for Halt {
 pub(crate) fn read_back(modes: &mut Modes, line: &[u8], start: usize) -> Result<(), LineKind>
     requires few { modes.old.lines ≤ start }
     requires near { start ≤ 1_073_741_825 }
-    ensures value { MatchResult result (λ _. accepted start modes.old (line.now ∷ []) ≡ Ok modes.new) (λ kind. accepted start modes.old (line.now ∷ []) ≡ Err kind) }
+    ensures value { MatchResult result (λ _. accepted start modes.old (line.now ∷ []) ≡ Ok modes.new)
+        (λ kind. accepted start modes.old (line.now ∷ []) ≡ Err kind) }
     ensures lines { OnOk result (modes.new.lines ≤ modes.old.lines + 1) }
     ensures small { OnOk result (start + length line.now ≤ 1_073_741_824) }
 {
@@ -61,7 +62,8 @@ pub(crate) fn end_line(
     ensures accepted { OnOk result (accepted (start + from) modes.old (drop from text.old.items ∷ []) ≡ Ok modes.new) }
     ensures text { OnOk result (text.new.items ≡ text.old.items ++ 10 ∷ []) }
     ensures room { OnOk result (HasRoom start modes.new text.new.items) }
-    ensures why { IfErr result (λ halt. IsWhy halt (accepted (start + from) modes.old (drop from text.old.items ∷ []))) }
+    ensures why { IfErr result
+        (λ halt. IsWhy halt (accepted (start + from) modes.old (drop from text.old.items ∷ []))) }
 {
     match read_back(modes, &text[from..], start + from) {
         Ok(()) => {
@@ -80,8 +82,10 @@ pub(crate) fn put_line(
     modes: &mut Modes,
 ) -> Result<(), Halt>
     requires { HasRoom start modes.old text.old.items }
-    ensures written { OnOk result (AreWritten start modes.old text.old.items (pieces_text pieces.now ∷ []) modes.new text.new.items) }
-    ensures why { IfErr result (λ halt. IsWhy halt (accepted (start + length text.old.items) modes.old (pieces_text pieces.now ∷ []))) }
+    ensures written { OnOk result
+        (AreWritten start modes.old text.old.items (pieces_text pieces.now ∷ []) modes.new text.new.items) }
+    ensures why { IfErr result
+        (λ halt. IsWhy halt (accepted (start + length text.old.items) modes.old (pieces_text pieces.now ∷ []))) }
 {
     let from = text.len();
     put_pieces(text, pieces)?;

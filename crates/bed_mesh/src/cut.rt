@@ -13,8 +13,9 @@ use crate::mesh::{Grid, Mesh};
 use plan_types::Move;
 use std::alloc::{AllocError, Global};
 
-/// The lines of a grid that a move has still to come to: how far the next one is from the move's start, how far one line is
-/// behind the other, how many there are, how far the move goes, and how many parts of the move lie in a nanometre.
+/// The lines of a grid that a move has still to come to: how far the next one is from the move's start, how
+/// far one line is behind the other, how many there are, how far the move goes, and how many parts of the
+/// move lie in a nanometre.
 #[derive(Clone, Copy)]
 struct Ahead {
     next: u64,
@@ -263,7 +264,9 @@ fn ahead_of(grid: &Grid, m: &Move, axis: usize, parts: u64) -> Ahead
     requires axis { axis < 2 }
     requires some { 0 < parts }
     requires few { parts ≤ 1_500_000_000 }
-    ensures numbers { numbers result ≡ scaled parts (crossings grid.now (slice_index_or m.now.from axis (pos 0)) (slice_index_or m.now.to axis (pos 0))) }
+    ensures numbers { numbers result
+        ≡ scaled parts
+        (crossings grid.now (slice_index_or m.now.from axis (pos 0)) (slice_index_or m.now.to axis (pos 0))) }
     ensures ahead { AreAhead result }
     ensures span { result.span ≤ breadth m.now axis }
     ensures parts { result.parts ≡ parts }
@@ -309,8 +312,9 @@ fn product(across: u64, along: u64) -> u64
 }
 
 impl Mesh {
-    /// The ends of a move that is cut at each line of the grids strictly between its ends: its cuts in order, each once, and
-    /// then its target. At a cut each coordinate is its part of the way, rounded down; on a line it is exactly the line's.
+    /// The ends of a move that is cut at each line of the grids strictly between its ends: its cuts in order,
+    /// each once, and then its target. At a cut each coordinate is its part of the way, rounded down; on a
+    /// line it is exactly the line's.
     ///
     /// # Errors
     ///

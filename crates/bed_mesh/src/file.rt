@@ -26,8 +26,8 @@ pub struct MeshOut {
     pub read: ReadEnd,
 }
 
-/// What is written so far, the modes behind it, and the acceleration that was written last. The lines for one line of the text
-/// are written aside, and added when all of them are accepted.
+/// What is written so far, the modes behind it, and the acceleration that was written last. The lines for one
+/// line of the text are written aside, and added when all of them are accepted.
 #[derive(Drop)]
 struct Writer {
     code: Vec<u8>,
@@ -93,7 +93,8 @@ fn write_action(
     requires space { HasSpace writer.old }
     ensures written { OnOk result (IsAdded mesh.now writer.old action.now writer.new) }
     ensures kept { IfErr result (λ halt. IsKept halt writer.old writer.new) }
-    ensures why { IfErr result (λ halt. IsWhy halt (accepted (length writer.old.code.items) writer.old.modes (lines_by mesh.now writer.old.last action.now))) }
+    ensures why { IfErr result (λ halt. IsWhy halt
+        (accepted (length writer.old.code.items) writer.old.modes (lines_by mesh.now writer.old.last action.now))) }
 {
     writer.aside.clear();
     let start = writer.code.len();
@@ -125,12 +126,14 @@ fn write_line(
     requires few { modes.old.lines ≤ place.start }
     requires some { place.start < place.size }
     requires space { HasSpace writer.old }
-    ensures step { IfOk result (λ step. IsStep mesh.now place.size place.start modes.old line.now writer.old step.action modes.new writer.new) }
+    ensures step { IfOk result (λ step.
+        IsStep mesh.now place.size place.start modes.old line.now writer.old step.action modes.new writer.new) }
     ensures passed { IfOk result (λ step. step.passed ≡ readings.is_passed line.now) }
     ensures lines { IfOk result (λ step. modes.new.lines ≤ modes.old.lines + 1) }
     ensures small { IfOk result (λ step. place.start + length line.now ≤ 1073741824) }
     ensures kept { IfErr result (λ halt. IsKept halt writer.old writer.new) }
-    ensures halt { IfErr result (λ halt. IsHalt mesh.now place.size place.start modes.old line.now (pen_of writer.old) halt) }
+    ensures halt { IfErr result
+        (λ halt. IsHalt mesh.now place.size place.start modes.old line.now (pen_of writer.old) halt) }
 {
     match step_line(modes, line, place) {
         Ok(step) => {
@@ -157,9 +160,10 @@ fn is_stop(action: &Action) -> bool
     }
 }
 
-/// Writes the file for a text of G-code on a machine, whose moves follow a bed: each move is cut at the lines of the mesh, and the
-/// bed's height is added at each end. Every line is read back as it is written; where one is refused, the file ends before the
-/// lines of that line of the text, and `read` says so. The file's last line, the comment that says how it ends, is left out.
+/// Writes the file for a text of G-code on a machine, whose moves follow a bed: each move is cut at the lines
+/// of the mesh, and the bed's height is added at each end. Every line is read back as it is written; where
+/// one is refused, the file ends before the lines of that line of the text, and `read` says so. The file's
+/// last line, the comment that says how it ends, is left out.
 ///
 /// # Errors
 ///

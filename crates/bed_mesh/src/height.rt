@@ -140,8 +140,9 @@ fn corner(mesh: &Mesh, i: u64, j: u64) -> i64
 }
 
 impl Mesh {
-    /// The height of the bed at a place, in nm. Beyond the grid it is that at the nearest place within. Inside a cell it is
-    /// the mean of its corners, weighted with the areas opposite to them and rounded down.
+    /// The height of the bed at a place, in nm. Beyond the grid it is that at the nearest place within.
+    /// Inside a cell it is the mean of its corners, weighted with the areas opposite to them and rounded
+    /// down.
     #[tactic(auto, unfolding(crate::specs::Grids::height))]
     pub fn height(&self, x: i64, y: i64) -> i64
         requires valid { IsValidMesh self.now }

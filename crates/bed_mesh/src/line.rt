@@ -84,8 +84,10 @@ fn put_end(
     requires from { unsigned_abs (at from.now 3) ≤ 2 ^ 61 }
     requires near { IsNearPlace place.now }
     requires room { HasRoom start modes.old text.old.items }
-    ensures written { OnOk result (AreWritten start modes.old text.old.items (move_line mesh.now speed from.now place.now ∷ []) modes.new text.new.items) }
-    ensures why { IfErr result (λ halt. IsWhy halt (accepted (start + length text.old.items) modes.old (move_line mesh.now speed from.now place.now ∷ []))) }
+    ensures written { OnOk result (AreWritten start modes.old text.old.items
+        (move_line mesh.now speed from.now place.now ∷ []) modes.new text.new.items) }
+    ensures why { IfErr result (λ halt. IsWhy halt
+        (accepted (start + length text.old.items) modes.old (move_line mesh.now speed from.now place.now ∷ []))) }
 {
     let behind = text.len();
     put_move(text, mesh, speed, from, place)?;
@@ -118,8 +120,10 @@ fn put_ends(
     requires from { unsigned_abs (at from.now 3) ≤ 2 ^ 61 }
     requires near { All IsNearPlace places.now }
     requires room { HasRoom start modes.old text.old.items }
-    ensures written { OnOk result (AreWritten start modes.old text.old.items (move_lines mesh.now speed from.now places.now) modes.new text.new.items) }
-    ensures why { IfErr result (λ halt. IsWhy halt (accepted (start + length text.old.items) modes.old (move_lines mesh.now speed from.now places.now))) }
+    ensures written { OnOk result (AreWritten start modes.old text.old.items
+        (move_lines mesh.now speed from.now places.now) modes.new text.new.items) }
+    ensures why { IfErr result (λ halt. IsWhy halt
+        (accepted (start + length text.old.items) modes.old (move_lines mesh.now speed from.now places.now))) }
 {
     let mut last = from;
     let mut rest = places;
@@ -141,8 +145,10 @@ fn put_acceleration(
 ) -> Result<(), Halt>
     requires small { acceleration ≤ 100_000_000_000 }
     requires room { HasRoom start modes.old text.old.items }
-    ensures written { OnOk result (AreWritten start modes.old text.old.items (new_acceleration last acceleration) modes.new text.new.items) }
-    ensures why { IfErr result (λ halt. IsWhy halt (accepted (start + length text.old.items) modes.old (new_acceleration last acceleration))) }
+    ensures written { OnOk result
+        (AreWritten start modes.old text.old.items (new_acceleration last acceleration) modes.new text.new.items) }
+    ensures why { IfErr result
+        (λ halt. IsWhy halt (accepted (start + length text.old.items) modes.old (new_acceleration last acceleration))) }
 {
     if acceleration == last {
         return Ok(());
@@ -166,8 +172,10 @@ fn put_moves(
     requires valid { IsValidMove m.now }
     requires reachable { IsReachable m.now }
     requires room { HasRoom start modes.old text.old.items }
-    ensures written { OnOk result (AreWritten start modes.old text.old.items (specs.all_lines mesh.now last m.now) modes.new text.new.items) }
-    ensures why { IfErr result (λ halt. IsWhy halt (accepted (start + length text.old.items) modes.old (specs.all_lines mesh.now last m.now))) }
+    ensures written { OnOk result
+        (AreWritten start modes.old text.old.items (specs.all_lines mesh.now last m.now) modes.new text.new.items) }
+    ensures why { IfErr result (λ halt.
+        IsWhy halt (accepted (start + length text.old.items) modes.old (specs.all_lines mesh.now last m.now))) }
 {
     put_acceleration(text, last, m.a, start, modes)?;
     let ends = mesh.cut(alloc, m)?;
@@ -194,8 +202,10 @@ pub(crate) fn put_action(
     requires mesh { IsValidMesh mesh.now }
     requires valid { IsValidAction action.now }
     requires room { HasRoom start modes.old text.old.items }
-    ensures written { OnOk result (AreWritten start modes.old text.old.items (lines_by mesh.now last action.now) modes.new text.new.items) }
-    ensures why { IfErr result (λ halt. IsWhy halt (accepted (start + length text.old.items) modes.old (lines_by mesh.now last action.now))) }
+    ensures written { OnOk result
+        (AreWritten start modes.old text.old.items (lines_by mesh.now last action.now) modes.new text.new.items) }
+    ensures why { IfErr result
+        (λ halt. IsWhy halt (accepted (start + length text.old.items) modes.old (lines_by mesh.now last action.now))) }
 {
     match action {
         Action::None => Ok(()),

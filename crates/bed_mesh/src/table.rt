@@ -33,7 +33,9 @@ fn word_number(word: &[u8]) -> Option<i64>
 
 /// Adds the numbers of a line of so many words. Answers whether there are so many and each is a number.
 fn push_numbers(into: &mut Vec<i64>, words: &[u8], count: u64) -> Result<bool, AllocError>
-    ensures numbers { IfOk result (λ are. are ≡ true → (numbers : List ℤ) × (numbers_of count (words_of words.now) ≡ Some numbers) × (into.new.items ≡ into.old.items ++ numbers)) }
+    ensures numbers { IfOk result (λ are. are ≡ true →
+        (numbers : List ℤ) × (numbers_of count (words_of words.now) ≡ Some numbers)
+        × (into.new.items ≡ into.old.items ++ numbers)) }
     ensures size { IfOk result (λ are. are ≡ true → length into.new.items ≡ length into.old.items + count) }
     ensures none { IfOk result (λ are. are ≡ false → numbers_of count (words_of words.now) ≡ None) }
 {
@@ -196,10 +198,12 @@ fn are_heights(heights: &[i64]) -> bool
 
 /// Adds the heights of a row.
 fn push_row(heights: &mut Vec<i64>, line: &WordedLine, count: u64) -> Result<(), MeshFault>
-    ensures row { OnOk result ((row : List ℤ) × (row_of count (words_of line.now.words.now) ≡ Ok row) × (heights.new.items ≡ heights.old.items ++ row)) }
+    ensures row { OnOk result ((row : List ℤ) × (row_of count (words_of line.now.words.now) ≡ Ok row)
+        × (heights.new.items ≡ heights.old.items ++ row)) }
     ensures fault { IfErr result (IsFaultAt line.now.number (row_of count (words_of line.now.words.now))) }
     ensures count { OnOk result (length heights.new.items ≡ length heights.old.items + count) }
-    ensures limits { OnOk result (All (λ h. unsigned_abs h ≤ 5_000_000) heights.old.items → All (λ h. unsigned_abs h ≤ 5_000_000) heights.new.items) }
+    ensures limits { OnOk result (All (λ h. unsigned_abs h ≤ 5_000_000) heights.old.items →
+        All (λ h. unsigned_abs h ≤ 5_000_000) heights.new.items) }
 {
     let before = heights.len();
     if !push_numbers(heights, line.words, count)? {
@@ -220,7 +224,8 @@ fn push_row(heights: &mut Vec<i64>, line: &WordedLine, count: u64) -> Result<(),
 /// Reads the rows below the first line, where the text's first line has this number.
 fn read_rows(alloc: Global, grids: &Grids, text: &[u8], number: u64) -> Result<Vec<i64>, MeshFault>
     requires { number + length text.now < 2 ^ 64 }
-    ensures rows { AnswersRows result (rows_of grids.now.x.count grids.now.y.count (worded_lines 35 number (lines_of text.now))) }
+    ensures rows { AnswersRows result
+        (rows_of grids.now.x.count grids.now.y.count (worded_lines 35 number (lines_of text.now))) }
     ensures count { IfOk result (λ rows. length rows.items ≡ grids.now.x.count * grids.now.y.count) }
     ensures limits { IfOk result (λ rows. All (λ h. unsigned_abs h ≤ 5_000_000) rows.items) }
 {
@@ -249,7 +254,8 @@ fn read_rows(alloc: Global, grids: &Grids, text: &[u8], number: u64) -> Result<V
     Ok(heights)
 }
 
-/// Reads a table: the mesh that its lines say, or its first fault. A line that begins with `#` behind blanks is a comment.
+/// Reads a table: the mesh that its lines say, or its first fault. A line that begins with `#` behind blanks
+/// is a comment.
 ///
 /// # Errors
 ///

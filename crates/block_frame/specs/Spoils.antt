@@ -10,6 +10,7 @@ use Rattle.block_frame.specs.Stream.{Reads, blocks_in}
 unfoldable pub ends : List ℕ
 ends = replicate 64 126
 
+-- what a scanner finds is bad bytes
 abbrev pub is_bad : Found → Bool
 is_bad (Block number content) = false
 is_bad Skip = false
@@ -43,8 +44,10 @@ AreEnds (b ∷ bs) = (b ≡ 126) × AreEnds bs
 abbrev pub begins_block : List ℕ → Bool
 begins_block [] = false
 begins_block (len ∷ []) = false
-begins_block (len ∷ s ∷ bytes) = nat_lt s 32 && nat_le len 64 && bytes_eq (take len (len ∷ s ∷ bytes)) (block_text (s - 16) (take (len - 5) bytes))
+begins_block (len ∷ s ∷ bytes) =
+    nat_lt s 32 && nat_le len 64 && bytes_eq (take len (len ∷ s ∷ bytes)) (block_text (s - 16) (take (len - 5) bytes))
 
+-- the first byte is one that ends a block
 abbrev pub begins_end : List ℕ → Bool
 begins_end [] = false
 begins_end (b ∷ bytes) = b == 126
@@ -64,11 +67,13 @@ to_end (b ∷ bytes) = if b == 126 then (1, false) else ((to_end bytes).0 + 1, (
 abbrev pub are_only_bad : ℕ → Bool → List ℕ → Bool → Bool
 are_only_bad zero dropping bytes before = false
 are_only_bad (suc n) true [] before = before
-are_only_bad (suc n) true (b ∷ bytes) before = are_only_bad n (to_end (b ∷ bytes)).1 (drop (to_end (b ∷ bytes)).0 (b ∷ bytes)) true
+are_only_bad (suc n) true (b ∷ bytes) before =
+    are_only_bad n (to_end (b ∷ bytes)).1 (drop (to_end (b ∷ bytes)).0 (b ∷ bytes)) true
 are_only_bad (suc n) false bytes before =
     let behind_end = are_only_bad n false (drop 1 bytes) before in
     let behind_bad = are_only_bad n (to_end bytes).1 (drop (to_end bytes).0 bytes) true in
-    if begins_block bytes then false else (if begins_end bytes then behind_end else (if are_few bytes then before else behind_bad))
+    if begins_block bytes then false
+    else (if begins_end bytes then behind_end else (if are_few bytes then before else behind_bad))
 
 -- a block that was changed to these bytes is found out
 unfoldable pub is_found_out : List ℕ → Bool

@@ -9,14 +9,15 @@ use Rattle.block_frame.specs.Scanned.{Scans}
 abbrev pub Reads : Bool → List ℕ → List Found → List ℕ → Bool → Type 0
 Reads dropping bytes [] left drops = Scans dropping bytes NeedMore 0 drops × (left ≡ bytes)
 Reads dropping bytes (f ∷ fs) left drops =
-    (count : ℕ) × (next : Bool) × (0 < count) × Scans dropping bytes f count next × Reads next (drop count bytes) fs left drops
+    (count : ℕ) × (next : Bool) × (0 < count) × Scans dropping bytes f count next
+    × Reads next (drop count bytes) fs left drops
 
 -- the things found in pieces, of which each comes behind the bytes that are left of those before it
 abbrev pub ReadsPieces : Bool → List ℕ → List (List ℕ) → List Found → List ℕ → Bool → Type 0
 ReadsPieces dropping before [] found left drops = (found ≡ []) × (left ≡ before) × (drops ≡ dropping)
 ReadsPieces dropping before (piece ∷ pieces) found left drops =
-    (first rest : List Found) × (kept : List ℕ) × (next : Bool) × (found ≡ first ++ rest) × Reads dropping (before ++ piece) first kept next
-    × ReadsPieces next kept pieces rest left drops
+    (first rest : List Found) × (kept : List ℕ) × (next : Bool) × (found ≡ first ++ rest)
+    × Reads dropping (before ++ piece) first kept next × ReadsPieces next kept pieces rest left drops
 
 -- the number and content of a block, nothing for other things
 abbrev pub block_in : Found → List (ℕ × List ℕ)

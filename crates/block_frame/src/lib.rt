@@ -52,14 +52,18 @@ fn taken_in(crc: u16, byte: u8) -> u16
 
 /// The law of blocks: none begins another.
 pub fn one_block()
-    ensures { (m n : ℕ) (c d x y : List ℕ) → length c ≤ 59 → length d ≤ 59 → block_text m c ++ x ≡ block_text n d ++ y → (m ≡ n) × (c ≡ d) }
+    ensures { (m n : ℕ) (c d x y : List ℕ) → length c ≤ 59 → length d ≤ 59 → block_text m c ++ x ≡ block_text n d ++ y →
+        (m ≡ n) × (c ≡ d) }
 {}
 
-/// The law of changed bytes: a block of which one byte past the length was changed is no block of the same length, whatever
-/// follows. A block found there has its length still, so the byte is the one that stood there.
+/// The law of changed bytes: a block of which one byte past the length was changed is no block of the same
+/// length, whatever follows. A block found there has its length still, so the byte is the one that stood
+/// there.
 pub fn changed_bytes_are_found_out()
-    ensures { (number : ℕ) (content rest : List ℕ) (i byte : ℕ) → number < 16 → length content ≤ 59 → ((k : ℕ) → slice_index content k < 256) →
-        0 < i → i < length content + 5 → byte < 256 → HasBlock (slice_set (block_text number content) i byte ++ rest) → byte ≡ slice_index (block_text number content) i }
+    ensures { (number : ℕ) (content rest : List ℕ) (i byte : ℕ) → number < 16 → length content ≤ 59 →
+        ((k : ℕ) → slice_index content k < 256) → 0 < i → i < length content + 5 → byte < 256 →
+        HasBlock (slice_set (block_text number content) i byte ++ rest) →
+        byte ≡ slice_index (block_text number content) i }
 {}
 
 /// What stands first in the bytes.
@@ -104,8 +108,10 @@ fn decide(bytes: &[u8]) -> Decision
 /// Whether the bytes end as a block of this length, of which the checksum is right.
 fn is_whole(bytes: &[u8], len: usize) -> bool
     requires len { (5 ≤ len) × (len ≤ length bytes.now) }
-    ensures { IsTrue result ↔ ((slice_index bytes.now (len - 1) ≡ 126)
-        × (checksum (take (len - 3) bytes.now) ≡ 256 * slice_index bytes.now (len - 3) + slice_index bytes.now (len - 2))) }
+    ensures { IsTrue result
+        ↔ ((slice_index bytes.now (len - 1) ≡ 126)
+        × (checksum (take (len - 3) bytes.now)
+        ≡ 256 * slice_index bytes.now (len - 3) + slice_index bytes.now (len - 2))) }
 {
     let crc = checksum_of(&bytes[..len - 3]);
     bytes[len - 1] == 0x7e && crc == 256 * u16::from(bytes[len - 3]) + u16::from(bytes[len - 2])
@@ -154,8 +160,8 @@ impl Scanner {
     }
 }
 
-/// What stands first in any bytes, and how many of them it takes. Where it is a `Bad` without a `7E`, the scanner goes on
-/// dropping in what comes next.
+/// What stands first in any bytes, and how many of them it takes. Where it is a `Bad` without a `7E`, the
+/// scanner goes on dropping in what comes next.
 pub fn scan(s: &mut Scanner, bytes: &[u8]) -> (Found, usize)
     ensures { Scans s.old bytes.now result.0 result.1 s.new }
 {
@@ -225,7 +231,8 @@ ghost use Rattle.block_frame.specs.Stream.{Reads, ReadsPieces, blocks_in};
 /// as a whole, and leave the same.
 pub fn pieces_have_the_same_blocks()
     ensures { (pieces : List (List ℕ)) (whole found : List Found) (left left1 : List ℕ) (drops drops1 : Bool) →
-        Reads false (flat_map (λ piece. piece) pieces) whole left drops → ReadsPieces false [] pieces found left1 drops1 →
+        Reads false (flat_map (λ piece. piece) pieces) whole left drops →
+        ReadsPieces false [] pieces found left1 drops1 →
         (blocks_in whole ≡ blocks_in found) × (left ≡ left1) × (drops ≡ drops1) }
 {}
 
@@ -279,5 +286,6 @@ fn is_only_bad(scanner: &mut Scanner, bytes: &[u8], before: bool) -> bool
 
 /// The law of ends: behind them each scanner stands where a block begins, whatever came before them.
 pub fn ends_let_blocks_begin()
-    ensures { (dropping drops : Bool) (bytes left : List ℕ) (found : List Found) → Reads dropping (bytes ++ ends) found left drops → (left ≡ []) × (drops ≡ false) }
+    ensures { (dropping drops : Bool) (bytes left : List ℕ) (found : List Found) →
+        Reads dropping (bytes ++ ends) found left drops → (left ≡ []) × (drops ≡ false) }
 {}

@@ -19,12 +19,24 @@ more n = min (n + 1) (2 ^ 64 - 1)
 
 -- a board that was asked nothing
 abbrev pub new_asking : Asking
-new_asking = record { stage = Identify 0; since = None; missed = 0; first = 0; owed = 0; put = None; samples = 0; best = None; waits = false }
+new_asking =
+    record {
+      stage = Identify 0;
+      since = None;
+      missed = 0;
+      first = 0;
+      owed = 0;
+      put = None;
+      samples = 0;
+      best = None;
+      waits = false;
+    }
 
 -- a block that ends with a `get_uptime` was put on the line in a turn
 abbrev pub was_put : ℕ → Asking → ℕ → Asking
 was_put turn a number = record a { owed = a.owed - 1; put = Some (record { number = number; turn = turn }) }
 
+-- so for each of some blocks that were put in a turn, by their numbers
 abbrev pub were_put : ℕ → List ℕ → Asking → Asking
 were_put turn [] a = a
 were_put turn (n ∷ ns) a = were_put turn ns (was_put turn a n)
@@ -34,6 +46,7 @@ abbrev pub is_in_time : ℕ → Option ℕ → Bool
 is_in_time turn None = false
 is_in_time turn (Some since) = nat_le (turn - since) 3
 
+-- a block stands right behind the one that was put
 abbrev pub is_behind : Option Put → ℕ → Bool
 is_behind None number = false
 is_behind (Some put) number = number == put.number + 1
@@ -42,6 +55,7 @@ is_behind (Some put) number = number == put.number + 1
 abbrev pub tells_clock : Asking → ℕ → Bool
 tells_clock a number = (a.owed == 0) && is_behind a.put number
 
+-- the turn in which a block was put
 abbrev pub put_turn : Option Put → ℕ
 put_turn None = 0
 put_turn (Some put) = put.turn
@@ -50,6 +64,7 @@ put_turn (Some put) = put.turn
 abbrev pub sample_of : Asking → ℕ → ℕ → ℕ → Sample
 sample_of a turn high clock = record { sent = put_turn a.put; got = turn; clock = high * 2 ^ 32 + clock }
 
+-- the better of two samples, where there is a first one
 abbrev pub best_of : Option Sample → Sample → Sample
 best_of None s = s
 best_of (Some best) s = better best s
@@ -65,25 +80,33 @@ after_piece a offset size = settled a (if nat_lt size 40 then Uptime else Identi
 -- eight samples are taken
 abbrev pub after_clock : Asking → Sample → Asking
 after_clock a s =
-    record (settled a (if nat_le 8 (more a.samples) then Configure 0 else Uptime)) { samples = more a.samples; best = Some (best_of a.best s) }
+    record (settled a (if nat_le 8 (more a.samples) then Configure 0 else Uptime)) {
+      samples = more a.samples;
+      best = Some (best_of a.best s);
+    }
 
+-- an asking behind a piece of the dictionary, where it is the piece that was asked for
 abbrev pub if_piece : Asking → ℕ → ℕ → ℕ → Option Asking
 if_piece a offset of size = if offset == of then Some (after_piece a offset size) else None
 
+-- an asking behind a clock, where it answers the last `get_uptime`
 abbrev pub if_clock : ℕ → Asking → ℕ → ℕ → ℕ → Option Asking
-if_clock turn a number high clock = if tells_clock a number then Some (after_clock a (sample_of a turn high clock)) else None
+if_clock turn a number high clock =
+    if tells_clock a number then Some (after_clock a (sample_of a turn high clock)) else None
 
 -- once a board is connected, an answer gives the newest sample
 abbrev pub after_drift : Asking → Sample → Asking
 after_drift a s = record (settled a Connected) { best = Some s }
 
+-- so once the board is connected
 abbrev pub if_drift : ℕ → Asking → ℕ → ℕ → ℕ → Option Asking
-if_drift turn a number high clock = if tells_clock a number then Some (after_drift a (sample_of a turn high clock)) else None
+if_drift turn a number high clock =
+    if tells_clock a number then Some (after_drift a (sample_of a turn high clock)) else None
 
+-- an asking behind the board's word that its configuration is complete
 abbrev pub if_configured : Asking → ℕ → Option Asking
 if_configured a is_config = if is_config == 1 then Some (settled a Connected) else None
 
--- what a news that came in a turn makes of an asking, where it answers it
 -- what an answer that came in a turn makes of an asking, where it answers it
 abbrev pub answered : ℕ → Asking → Stage → ℕ → Cmd → Option Asking
 answered turn a (Identify offset) number (cmd.IdentifyResponse of bytes) = if_piece a offset of (length bytes.items)
@@ -92,6 +115,7 @@ answered turn a Config number (cmd.Config is_config crc is_shutdown move_count) 
 answered turn a Connected number (cmd.Uptime high clock) = if_drift turn a number high clock
 answered turn a stage number answer = None
 
+-- an asking that was answered, else another one
 abbrev pub or_else : Option Asking → Asking → Asking
 or_else None a = a
 or_else (Some a) b = a
@@ -107,15 +131,17 @@ listens a s =
     let b = were_put s.turn s.asked a in
     (if is_in_time s.turn b.since then hears s.turn s.news b else b)
 
+-- nothing of a configuration is left to be queued
 abbrev pub is_over : List Setup → Bool
 is_over [] = true
 is_over (s ∷ ss) = false
 
+-- the stage behind a turn: once all of the configuration is queued, the board is asked for it
 abbrev pub ready_stage : List Setup → Stage → Stage
 ready_stage setups (Configure n) = if is_over (drop n setups) then Config else Configure n
 ready_stage setups stage = stage
 
--- once all of the configuration is queued, the board is asked for it
+-- an asking as a turn begins, with its stage
 abbrev pub ready : List Setup → Asking → Asking
 ready setups a = record a { stage = ready_stage setups a.stage }
 
@@ -124,6 +150,7 @@ abbrev pub is_due : ℕ → Option ℕ → Bool
 is_due k None = true
 is_due k (Some since) = nat_le 4 (k - since)
 
+-- a question is out
 abbrev pub is_out : Option ℕ → Bool
 is_out None = false
 is_out (Some since) = true
@@ -136,6 +163,7 @@ question (Configure n) = []
 question Config = cmd.GetConfig ∷ []
 question Connected = []
 
+-- a stage asks for the clock
 abbrev pub asks_clock : Stage → Bool
 asks_clock Uptime = true
 asks_clock stage = false
@@ -156,7 +184,8 @@ asked k a = record a {
 
 -- the asking behind that
 abbrev pub after_asks : List Setup → ℕ → Asking → Stage → Asking
-after_asks setups k a (Configure n) = record a { stage = Configure (min (n + length (fitting control_bytes (drop n setups))) (2 ^ 64 - 1)) }
+after_asks setups k a (Configure n) =
+    record a { stage = Configure (min (n + length (fitting control_bytes (drop n setups))) (2 ^ 64 - 1)) }
 after_asks setups k a Connected = a
 after_asks setups k a stage = if is_due k a.since then asked k a else a
 
@@ -164,6 +193,7 @@ after_asks setups k a stage = if is_due k a.since then asked k a else a
 abbrev pub gives_up : ℕ → Asking → Bool
 gives_up k a = is_out a.since && (is_due k a.since && nat_le 7 a.missed)
 
+-- a stage is the last one
 abbrev pub is_connected : Stage → Bool
 is_connected Connected = true
 is_connected stage = false

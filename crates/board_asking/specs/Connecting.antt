@@ -24,6 +24,7 @@ listen_all [] states = []
 listen_all (a ∷ askings) [] = a ∷ listen_all askings []
 listen_all (a ∷ askings) (s ∷ states) = listens a s ∷ listen_all askings states
 
+-- the boards' askings as a turn begins, from a board on
 abbrev pub ready_all : Machine → ℕ → List Asking → List Asking
 ready_all m b [] = []
 ready_all m b (a ∷ askings) = ready (configuration m b) a ∷ ready_all m (b + 1) askings
@@ -38,10 +39,12 @@ abbrev pub all_connected : List Asking → Bool
 all_connected [] = true
 all_connected (a ∷ askings) = is_connected a.stage && all_connected askings
 
--- the controls of turn k
+-- the control of turn k with these commands: whether connecting has ended, and whether nothing follows
 abbrev pub control : ℕ → List Cmd → Bool → Bool → Control
 control k commands connected end = record { turn = k; commands = commands; connected = connected; end = end }
 
+-- the controls of a turn of connecting, from a board on: each board's question, or a part of its
+-- configuration
 abbrev pub asking_controls : Machine → ℕ → ℕ → List Asking → List Control
 asking_controls m k b [] = []
 asking_controls m k b (a ∷ askings) =
@@ -52,6 +55,7 @@ abbrev pub ask_all : Machine → ℕ → ℕ → List Asking → List Asking
 ask_all m k b [] = []
 ask_all m k b (a ∷ askings) = after_asks (configuration m b) k a a.stage ∷ ask_all m k (b + 1) askings
 
+-- the best sample of a board; where there is none, one of zeros
 abbrev pub sample_or_none : Option Sample → Sample
 sample_or_none None = record { sent = 0; got = 0; clock = 0 }
 sample_or_none (Some s) = s
@@ -60,10 +64,12 @@ sample_or_none (Some s) = s
 abbrev pub board_line : Machine → ℕ → Asking → Line
 board_line m b a = sampled (sample_or_none a.best) (board_at m b).freq
 
+-- the clock lines of the boards, from a board on
 abbrev pub board_lines : Machine → ℕ → List Asking → List Line
 board_lines m b [] = []
 board_lines m b (a ∷ askings) = board_line m b a ∷ board_lines m (b + 1) askings
 
+-- the clock lines of boards that told one each
 abbrev pub clocks_of : List Line → List Clocks
 clocks_of [] = []
 clocks_of (l ∷ lines) = one_line l ∷ clocks_of lines

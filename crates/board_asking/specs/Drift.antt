@@ -14,6 +14,7 @@ use Rattle.board_asking.specs.Asking.{more, is_out}
 use Rattle.board_asking.specs.Connecting.{board_line}
 use Rattle.board_asking.specs.Machine.{control_bytes}
 
+-- a drift, in parts per million, is not 0
 abbrev pub drifts : ℤ → Bool
 drifts (pos zero) = false
 drifts (pos (suc n)) = true
@@ -37,11 +38,14 @@ stale k b (a ∷ askings) = if gives_up k a then Some (cause.Stale b a.first) el
 abbrev pub is_asked_now : Bool → ℕ → Option ℕ → Bool
 is_asked_now drifting k since = drifting && (not (is_out since) && (k % 1_000 == 0))
 
+-- an asking as a running turn goes on: it waits to go out where the last one got no answer, or where the
+-- board drifts and its turn has come
 abbrev pub waits_in : Bool → ℕ → Asking → Asking
 waits_in drifting k a =
     if is_unanswered k a.since then record a { missed = more a.missed; waits = true }
     else (if is_asked_now drifting k a.since then record a { waits = true } else a)
 
+-- so the askings of the boards, from a board on
 abbrev pub waiting : Machine → ℕ → ℕ → List Asking → List Asking
 waiting m k b [] = []
 waiting m k b (a ∷ askings) = waits_in (drifts (board_at m b).drift) k a ∷ waiting m k (b + 1) askings
@@ -55,18 +59,24 @@ bytes_of (c ∷ cs) = command_bytes c + bytes_of cs
 abbrev pub asks_now : List Cmd → Asking → Bool
 asks_now commands a = a.waits && nat_lt (bytes_of commands) control_bytes
 
+-- the question for a board's clock behind these commands, where it waits and there is room
 abbrev pub clock_question : List Cmd → Asking → List Cmd
 clock_question commands a = if asks_now commands a then cmd.GetUptime ∷ [] else []
 
+-- an asking behind a turn in which these commands go to the board: it is out where its question stood behind
+-- them
 abbrev pub after_question : ℕ → List Cmd → Asking → Asking
 after_question k commands a =
-    if asks_now commands a then record a { since = Some k; first = if a.missed == 0 then k else a.first; owed = more a.owed; waits = false } else a
+    if asks_now commands a
+    then record a { since = Some k; first = if a.missed == 0 then k else a.first; owed = more a.owed; waits = false }
+    else a
 
+-- the further clock line of a board whose asking was answered between these two
 abbrev pub new_line : Machine → ℕ → Asking → Asking → List WordNews
 new_line m b before after =
     if is_out before.since && not (is_out after.since) then word.Line b (board_line m b after) ∷ [] else []
 
--- a board whose asking was answered has a further line
+-- so the further clock lines of the boards, from a board on
 abbrev pub new_lines : Machine → ℕ → List Asking → List Asking → List WordNews
 new_lines m b [] after = []
 new_lines m b (a ∷ before) [] = []

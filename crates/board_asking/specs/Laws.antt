@@ -9,6 +9,7 @@ abbrev pub SaysConfigured : Cmd → Type 0
 SaysConfigured (cmd.Config is_config crc is_shutdown move_count) = (is_config == 1) ≡ true
 SaysConfigured answer = ⊥
 
+-- one of some answers says so
 abbrev pub WasConfigured : List News → Type 0
 WasConfigured [] = ⊥
 WasConfigured (n ∷ news) = SaysConfigured n.answer ⊎ WasConfigured news

@@ -16,7 +16,6 @@ abbrev pub steppers_on : ℕ → List StepperDef → ℕ
 steppers_on b [] = 0
 steppers_on b (s ∷ ss) = (if s.board == b then 1 else 0) + steppers_on b ss
 
--- the object id of a board's trigger stands behind those of its steppers
 -- the object id of a board's trigger: it stands behind those of its steppers
 abbrev pub trigger_of : Machine → ℕ → ℕ
 trigger_of m b = steppers_on b m.steppers
@@ -26,6 +25,7 @@ abbrev pub is_among : ℕ → List ℕ → Bool
 is_among pin [] = false
 is_among pin (p ∷ ps) = if p == pin then true else is_among pin ps
 
+-- some pins, and behind them the endstop pins of a board that are not among them, in the order of the axes
 abbrev pub pins_of : ℕ → List AxisDef → List ℕ → List ℕ
 pins_of b [] pins = pins
 pins_of b (a ∷ axes) pins =
@@ -50,6 +50,7 @@ configuration m b =
     Oids (trigger_of m b + 1 + length (endstop_pins m b)) ∷ (flat_map (setup_stepper b) m.steppers
     ++ Trsync (trigger_of m b) ∷ (setup_endstops (trigger_of m b + 1) (endstop_pins m b) ++ Finish ∷ []))
 
+-- the command of one step of a board's configuration
 abbrev pub setup_command : Setup → Cmd
 setup_command (Oids count) = cmd.AllocateOids count
 setup_command (Stepper oid step_pin dir_pin) = cmd.ConfigStepper oid step_pin dir_pin 0 0
@@ -65,4 +66,5 @@ control_bytes = 42
 abbrev pub fitting : ℕ → List Setup → List Setup
 fitting room [] = []
 fitting room (s ∷ ss) =
-    if nat_le (command_bytes (setup_command s)) room then s ∷ fitting (room - command_bytes (setup_command s)) ss else []
+    if nat_le (command_bytes (setup_command s)) room then s ∷ fitting (room - command_bytes (setup_command s)) ss
+    else []

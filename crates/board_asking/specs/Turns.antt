@@ -32,6 +32,7 @@ AsksOf (Configure n) = ⊥
 AsksOf Connected = ⊥
 AsksOf stage = Unit {0}
 
+-- a board was asked the question of its stage in a turn
 pub record WasAsked (setups : List Setup) (k : ℕ) (a : Asking) : Type 0 where
   pub stage : AsksOf a.stage
   pub commands : asks setups k a a.stage ≡ question a.stage

@@ -1,5 +1,5 @@
-//! What boards are asked: while they connect, for their dictionary, their clock and their configuration; and where their
-//! clocks drift, for the clock again and again.
+//! What boards are asked: while they connect, for their dictionary, their clock and their configuration; and
+//! where their clocks drift, for the clock again and again.
 #![tactic(auto)]
 
 mod asking;

@@ -31,15 +31,17 @@ is_halted (Some q) = q.halted
 
 -- where the clock of a halted stepper is set, what it hadn't made is left out
 abbrev pub left_by : Controller → List Pulse → List Pulse → Cmd → List Pulse
-left_by b made meant (cmd.ResetStepClock oid clock) = if is_halted (stepper_at b oid) then cut_at oid made meant else meant
+left_by b made meant (cmd.ResetStepClock oid clock) =
+    if is_halted (stepper_at b oid) then cut_at oid made meant else meant
 left_by b made meant _ = meant
 
+-- so it is while the board runs; a board that shut down takes nothing
 abbrev pub left_running : BoardState → Controller → List Pulse → List Pulse → Cmd → List Pulse
 left_running Running b made meant c = left_by b made meant c
 left_running (Shut reason tick first) b made meant c = meant
 
--- the steps that are meant behind commands: those of the triples that are taken come to them; and of a stepper that was halted, the
--- rest of those before its next reset is left out
+-- the steps that are meant behind commands: those of the triples that are taken come to them; and of a
+-- stepper that was halted, the rest of those before its next reset is left out
 abbrev pub meant_next : Controller → List Pulse → List Pulse → Meant → List Pulse
 meant_next b made meant m = left_running b.state b made meant m.command ++ meant_running b.state b m.command m.ticks
 
@@ -49,8 +51,8 @@ abbrev pub meant_behind : Rig → List Pulse → List Pulse → List Meant → L
 meant_behind r made meant [] = meant
 meant_behind r made meant (m ∷ ms) = meant_behind (takes r m.command).rig made (meant_next r.controller made meant m) ms
 
--- of the steps that are meant some are kept, of each stepper a prefix, and of one that isn't halted all; and of those that are kept,
--- each is made or pends
+-- of the steps that are meant some are kept, of each stepper a prefix, and of one that isn't halted all; and
+-- of those that are kept, each is made or pends
 pub record KeptPart (b : Controller) (made meant : List Pulse) : Type 0 where
   pub kept : List Pulse
   pub is : IsKept b made kept

@@ -1,5 +1,5 @@
-//! A simulated controller board: it takes the bytes of a serial line at its own ticks, answers them, and fires every step
-//! of its steppers at exactly its tick (Klipper's Protocol.md and MCU_Commands.md).
+//! A simulated controller board: it takes the bytes of a serial line at its own ticks, answers them, and
+//! fires every step of its steppers at exactly its tick (Klipper's Protocol.md and MCU_Commands.md).
 #![tactic(auto)]
 
 ghost use Rattle.std.specs.Prelude.{◌≡◌, ℕ, ◌+◌, ◌<◌, ◌≤◌, List, [], ◌∷◌, ◌++◌, length, drop, IfOk, OnOk, true, false};
@@ -39,8 +39,8 @@ use taker::hear;
 /// What a board makes in a turn.
 #[derive(Drop)]
 pub struct TurnOut {
-    /// The pulses in the order of their ticks, at one tick by object id. A pulse's `stepper` is its object id, and its `up`
-    /// is true where its direction was sent as 1.
+    /// The pulses in the order of their ticks, at one tick by object id. A pulse's `stepper` is its object
+    /// id, and its `up` is true where its direction was sent as 1.
     pub pulses: Vec<Pulse>,
     /// The blocks that it sends to the host, in order.
     pub blocks: Vec<Block>,
@@ -68,7 +68,12 @@ impl Model for Board {
 impl Board {
     /// A board that nothing was told, at its first tick, whose pins have these levels.
     pub fn new(alloc: Global, b: &BoardDef, pins: Vec<PinLevels>) -> Result<Self, AllocError>
-        ensures is { IfOk result (λ board. board ≡ record { station = record { rig = new_rig b.now pins.items; expected = 0; told = false }; dropping = false; left = [] }) }
+        ensures is { IfOk result (λ board. board
+            ≡ record {
+              station = record { rig = new_rig b.now pins.items; expected = 0; told = false };
+              dropping = false;
+              left = [];
+            }) }
         ensures tick { IfOk result (λ board. board.station.rig.controller.tick ≡ b.now.start) }
     {
         Ok(Board {
@@ -86,8 +91,8 @@ impl Board {
         self.taker.tick()
     }
 
-    /// Handles any bytes at the board's tick, behind those of the turns before, then runs to `until`. After want of memory
-    /// the board is only dropped.
+    /// Handles any bytes at the board's tick, behind those of the turns before, then runs to `until`. After
+    /// want of memory the board is only dropped.
     pub fn turn(&mut self, bytes: &[u8], until: u64) -> Result<TurnOut, AllocError>
         requires later { self.old.station.rig.controller.tick ≤ until }
         requires until { until < tick_limit }
@@ -136,28 +141,32 @@ fn forget_first(bytes: &mut Vec<u8>, count: usize)
     }
 }
 
-/// The law of steps: where the triples that come are fair, each stepper's pulses, each at exactly its tick, are a prefix of
-/// the ticks of the triples that it took; of a stepper that was halted, the rest of those before its next reset is left out.
-/// While the board runs, what is left of a stepper that isn't halted pends.
+/// The law of steps: where the triples that come are fair, each stepper's pulses, each at exactly its tick,
+/// are a prefix of the ticks of the triples that it took; of a stepper that was halted, the rest of those
+/// before its next reset is left out. While the board runs, what is left of a stepper that isn't halted
+/// pends.
 pub fn keeps_in_step()
     ensures first { (b : BoardDef) (pins : List (List Level)) → KeptPart (new_rig b pins).controller [] [] }
-    ensures takes { (r : Rig) (ms : List Meant) (made meant : List Pulse) → KeptPart r.controller made meant → AreFair r ms →
-        KeptPart (takes_all r (commands_of ms)).rig.controller made (meant_behind r made meant ms) }
-    ensures passes { (r : Rig) (t : ℕ) (made meant : List Pulse) → KeptPart r.controller made meant → KeptPart (passes r t).rig.controller (made ++ (passes r t).pulses) meant }
+    ensures takes { (r : Rig) (ms : List Meant) (made meant : List Pulse) → KeptPart r.controller made meant →
+        AreFair r ms → KeptPart (takes_all r (commands_of ms)).rig.controller made (meant_behind r made meant ms) }
+    ensures passes { (r : Rig) (t : ℕ) (made meant : List Pulse) → KeptPart r.controller made meant →
+        KeptPart (passes r t).rig.controller (made ++ (passes r t).pulses) meant }
     ensures cut { (b : Controller) (made meant : List Pulse) → KeptPart b made meant → IsCut made meant }
-    ensures whole { (b : Controller) (made meant : List Pulse) → KeptPart b made meant → b.state ≡ Running → (oid : ℕ) → is_halted (stepper_at b oid) ≡ false →
-        only oid made ++ pending_at oid (stepper_at b oid) ≡ only oid meant }
+    ensures whole { (b : Controller) (made meant : List Pulse) → KeptPart b made meant → b.state ≡ Running → (oid : ℕ) →
+        is_halted (stepper_at b oid) ≡ false → only oid made ++ pending_at oid (stepper_at b oid) ≡ only oid meant }
 {}
 
 /// The law of contents: the content of a block holds one list of commands.
 pub fn holds_one_list()
-    ensures { (es : List Named) (content : List ℕ) (cs ds : List Cmd) → Holds es content cs → Holds es content ds → cs ≡ ds }
+    ensures { (es : List Named) (content : List ℕ) (cs ds : List Cmd) → Holds es content cs → Holds es content ds →
+        cs ≡ ds }
 {}
 
 /// The law of results: what a turn makes of some bytes is one board, with the same pulses and the same blocks.
 pub fn has_one_result()
-    ensures { (old : Simulated) (bytes : List ℕ) (to : ℕ) (new other : Simulated) (ps qs : List Pulse) (bs cs : List (ArrayVec ℕ)) →
-        IsTurn old bytes to new ps bs → IsTurn old bytes to other qs cs → (new ≡ other) × (ps ≡ qs) × (bs ≡ cs) }
+    ensures { (old : Simulated) (bytes : List ℕ) (to : ℕ) (new other : Simulated) (ps qs : List Pulse)
+        (bs cs : List (ArrayVec ℕ)) → IsTurn old bytes to new ps bs → IsTurn old bytes to other qs cs →
+        (new ≡ other) × (ps ≡ qs) × (bs ≡ cs) }
 {}
 
 /// The law of a turn: it takes the commands of the blocks that are accepted, in order, each once.
@@ -165,10 +174,11 @@ pub fn takes_each_once()
     ensures { (s : Station) (hs : List Heard) → (hears_all s hs).station.rig ≡ (takes_all s.rig (accepted hs)).rig }
 {}
 
-/// The law of a shutdown: a board that is shut down makes no pulse, and stays shut down as it is; one that shut down because
-/// a step came too late keeps a tick of that before its own.
+/// The law of a shutdown: a board that is shut down makes no pulse, and stays shut down as it is; one that
+/// shut down because a step came too late keeps a tick of that before its own.
 pub fn stays_shut()
     ensures turn { (s : Station) (hs : List Heard) (to : ℕ) → is_shut s.rig.controller.state ≡ true →
         ((turn s hs to).pulses ≡ []) × ((turn s hs to).station.rig.controller.state ≡ s.rig.controller.state) }
-    ensures late { (s : Station) (hs : List Heard) (to : ℕ) → CameLate s.rig.controller.state → CameLate (turn s hs to).station.rig.controller.state }
+    ensures late { (s : Station) (hs : List Heard) (to : ℕ) → CameLate s.rig.controller.state →
+        CameLate (turn s hs to).station.rig.controller.state }
 {}

@@ -117,6 +117,7 @@ pub fn whole_ticks()
 /// The law of the queue: over every list of calls whose triples are fair, it stands for the clocked stepper that knows
 /// whole ticks alone, and makes the same steps.
 pub fn stands_for_the_clocked_stepper()
-    ensures { (q : Pending) (made : List Planned) (s : Clocked) (calls : List Call) → StandsFor q made s → AreFairCalls q calls →
+    ensures { (q : Pending) (made : List Planned) (s : Clocked) (calls : List Call) → StandsFor q made s →
+        AreFairCalls q calls →
         StandsFor (queue_after_all q calls) (made ++ makes_all q calls) (clocked_after_all s calls) }
 {}

@@ -29,7 +29,13 @@ impl Model for StepQueue {
 
     ghost use Rattle.board_step.specs.Kept.{groups_of, IsKept};
 
-    ghost view = { λ q. record { halted = q.halted; up = q.up; last = q.last; groups = groups_of q.current q.waiting.items; slots = q.waiting.capacity } };
+    ghost view = { λ q. record {
+      halted = q.halted;
+      up = q.up;
+      last = q.last;
+      groups = groups_of q.current q.waiting.items;
+      slots = q.waiting.capacity;
+    } };
 
     ghost invariant = { λ q. IsKept q.current q.waiting.items q.waiting.capacity q.last };
 }
@@ -94,7 +100,8 @@ impl StepQueue {
         requires { until < tick_limit }
         ensures before { IfSome result (λ s. s.tick < until) }
         ensures first { IfSome result (λ s. IsFirst self.old.groups s.tick s.up) }
-        ensures rest { IfSome result (λ s. self.new ≡ record self.old { groups = without_first self.old.groups; last = s.tick }) }
+        ensures rest { IfSome result
+            (λ s. self.new ≡ record self.old { groups = without_first self.old.groups; last = s.tick }) }
         ensures none { IfNone result (NoneBefore self.old.groups until) }
         ensures unchanged { IfNone result (self.new ≡ self.old) }
     {
@@ -125,19 +132,24 @@ impl StepQueue {
         nearest_tick(now, self.last + u64::from(interval))
     }
 
-    /// Adds a triple; a halted queue ignores it. It is refused for a count of 0, then where the queue is full, then where
-    /// no step pends and its first one would be before `now`. A fair triple is added as its whole ticks.
+    /// Adds a triple; a halted queue ignores it. It is refused for a count of 0, then where the queue is
+    /// full, then where no step pends and its first one would be before `now`. A fair triple is added as its
+    /// whole ticks.
     #[tactic(auto, using(crate::proofs::Groups::length_groups))]
     pub fn push(&mut self, now: u64, t: Triple) -> Result<(), StepRefusal>
         requires { now < tick_limit }
         ensures halted { self.old.halted ≡ true → IsOk result × (self.new ≡ self.old) }
         ensures zero_count { result ≡ Err StepRefusal.ZeroCount ↔ ((self.old.halted ≡ false) × (t.count ≡ 0)) }
-        ensures overflow { result ≡ Err StepRefusal.Overflow ↔ ((self.old.halted ≡ false) × (0 < t.count) × (self.old.slots ≤ length self.old.groups)) }
-        ensures too_close { result ≡ Err StepRefusal.TooClose ↔ ((self.old.halted ≡ false) × (0 < t.count) × (length self.old.groups < self.old.slots)
+        ensures overflow { result ≡ Err StepRefusal.Overflow
+            ↔ ((self.old.halted ≡ false) × (0 < t.count) × (self.old.slots ≤ length self.old.groups)) }
+        ensures too_close { result ≡ Err StepRefusal.TooClose
+            ↔ ((self.old.halted ≡ false) × (0 < t.count) × (length self.old.groups < self.old.slots)
             × (self.old.groups ≡ []) × (nearest now (self.old.last + t.interval) < now)) }
         ensures not_active { IfErr result (λ e. ¬ (e ≡ StepRefusal.Active)) }
-        ensures ok { OnOk result (self.old.halted ≡ false → self.new ≡ with_ticks self.old (ticks_at (first_tick now self.old.last t.interval self.old.groups) t)) }
-        ensures whole { OnOk result (self.old.halted ≡ false → (ticks : List ℕ) → IsFair now self.old t ticks → self.new ≡ with_ticks self.old ticks) }
+        ensures ok { OnOk result (self.old.halted ≡ false →
+            self.new ≡ with_ticks self.old (ticks_at (first_tick now self.old.last t.interval self.old.groups) t)) }
+        ensures whole { OnOk result (self.old.halted ≡ false → (ticks : List ℕ) → IsFair now self.old t ticks →
+            self.new ≡ with_ticks self.old ticks) }
         ensures err { OnErr result (self.new ≡ self.old) }
     {
         if self.halted {

@@ -14,7 +14,8 @@ AreApart accepted (n ∷ ns) = (n % 16 ≡ accepted % 16 → n ≡ accepted) × 
 -- of the numbers that the host counts on, only a reply's own has its number on the wire
 abbrev pub RepliesApart : ℕ → ℕ → List LinkReply → Type 0
 RepliesApart acked sent [] = Unit {0}
-RepliesApart acked sent (r ∷ rs) = ((w : ℕ) → IsWhole acked sent (r.number % 16) w → w ≡ r.number) × RepliesApart acked sent rs
+RepliesApart acked sent (r ∷ rs) =
+    ((w : ℕ) → IsWhole acked sent (r.number % 16) w → w ≡ r.number) × RepliesApart acked sent rs
 
 -- the tick to which a board runs is in range
 abbrev pub TickFits : Event → Type 0

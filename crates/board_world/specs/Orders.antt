@@ -1,5 +1,5 @@
--- What the host orders of a board: control commands, and the commands of units, each queue_step with the whole ticks that
--- it means.
+-- What the host orders of a board: control commands, and the commands of units, each queue_step with the
+-- whole ticks that it means.
 use Rattle.std.specs.Prelude.{ℕ, zero, suc, ℤ, pos, negsuc, ◌+◌, ◌-◌, ◌*◌, ◌/◌, ◌%◌, ◌^◌, Bool, true, false, List, [], ◌∷◌, ◌++◌, map, Option, Some, None}
 use Rattle.std.specs.List.{flat_map}
 use Rattle.plan_types.specs.declared.plan.Triple.{Triple}
@@ -33,7 +33,8 @@ plain c = record { command = c; ticks = [] }
 -- the commands of a unit: clock, direction, steps
 abbrev pub unit_orders : StepUnit → List Meant
 unit_orders u =
-    map plain (reset_commands u.stepper u.reset) ++ (map plain (dir_commands u.stepper u.up) ++ record { command = step_command u; ticks = unit_ticks u } ∷ [])
+    map plain (reset_commands u.stepper u.reset)
+    ++ (map plain (dir_commands u.stepper u.up) ++ record { command = step_command u; ticks = unit_ticks u } ∷ [])
 
 -- the commands of some units, in order
 abbrev pub units_orders : List StepUnit → List Meant

@@ -24,7 +24,8 @@ abbrev pub HasSteps : Option Pending → Type 0
 HasSteps None = ⊥
 HasSteps (Some q) = q.groups ≢ []
 
--- a command shuts a board down for this reason: steps that are refused, a clock that is set while steps pend, or the order
+-- a command shuts a board down for this reason: steps that are refused, a clock that is set while steps pend,
+-- or the order
 abbrev pub Shuts : Controller → Cmd → ℕ → ℕ → Type 0
 Shuts b (cmd.QueueStep oid interval count add) reason first =
     IsRefused b.tick (stepper_at b oid) (record { interval = interval; count = count; add = add }) reason first

@@ -47,6 +47,7 @@ abbrev pub FindSteppers : Rig → List Meant → Type 0
 FindSteppers r [] = Unit {0}
 FindSteppers r (m ∷ ms) = FindsWhile r.controller.state r.controller m.command × FindSteppers (takes r m.command).rig ms
 
+-- so the commands that a board takes in one step of a run
 abbrev pub FindsAt : Core → Step → Type 0
 FindsAt h (Do e) = FindSteppers h.board (takes_in h e)
 FindsAt h (Turn turn) = Unit {0}

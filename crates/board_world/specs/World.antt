@@ -34,8 +34,8 @@ pub record Core : Type 0 where
   pub board : Rig
   -- whether a changed block came to it since the last block
   pub spoilt : Bool
-  -- the pulses that it made, those of the last time that it was run on, and those that the units which it took mean: of a stepper
-  -- that was halted, the rest of its units before its next reset is left out
+  -- the pulses that it made, those of the last time that it was run on, and those that the units which it
+  -- took mean: of a stepper that was halted, the rest of its units before its next reset is left out
   pub made : List Pulse
   pub last : List Pulse
   pub meant : List Pulse
@@ -63,7 +63,8 @@ on_wire m = record { bytes = text_of m.command; closes = closes m.command }
 abbrev pub block_of : Core → List ℕ → List Meant
 block_of h [] = []
 block_of h (n ∷ ns) =
-    if n == h.link.accepted then take (length (slice_index_or h.link.blocks n [])) (drop (length h.link.taken) h.queued) else []
+    if n == h.link.accepted then take (length (slice_index_or h.link.blocks n [])) (drop (length h.link.taken) h.queued)
+    else []
 
 -- the commands that the board takes in an event: those of the oldest block under way, where it arrives
 abbrev pub takes_in : Core → Event → List Meant
@@ -168,7 +169,17 @@ run (s ∷ steps) h = run steps (after h s)
 
 -- a board to which nothing was told, whose pins have these levels, and a link on which nothing was sent
 abbrev pub start : BoardDef → List (List Level) → Core
-start b pins = record { link = link.start; queued = []; taken = []; board = new_rig b pins; spoilt = false; made = []; last = []; meant = [] }
+start b pins =
+    record {
+      link = link.start;
+      queued = [];
+      taken = [];
+      board = new_rig b pins;
+      spoilt = false;
+      made = [];
+      last = [];
+      meant = [];
+    }
 
 -- the units that the board takes are fair, each when it is taken
 abbrev pub IsFairAt : Core → Step → Type 0

@@ -107,7 +107,8 @@ fn block_of(bytes: &[u8]) -> Block
 /// What stands in a block's bytes.
 pub fn found_in(block: &Block) -> Found
     ensures small { IsSmall result }
-    ensures block { (n : ℕ) (content : List ℕ) → n < 16 → block.now.items ≡ block_text n content → IsFound result n content }
+    ensures block { (n : ℕ) (content : List ℕ) → n < 16 → block.now.items ≡ block_text n content →
+        IsFound result n content }
 {
     scan(&mut Scanner::new(), block.as_slice()).0
 }

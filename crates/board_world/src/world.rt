@@ -47,7 +47,8 @@ impl Model for World {
 
     ghost Value = { Seen };
 
-    ghost view = { λ w. record { host = w.host; station = w.taker; down = w.down; up = w.up; pulses = w.pulses.items } };
+    ghost view = { λ w.
+        record { host = w.host; station = w.taker; down = w.down; up = w.up; pulses = w.pulses.items } };
 
     ghost invariant = { λ w. w.formats.formats ≡ own_formats };
 }
@@ -91,7 +92,8 @@ impl World {
 
     /// The units of a batch are queued.
     pub fn put(&mut self, batch: &Batch) -> Result<(), AllocError>
-        ensures { OnOk result ((h : Core) → StandsFor self.old h → StandsFor self.new (happens h (Event.Put batch.now))) }
+        ensures { OnOk result
+            ((h : Core) → StandsFor self.old h → StandsFor self.new (happens h (Event.Put batch.now))) }
     {
         queue_units(&mut self.host, &self.formats, batch.units.as_slice())?;
         Ok(())
@@ -99,7 +101,8 @@ impl World {
 
     /// The commands of a control are queued.
     pub fn control(&mut self, control: &Control) -> Result<(), AllocError>
-        ensures { OnOk result ((h : Core) → StandsFor self.old h → StandsFor self.new (happens h (Event.Control control.now))) }
+        ensures { OnOk result
+            ((h : Core) → StandsFor self.old h → StandsFor self.new (happens h (Event.Control control.now))) }
     {
         queue_commands(&mut self.host, &self.formats, control.commands.as_slice())?;
         Ok(())
@@ -302,7 +305,8 @@ impl World {
     /// No command waits, and no block is outstanding.
     pub fn idle(&self) -> bool
         ensures seen { IsTrue result ↔ (self.now.host.waiting ≡ []) × (self.now.host.contents ≡ []) }
-        ensures stands { (h : Core) → StandsFor self.now h → IsTrue result ↔ (h.link.waiting ≡ []) × (h.link.acked ≡ sent h.link) }
+        ensures stands { (h : Core) → StandsFor self.now h →
+            IsTrue result ↔ (h.link.waiting ≡ []) × (h.link.acked ≡ sent h.link) }
     {
         self.host.idle()
     }

@@ -1,4 +1,5 @@
--- What a line of a configuration means where it stands, and the questions about a whole text that the lines answer one by one.
+-- What a line of a configuration means where it stands, and the questions about a whole text that the lines
+-- answer one by one.
 use Rattle.std.specs.Prelude.{ℕ, ◌+◌, Bool, true, false, List, [], ◌∷◌, ◌++◌, if◌then◌else◌, nat_le, length, Option, Some, None, is_some, Result, Ok, Err}
 use Rattle.std.specs.Str.{bytes_eq}
 use Rattle.plan_types.specs.declared.cause.CfgKind.{CfgKind}
@@ -24,6 +25,7 @@ abbrev pub with_value : Section → Key → Result Value CfgKind → Item
 with_value section key (Ok value) = Holds section key value
 with_value section key (Err kind) = Wrong kind
 
+-- an option of a section by its key: one that the section doesn't have is passed over
 abbrev pub with_key : Section → List ℕ → Option Key → Item
 with_key section value None = PassedOver
 with_key section value (Some key) = with_value section key (judged key value)
@@ -50,7 +52,8 @@ meant place Neither = Wrong BadLine
 -- where the line behind it stands
 abbrev pub place_behind : Place → Said → Place
 place_behind place (Begins name) = record { section = section_of name; lenient = false }
-place_behind place (Sets name value) = record { section = place.section; lenient = if is_some (key_named place.section name) then false else true }
+place_behind place (Sets name value) =
+    record { section = place.section; lenient = if is_some (key_named place.section name) then false else true }
 place_behind place said = place
 
 -- where a text begins: before the first section
@@ -76,6 +79,7 @@ has_motor (m ∷ motors) motor = if same_motor m motor then true else has_motor 
 abbrev pub with_name : List (List ℕ) → List ℕ → List (List ℕ)
 with_name names name = if has_name names name then names else names ++ name ∷ []
 
+-- a motor behind the others, unless it is among them
 abbrev pub with_motor : List Motor → Motor → List Motor
 with_motor motors motor = if has_motor motors motor then motors else motors ++ motor ∷ []
 
@@ -110,6 +114,7 @@ fault_of names motors (Opens (Board name)) = crowded (has_name names name) 8 (le
 fault_of names motors (Opens (Stepper motor)) = crowded (has_motor motors motor) 16 (length motors)
 fault_of names motors item = None
 
+-- the fault of a line of this number, where it has one, else the first of the later lines
 abbrev pub or_later : ℕ → Option CfgKind → Option CfgFault → Option CfgFault
 or_later number None later = later
 or_later number (Some kind) later = Some (At number kind)
@@ -117,7 +122,9 @@ or_later number (Some kind) later = Some (At number kind)
 -- line by line from the top, the first fault
 abbrev pub first_fault : List (List ℕ) → List Motor → ℕ → List Item → Option CfgFault
 first_fault names motors number [] = None
-first_fault names motors number (item ∷ items) = or_later number (fault_of names motors item) (first_fault (with_board names item) (with_stepper motors item) (number + 1) items)
+first_fault names motors number (item ∷ items) =
+    or_later number (fault_of names motors item)
+    (first_fault (with_board names item) (with_stepper motors item) (number + 1) items)
 
 -- 1 for a section or option that is passed over, else 0
 abbrev pub one_passed : Item → ℕ

@@ -3,7 +3,8 @@ use Rattle.std.specs.Prelude.{ℕ, ◌+◌, Bool, List, [], ◌∷◌, ◌==◌,
 use Rattle.text_core.specs.Bytes.{is_blank, begins, before}
 use Rattle.text_core.specs.Trims.{trimmed, without_return}
 
--- A line is blank, begins a section of this name, continues the line above it, sets an option of this name to this value, or is none of these.
+-- A line is blank, begins a section of this name, continues the line above it, sets an option of this name to
+-- this value, or is none of these.
 pub data Said : Type 0 where
   Nothing : Said
   Begins : List ℕ → Said
@@ -33,13 +34,17 @@ set_to (b ∷ bs) value = Sets (b ∷ bs) value
 
 -- a name, a colon or an equals sign, and a value, with the blanks around each cut off
 abbrev pub setting : List ℕ → List ℕ → Said
-setting text front = if nat_lt (length front) (length text) then set_to (trimmed front) (trimmed (drop (length front + 1) text)) else Neither
+setting text front =
+    if nat_lt (length front) (length text) then set_to (trimmed front) (trimmed (drop (length front + 1) text))
+    else Neither
 
 -- a section where brackets stand at both ends, else a continued line or an option
 abbrev pub by_brackets : Bool → List ℕ → Option (List ℕ) → Said
 by_brackets indented text (Some name) = Begins name
 by_brackets indented text None = if indented then Continues else setting text (before 61 (before 58 text))
 
+-- what a line says, by whether it is indented and by its text without blanks at its ends: nothing, where none
+-- is left
 abbrev pub said_by : Bool → List ℕ → Said
 said_by indented [] = Nothing
 said_by indented (b ∷ bs) = by_brackets indented (b ∷ bs) (bracketed (b ∷ bs))

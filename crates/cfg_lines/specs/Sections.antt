@@ -61,6 +61,7 @@ stepper_of (a ∷ []) = with_digit (drive_of a) 0
 stepper_of (a ∷ d ∷ []) = if nat_le 49 d && nat_le d 57 then with_digit (drive_of a) (d - 48) else Unknown
 stepper_of (a ∷ d ∷ e ∷ rest) = Unknown
 
+-- the section of a stepper, by what stands behind `stepper_`
 abbrev pub stepper_section : Option (List ℕ) → Section
 stepper_section None = Unknown
 stepper_section (Some rest) = stepper_of rest
@@ -69,6 +70,7 @@ stepper_section (Some rest) = stepper_of rest
 abbrev pub simulated_of : List ℕ → Section
 simulated_of name = if is_board_name name then Simulated name else Unknown
 
+-- the section of a simulated board, by what stands behind its word, else that of a stepper
 abbrev pub simulated_section : List ℕ → Option (List ℕ) → Section
 simulated_section name None = stepper_section (behind_text (codes "stepper_") name)
 simulated_section name (Some rest) = simulated_of (trimmed rest)

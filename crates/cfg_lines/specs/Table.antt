@@ -20,7 +20,8 @@ pub record Row : Type 0 where
 abbrev pub row : List ℕ → Kind → ℕ → Row
 row text sort fallen = record { name = text; kind = sort; fallback = fallen }
 
--- Lengths are nm, speeds nm/s, accelerations nm/s². An option that is needed has its least value for a default, which never holds: without the option the configuration is refused. Pins have none.
+-- Lengths are nm, speeds nm/s, accelerations nm/s². An option that is needed has its least value for a
+-- default, which never holds: without the option the configuration is refused. Pins have none.
 abbrev pub row_of : Key → Row
 row_of Kinematics = row (codes "kinematics") kinds.Kinematics 0
 row_of MaxVelocity = row (codes "max_velocity") (kinds.Decimal 100_000 1_000_000_000) 100_000
@@ -117,6 +118,7 @@ unfoldable pub key_named : Section → List ℕ → Option Key
 key_named Printer name = named name printer_keys
 key_named (Simulated board) name = named name simulated_keys
 key_named Simulation name = named name simulation_keys
-key_named (Stepper motor) name = or_else (named name stepper_keys) (if is_axis motor then named name axis_keys else None)
+key_named (Stepper motor) name =
+    or_else (named name stepper_keys) (if is_axis motor then named name axis_keys else None)
 key_named Fan name = named name fan_keys
 key_named section name = None

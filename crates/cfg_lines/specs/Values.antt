@@ -24,6 +24,7 @@ all_of (Some (z, b ∷ bs)) = None
 unfoldable pub spelled : ℕ → List ℕ → Option ℤ
 spelled digits text = all_of (number_at digits text)
 
+-- a number is one of these limits or between them
 abbrev pub is_within : ℕ → ℕ → ℕ → Bool
 is_within low high n = nat_le low n && nat_le n high
 
@@ -39,7 +40,9 @@ is_whole z = (unsigned_abs z % 1_000_000) == 0
 
 -- a whole number within limits that is a multiple of a step, or its fault
 abbrev pub whole_within : ℕ → ℕ → ℕ → ℤ → Result Value CfgKind
-whole_within low high step (pos n) = if is_within low high (n / 1_000_000) && ((n / 1_000_000) % step == 0) then Ok (Amount (n / 1_000_000)) else Err OutOfLimit
+whole_within low high step (pos n) =
+    if is_within low high (n / 1_000_000) && ((n / 1_000_000) % step == 0) then Ok (Amount (n / 1_000_000))
+    else Err OutOfLimit
 whole_within low high step (negsuc n) = Err OutOfLimit
 
 -- the same of a number that may have a fraction, which is a fault
@@ -50,7 +53,8 @@ whole low high step (Some z) = if is_whole z then whole_within low high step z e
 -- a whole number, of these millionths, no further from 0 than this
 abbrev pub offset_within : ℕ → ℤ → Result Value CfgKind
 offset_within most (pos n) = if nat_le (n / 1_000_000) most then Ok (Signed (pos (n / 1_000_000))) else Err OutOfLimit
-offset_within most (negsuc n) = if nat_le ((n + 1) / 1_000_000) most then Ok (Signed (neg_ℤ (pos ((n + 1) / 1_000_000)))) else Err OutOfLimit
+offset_within most (negsuc n) =
+    if nat_le ((n + 1) / 1_000_000) most then Ok (Signed (neg_ℤ (pos ((n + 1) / 1_000_000)))) else Err OutOfLimit
 
 -- the same of a number that may have a fraction, which is a fault
 abbrev pub offset : ℕ → Option ℤ → Result Value CfgKind
@@ -59,7 +63,8 @@ offset most (Some z) = if is_whole z then offset_within most z else Err BadValue
 
 -- a power of two up to 256
 abbrev pub is_microsteps : ℕ → Bool
-is_microsteps n = (n == 1) || (n == 2) || (n == 4) || (n == 8) || (n == 16) || (n == 32) || (n == 64) || (n == 128) || (n == 256)
+is_microsteps n =
+    (n == 1) || (n == 2) || (n == 4) || (n == 8) || (n == 16) || (n == 32) || (n == 64) || (n == 128) || (n == 256)
 
 -- 1, 2, 4 .. 256, or the fault
 abbrev pub microsteps_of : ℤ → Result Value CfgKind
@@ -83,7 +88,8 @@ any_position (Some z) = Ok (Signed z)
 
 -- one of two words: whether it is the second
 abbrev pub one_of : List ℕ → List ℕ → List ℕ → Result Value CfgKind
-one_of plain other text = if bytes_eq text other then Ok (Flag true) else (if bytes_eq text plain then Ok (Flag false) else Err BadValue)
+one_of plain other text =
+    if bytes_eq text other then Ok (Flag true) else (if bytes_eq text plain then Ok (Flag false) else Err BadValue)
 
 -- `!`, `^` or `~`
 abbrev pub is_pin_sign : ℕ → Bool
@@ -97,6 +103,7 @@ is_pin_byte b = is_name_byte b || is_point b
 abbrev pub is_pin_name : List ℕ → Bool
 is_pin_name text = nat_lt 0 (length text) && nat_le (length text) 16 && list_all is_pin_byte text
 
+-- a byte is a `!`
 abbrev pub is_not : ℕ → Bool
 is_not b = b == 33
 
@@ -107,12 +114,17 @@ inverts (b ∷ bs) = if is_not b then true else inverts bs
 
 -- a pin with its board, or the fault
 abbrev pub pin_on : Bool → List ℕ → List ℕ → Result Value CfgKind
-pin_on inverted board name = if is_board_name board && is_pin_name name then Ok (Pin (record { board = board; name = name; inverted = inverted })) else Err BadValue
+pin_on inverted board name =
+    if is_board_name board && is_pin_name name
+    then Ok (Pin (record { board = board; name = name; inverted = inverted }))
+    else Err BadValue
 
 -- a pin's text without its signs: a board, a colon and a name, or a name on the board `mcu`
 abbrev pub unsigned_pin : Bool → List ℕ → Result Value CfgKind
-unsigned_pin inverted text = let board = before 58 text in
-    if nat_lt (length board) (length text) then pin_on inverted board (drop (length board + 1) text) else pin_on inverted (codes "mcu") text
+unsigned_pin inverted text =
+    let board = before 58 text in
+    if nat_lt (length board) (length text) then pin_on inverted board (drop (length board + 1) text)
+    else pin_on inverted (codes "mcu") text
 
 -- the pin that a text names, or the fault
 abbrev pub pin_of : List ℕ → Result Value CfgKind

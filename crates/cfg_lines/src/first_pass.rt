@@ -140,7 +140,8 @@ fn one_passed(item: &Item) -> u64
 /// Keeps what a line says of the machine.
 fn keep(entries: &mut Vec<Entry>, line: u64, item: Item) -> Result<(), AllocError>
     ensures value { OnOk result (entries.new.items ≡ entries.old.items ++ entry_of line item) }
-    ensures fit { OnOk result (IsTrue (item_fits item) → list_all entry_fits entries.old.items ≡ true → list_all entry_fits entries.new.items ≡ true) }
+    ensures fit { OnOk result (IsTrue (item_fits item) → list_all entry_fits entries.old.items ≡ true →
+        list_all entry_fits entries.new.items ≡ true) }
 {
     match item {
         Item::Opens(section) => entries.push(Entry {
@@ -163,7 +164,8 @@ pub fn first_pass(alloc: Global, text: &[u8]) -> Result<Pass, CfgFault>
     ensures ok { OnOk result (first_fault [] [] 1 (items start (lines_of text.now)) ≡ None) }
     ensures entries { IfOk result (λ pass. pass.entries.items ≡ entries 1 (items start (lines_of text.now))) }
     ensures boards { IfOk result (λ pass. pass.boards.items ≡ boards_behind [] (items start (lines_of text.now))) }
-    ensures steppers { IfOk result (λ pass. pass.steppers.items ≡ steppers_behind [] (items start (lines_of text.now))) }
+    ensures steppers { IfOk result
+        (λ pass. pass.steppers.items ≡ steppers_behind [] (items start (lines_of text.now))) }
     ensures few_boards { IfOk result (λ pass. length pass.boards.items ≤ 8) }
     ensures boards_differ { IfOk result (λ pass. AllPairs (λ p q. p ≢ q) pass.boards.items) }
     ensures few_steppers { IfOk result (λ pass. length pass.steppers.items ≤ 16) }

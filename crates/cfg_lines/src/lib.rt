@@ -1,4 +1,5 @@
-//! The lines of a printer's configuration, in Klipper's form: what each says where it stands, and the first that is wrong.
+//! The lines of a printer's configuration, in Klipper's form: what each says where it stands, and the first
+//! that is wrong.
 #![tactic(auto)]
 
 pub mod fault;

@@ -231,7 +231,8 @@ fn axis_option(name: &[u8]) -> Option<Key>
 }
 
 fn motor_option(motor: Motor, name: &[u8]) -> Option<Key>
-    ensures { result ≡ specs.or_else (named name.now stepper_keys) (if specs.is_axis motor then named name.now axis_keys else None) }
+    ensures { result
+        ≡ specs.or_else (named name.now stepper_keys) (if specs.is_axis motor then named name.now axis_keys else None) }
 {
     if let Some(key) = stepper_option(name) {
         return Some(key);

@@ -208,7 +208,8 @@ fn any_position(value: Option<i64>) -> Result<Value, CfgKind>
 /// Which of two words the text is.
 fn flag(no: &[u8], yes: &[u8], text: &[u8]) -> Result<Value, CfgKind>
     ensures value { result ≡ one_of no.now yes.now text.now }
-    ensures fits { IfOk result (λ value. IsTrue (fits_kind kinds.Kinematics value) × IsTrue (fits_kind kinds.Truth value)) }
+    ensures fits { IfOk result
+        (λ value. IsTrue (fits_kind kinds.Kinematics value) × IsTrue (fits_kind kinds.Truth value)) }
 {
     if text == yes {
         Ok(Value::Flag(true))

@@ -15,10 +15,12 @@ abbrev pub sets : Section → Key → Item → Bool
 sets section key (Holds s k value) = same_section section s && same_key key k
 sets section key item = false
 
+-- a line opens this section
 abbrev pub opens : Section → Item → Bool
 opens section (Opens s) = same_section section s
 opens section item = false
 
+-- an entry, else one of an earlier line
 abbrev pub or_earlier : Option Entry → Option Entry → Option Entry
 or_earlier None earlier = earlier
 or_earlier (Some entry) earlier = Some entry
@@ -33,30 +35,37 @@ abbrev pub first_line_of : Section → List Entry → ℕ
 first_line_of section [] = 0
 first_line_of section (e ∷ es) = if opens section e.item then e.line else first_line_of section es
 
+-- the whole number that a line gives, else this one
 abbrev pub amount_in : ℕ → Item → ℕ
 amount_in fallback (Holds s k (Amount n)) = n
 amount_in fallback item = fallback
 
+-- the whole number that an entry gives, else this one
 abbrev pub amount_or : ℕ → Option Entry → ℕ
 amount_or fallback None = fallback
 amount_or fallback (Some e) = amount_in fallback e.item
 
+-- the number that a line gives, which may be below 0, else 0
 abbrev pub signed_in : Item → ℤ
 signed_in (Holds s k (Signed z)) = z
 signed_in item = pos 0
 
+-- the number that an entry gives, which may be below 0, else 0
 abbrev pub signed_or : Option Entry → ℤ
 signed_or None = pos 0
 signed_or (Some e) = signed_in e.item
 
+-- the yes or no that a line gives, else no
 abbrev pub flag_in : Item → Bool
 flag_in (Holds s k (Flag b)) = b
 flag_in item = false
 
+-- the yes or no that an entry gives, else no
 abbrev pub flag_or : Option Entry → Bool
 flag_or None = false
 flag_or (Some e) = flag_in e.item
 
+-- the number of an entry's line; 0, where there is none
 abbrev pub line_or : Option Entry → ℕ
 line_or None = 0
 line_or (Some e) = e.line

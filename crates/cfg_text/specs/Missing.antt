@@ -36,7 +36,9 @@ or_fault (Some fault) later = Some fault
 -- the first of these options that isn't set, at the first line of the section
 abbrev pub missing_of : List Entry → Section → List Key → Option CfgFault
 missing_of entries section [] = None
-missing_of entries section (key ∷ keys) = if is_some (last_set section key entries) then missing_of entries section keys else Some (At (first_line_of section entries) kinds.Missing)
+missing_of entries section (key ∷ keys) =
+    if is_some (last_set section key entries) then missing_of entries section keys
+    else Some (At (first_line_of section entries) kinds.Missing)
 
 -- the sections of x, y and z without a digit are needed, the other stepper sections are not
 abbrev pub missing_stepper : List Entry → List Motor → Motor → Option CfgFault
@@ -46,7 +48,9 @@ missing_stepper entries motors motor = if is_axis motor then missing_of entries 
 -- what is missing in the stepper sections of a coordinate
 abbrev pub missing_digits : List Entry → List Motor → Drive → List ℕ → Option CfgFault
 missing_digits entries motors axis [] = None
-missing_digits entries motors axis (d ∷ ds) = or_fault (missing_stepper entries motors (record { drive = axis; digit = d })) (missing_digits entries motors axis ds)
+missing_digits entries motors axis (d ∷ ds) =
+    or_fault (missing_stepper entries motors (record { drive = axis; digit = d }))
+    (missing_digits entries motors axis ds)
 
 -- none, then 1 to 9
 abbrev pub digits : List ℕ
@@ -69,11 +73,16 @@ missing_board names = if has_name names (codes "mcu") then None else Some (At 0 
 
 -- what is missing first, in the order of the table
 unfoldable pub missing : List Entry → List (List ℕ) → List Motor → Option CfgFault
-missing entries names motors = or_fault (missing_of entries Printer printer_needs) (or_fault (missing_board names) (or_fault (missing_drives entries motors) (missing_fan entries)))
+missing entries names motors =
+    or_fault (missing_of entries Printer printer_needs)
+    (or_fault (missing_board names) (or_fault (missing_drives entries motors) (missing_fan entries)))
 
 -- an axis is at least 1 mm long, and its endstop lies on it
 abbrev pub is_sound : Range → Bool
-is_sound range = if int_le (range.low +ℤ pos 1_000_000) range.high then (if int_le range.low range.endstop then int_le range.endstop range.high else false) else false
+is_sound range =
+    if int_le (range.low +ℤ pos 1_000_000) range.high
+    then (if int_le range.low range.endstop then int_le range.endstop range.high else false)
+    else false
 
 -- the section of an axis
 abbrev pub axis_section : Drive → Section
@@ -81,7 +90,12 @@ axis_section axis = Stepper (record { drive = axis; digit = 0 })
 
 -- what an axis is set to
 abbrev pub range_set : List Entry → Section → Range
-range_set entries section = record { low = signed entries section PositionMin; high = signed entries section PositionMax; endstop = signed entries section PositionEndstop }
+range_set entries section =
+    record {
+      low = signed entries section PositionMin;
+      high = signed entries section PositionMax;
+      endstop = signed entries section PositionEndstop;
+    }
 
 -- the range of an axis, or the fault at the line of its end
 unfoldable pub range_of : List Entry → Drive → Result Range CfgFault

@@ -25,16 +25,25 @@ unless (Some fault) next = Err fault
 
 -- the axes x, y and z, with their ranges
 abbrev pub axes : List Entry → List BoardDef → Result (List AxisDef) CfgFault
-axes entries boards = range_of entries X >>= (λ x. range_of entries Y >>= (λ y. range_of entries Z >>= (λ z.
-    axis_def entries boards x X >>= (λ a. axis_def entries boards y Y >>= (λ b. axis_def entries boards z Z >>= (λ c. Ok (a ∷ b ∷ c ∷ [])))))))
+axes entries boards =
+    range_of entries X
+    >>= (λ x. range_of entries Y
+    >>= (λ y. range_of entries Z
+    >>= (λ z. axis_def entries boards x X
+    >>= (λ a. axis_def entries boards y Y >>= (λ b. axis_def entries boards z Z >>= (λ c. Ok (a ∷ b ∷ c ∷ [])))))))
 
 -- the machine of these boards and steppers
 abbrev pub assembled : List Entry → List Motor → ℕ → List BoardDef → Result Machine CfgFault
-assembled entries motors passed boards = axes entries boards >>= (λ axes. stepper_defs entries boards [] motors >>= (λ steppers. fan_def entries boards >>= (λ fan. Ok (machine_of entries passed boards steppers axes fan))))
+assembled entries motors passed boards =
+    axes entries boards
+    >>= (λ axes. stepper_defs entries boards [] motors
+    >>= (λ steppers. fan_def entries boards >>= (λ fan. Ok (machine_of entries passed boards steppers axes fan))))
 
 -- the faults of the wiring, then what is missing, then the ranges of the axes, then the machine
 abbrev pub reading_of_uses : List Entry → List (List ℕ) → List Motor → ℕ → List Use → Result Machine CfgFault
-reading_of_uses entries names motors passed uses = unless (wiring_fault names entries uses) (unless (missing entries names motors) (assembled entries motors passed (board_defs entries uses names)))
+reading_of_uses entries names motors passed uses =
+    unless (wiring_fault names entries uses)
+    (unless (missing entries names motors) (assembled entries motors passed (board_defs entries uses names)))
 
 -- the faults of the whole, in their order, or the machine, of what the lines say
 abbrev pub reading_of_entries : List Entry → List (List ℕ) → List Motor → ℕ → Result Machine CfgFault
@@ -42,8 +51,11 @@ reading_of_entries entries names motors passed = reading_of_uses entries names m
 
 -- the faults line by line, then those of the whole
 abbrev pub reading_of_items : List Item → Result Machine CfgFault
-reading_of_items items = unless (first_fault [] [] 1 items) (reading_of_entries (entries 1 items) (boards_behind [] items) (steppers_behind [] items) (passed_over items))
+reading_of_items items =
+    unless (first_fault [] [] 1 items)
+    (reading_of_entries (entries 1 items) (boards_behind [] items) (steppers_behind [] items) (passed_over items))
 
 -- the machine of a configuration, or its first fault
 unfoldable pub reading : List ℕ → Result Machine CfgFault
-reading text = if nat_lt 1_048_576 (length text) then Err (At 0 TooLarge) else reading_of_items (items start (lines_of text))
+reading text =
+    if nat_lt 1_048_576 (length text) then Err (At 0 TooLarge) else reading_of_items (items start (lines_of text))

@@ -39,7 +39,8 @@ pub record IsStepperBehind (boards : List BoardDef) (before : List StepperDef) (
 
 -- steppers on these boards
 abbrev pub AreSteppersOn : List BoardDef → List StepperDef → Type 0
-AreSteppersOn boards steppers = (k : ℕ) → k < length steppers → IsStepperBehind boards (take k steppers) (slice_index_or steppers k no_stepper)
+AreSteppersOn boards steppers =
+    (k : ℕ) → k < length steppers → IsStepperBehind boards (take k steppers) (slice_index_or steppers k no_stepper)
 
 -- a part fan on these boards, where there is one
 abbrev pub IsFanOn : List BoardDef → Option FanDef → Type 0

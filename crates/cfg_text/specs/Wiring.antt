@@ -25,10 +25,12 @@ use Rattle.cfg_text.specs.Holding.{last_set}
 abbrev pub pin_use : ℕ → Section → Key → Pin → Use
 pin_use number owner option named = record { line = number; section = owner; key = option; pin = named }
 
+-- the pin that a line names for an option of a section
 abbrev pub use_in : Section → Key → ℕ → Item → Option Use
 use_in section key line (Holds s k (values.Pin pin)) = Some (pin_use line section key pin)
 use_in section key line item = None
 
+-- the pin that an entry names for an option of a section
 abbrev pub use_of : Section → Key → Option Entry → Option Use
 use_of section key None = None
 use_of section key (Some e) = use_in section key e.line e.item
@@ -54,7 +56,9 @@ put_some (Some u) uses = put u uses
 
 -- the pins that hold for a stepper, among others
 abbrev pub with_pins_of : List Entry → Motor → List Use → List Use
-with_pins_of entries motor uses = put_some (wired entries (Stepper motor) EndstopPin) (put_some (wired entries (Stepper motor) DirPin) (put_some (wired entries (Stepper motor) StepPin) uses))
+with_pins_of entries motor uses =
+    put_some (wired entries (Stepper motor) EndstopPin)
+    (put_some (wired entries (Stepper motor) DirPin) (put_some (wired entries (Stepper motor) StepPin) uses))
 
 -- the pins that hold for these steppers and these, in the order of their lines
 abbrev pub uses_of : List Entry → List Motor → List Use → List Use
@@ -100,7 +104,9 @@ first_twice before (u ∷ us) = if clashes u before then Some u.line else first_
 
 -- the pin is the step pin of the stepper of this direction pin, on another board
 abbrev pub parts : Use → Use → Bool
-parts u v = same_key u.key DirPin && same_key v.key StepPin && same_section u.section v.section && (if bytes_eq u.pin.board v.pin.board then false else true)
+parts u v =
+    same_key u.key DirPin && same_key v.key StepPin && same_section u.section v.section
+    && (if bytes_eq u.pin.board v.pin.board then false else true)
 
 -- a direction pin on another board than its step pin
 abbrev pub is_astray : Use → List Use → Bool
@@ -125,4 +131,6 @@ earlier a b = a
 
 -- line by line from the top, a board that isn't declared, a pin used twice, a direction pin on another board
 unfoldable pub wiring_fault : List (List ℕ) → List Entry → List Use → Option CfgFault
-wiring_fault names entries uses = earlier (fault_at UnknownBoard (first_strange names entries)) (earlier (fault_at Twice (first_twice [] uses)) (fault_at BadValue (first_astray uses uses)))
+wiring_fault names entries uses =
+    earlier (fault_at UnknownBoard (first_strange names entries))
+    (earlier (fault_at Twice (first_twice [] uses)) (fault_at BadValue (first_astray uses uses)))

@@ -266,7 +266,8 @@ fn build_with(alloc: Global, pass: &Pass, uses: &[Use]) -> Result<Machine, CfgFa
     requires boards_differ { AllPairs (λ p q. p ≢ q) pass.now.boards.items }
     requires few_pins { length uses.now ≤ 49 }
     ensures valid { IfOk result (λ machine. IsValidMachine machine) }
-    ensures value { Answers result (reading_of_uses pass.now.entries.items pass.now.boards.items pass.now.steppers.items pass.now.passed uses.now) }
+    ensures value { Answers result (reading_of_uses pass.now.entries.items pass.now.boards.items pass.now.steppers.items
+        pass.now.passed uses.now) }
 {
     let entries = pass.entries.as_slice();
     let names = pass.boards.as_slice();
@@ -287,7 +288,8 @@ pub fn build(alloc: Global, pass: &Pass) -> Result<Machine, CfgFault>
     requires few_boards { length pass.now.boards.items ≤ 8 }
     requires boards_differ { AllPairs (λ p q. p ≢ q) pass.now.boards.items }
     ensures valid { IfOk result (λ machine. IsValidMachine machine) }
-    ensures value { Answers result (reading_of_entries pass.now.entries.items pass.now.boards.items pass.now.steppers.items pass.now.passed) }
+    ensures value { Answers result
+        (reading_of_entries pass.now.entries.items pass.now.boards.items pass.now.steppers.items pass.now.passed) }
 {
     let entries = pass.entries.as_slice();
     let uses = pins_in_use(alloc, entries, pass.steppers.as_slice()).map_err(CfgFault::Memory)?;

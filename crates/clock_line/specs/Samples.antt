@@ -21,6 +21,7 @@ best s (t ∷ ts) = best (better s t) ts
 abbrev pub sampled : Sample → ℕ → Line
 sampled s freq = record { at = s.sent * turn_ns; clock = s.clock; freq = freq }
 
+-- the clock line of a board of this frequency, by the best of its samples
 abbrev pub chosen : List Sample → ℕ → Line
 chosen [] freq = record { at = 0; clock = 0; freq = freq }
 chosen (s ∷ ts) freq = sampled (best s ts) freq
@@ -45,4 +46,5 @@ AreWithin reach a b = (a ≤ b + reach) × (b ≤ a + reach)
 -- how far a line may be from its board in turn k: what passed while the sample was taken, the drift since then, and one
 abbrev pub line_reach : ℕ → ℕ → ℤ → ℕ → ℕ → ℕ → ℕ
 line_reach start freq drift sent got k =
-    own_tick start freq drift got - own_tick start freq drift sent + freq * ppm_size drift * (k - sent) / 1_000_000_000 + 1
+    own_tick start freq drift got - own_tick start freq drift sent + freq * ppm_size drift * (k - sent) / 1_000_000_000
+    + 1

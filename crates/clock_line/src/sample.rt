@@ -68,20 +68,22 @@ fn best(first: Sample, others: &[Sample]) -> Sample
     least
 }
 
-/// The law of clock lines: where a board's clock is exact and its answer is its own tick of a turn between that in which it
-/// was asked and that in which the answer came, the line is never behind the board, and ahead by no more turns than the
-/// answer took.
+/// The law of clock lines: where a board's clock is exact and its answer is its own tick of a turn between
+/// that in which it was asked and that in which the answer came, the line is never behind the board, and
+/// ahead by no more turns than the answer took.
 pub fn lines_are_near()
     ensures { (start freq sent got turn k : ℕ) → freq % 1_000 ≡ 0 → sent ≤ turn → turn ≤ got → sent ≤ k →
         (own start freq k ≤ tick (sampled (sample_at start freq sent got turn) freq) (k * turn_ns))
         × (tick (sampled (sample_at start freq sent got turn) freq) (k * turn_ns) ≤ own start freq (k + (got - sent))) }
 {}
 
-/// The law of clock lines of a board that drifts: from the turn in which it was asked on, a line is no further from the board's
-/// own tick than what passed while the sample was taken, the drift since then, and one tick.
+/// The law of clock lines of a board that drifts: from the turn in which it was asked on, a line is no
+/// further from the board's own tick than what passed while the sample was taken, the drift since then, and
+/// one tick.
 pub fn lines_stay_near()
-    ensures { (start freq : ℕ) (drift : ℤ) (sent got clock k : ℕ) → freq % 1_000 ≡ 0 → ppm_size drift ≤ 1_000_000 → sent ≤ k →
-        own_tick start freq drift sent ≤ clock → clock ≤ own_tick start freq drift got →
-        AreWithin (line_reach start freq drift sent got k) (tick (sampled (record { sent = sent; got = got; clock = clock }) freq) (k * turn_ns))
+    ensures { (start freq : ℕ) (drift : ℤ) (sent got clock k : ℕ) → freq % 1_000 ≡ 0 → ppm_size drift ≤ 1_000_000 →
+        sent ≤ k → own_tick start freq drift sent ≤ clock → clock ≤ own_tick start freq drift got →
+        AreWithin (line_reach start freq drift sent got k)
+        (tick (sampled (record { sent = sent; got = got; clock = clock }) freq) (k * turn_ns))
         (own_tick start freq drift k) }
 {}

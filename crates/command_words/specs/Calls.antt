@@ -10,13 +10,18 @@ use Rattle.clap.specs.Words.{Row, first_of}
 abbrev pub Call : Type 0
 Call = Text × List (Option Text)
 
--- whether a name is that of a subcommand with two operands, and with three
+-- a name is that of a subcommand with two operands
 abbrev pub takes_two : Text → Bool
 takes_two w = bytes_eq (codes "run") w || (bytes_eq (codes "make") w || bytes_eq (codes "fan") w)
 
+-- a name is that of a subcommand with three operands
 abbrev pub takes_three : Text → Bool
-takes_three w = bytes_eq (codes "run") w || (bytes_eq (codes "check") w || (bytes_eq (codes "dump") w || (bytes_eq (codes "replay") w || bytes_eq (codes "mesh") w)))
+takes_three w =
+    bytes_eq (codes "run") w
+    || (bytes_eq (codes "check") w
+    || (bytes_eq (codes "dump") w || (bytes_eq (codes "replay") w || bytes_eq (codes "mesh") w)))
 
+-- the call of a subcommand by its words, where it takes so many
 abbrev pub call_of : List Text → Option Call
 call_of (w ∷ a ∷ b ∷ []) = if takes_two w then Some (w, Some a ∷ Some b ∷ None ∷ []) else None
 call_of (w ∷ a ∷ b ∷ c ∷ []) = if takes_three w then Some (w, Some a ∷ Some b ∷ Some c ∷ []) else None
@@ -30,10 +35,11 @@ operands_in rows = first_of (codes "first") rows ∷ first_of (codes "second") r
 abbrev pub call_in : Option (Text × List Row) → Option Call
 call_in = option_map (λ p. (p.0, operands_in p.1))
 
--- a call as contracts see it
+-- the text of an operand, where it is given
 abbrev pub operand_text : Option (Bor Text) → Option Text
 operand_text = option_map (λ s. s.now)
 
+-- a call as contracts see it
 abbrev pub view_call : GivenCall → Call
 view_call c = (c.name.now, operand_text c.first ∷ operand_text c.second ∷ operand_text c.third ∷ [])
 

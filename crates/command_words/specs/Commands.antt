@@ -22,11 +22,21 @@ of_all_three name = with_rule (of_two name) (operand true (codes "third"))
 
 -- a command that has subcommands alone: no flag, no help
 abbrev pub bare : App
-bare = on_top (λ s. record s { no_binary_name = true; disable_help_flag = true; disable_help_subcommand = true; disable_version_flag = true; subcommand_required = true }) (new_app (codes "luqhabu"))
+bare =
+    on_top (λ s. record s {
+      no_binary_name = true;
+      disable_help_flag = true;
+      disable_help_subcommand = true;
+      disable_version_flag = true;
+      subcommand_required = true;
+    })
+    (new_app (codes "luqhabu"))
 
 -- the subcommands that plan a G-code: `run` has two or three operands, `make` and `fan` two
 abbrev pub runs : App
-runs = with_subcommand (with_subcommand (with_subcommand bare (of_three (codes "run")).top) (of_two (codes "make")).top) (of_two (codes "fan")).top
+runs =
+    with_subcommand (with_subcommand (with_subcommand bare (of_three (codes "run")).top) (of_two (codes "make")).top)
+    (of_two (codes "fan")).top
 
 -- behind these, `check` has three operands
 abbrev pub checks : App
@@ -34,4 +44,7 @@ checks = with_subcommand runs (of_all_three (codes "check")).top
 
 -- the program's command: behind these, `dump`, `replay` and `mesh` have three operands
 abbrev pub program : App
-program = with_subcommand (with_subcommand (with_subcommand checks (of_all_three (codes "dump")).top) (of_all_three (codes "replay")).top) (of_all_three (codes "mesh")).top
+program =
+    with_subcommand
+    (with_subcommand (with_subcommand checks (of_all_three (codes "dump")).top) (of_all_three (codes "replay")).top)
+    (of_all_three (codes "mesh")).top

@@ -7,6 +7,7 @@ use Rattle.command_words.specs.declared.words.Words.TheVariants as words
 use Rattle.text_core.specs.Bytes.{is_digit}
 use Rattle.std.specs.Str.Parse.{digits_value}
 
+-- a word, as its bytes
 abbrev pub Text : Type 0
 Text = List ℕ
 
@@ -21,7 +22,8 @@ is_numeral most text = nat_le 1 (length text) && (nat_le (length text) most && l
 
 -- the number of so many decimal digits at most, where it is no greater than a limit
 abbrev pub number_of : ℕ → ℕ → Text → Option ℕ
-number_of most limit text = if is_numeral most text && nat_le (digits_value 10 text) limit then Some (digits_value 10 text) else None
+number_of most limit text =
+    if is_numeral most text && nat_le (digits_value 10 text) limit then Some (digits_value 10 text) else None
 
 -- a seed is below 2^64 and has at most 20 digits, leading zeros among them
 abbrev pub seed_of : Text → Option ℕ
@@ -31,9 +33,10 @@ seed_of = number_of 20 18_446_744_073_709_551_615
 abbrev pub moves_of : Text → Option ℕ
 moves_of = number_of 7 1_000_000
 
--- what is asked for: a run of a G-code on the machine of a configuration, also with a scene; a run of a load that is made from a
--- seed; when the part fan of a G-code is switched; whether a report follows the plan of a G-code; what a trace holds for a board of a
--- configuration, or what that board makes of it; a G-code as it follows a measured bed
+-- what is asked for: a run of a G-code on the machine of a configuration, also with a scene; a run of a load
+-- that is made from a seed; when the part fan of a G-code is switched; whether a report follows the plan of a
+-- G-code; what a trace holds for a board of a configuration, or what that board makes of it; a G-code as it
+-- follows a measured bed
 pub data Asked : Type 0 where
   run : Text → Text → Asked
   scene : Text → Text → Text → Asked
@@ -44,6 +47,7 @@ pub data Asked : Type 0 where
   replay : Text → Text → Text → Asked
   mesh : Text → Text → Text → Asked
 
+-- what `make` asks for, where both of its numbers are read
 abbrev pub make_of : Option ℕ → Option ℕ → Option Asked
 make_of None moves = None
 make_of (Some seed) None = None
@@ -56,8 +60,8 @@ form_of_two w a b =
     else (if bytes_eq w (codes "make") then make_of (seed_of a) (moves_of b)
     else (if bytes_eq w (codes "fan") then Some (fan a b) else None))
 
--- the forms with three operands: `run CONFIG GCODE SCENE`, `check CONFIG GCODE REPORT`, `dump CONFIG BOARD TRACE`, `replay CONFIG BOARD
--- TRACE` and `mesh CONFIG GCODE TABLE`
+-- the forms with three operands: `run CONFIG GCODE SCENE`, `check CONFIG GCODE REPORT`, `dump CONFIG BOARD
+-- TRACE`, `replay CONFIG BOARD TRACE` and `mesh CONFIG GCODE TABLE`
 abbrev pub form_of_three : Text → Text → Text → Text → Option Asked
 form_of_three w a b c =
     if bytes_eq w (codes "run") then Some (scene a b c)

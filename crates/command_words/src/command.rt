@@ -60,7 +60,8 @@ fn with<'a>(
     part: Result<Command<'a>, AllocError>,
 ) -> Result<Command<'a>, AllocError>
     requires local { IfOk part (λ p. (out-Command p).has_globals ≡ false) }
-    ensures app { (w a : App) → IfOk whole.entry (λ c. app_of c ≡ w) → IfOk part.entry (λ c. app_of c ≡ a) → IfOk result (λ c. app_of c ≡ with_subcommand w a.top) }
+    ensures app { (w a : App) → IfOk whole.entry (λ c. app_of c ≡ w) → IfOk part.entry (λ c. app_of c ≡ a) →
+        IfOk result (λ c. app_of c ≡ with_subcommand w a.top) }
 {
     whole?.subcommand(part?)
 }

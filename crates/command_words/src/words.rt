@@ -193,8 +193,8 @@ fn form_of<'a>(call: &Call<'a>) -> Option<Words<'a>>
 ///
 /// # Errors
 ///
-/// `Usage` where the words are none of the program's forms, or one of them is empty or begins with a dash. `Memory` where
-/// memory is wanted.
+/// `Usage` where the words are none of the program's forms, or one of them is empty or begins with a dash.
+/// `Memory` where memory is wanted.
 pub fn read_words<'a>(alloc: Global, words: &'a [String]) -> Result<Words<'a>, WordsFault>
     ensures form { IfOk result (λ w. asked (map string_bytes words.now) ≡ Some (view w)) }
     ensures usage { IfErr result (λ e. e ≡ WordsFault.Usage → asked (map string_bytes words.now) ≡ None) }

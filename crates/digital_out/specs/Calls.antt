@@ -14,8 +14,10 @@ pub data Call : Type 0 where
 
 -- an empty queue
 abbrev pub new_queue : ℕ → ℕ → Output
-new_queue room longest = record { slots = room; max = longest; time = 0; pending = []; level = false; last = 0; missed = false }
+new_queue room longest =
+    record { slots = room; max = longest; time = 0; pending = []; level = false; last = 0; missed = false }
 
+-- the queue behind a push: as it was, where that is refused
 abbrev pub after_push : Output → Result Output OutRefusal → Output
 after_push q (Ok next) = next
 after_push q (Err refusal) = q
@@ -25,19 +27,22 @@ abbrev pub after : Output → Call → Output
 after q (Push now clock on) = after_push q (pushed q now clock on)
 after q (Advance until) = behind until q
 
+-- the queue behind some calls, one after the other
 abbrev pub after_all : Output → List Call → Output
 after_all q [] = q
 after_all q (c ∷ cs) = after_all (after q c) cs
 
--- the time of a call: times don't fall, and are small
+-- the time of a call, in ticks
 abbrev pub time_of : Call → ℕ
 time_of (Push now clock on) = now
 time_of (Advance until) = until
 
+-- the times of some calls don't fall, and are small
 abbrev pub AreFair : Output → List Call → Type 0
 AreFair q [] = Unit {0}
 AreFair q (c ∷ cs) = (q.time ≤ time_of c) × (time_of c < tick_limit) × AreFair (after q c) cs
 
+-- the command of a push, where that is not refused
 abbrev pub accepted_by : ℕ → Bool → Result Output OutRefusal → List Want
 accepted_by at level (Ok next) = record { tick = at; on = level } ∷ []
 accepted_by at level (Err refusal) = []
@@ -52,6 +57,7 @@ abbrev pub accepted : Output → List Call → List Want
 accepted q [] = []
 accepted q (c ∷ cs) = accepted_one q c ++ accepted (after q c) cs
 
+-- what is told, as a list
 abbrev pub listed : Option OutEvent → List OutEvent
 listed None = []
 listed (Some e) = e ∷ []

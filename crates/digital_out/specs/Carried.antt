@@ -9,7 +9,8 @@ abbrev pub InTime : ℕ → Bool → ℕ → ℕ → Type 0
 InTime max true last tick = tick ≤ last + max
 InTime max false last tick = Unit {0}
 
--- each command comes in time for the one before it, and the last one switches the output off, which has a level since a tick
+-- each command comes in time for the one before it, and the last one switches the output off, which has a
+-- level since a tick
 abbrev pub AreInTime : ℕ → Bool → ℕ → List Want → Type 0
 AreInTime max level last [] = level ≡ false
 AreInTime max level last (w ∷ ws) = InTime max level last w.tick × AreInTime max w.on w.tick ws
@@ -33,6 +34,7 @@ pub record CanCarry (max : ℕ) (commands : List Want) : Type 0 where
 abbrev pub room_at : List Want → ℕ → ℕ
 room_at commands i = if nat_lt i 16 then 0 else (slice_index_or commands (i - 16) no_want).tick + 1
 
--- when a command is given to its queue: now, or so many ticks before its own, or when there is room, whichever is latest
+-- when a command is given to its queue: now, or so many ticks before its own, or when there is room,
+-- whichever is latest
 abbrev pub ready_at : List Want → ℕ → ℕ → ℕ → ℕ
 ready_at commands i now lead = max now (max ((slice_index_or commands i no_want).tick - lead) (room_at commands i))

@@ -22,5 +22,6 @@ abbrev pub AreWordsFrom : ℕ → ℕ → List FanWord → Type 0
 AreWordsFrom low most [] = Unit {0}
 AreWordsFrom low most (w ∷ words) = (low ≤ w.moves) × (w.moves ≤ most) × AreWordsFrom w.moves most words
 
+-- the words of a fan behind so many moves of a text
 abbrev pub AreWordsOf : ℕ → List FanWord → Type 0
 AreWordsOf most words = AreWordsFrom 0 most words

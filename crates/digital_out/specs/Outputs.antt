@@ -23,6 +23,7 @@ pub record Output : Type 0 where
   pub last : ℕ
   pub missed : Bool
 
+-- a queue that was run up to a time
 abbrev pub with_time : Output → ℕ → Output
 with_time q now = record q { time = now }
 
@@ -43,7 +44,8 @@ is_too_close pending now tick = nat_lt tick now || not_behind (last_item pending
 abbrev pub pushed_at : Output → ℕ → ℕ → Bool → Result Output OutRefusal
 pushed_at q now at level =
     if nat_le q.slots (length q.pending) then Err Overflow
-    else (if is_too_close q.pending now at then Err TooClose else Ok (with_want q now (record { tick = at; on = level })))
+    else (if is_too_close q.pending now at then Err TooClose
+    else Ok (with_want q now (record { tick = at; on = level })))
 
 -- what a command that comes now makes of a queue, or why it is refused; an output that was missed ignores it
 abbrev pub pushed : Output → ℕ → ℕ → Bool → Result Output OutRefusal
@@ -71,25 +73,38 @@ pub record Turn : Type 0 where
 -- the output is missed, where that is before a tick
 abbrev pub miss_turn : ℕ → Output → Option ℕ → Turn
 miss_turn until q None = record { event = None; left = q }
-miss_turn until q (Some at) = if nat_lt at until then record { event = Some (record { tick = at; what = Missed }); left = record q { pending = []; level = false; missed = true } }
+miss_turn until q (Some at) =
+    if nat_lt at until
+    then record {
+      event = Some (record { tick = at; what = Missed });
+      left = record q { pending = []; level = false; missed = true };
+    }
     else record { event = None; left = q }
 
 -- a command is carried out, where its tick is before a tick
 abbrev pub want_turn : ℕ → Output → Want → List Want → Turn
-want_turn until q w ws = if nat_lt w.tick until then record { event = Some (event_of w); left = record q { pending = ws; level = w.on; last = w.tick } }
+want_turn until q w ws =
+    if nat_lt w.tick until
+    then record { event = Some (event_of w); left = record q { pending = ws; level = w.on; last = w.tick } }
     else record { event = None; left = q }
 
+-- what happens next to a queue with these commands that pend, which is missed at a tick unless one comes
+-- before
 abbrev pub turn_by : ℕ → Output → Option ℕ → List Want → Turn
 turn_by until q miss [] = miss_turn until q miss
 turn_by until q miss (w ∷ ws) = if comes_late miss w.tick then miss_turn until q miss else want_turn until q w ws
 
--- what happens next to a queue that is run to a tick: the first command that pends is carried out, or the output is missed
--- where no command comes in time; nothing where neither is before the tick, or where it was missed already
+-- what happens next to a queue that is run to a tick: the first command that pends is carried out, or the
+-- output is missed where no command comes in time; nothing where neither is before the tick, or where it was
+-- missed already
 abbrev pub turn_of : ℕ → Output → Turn
-turn_of until q = if q.missed then record { event = None; left = q } else turn_by until q (missed_of q.max q.level q.last) q.pending
+turn_of until q =
+    if q.missed then record { event = None; left = q } else turn_by until q (missed_of q.max q.level q.last) q.pending
 
+-- what is told next as a queue is run to a tick
 abbrev pub event_next : ℕ → Output → Option OutEvent
 event_next until q = (turn_of until (with_time q until)).event
 
+-- the queue behind that
 abbrev pub behind : ℕ → Output → Output
 behind until q = (turn_of until (with_time q until)).left

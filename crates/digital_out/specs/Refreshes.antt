@@ -9,13 +9,15 @@ wanted at level = record { tick = at; on = level }
 -- commands that hold an output on, every so many ticks behind one tick and before another
 abbrev pub AreOns : ℕ → ℕ → ℕ → List Want → Type 0
 AreOns every from until [] = until ≤ from + every
-AreOns every from until (w ∷ ws) = (w ≡ wanted (from + every) true) × (from + every < until) × AreOns every (from + every) until ws
+AreOns every from until (w ∷ ws) =
+    (w ≡ wanted (from + every) true) × (from + every < until) × AreOns every (from + every) until ws
 
 -- the commands behind a want that is on: up to the next want, or where it is the last one a further one and then off
 abbrev pub AreBehindOn : ℕ → ℕ → List Want → List Want → Type 0
 AreBehindOn every from [] behind = behind ≡ wanted (from + every) true ∷ wanted (from + every + every) false ∷ []
 AreBehindOn every from (next ∷ ws) behind = AreOns every from next.tick behind
 
+-- the commands behind a want: those of an output that is on, and none of one that is off
 abbrev pub AreBehindBy : Bool → ℕ → ℕ → List Want → List Want → Type 0
 AreBehindBy true every from others behind = AreBehindOn every from others behind
 AreBehindBy false every from others behind = behind ≡ []
@@ -28,8 +30,10 @@ AreBehind every w others behind = AreBehindBy w.on every w.tick others behind
 abbrev pub AreRefreshed : ℕ → List Want → List Want → Type 0
 AreRefreshed every [] commands = commands ≡ []
 AreRefreshed every (w ∷ ws) commands =
-    (behind rest : List Want) × (commands ≡ w ∷ behind ++ rest) × AreBehind every w ws behind × AreRefreshed every ws rest
+    (behind rest : List Want) × (commands ≡ w ∷ behind ++ rest) × AreBehind every w ws behind
+    × AreRefreshed every ws rest
 
+-- the off behind the last command, where the output is on
 abbrev pub off_by : ℕ → ℕ → Bool → List Want
 off_by every from true = wanted (from + every + every) false ∷ []
 off_by every from false = []

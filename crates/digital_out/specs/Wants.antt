@@ -40,7 +40,8 @@ section_ends m clocks ready (s ∷ sections) =
     move_ends m.cruise s.moves (greatest_speeds s.moves m.scv) ((ready + s.dwell) * turn_ns)
     ++ section_ends m clocks (section_end m clocks s.moves (ready + s.dwell) + 260) sections
 
--- the times at which a line may switch the fan: behind no move at the beginning of the first turn, and behind each move at its end
+-- the times at which a line may switch the fan: behind no move at the beginning of the first turn, and behind
+-- each move at its end
 abbrev pub ends : Machine → List Section → List ℕ
 ends m sections = first_turn * turn_ns ∷ section_ends m (own_clocks m) first_turn sections
 

@@ -16,6 +16,7 @@ moves_of (actions.Move m) = 1
 moves_of (actions.Home axes) = axes_in axes
 moves_of other = 0
 
+-- a word of the fan behind so many moves, where there is one
 abbrev pub word_by : ℕ → Option Bool → List FanWord
 word_by count None = []
 word_by count (Some level) = record { moves = count; on = level } ∷ []

@@ -25,12 +25,16 @@ fn run_to(queue: &mut OutQueue, until: u64, made: &mut Vec<Want>) -> Result<(), 
     requires small { until < tick_limit }
     requires later { queue.old.time ≤ until }
     requires well { queue.old.missed ≡ false }
-    requires safe { (more : List Want) × AreInTime queue.old.max queue.old.level queue.old.last (queue.old.pending ++ more) × BeginsFrom until more }
+    requires safe { (more : List Want)
+        × AreInTime queue.old.max queue.old.level queue.old.last (queue.old.pending ++ more) × BeginsFrom until more }
     ensures made { OnOk result (made.new.items ++ queue.new.pending ≡ made.old.items ++ queue.old.pending) }
     ensures from { OnOk result (RiseFrom 0 queue.old.pending → AreFrom until queue.new.pending) }
     ensures well { OnOk result (queue.new.missed ≡ false) }
-    ensures in_time { OnOk result ((more : List Want) → AreInTime queue.old.max queue.old.level queue.old.last (queue.old.pending ++ more) → AreInTime queue.old.max queue.new.level queue.new.last (queue.new.pending ++ more)) }
-    ensures time { OnOk result ((queue.new.time ≡ until) × (queue.new.slots ≡ queue.old.slots) × (queue.new.max ≡ queue.old.max)) }
+    ensures in_time { OnOk result ((more : List Want) →
+        AreInTime queue.old.max queue.old.level queue.old.last (queue.old.pending ++ more) →
+        AreInTime queue.old.max queue.new.level queue.new.last (queue.new.pending ++ more)) }
+    ensures time { OnOk result
+        ((queue.new.time ≡ until) × (queue.new.slots ≡ queue.old.slots) × (queue.new.max ≡ queue.old.max)) }
 {
     while let Some(event) = queue.advance(until) {
         match event.what {
@@ -66,7 +70,8 @@ fn ready_at(commands: &[Want], i: usize, now: u64, lead: u64) -> u64
 /// The tick behind the last command, 0 where there is none.
 fn end_of(commands: &[Want]) -> u64
     requires { All (λ w. w.tick + 1 < tick_limit) commands.now }
-    ensures value { 0 < length commands.now → result ≡ (slice_index_or commands.now (length commands.now - 1) no_want).tick + 1 }
+    ensures value { 0 < length commands.now →
+        result ≡ (slice_index_or commands.now (length commands.now - 1) no_want).tick + 1 }
     ensures none { length commands.now ≡ 0 → result ≡ 0 }
     ensures small { result < tick_limit }
 {
@@ -76,8 +81,8 @@ fn end_of(commands: &[Want]) -> u64
     nth(commands, commands.len() - 1).tick + 1
 }
 
-/// Gives commands to the queue of a board with so many ticks a turn, which carries them out. No command is refused, and the
-/// output is never missed.
+/// Gives commands to the queue of a board with so many ticks a turn, which carries them out. No command is
+/// refused, and the output is never missed.
 pub fn carry_out(alloc: Global, commands: &[Want], ticks: u64) -> Result<Vec<Want>, OutOfMemory>
     requires some { 0 < ticks }
     requires few { ticks ≤ 200_000 }

@@ -1,5 +1,5 @@
-//! The queue of a digital output on a board: levels with clocks of 32 bits, and the longest time that the output stays on
-//! without a further command.
+//! The queue of a digital output on a board: levels with clocks of 32 bits, and the longest time that the
+//! output stays on without a further command.
 
 ghost use Rattle.std.specs.Prelude.{◌≡◌, ◌⊎◌, ◌↔◌, ℕ, ◌^◌, ◌<◌, ◌≤◌, ◌+◌, [], ◌∷◌, ◌++◌, length, List, IfOk, IfErr, IfSome, IfNone, IsOk, OnOk, OnErr, Some, None, true, false};
 ghost use Rattle.plan_types.specs.Board.{nearest};
@@ -40,8 +40,9 @@ pub struct OutEvent {
     pub what: OutWhat,
 }
 
-/// The commands of an output that pend. Contracts see its size, how many ticks it may stay on, the time up to which it was
-/// run, the commands, the level, the tick of the last command that was carried out, and whether it was missed.
+/// The commands of an output that pend. Contracts see its size, how many ticks it may stay on, the time up to
+/// which it was run, the commands, the level, the tick of the last command that was carried out, and whether
+/// it was missed.
 #[derive(Drop)]
 pub struct OutQueue {
     waiting: HeapCircularBuffer<Want>,
@@ -57,7 +58,15 @@ impl Model for OutQueue {
 
     ghost Value = { Output };
 
-    ghost view = { λ q. record { slots = q.waiting.capacity; max = q.max; time = q.time; pending = q.waiting.items; level = q.level; last = q.last; missed = q.missed } };
+    ghost view = { λ q. record {
+      slots = q.waiting.capacity;
+      max = q.max;
+      time = q.time;
+      pending = q.waiting.items;
+      level = q.level;
+      last = q.last;
+      missed = q.missed;
+    } };
 }
 
 /// What carrying out a command is.
@@ -112,8 +121,9 @@ impl OutQueue {
         }
     }
 
-    /// Adds a command at the tick that is nearest to now and has this clock. An output that was missed ignores it. It is
-    /// refused where the queue is full, then where its tick is before now or not behind the last command that pends.
+    /// Adds a command at the tick that is nearest to now and has this clock. An output that was missed
+    /// ignores it. It is refused where the queue is full, then where its tick is before now or not behind the
+    /// last command that pends.
     pub fn push(&mut self, now: u64, clock: u32, on: bool) -> Result<(), OutRefusal>
         requires small { now < tick_limit }
         requires later { self.old.time ≤ now }

@@ -35,7 +35,8 @@ fn put_behind(
     requires small { want.tick + 2 * every < 2 ^ 64 }
     requires others { All (λ w. w.tick + 2 * every < 2 ^ 64) others.now }
     requires rise { RiseFrom (want.tick + 1) others.now }
-    ensures { OnOk result ((behind : List Want) × (out.new.items ≡ out.old.items ++ behind) × AreBehind every want others.now behind) }
+    ensures { OnOk result
+        ((behind : List Want) × (out.new.items ≡ out.old.items ++ behind) × AreBehind every want others.now behind) }
 {
     if !want.on {
         return Ok(());
@@ -54,8 +55,8 @@ fn put_behind(
     }
 }
 
-/// The wants, and while the output is on a further command every so many ticks until the next want; behind a last want that
-/// is on one further, and then off.
+/// The wants, and while the output is on a further command every so many ticks until the next want; behind a
+/// last want that is on one further, and then off.
 pub fn refreshed(alloc: Global, wants: &[Want], every: u64) -> Result<Vec<Want>, OutOfMemory>
     requires some { 0 < every }
     requires rise { AreRising wants.now }

@@ -15,8 +15,9 @@ use std::alloc::Global;
 /// While an output is on, a further command comes behind so many turns.
 const EVERY: u64 = 2_500;
 
-/// The switchings of an output that is wanted like this, on a board with so many ticks a turn: the wants, and behind the
-/// last one, where that is on, the off with which its refreshing ends. They come out of the board's queue.
+/// The switchings of an output that is wanted like this, on a board with so many ticks a turn: the wants, and
+/// behind the last one, where that is on, the off with which its refreshing ends. They come out of the
+/// board's queue.
 pub fn switchings(alloc: Global, wants: &[Want], ticks: u64) -> Result<Vec<Want>, OutOfMemory>
     requires some { 0 < ticks }
     requires few { ticks ≤ 200_000 }

@@ -9,11 +9,13 @@ use Rattle.frame_dump.specs.declared.line.DumpLine.TheVariants as line
 use Rattle.frame_dump.specs.declared.trace.TraceTurn.{TraceTurn}
 use Rattle.frame_dump.specs.Things.{Thing, AreThings, taken_behind}
 
--- The lines of a block's content: a command, and those of what follows it; or what is left, where no command can be read.
+-- The lines of a block's content: a command, and those of what follows it; or what is left, where no command
+-- can be read.
 abbrev pub AreContent : List Named → List ℕ → List DumpLine → Type 0
 AreContent es content [] = content ≡ []
 AreContent es content (line.Command c ∷ lines) = Joins (λ t. IsText es c t) (λ t. AreContent es t lines) content
-AreContent es content (line.Rest bytes kind ∷ lines) = (0 < length content) × (bytes ≡ length content) × Refuses es content kind × (lines ≡ [])
+AreContent es content (line.Rest bytes kind ∷ lines) =
+    (0 < length content) × (bytes ≡ length content) × Refuses es content kind × (lines ≡ [])
 AreContent es content (line.Skip turn ∷ lines) = ⊥
 AreContent es content (line.Bad turn bytes ∷ lines) = ⊥
 AreContent es content (line.Block turn number taken ∷ lines) = ⊥
@@ -22,7 +24,8 @@ AreContent es content (line.Open bytes ∷ lines) = ⊥
 -- the lines of a block in a turn, where a number is expected
 abbrev pub IsBlockIn : List Named → ℕ → ℕ → ℕ → List ℕ → List DumpLine → Type 0
 IsBlockIn es turn number expected content lines =
-    (inner : List DumpLine) × AreContent es content inner × (lines ≡ line.Block turn number (number == expected) ∷ inner)
+    (inner : List DumpLine) × AreContent es content inner
+    × (lines ≡ line.Block turn number (number == expected) ∷ inner)
 
 -- what is expected behind a block of a number
 abbrev pub end_behind : ℕ → ℕ → ℕ
@@ -40,7 +43,8 @@ Shows es taken turn NeedMore count lines = ⊥
 abbrev pub ShowAll : List Named → ℕ → List Thing → List DumpLine → Type 0
 ShowAll es taken [] lines = lines ≡ []
 ShowAll es taken (t ∷ ts) lines =
-    (first rest : List DumpLine) × (lines ≡ first ++ rest) × Shows es taken t.turn t.found t.count first × ShowAll es (taken_behind taken t.found) ts rest
+    (first rest : List DumpLine) × (lines ≡ first ++ rest) × Shows es taken t.turn t.found t.count first
+    × ShowAll es (taken_behind taken t.found) ts rest
 
 -- the line of the bytes that wait in the end, where there are some
 abbrev pub open_lines : List ℕ → List DumpLine

@@ -25,11 +25,14 @@ pub record PlayedSofar (b : BoardDef) (turns rest : List TraceTurn) (s : Simulat
   pub given : List Given
   pub taken : ℕ
   pub expected : s.station.expected ≡ taken % 16
-  pub more : (gs : List Given) → AreGiven own_formats taken s.dropping s.left rest gs → AreGiven own_formats 0 false [] turns (given ++ gs)
-  pub same : (gs : List Given) → AreGiven own_formats taken s.dropping s.left rest gs → plays b 0 (new_rig b []) (given ++ gs) ≡ with_pulses pulses (plays_on b s.station.rig gs)
+  pub more : (gs : List Given) → AreGiven own_formats taken s.dropping s.left rest gs →
+      AreGiven own_formats 0 false [] turns (given ++ gs)
+  pub same : (gs : List Given) → AreGiven own_formats taken s.dropping s.left rest gs →
+      plays b 0 (new_rig b []) (given ++ gs) ≡ with_pulses pulses (plays_on b s.station.rig gs)
 
 -- a board took the bytes of a turn and ran to a tick, and its pulses were added
-pub record PlaysTurn (old : Simulated) (bytes : List ℕ) (until : ℕ) (new : Simulated) (before after : List Pulse) : Type 0 where
+pub record PlaysTurn (old : Simulated) (bytes : List ℕ) (until : ℕ) (new : Simulated) (before after : List Pulse)
+    : Type 0 where
   pub pulses : List Pulse
   pub blocks : List (ArrayVec ℕ)
   pub turn : IsTurn old bytes until new pulses blocks

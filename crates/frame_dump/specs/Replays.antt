@@ -30,7 +30,8 @@ Gives es taken Bad cs = cs ≡ []
 abbrev pub GiveAll : List Named → ℕ → List Thing → List Cmd → Type 0
 GiveAll es taken [] cs = cs ≡ []
 GiveAll es taken (t ∷ ts) cs =
-    (first rest : List Cmd) × (cs ≡ first ++ rest) × Gives es taken t.found first × GiveAll es (taken_behind taken t.found) ts rest
+    (first rest : List Cmd) × (cs ≡ first ++ rest) × Gives es taken t.found first
+    × GiveAll es (taken_behind taken t.found) ts rest
 
 -- a turn, and the commands of the blocks that are taken in it
 pub record Given : Type 0 where
@@ -42,8 +43,9 @@ abbrev pub AreGiven : List Named → ℕ → Bool → List ℕ → List TraceTur
 AreGiven es taken dropping waiting [] gs = gs ≡ []
 AreGiven es taken dropping waiting (t ∷ turns) [] = ⊥
 AreGiven es taken dropping waiting (t ∷ turns) (g ∷ gs) =
-    (things : List Thing) × (left : List ℕ) × (drops : Bool) × (g.turn ≡ t.turn) × AreIn t.turn dropping (waiting ++ t.bytes) things left drops
-    × GiveAll es taken things g.commands × AreGiven es (all_taken taken things) drops left turns gs
+    (things : List Thing) × (left : List ℕ) × (drops : Bool) × (g.turn ≡ t.turn)
+    × AreIn t.turn dropping (waiting ++ t.bytes) things left drops × GiveAll es taken things g.commands
+    × AreGiven es (all_taken taken things) drops left turns gs
 
 -- a board after a time, and the pulses that it made in it
 pub record Played : Type 0 where
@@ -52,16 +54,20 @@ pub record Played : Type 0 where
 
 -- time passes on a board up to its own tick of a turn
 abbrev pub plays_to : BoardDef → ℕ → Rig → Played
-plays_to b turn r = let done = passes r (board_tick (clock_of b) turn) in record { rig = done.rig; pulses = done.pulses }
+plays_to b turn r =
+    let done = passes r (board_tick (clock_of b) turn) in record { rig = done.rig; pulses = done.pulses }
 
+-- what a board did, with pulses that it made before
 abbrev pub with_pulses : List Pulse → Played → Played
 with_pulses before p = record { rig = p.rig; pulses = before ++ p.pulses }
 
--- A board whose last turn is this one takes the commands of each further turn at its own tick of that turn, and runs for 1,001
--- turns behind the last one.
+-- A board whose last turn is this one takes the commands of each further turn at its own tick of that turn,
+-- and runs for 1,001 turns behind the last one.
 abbrev pub plays : BoardDef → ℕ → Rig → List Given → Played
 plays b last r [] = plays_to b (last + 1_001) r
-plays b last r (g ∷ gs) = let before = plays_to b g.turn r in with_pulses before.pulses (plays b g.turn (takes_all before.rig g.commands).rig gs)
+plays b last r (g ∷ gs) =
+    let before = plays_to b g.turn r in
+    with_pulses before.pulses (plays b g.turn (takes_all before.rig g.commands).rig gs)
 
 -- the replay of a trace on a new board all of whose pins are low: its pulses and its state in the end
 pub record IsReplay (b : BoardDef) (turns : List TraceTurn) (pulses : List Pulse) (state : BoardState) : Type 0 where

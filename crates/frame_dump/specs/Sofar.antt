@@ -9,7 +9,8 @@ use Rattle.frame_dump.specs.declared.fault.TraceFault.{TraceFault}
 use Rattle.frame_dump.specs.Traces.{hex_bytes}
 
 -- all that stands in the bytes of a turn was listed, behind so many taken blocks, and these bytes are left
-pub record ListsLine (es : List Named) (turn taken : ℕ) (dropping : Bool) (bytes : List ℕ) (before : List DumpLine) (left : List ℕ) (drops : Bool) (expected : ℕ) (after : List DumpLine) : Type 0 where
+pub record ListsLine (es : List Named) (turn taken : ℕ) (dropping : Bool) (bytes : List ℕ) (before : List DumpLine)
+    (left : List ℕ) (drops : Bool) (expected : ℕ) (after : List DumpLine) : Type 0 where
   pub things : List Thing
   pub lines : List DumpLine
   pub are : AreIn turn dropping bytes things left drops
@@ -18,19 +19,23 @@ pub record ListsLine (es : List Named) (turn taken : ℕ) (dropping : Bool) (byt
   pub added : after ≡ before ++ lines
 
 -- of the bytes of a turn the first ones, so many, were listed
-pub record LineSofar (es : List Named) (turn taken : ℕ) (dropping : Bool) (bytes : List ℕ) (before : List DumpLine) (at : ℕ) (drops : Bool) (expected : ℕ) (after : List DumpLine) : Type 0 where
+pub record LineSofar (es : List Named) (turn taken : ℕ) (dropping : Bool) (bytes : List ℕ) (before : List DumpLine)
+    (at : ℕ) (drops : Bool) (expected : ℕ) (after : List DumpLine) : Type 0 where
   pub things : List Thing
   pub lines : List DumpLine
   pub within : at ≤ length bytes
-  pub more : (ts : List Thing) (left : List ℕ) (last : Bool) → AreIn turn drops (drop at bytes) ts left last → AreIn turn dropping bytes (things ++ ts) left last
+  pub more : (ts : List Thing) (left : List ℕ) (last : Bool) → AreIn turn drops (drop at bytes) ts left last →
+      AreIn turn dropping bytes (things ++ ts) left last
   pub shows : ShowAll es taken things lines
   pub number : expected ≡ all_taken taken things % 16
   pub added : after ≡ before ++ lines
 
 -- the first turns of a trace were listed, and these are left
-pub record DumpSofar (es : List Named) (turns rest : List TraceTurn) (waiting : List ℕ) (drops : Bool) (expected : ℕ) (lines : List DumpLine) : Type 0 where
+pub record DumpSofar (es : List Named) (turns rest : List TraceTurn) (waiting : List ℕ) (drops : Bool) (expected : ℕ)
+    (lines : List DumpLine) : Type 0 where
   pub things : List Thing
-  pub more : (ts : List Thing) (waits : List ℕ) → AreThings drops waiting rest ts waits → AreThings false [] turns (things ++ ts) waits
+  pub more : (ts : List Thing) (waits : List ℕ) → AreThings drops waiting rest ts waits →
+      AreThings false [] turns (things ++ ts) waits
   pub shows : ShowAll es 0 things lines
   pub number : expected ≡ all_taken 0 things % 16
 
@@ -55,6 +60,7 @@ abbrev pub low_behind : Option ℕ → ℕ
 low_behind None = 0
 low_behind (Some last) = last + 1
 
+-- the least number that a turn behind these may have
 abbrev pub low_after : ℕ → List TraceTurn → ℕ
 low_after low [] = low
 low_after low (t ∷ turns) = low_after (t.turn + 1) turns

@@ -30,6 +30,7 @@ hex_text (b ∷ bytes) = hex_digit (b / 16) ∷ hex_digit (b % 16) ∷ hex_text 
 abbrev pub command_name : Cmd → List ℕ
 command_name c = before 32 (format_text (row_of c))
 
+-- the text of a parameter: a number in decimal digits, bytes in hexadecimal ones
 abbrev pub param_text : Param → List ℕ
 param_text (param.Number n) = decimal n
 param_text (param.Bytes bytes) = hex_text bytes.items
@@ -42,7 +43,8 @@ params_text (p ∷ ps) = 32 ∷ param_text p ++ params_text ps
 -- the parameters of steps, of which the last has its sign
 abbrev pub steps_text : ℕ → ℕ → ℕ → ℤ → List ℕ
 steps_text oid interval count add =
-    joined (codes " " ∷ decimal oid ∷ codes " " ∷ decimal interval ∷ codes " " ∷ decimal count ∷ codes " " ∷ signed_decimal add ∷ [])
+    joined (codes " " ∷ decimal oid ∷ codes " " ∷ decimal interval ∷ codes " " ∷ decimal count ∷ codes " "
+    ∷ signed_decimal add ∷ [])
 
 -- the parameters of a command, each behind a blank
 abbrev pub arguments_text : Cmd → List ℕ
@@ -53,6 +55,7 @@ arguments_text c = params_text (params_of c)
 abbrev pub command_text : Cmd → List ℕ
 command_text c = joined (codes "cmd " ∷ command_name c ∷ arguments_text c ∷ codes "\n" ∷ [])
 
+-- the end of a block's line: whether the board took it
 abbrev pub taken_word : Bool → List ℕ
 taken_word true = codes " taken\n"
 taken_word false = codes " dropped\n"
@@ -67,7 +70,8 @@ kind_word fault.UnknownName = codes " UnknownName\n"
 abbrev pub line_text : DumpLine → List ℕ
 line_text (line.Skip turn) = joined (codes "skip " ∷ decimal turn ∷ codes "\n" ∷ [])
 line_text (line.Bad turn bytes) = joined (codes "bad " ∷ decimal turn ∷ codes " " ∷ decimal bytes ∷ codes "\n" ∷ [])
-line_text (line.Block turn number taken) = joined (codes "block " ∷ decimal turn ∷ codes " " ∷ decimal number ∷ taken_word taken ∷ [])
+line_text (line.Block turn number taken) =
+    joined (codes "block " ∷ decimal turn ∷ codes " " ∷ decimal number ∷ taken_word taken ∷ [])
 line_text (line.Command c) = command_text c
 line_text (line.Rest bytes kind) = joined (codes "rest " ∷ decimal bytes ∷ kind_word kind ∷ [])
 line_text (line.Open bytes) = joined (codes "open " ∷ decimal bytes ∷ codes "\n" ∷ [])
@@ -77,13 +81,16 @@ abbrev pub dump_text : List DumpLine → List ℕ
 dump_text [] = []
 dump_text (l ∷ lines) = line_text l ++ dump_text lines
 
+-- the end of a pulse's line: its direction
 abbrev pub direction_word : Bool → List ℕ
 direction_word true = codes " +\n"
 direction_word false = codes " -\n"
 
 -- the line of a pulse of a board
 abbrev pub pulse_text : List ℕ → Pulse → List ℕ
-pulse_text board p = joined (codes "pulse " ∷ board ∷ codes " " ∷ decimal p.stepper ∷ codes " " ∷ decimal p.tick ∷ direction_word p.up ∷ [])
+pulse_text board p =
+    joined
+    (codes "pulse " ∷ board ∷ codes " " ∷ decimal p.stepper ∷ codes " " ∷ decimal p.tick ∷ direction_word p.up ∷ [])
 
 -- the lines of several pulses of a board
 abbrev pub pulses_text : List ℕ → List Pulse → List ℕ
@@ -93,7 +100,9 @@ pulses_text board (p ∷ ps) = pulse_text board p ++ pulses_text board ps
 -- the line of a board's state
 abbrev pub state_text : BoardState → List ℕ
 state_text Running = codes "state running\n"
-state_text (Shut reason tick first) = joined (codes "state shut " ∷ decimal reason ∷ codes " " ∷ decimal tick ∷ codes " " ∷ decimal first ∷ codes "\n" ∷ [])
+state_text (Shut reason tick first) =
+    joined
+    (codes "state shut " ∷ decimal reason ∷ codes " " ∷ decimal tick ∷ codes " " ∷ decimal first ∷ codes "\n" ∷ [])
 
 -- the text of a replay: the pulses in order, and then the state
 abbrev pub replay_text : List ℕ → List Pulse → BoardState → List ℕ

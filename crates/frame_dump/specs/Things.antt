@@ -11,19 +11,20 @@ pub record Thing : Type 0 where
   pub found : Found
   pub count : ℕ
 
--- the things in some bytes that a scanner finds, which drops or not, until more bytes are needed; which bytes are then left, and
--- whether it drops
+-- the things in some bytes that a scanner finds, which drops or not, until more bytes are needed; which bytes
+-- are then left, and whether it drops
 abbrev pub AreIn : ℕ → Bool → List ℕ → List Thing → List ℕ → Bool → Type 0
 AreIn turn dropping bytes [] left drops = Scans dropping bytes NeedMore 0 drops × (left ≡ bytes)
 AreIn turn dropping bytes (t ∷ ts) left drops =
-    (next : Bool) × (t.turn ≡ turn) × (0 < t.count) × Scans dropping bytes t.found t.count next × AreIn turn next (drop t.count bytes) ts left drops
+    (next : Bool) × (t.turn ≡ turn) × (0 < t.count) × Scans dropping bytes t.found t.count next
+    × AreIn turn next (drop t.count bytes) ts left drops
 
 -- the things of turns, where some bytes wait already; and the bytes that wait in the end
 abbrev pub AreThings : Bool → List ℕ → List TraceTurn → List Thing → List ℕ → Type 0
 AreThings dropping waiting [] things waits = (things ≡ []) × (waits ≡ waiting)
 AreThings dropping waiting (t ∷ turns) things waits =
-    (first rest : List Thing) × (left : List ℕ) × (drops : Bool) × (things ≡ first ++ rest) × AreIn t.turn dropping (waiting ++ t.bytes) first left drops
-    × AreThings drops left turns rest waits
+    (first rest : List Thing) × (left : List ℕ) × (drops : Bool) × (things ≡ first ++ rest)
+    × AreIn t.turn dropping (waiting ++ t.bytes) first left drops × AreThings drops left turns rest waits
 
 -- a block that is found has a number below 16
 abbrev pub HasNumber : Found → Type 0

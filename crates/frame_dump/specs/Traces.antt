@@ -11,12 +11,15 @@ use Rattle.frame_dump.specs.declared.fault.TraceFault.{TraceFault}
 use Rattle.frame_dump.specs.declared.fault.TraceFault.TheVariants.{At, Memory}
 use Rattle.frame_dump.specs.declared.trace.TraceTurn.{TraceTurn}
 
+-- a text or a word, as its bytes
 abbrev pub Text : Type 0
 Text = List ℕ
 
 -- the value of a hexadecimal digit, in capital or small letters
 abbrev pub hex_value : ℕ → Option ℕ
-hex_value b = if is_digit b then Some (b - 48) else (if nat_le 65 (capital b) && nat_le (capital b) 70 then Some (capital b - 55) else None)
+hex_value b =
+    if is_digit b then Some (b - 48)
+    else (if nat_le 65 (capital b) && nat_le (capital b) 70 then Some (capital b - 55) else None)
 
 -- the byte of two digits, the high one first
 abbrev pub byte_of : Option ℕ → Option ℕ → Option ℕ
@@ -24,6 +27,7 @@ byte_of None low = None
 byte_of (Some high) None = None
 byte_of (Some high) (Some low) = Some (16 * high + low)
 
+-- a byte before others, where all are read
 abbrev pub before_bytes : Option ℕ → Option (List ℕ) → Option (List ℕ)
 before_bytes None bytes = None
 before_bytes (Some b) None = None
@@ -43,6 +47,7 @@ content_of word = if nat_le 2 (length word) && nat_le (length word) 2_048 then h
 abbrev pub turn_number : Text → Option ℕ
 turn_number word = if is_natural word && nat_le (value_of word) 1_000_000_000 then Some (value_of word) else None
 
+-- a turn of a trace, where its number and its bytes are read
 abbrev pub turn_with : Option ℕ → Option (List ℕ) → Option TraceTurn
 turn_with None content = None
 turn_with (Some turn) None = None
@@ -50,7 +55,8 @@ turn_with (Some turn) (Some content) = Some (record { turn = turn; bytes = conte
 
 -- what the words of a line say: `turn`, a number and the bytes of that turn
 abbrev pub turn_of : List Text → Option TraceTurn
-turn_of (word ∷ number ∷ digits ∷ []) = if bytes_eq word (codes "turn") then turn_with (turn_number number) (content_of digits) else None
+turn_of (word ∷ number ∷ digits ∷ []) =
+    if bytes_eq word (codes "turn") then turn_with (turn_number number) (content_of digits) else None
 turn_of other = None
 
 -- a number is above the last one, where there is one
@@ -63,11 +69,14 @@ abbrev pub rising : Option ℕ → Option TraceTurn → Result TraceTurn TraceKi
 rising last None = Err BadLine
 rising last (Some t) = if is_above t.turn last then Ok t else Err NotRising
 
+-- a turn before others, or the first fault among those
 abbrev pub with_first : TraceTurn → Result (List TraceTurn) TraceFault → Result (List TraceTurn) TraceFault
 with_first t (Ok turns) = Ok (t ∷ turns)
 with_first t (Err fault) = Err fault
 
-abbrev pub then_turns : ℕ → Result TraceTurn TraceKind → (ℕ → Result (List TraceTurn) TraceFault) → Result (List TraceTurn) TraceFault
+-- a turn that was read from the line of this number, and the later ones; or its fault
+abbrev pub then_turns : ℕ → Result TraceTurn TraceKind → (ℕ → Result (List TraceTurn) TraceFault) →
+    Result (List TraceTurn) TraceFault
 then_turns number (Ok t) later = with_first t (later t.turn)
 then_turns number (Err kind) later = Err (At number kind)
 
@@ -78,7 +87,8 @@ turns_from last (line ∷ lines) = then_turns line.0 (rising last (turn_of line.
 
 -- the turns of a text, or its first fault; `#` begins a comment
 unfoldable pub reading : Text → Result (List TraceTurn) TraceFault
-reading text = if nat_lt 16_777_216 (length text) then Err (At 0 TooLarge) else turns_from None (worded_lines 35 1 (lines_of text))
+reading text =
+    if nat_lt 16_777_216 (length text) then Err (At 0 TooLarge) else turns_from None (worded_lines 35 1 (lines_of text))
 
 -- the numbers of turns rise from one on that is allowed, up to 10^9
 abbrev pub AreTurns : ℕ → List TraceTurn → Type 0
@@ -97,7 +107,8 @@ IsFaultAt number wanted Memory = ⊤
 IsFaultAt number wanted (At line kind) = (line ≡ number) × (wanted ≡ Err kind)
 
 -- the same of a reader of turns
-abbrev pub AnswersTurns : {Z : Type 0} → Result (Vec TraceTurn Z) TraceFault → Result (List TraceTurn) TraceFault → Type 0
+abbrev pub AnswersTurns : {Z : Type 0} → Result (Vec TraceTurn Z) TraceFault → Result (List TraceTurn) TraceFault →
+    Type 0
 AnswersTurns (Ok turns) wanted = wanted ≡ Ok turns.items
 AnswersTurns (Err Memory) wanted = ⊤
 AnswersTurns (Err (At line kind)) wanted = wanted ≡ Err (At line kind)

@@ -47,7 +47,8 @@ fn list_block(
     lines: &mut Vec<DumpLine>,
 ) -> Result<(), AllocError>
     requires { number < 16 }
-    ensures lines { OnOk result (Adds (IsBlockIn d.now.formats turn number end.old content.now) lines.old.items lines.new.items) }
+    ensures lines { OnOk result
+        (Adds (IsBlockIn d.now.formats turn number end.old content.now) lines.old.items lines.new.items) }
     ensures end { OnOk result (end.new ≡ end_behind end.old number) }
 {
     let taken = end.arrive(number).accepted;
@@ -70,7 +71,8 @@ fn list_found(
 ) -> Result<(), AllocError>
     requires number { HasNumber found.now }
     requires found { found.now ≢ NeedMore }
-    ensures shows { OnOk result ((taken : ℕ) → end.old ≡ taken % 16 → Adds (Shows d.now.formats taken turn found.now count) lines.old.items lines.new.items) }
+    ensures shows { OnOk result ((taken : ℕ) → end.old ≡ taken % 16 →
+        Adds (Shows d.now.formats taken turn found.now count) lines.old.items lines.new.items) }
     ensures number { OnOk result ((taken : ℕ) → end.old ≡ taken % 16 → end.new ≡ taken_behind taken found.now % 16) }
 {
     match found {
@@ -97,7 +99,9 @@ fn list_line(
     lines: &mut Vec<DumpLine>,
 ) -> Result<usize, AllocError>
     ensures within { IfOk result (λ count. count ≤ length bytes.now) }
-    ensures lists { IfOk result (λ count. (taken : ℕ) → end.old ≡ taken % 16 → ListsLine d.now.formats turn taken scanner.old bytes.now lines.old.items (drop count bytes.now) scanner.new end.new lines.new.items) }
+    ensures lists { IfOk result (λ count. (taken : ℕ) → end.old ≡ taken % 16 →
+        ListsLine d.now.formats turn taken scanner.old bytes.now lines.old.items (drop count bytes.now) scanner.new
+        end.new lines.new.items) }
 {
     let mut at = 0;
     loop {
@@ -125,7 +129,9 @@ fn list_turn(
     turn: &TraceTurn,
     lines: &mut Vec<DumpLine>,
 ) -> Result<(), AllocError>
-    ensures { OnOk result ((taken : ℕ) → reader.old.end ≡ taken % 16 → ListsLine d.now.formats turn.now.turn taken reader.old.scanner (reader.old.waiting.items ++ turn.now.bytes) lines.old.items reader.new.waiting.items reader.new.scanner reader.new.end lines.new.items) }
+    ensures { OnOk result ((taken : ℕ) → reader.old.end ≡ taken % 16 →
+        ListsLine d.now.formats turn.now.turn taken reader.old.scanner (reader.old.waiting.items ++ turn.now.bytes)
+        lines.old.items reader.new.waiting.items reader.new.scanner reader.new.end lines.new.items) }
 {
     reader.waiting.extend_from_slice(turn.bytes.as_slice())?;
     let count = list_line(
@@ -152,7 +158,8 @@ fn list_open(waiting: &[u8], lines: &mut Vec<DumpLine>) -> Result<(), AllocError
     Ok(())
 }
 
-/// What the bytes of a trace hold, line by line: the blocks with their commands, what is no block, and what waits in the end.
+/// What the bytes of a trace hold, line by line: the blocks with their commands, what is no block, and what
+/// waits in the end.
 pub fn dump(alloc: Global, d: &Dict, trace: &Trace) -> Result<Vec<DumpLine>, AllocError>
     ensures { IfOk result (λ lines. IsDump d.now.formats trace.now lines.items) }
 {

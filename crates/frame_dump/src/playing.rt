@@ -54,7 +54,8 @@ fn play_turn(
     requires later { simulated.old.station.rig.controller.tick ≤ until }
     requires until { until < tick_limit }
     ensures tick { OnOk result (simulated.new.station.rig.controller.tick ≡ until) }
-    ensures turn { OnOk result (PlaysTurn simulated.old bytes.now until simulated.new pulses.old.items pulses.new.items) }
+    ensures turn { OnOk result
+        (PlaysTurn simulated.old bytes.now until simulated.new pulses.old.items pulses.new.items) }
     ensures state { IfOk result (λ state. state ≡ simulated.new.station.rig.controller.state) }
 {
     let out = simulated.turn(bytes, until)?;
@@ -62,8 +63,8 @@ fn play_turn(
     Ok(out.state)
 }
 
-/// Gives a trace to a new board whose pins are all low: it takes the bytes of each turn at its own tick of that turn, and
-/// runs for 1,001 turns behind the last one.
+/// Gives a trace to a new board whose pins are all low: it takes the bytes of each turn at its own tick of
+/// that turn, and runs for 1,001 turns behind the last one.
 pub fn replay(alloc: Global, board: &BoardDef, trace: &Trace) -> Result<Replayed, AllocError>
     requires { IsValidBoard board.now }
     ensures { IfOk result (λ replay. IsReplay board.now trace.now replay.pulses.items replay.state) }

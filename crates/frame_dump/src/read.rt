@@ -49,7 +49,8 @@ fn byte_of(high: u8, low: u8) -> Option<u8>
 
 /// Adds the bytes that pairs of digits spell. Answers whether they are pairs of digits.
 fn push_bytes(into: &mut Vec<u8>, digits: &[u8]) -> Result<bool, AllocError>
-    ensures bytes { IfOk result (λ are. are ≡ true → (bytes : List ℕ) × (hex_bytes digits.now ≡ Some bytes) × (into.new.items ≡ into.old.items ++ bytes)) }
+    ensures bytes { IfOk result (λ are. are ≡ true →
+        (bytes : List ℕ) × (hex_bytes digits.now ≡ Some bytes) × (into.new.items ≡ into.old.items ++ bytes)) }
     ensures none { IfOk result (λ are. are ≡ false → hex_bytes digits.now ≡ None) }
 {
     let mut rest = digits;

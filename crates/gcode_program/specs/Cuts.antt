@@ -25,7 +25,8 @@ left dwell (m ∷ ms) = 0
 -- each homed axis is a section of its own, with one move
 abbrev pub home_of : Machine → List ℤ → ℕ → ℕ → ℕ → Bool → List Section
 home_of m at acceleration dwell axis named =
-    if named then record { kind = Home axis; moves = homing_move m at acceleration axis ∷ []; dwell = dwell } ∷ [] else []
+    if named then record { kind = Home axis; moves = homing_move m at acceleration axis ∷ []; dwell = dwell } ∷ []
+    else []
 
 -- the dwells that are left behind a home of some axes
 abbrev pub left_by : ℕ → Bool → ℕ
@@ -44,11 +45,12 @@ homes m at acceleration dwell axes =
     home_of m at acceleration dwell 0 x ++ home_of m (stood m at 0 x) acceleration (left_by dwell x) 1 y
     ++ home_of m (stood m (stood m at 0 x) 1 y) acceleration (left_by (left_by dwell x) y) 2 z
 
+-- how many milliseconds of dwells are left behind the homing of these axes: they go with the first one
 abbrev pub left_by_homes : ℕ → List Bool → ℕ
 left_by_homes dwell axes = left_by (left_by (left_by dwell (is_named axes 0)) (is_named axes 1)) (is_named axes 2)
 
--- the sections of these deeds, behind so many milliseconds of dwells and the moves of a section that is open, by what one of
--- them does
+-- the sections of these deeds, behind so many milliseconds of dwells and the moves of a section that is open,
+-- by what one of them does
 abbrev pub sections_by : Machine → ℕ → List Move → State → Action → (ℕ → List Move → List Section) → List Section
 sections_by m dwell moves s actions.None rest = rest dwell moves
 sections_by m dwell moves s (actions.Move one) rest = rest dwell (moves ++ one ∷ [])
@@ -56,9 +58,12 @@ sections_by m dwell moves s (actions.Dwell ms) rest = closed dwell moves ++ rest
 sections_by m dwell moves s actions.Wait rest = closed dwell moves ++ rest (left dwell moves) []
 sections_by m dwell moves s actions.Stop rest = closed dwell moves ++ rest (left dwell moves) []
 sections_by m dwell moves s (actions.Home axes) rest =
-    closed dwell moves ++ (homes m (coordinates_of s) s.acceleration (left dwell moves) axes ++ rest (left_by_homes (left dwell moves) axes) [])
+    closed dwell moves
+    ++ (homes m (coordinates_of s) s.acceleration (left dwell moves) axes
+    ++ rest (left_by_homes (left dwell moves) axes) [])
 
 -- the sections of these deeds, behind so many milliseconds of dwells and the moves of a section that is open
 abbrev pub sections_of : Machine → ℕ → List Move → List Deed → List Section
 sections_of m dwell moves [] = closed dwell moves
-sections_of m dwell moves (d ∷ rest) = sections_by m dwell moves d.before d.action (λ left_dwell left_moves. sections_of m left_dwell left_moves rest)
+sections_of m dwell moves (d ∷ rest) =
+    sections_by m dwell moves d.before d.action (λ left_dwell left_moves. sections_of m left_dwell left_moves rest)

@@ -9,7 +9,8 @@ use Rattle.plan_types.specs.Valid.{IsValidMove}
 abbrev pub IsNear : Move → Type 0
 IsNear m = IsReachable m ⊎ (m.d ≤ 1_500_000_000)
 
--- sections that can be planned, those that home among them: their moves are valid and near, and they are not too long together
+-- sections that can be planned, those that home among them: their moves are valid and near, and they are not
+-- too long together
 pub record ArePlannable (sections : List Section) : Type 0 where
   pub some : All (λ s. 0 < length s.moves) sections
   pub valid : All (λ s. All IsValidMove s.moves) sections

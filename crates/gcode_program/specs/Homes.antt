@@ -20,14 +20,22 @@ homing_from a = if is_positive a then a.endstop -ℤ pos (homing_run a) else a.e
 -- a position with another coordinate for one axis
 abbrev pub placed_on : List ℤ → ℕ → ℤ → List ℤ
 placed_on at axis place =
-    (if axis == 0 then place else slice_index_or at 0 (pos 0)) ∷ (if axis == 1 then place else slice_index_or at 1 (pos 0))
+    (if axis == 0 then place else slice_index_or at 0 (pos 0))
+    ∷ (if axis == 1 then place else slice_index_or at 1 (pos 0))
     ∷ (if axis == 2 then place else slice_index_or at 2 (pos 0)) ∷ slice_index_or at 3 (pos 0) ∷ []
 
--- The move by which an axis homes: to its switch, from as far away as its range and a half, while the other coordinates stand
--- still; at its speed of homing, and at most that of the machine.
+-- The move by which an axis homes: to its switch, from as far away as its range and a half, while the other
+-- coordinates stand still; at its speed of homing, and at most that of the machine.
 unfoldable pub homing_move : Machine → List ℤ → ℕ → ℕ → Move
-homing_move m at acceleration axis = let a = axis_at m axis in
-    record { from = placed_on at axis (homing_from a); to = placed_on at axis a.endstop; d = homing_run a; v = min a.speed m.v; a = acceleration }
+homing_move m at acceleration axis =
+    let a = axis_at m axis in
+    record {
+      from = placed_on at axis (homing_from a);
+      to = placed_on at axis a.endstop;
+      d = homing_run a;
+      v = min a.speed m.v;
+      a = acceleration;
+    }
 
 -- where everything stands behind the homing of an axis, if it is named
 abbrev pub stood : Machine → List ℤ → ℕ → Bool → List ℤ

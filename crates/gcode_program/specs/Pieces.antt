@@ -6,6 +6,7 @@ use Rattle.gcode_state.specs.declared.state.Action.{Action}
 use Rattle.gcode_state.specs.declared.state.Action.TheVariants as actions
 use Rattle.gcode_program.specs.Readings.{line_result}
 
+-- the state behind a line, unless that stops the reading
 abbrev pub state_if : Action → Option State → Option State
 state_if actions.Stop behind = None
 state_if action behind = behind
@@ -18,7 +19,8 @@ state_behind (Ok next) behind = state_if next.1 (behind next.0)
 -- the state at the end of a text; none where a line is refused or asks for a stop
 abbrev pub final : ℕ → State → ℕ → List (List ℕ) → Option State
 final size s start [] = Some s
-final size s start (line ∷ lines) = state_behind (line_result size start s line) (λ t. final size t (start + (length line + 1)) lines)
+final size s start (line ∷ lines) =
+    state_behind (line_result size start s line) (λ t. final size t (start + (length line + 1)) lines)
 
 -- how many bytes these lines take, each with its LF
 abbrev pub bytes_of : List (List ℕ) → ℕ

@@ -32,7 +32,8 @@ pub record IsAll (m : Machine) (text : List ℕ) (end : ReadEnd) (told : List It
   pub good : All IsGood told
 
 -- what was told and what is still to come are the whole
-pub record IsComing (m : Machine) (whole coming : Outcome) (o : Opening) (lines passed : ℕ) (told : List Item) : Type 0 where
+pub record IsComing (m : Machine) (whole coming : Outcome) (o : Opening) (lines passed : ℕ) (told : List Item)
+    : Type 0 where
   pub items : told ++ items_from m o coming.deeds ≡ items_from m (record { goes = false; dwell = 0 }) whole.deeds
   pub count : lines + length coming.deeds ≡ length whole.deeds
   pub passed_is : passed + coming.passed ≡ whole.passed
@@ -40,7 +41,8 @@ pub record IsComing (m : Machine) (whole coming : Outcome) (o : Opening) (lines 
 
 -- a reading of a text goes on with these lines
 pub record IsOn (m : Machine) (all : List ℕ) (r : Reading) (lines : List (List ℕ)) (told : List Item) : Type 0 where
-  pub coming : IsComing m (outcome_of m all) (outcome (length all) r.modes (r.lines + 1) r.start lines) r.opening r.lines r.passed told
+  pub coming : IsComing m (outcome_of m all) (outcome (length all) r.modes (r.lines + 1) r.start lines) r.opening
+      r.lines r.passed told
   pub good : All IsGood told
 
 -- it goes on with them, or has stopped
@@ -52,8 +54,8 @@ pub record IsRead (m : Machine) (all : List ℕ) (r : Reading) (lines : List (Li
 abbrev pub HasNoEnd : List ℕ → Type 0
 HasNoEnd text = (k : ℕ) → k < length text → slice_index_or text k 0 ≡ 10 → ⊥
 
--- A text was read up to its last whole line, behind which these bytes stand. Whatever follows, what was told is the first of it;
--- once the reading stopped, it is all.
+-- A text was read up to its last whole line, behind which these bytes stand. Whatever follows, what was told
+-- is the first of it; once the reading stopped, it is all.
 pub record AreReading (m : Machine) (r : Reading) (carry text : List ℕ) (told : List Item) : Type 0 where
   pub place : r.stop ≡ None → r.start + length carry ≡ length text
   pub open_end : r.stop ≡ None → HasNoEnd carry

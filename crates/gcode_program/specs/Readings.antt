@@ -32,6 +32,7 @@ state_kind states.BadSpeed = kinds.BadSpeed
 state_kind states.MoveTooLong = kinds.MoveTooLong
 state_kind states.TooMany = kinds.TooMany
 
+-- what a line does to a state, or the kind of its refusal
 abbrev pub as_kind : Result (State × Action) StateFault → Result (State × Action) LineKind
 as_kind (Ok next) = Ok next
 as_kind (Err fault) = Err (state_kind fault)
@@ -86,13 +87,17 @@ one_if passed = if passed then 1 else 0
 abbrev pub with_front : List Deed → ℕ → Outcome → Outcome
 with_front front passed o = record { deeds = front ++ o.deeds; passed = passed + o.passed; stop = o.stop }
 
+-- what an accepted line does behind this state
 abbrev pub deed_of : State → Action → Deed
 deed_of s action = record { before = s; action = action }
 
+-- an outcome behind an accepted line: a stop ends it, and anything else goes before the rest
 abbrev pub behind_action : ℕ → Bool → State → Action → Outcome → Outcome
-behind_action number passed s actions.Stop rest = record { deeds = deed_of s actions.Stop ∷ []; passed = one_if passed; stop = Stop number }
+behind_action number passed s actions.Stop rest =
+    record { deeds = deed_of s actions.Stop ∷ []; passed = one_if passed; stop = Stop number }
 behind_action number passed s action rest = with_front (deed_of s action ∷ []) (one_if passed) rest
 
+-- an outcome behind a line, by its reading: a refused one ends it
 abbrev pub behind_line : ℕ → Bool → State → Result (State × Action) LineKind → (State → Outcome) → Outcome
 behind_line number passed s (Err kind) rest = record { deeds = []; passed = 0; stop = Refused number kind }
 behind_line number passed s (Ok next) rest = behind_action number passed s next.1 (rest next.0)

@@ -20,20 +20,26 @@ closed_cut c = record { sections = c.sections ++ closed c.dwell c.moves; moves =
 -- a section that homes one axis, where it is named
 abbrev pub homed_one : Machine → List ℤ → ℕ → Cut → ℕ → Bool → Cut
 homed_one m at acceleration c axis named =
-    record { sections = c.sections ++ home_of m at acceleration c.dwell axis named; moves = c.moves; dwell = left_by c.dwell named }
+    record {
+      sections = c.sections ++ home_of m at acceleration c.dwell axis named;
+      moves = c.moves;
+      dwell = left_by c.dwell named;
+    }
 
 -- the sections of a home
 abbrev pub homed_cut : Machine → List ℤ → ℕ → Cut → List Bool → Cut
 homed_cut m at acceleration c axes =
     let x = is_named axes 0 in
     let y = is_named axes 1 in
-    homed_one m (stood m (stood m at 0 x) 1 y) acceleration (homed_one m (stood m at 0 x) acceleration (homed_one m at acceleration c 0 x) 1 y) 2 (is_named axes 2)
+    homed_one m (stood m (stood m at 0 x) 1 y) acceleration
+    (homed_one m (stood m at 0 x) acceleration (homed_one m at acceleration c 0 x) 1 y) 2 (is_named axes 2)
 
 -- the cut behind one more action, before which the lines left a state
 abbrev pub taken : Machine → Cut → State → Action → Cut
 taken m c s actions.None = c
 taken m c s (actions.Move one) = record c { moves = c.moves ++ one ∷ [] }
-taken m c s (actions.Dwell ms) = record { sections = c.sections ++ closed c.dwell c.moves; moves = []; dwell = left c.dwell c.moves + ms }
+taken m c s (actions.Dwell ms) =
+    record { sections = c.sections ++ closed c.dwell c.moves; moves = []; dwell = left c.dwell c.moves + ms }
 taken m c s actions.Wait = closed_cut c
 taken m c s actions.Stop = closed_cut c
 taken m c s (actions.Home axes) = homed_cut m (coordinates_of s) s.acceleration (closed_cut c) axes

@@ -99,7 +99,8 @@ fn home(
 ) -> Result<(), OutOfMemory>
     requires machine { IsValidMachine machine.now }
     requires sound { IsSound state.now }
-    ensures { OnOk result (cut.new ≡ homed_cut machine.now (coordinates_of state.now) state.now.acceleration cut.old axes) }
+    ensures { OnOk result
+        (cut.new ≡ homed_cut machine.now (coordinates_of state.now) state.now.acceleration cut.old axes) }
 {
     let speed_up = state.acceleration;
     let at = standing(state);

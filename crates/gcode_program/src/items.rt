@@ -77,7 +77,8 @@ fn home_one(
     requires machine { IsValidMachine machine.now }
     requires axis { axis < 3 }
     requires room { IsRoom at acceleration }
-    ensures items { OnOk result (items.new.items ≡ items.old.items ++ items_of (home_of machine.now at acceleration dwell axis named)) }
+    ensures items { OnOk result
+        (items.new.items ≡ items.old.items ++ items_of (home_of machine.now at acceleration dwell axis named)) }
     ensures stood { IfOk result (λ behind. behind ≡ stood machine.now at axis named) }
     ensures room { IfOk result (λ behind. IsRoom behind acceleration) }
 {
@@ -110,7 +111,9 @@ fn home(
 ) -> Result<u64, OutOfMemory>
     requires machine { IsValidMachine machine.now }
     requires sound { IsSound state.now }
-    ensures items { OnOk result (items.new.items ≡ items.old.items ++ items_of (homes machine.now (coordinates_of state.now) state.now.acceleration dwell axes)) }
+    ensures items { OnOk result (items.new.items
+        ≡ items.old.items
+        ++ items_of (homes machine.now (coordinates_of state.now) state.now.acceleration dwell axes)) }
     ensures left { IfOk result (λ left. left ≡ left_by_homes dwell axes) }
 {
     let speed_up = state.acceleration;

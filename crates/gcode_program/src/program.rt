@@ -21,8 +21,8 @@ pub struct Program {
     pub end: ReadEnd,
 }
 
-/// Reads a text of G-code to its sections, up to the first line that is refused or asks for a stop. Each homed axis is a section of
-/// its own.
+/// Reads a text of G-code to its sections, up to the first line that is refused or asks for a stop. Each
+/// homed axis is a section of its own.
 #[tactic(auto, unfolding(crate::specs::Programs::outcome_of))]
 pub fn read_program(alloc: Global, machine: &Machine, text: &[u8]) -> Result<Program, OutOfMemory>
     requires { IsValidMachine machine.now }

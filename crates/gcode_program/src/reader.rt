@@ -48,8 +48,8 @@ impl Reader {
         }
     }
 
-    /// Reads the next bytes of the text, and adds what they tell. Nothing is told behind a line that is refused or asks for a
-    /// stop.
+    /// Reads the next bytes of the text, and adds what they tell. Nothing is told behind a line that is
+    /// refused or asks for a stop.
     pub fn read(
         &mut self,
         machine: &Machine,
@@ -57,7 +57,9 @@ impl Reader {
         items: &mut VecDeque<Item>,
     ) -> Result<(), OutOfMemory>
         requires { IsValidMachine machine.now }
-        ensures { OnOk result ((text : List ℕ) (told : List Item) → IsReaderOf self.old machine.now text (told ++ items.old.items) → IsReaderOf self.new machine.now (text ++ bytes.now) (told ++ items.new.items)) }
+        ensures { OnOk result ((text : List ℕ) (told : List Item) →
+            IsReaderOf self.old machine.now text (told ++ items.old.items) →
+            IsReaderOf self.new machine.now (text ++ bytes.now) (told ++ items.new.items)) }
     {
         if self.reading.stop.is_some() {
             return Ok(());
@@ -75,7 +77,9 @@ impl Reader {
         items: &mut VecDeque<Item>,
     ) -> Result<ReadEnd, OutOfMemory>
         requires { IsValidMachine machine.now }
-        ensures { IfOk result (λ end. (text : List ℕ) (told : List Item) → IsReaderOf self.old machine.now text (told ++ items.old.items) → IsAll machine.now text end (told ++ items.new.items)) }
+        ensures { IfOk result (λ end. (text : List ℕ) (told : List Item) →
+            IsReaderOf self.old machine.now text (told ++ items.old.items) →
+            IsAll machine.now text end (told ++ items.new.items)) }
     {
         read_last(machine, &mut self.reading, &self.carry, items)?;
         end_reading(&self.reading, items)

@@ -15,8 +15,9 @@ use gcode_state::{Action, Modes};
 use plan_types::{Machine, ReadEnd, ReadStop};
 use std::collections::VecDeque;
 
-/// Where a reader is behind the last whole line: the modes that the lines left, whether a section of moves goes on, how many bytes,
-/// accepted lines and passed commands stand before, and how the reading stopped, if it did.
+/// Where a reader is behind the last whole line: the modes that the lines left, whether a section of moves
+/// goes on, how many bytes, accepted lines and passed commands stand before, and how the reading stopped, if
+/// it did.
 #[derive(Drop)]
 pub struct Reading {
     pub modes: Modes,
@@ -70,8 +71,12 @@ fn read_line(
     requires some { reading.old.start < size }
     requires goes { reading.old.stop ≡ None }
     ensures small { reading.new.stop ≡ None → IsSmallReading reading.new }
-    ensures start { OnOk result (reading.new.stop ≡ None → reading.new.start ≡ reading.old.start + (length line.now + 1)) }
-    ensures read { OnOk result ((all : List ℕ) (rest : List (List ℕ)) (told : List Item) → IsKnown size (reading.old.start + length line.now) (length all) → IsOn machine.now all reading.old (line.now ∷ rest) (told ++ items.old.items) → IsRead machine.now all reading.new rest (told ++ items.new.items)) }
+    ensures start { OnOk result
+        (reading.new.stop ≡ None → reading.new.start ≡ reading.old.start + (length line.now + 1)) }
+    ensures read { OnOk result ((all : List ℕ) (rest : List (List ℕ)) (told : List Item) →
+        IsKnown size (reading.old.start + length line.now) (length all) →
+        IsOn machine.now all reading.old (line.now ∷ rest) (told ++ items.old.items) →
+        IsRead machine.now all reading.new rest (told ++ items.new.items)) }
 {
     let number = reading.lines + 1;
     let before = *reading.modes.state();
@@ -116,7 +121,10 @@ pub(crate) fn read_lines(
     ensures used { IfOk result (λ used. used ≤ length text.now) }
     ensures place { IfOk result (λ used. reading.new.stop ≡ None → reading.new.start ≡ reading.old.start + used) }
     ensures open_end { IfOk result (λ used. reading.new.stop ≡ None → HasNoEnd (drop used text.now)) }
-    ensures read { IfOk result (λ used. (all more : List ℕ) (told : List Item) → reading.old.start + length text.now ≤ length all → IsOn machine.now all reading.old (lines_of (text.now ++ more)) (told ++ items.old.items) → IsRead machine.now all reading.new (lines_of (drop used text.now ++ more)) (told ++ items.new.items)) }
+    ensures read { IfOk result (λ used. (all more : List ℕ) (told : List Item) →
+        reading.old.start + length text.now ≤ length all →
+        IsOn machine.now all reading.old (lines_of (text.now ++ more)) (told ++ items.old.items) →
+        IsRead machine.now all reading.new (lines_of (drop used text.now ++ more)) (told ++ items.new.items)) }
 {
     let size = reading.start + text.len();
     let mut used = 0;
@@ -141,7 +149,9 @@ pub(crate) fn read_last(
     requires small { reading.old.stop ≡ None → IsSmallReading reading.old }
     requires near { reading.old.stop ≡ None → reading.old.start + length carry.now < 2 ^ 64 }
     ensures small { reading.new.stop ≡ None → IsSmallReading reading.new }
-    ensures read { OnOk result ((text : List ℕ) (told : List Item) → AreReading machine.now reading.old carry.now text (told ++ items.old.items) → IsRead machine.now text reading.new [] (told ++ items.new.items)) }
+    ensures read { OnOk result ((text : List ℕ) (told : List Item) →
+        AreReading machine.now reading.old carry.now text (told ++ items.old.items) →
+        IsRead machine.now text reading.new [] (told ++ items.new.items)) }
 {
     if reading.stop.is_some() || carry.is_empty() {
         return Ok(());
@@ -155,7 +165,8 @@ pub(crate) fn end_reading(
     reading: &Reading,
     items: &mut VecDeque<Item>,
 ) -> Result<ReadEnd, OutOfMemory>
-    ensures { IfOk result (λ end. (m : Machine) (all : List ℕ) (told : List Item) → IsRead m all reading.now [] (told ++ items.old.items) → IsAll m all end (told ++ items.new.items)) }
+    ensures { IfOk result (λ end. (m : Machine) (all : List ℕ) (told : List Item) →
+        IsRead m all reading.now [] (told ++ items.old.items) → IsAll m all end (told ++ items.new.items)) }
 {
     if let Some(end) = reading.stop {
         return Ok(end);

@@ -57,7 +57,8 @@ fn is_passed(word: &Word) -> bool
 #[tactic(auto, unfolding(crate::specs::Readings::applied_line, crate::specs::Readings::is_passed))]
 fn apply_line(modes: &mut Modes, line: &[u8], number: u64) -> Result<Step, LineKind>
     requires { modes.old.lines < 2 ^ 30 }
-    ensures value { MatchResult result (λ step. applied_line modes.old line.now ≡ Ok (modes.new, step.action)) (λ kind. applied_line modes.old line.now ≡ Err kind) }
+    ensures value { MatchResult result (λ step. applied_line modes.old line.now ≡ Ok (modes.new, step.action))
+        (λ kind. applied_line modes.old line.now ≡ Err kind) }
     ensures passed { IfOk result (λ step. step.passed ≡ specs.is_passed line.now) }
     ensures valid { IfOk result (λ step. IsValidAction step.action) }
     ensures lines { modes.new.lines ≤ modes.old.lines + 1 }
@@ -90,7 +91,9 @@ pub fn step_line(modes: &mut Modes, line: &[u8], place: Place) -> Result<Step, L
     requires inside { place.start + length line.now ≤ place.size }
     requires few { modes.old.lines ≤ place.start }
     requires some { place.start < place.size }
-    ensures value { MatchResult result (λ step. line_result place.size place.start modes.old line.now ≡ Ok (modes.new, step.action)) (λ kind. line_result place.size place.start modes.old line.now ≡ Err kind) }
+    ensures value { MatchResult result
+        (λ step. line_result place.size place.start modes.old line.now ≡ Ok (modes.new, step.action))
+        (λ kind. line_result place.size place.start modes.old line.now ≡ Err kind) }
     ensures passed { IfOk result (λ step. step.passed ≡ specs.is_passed line.now) }
     ensures valid { IfOk result (λ step. IsValidAction step.action) }
     ensures lines { IfOk result (λ step. modes.new.lines ≤ modes.old.lines + 1) }

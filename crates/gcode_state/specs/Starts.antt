@@ -8,7 +8,8 @@ use Rattle.gcode_state.specs.declared.state.State.{State}
 
 -- an axis at its coordinate 0
 abbrev pub axis_from : Bool → AxisDef → Axis
-axis_from homed def = record { min = def.min; max = def.max; endstop = def.endstop; homed = homed; at = pos 0; reads = pos 0 }
+axis_from homed def =
+    record { min = def.min; max = def.max; endstop = def.endstop; homed = homed; at = pos 0; reads = pos 0 }
 
 -- Absolute coordinates and absolute E, all coordinates 0, both factors 100 percent, the machine's acceleration, and as
 -- the speed 25 mm/s or the machine's greatest, where that is less.

@@ -88,7 +88,8 @@ aim_of s letters = record {
 
 -- some coordinate changes
 unfoldable pub moves : State → Aim → Bool
-moves s aim = differs s.x.at aim.x.at || (differs s.y.at aim.y.at || (differs s.z.at aim.z.at || differs s.e_at aim.e.at))
+moves s aim =
+    differs s.x.at aim.x.at || (differs s.y.at aim.y.at || (differs s.z.at aim.z.at || differs s.e_at aim.e.at))
 
 -- the first fault whose test holds
 abbrev pub first : List (Bool × StateFault) → Option StateFault
@@ -117,7 +118,8 @@ is_too_many s aim = moves s aim && nat_le 2000000 s.count
 
 -- the first thing that is wrong with a G0 or G1, in the order of these five
 unfoldable pub move_fault : State → Aim → Bool → Option StateFault
-move_fault s aim has_feed = first ((is_slow s aim has_feed, BadSpeed) ∷ (is_any_unhomed s aim, NotHomed) ∷ (is_any_outside s aim, OutOfRange)
+move_fault s aim has_feed =
+    first ((is_slow s aim has_feed, BadSpeed) ∷ (is_any_unhomed s aim, NotHomed) ∷ (is_any_outside s aim, OutOfRange)
     ∷ (is_long s aim, MoveTooLong) ∷ (is_too_many s aim, TooMany) ∷ [])
 
 -- an axis at its target
@@ -126,27 +128,42 @@ placed axis target = record axis { at = target.at; reads = target.reads }
 
 -- the state behind a G0 or G1 without a fault
 unfoldable pub moved : State → Aim → State
-moved s aim = record s { x = placed s.x aim.x; y = placed s.y aim.y; z = placed s.z aim.z; e_at = aim.e.at; e_reads = aim.e.reads; feed = aim.feed; count = if moves s aim then s.count + 1 else s.count; lines = s.lines + 1 }
+moved s aim =
+    record s {
+      x = placed s.x aim.x;
+      y = placed s.y aim.y;
+      z = placed s.z aim.z;
+      e_at = aim.e.at;
+      e_reads = aim.e.reads;
+      feed = aim.feed;
+      count = if moves s aim then s.count + 1 else s.count;
+      lines = s.lines + 1;
+    }
 
+-- the coordinates of a state: x, y, z and e, in nanometres
 abbrev pub coordinates_of : State → List ℤ
 coordinates_of s = s.x.at ∷ s.y.at ∷ s.z.at ∷ s.e_at ∷ []
 
 -- the move from one state to the next, with its length still open
 unfoldable pub unmeasured : State → State → Move
-unmeasured s t = record { from = coordinates_of s; to = coordinates_of t; d = 0; v = speed_of t t.feed; a = t.acceleration }
+unmeasured s t =
+    record { from = coordinates_of s; to = coordinates_of t; d = 0; v = speed_of t t.feed; a = t.acceleration }
 
 -- the move from one state to the next
 abbrev pub move_of : State → State → Move
 move_of s t = record (unmeasured s t) { d = move_length (unmeasured s t) }
 
+-- a value, unless there is a fault
 abbrev pub unless : {X : Type 0} → Option StateFault → X → Result X StateFault
 unless None x = Ok x
 unless (Some fault) x = Err fault
 
 -- what G0 and G1 do
 unfoldable pub linear : State → List (Option Given) → Result (State × Action) StateFault
-linear s letters = let aim = aim_of s letters in
-    unless (move_fault s aim (is_some (given_number letters 70))) (moved s aim, if moves s aim then actions.Move (move_of s (moved s aim)) else actions.None)
+linear s letters =
+    let aim = aim_of s letters in
+    unless (move_fault s aim (is_some (given_number letters 70)))
+    (moved s aim, if moves s aim then actions.Move (move_of s (moved s aim)) else actions.None)
 
 -- a number within a range, or what stands for none
 abbrev pub in_range : ℕ → ℕ → ℕ → Option ℤ → Result ℕ StateFault
@@ -189,11 +206,17 @@ one_if named = if named then 1 else 0
 
 -- the state in which some axes are homed
 abbrev pub homed_by : State → List Bool → State
-homed_by s axes = record s { x = homed_if (slice_index_or axes 0 false) s.x; y = homed_if (slice_index_or axes 1 false) s.y; z = homed_if (slice_index_or axes 2 false) s.z }
+homed_by s axes =
+    record s {
+      x = homed_if (slice_index_or axes 0 false) s.x;
+      y = homed_if (slice_index_or axes 1 false) s.y;
+      z = homed_if (slice_index_or axes 2 false) s.z;
+    }
 
 -- how many axes are named
 abbrev pub axes_in : List Bool → ℕ
-axes_in axes = one_if (slice_index_or axes 0 false) + one_if (slice_index_or axes 1 false) + one_if (slice_index_or axes 2 false)
+axes_in axes =
+    one_if (slice_index_or axes 0 false) + one_if (slice_index_or axes 1 false) + one_if (slice_index_or axes 2 false)
 
 -- what G28 does
 unfoldable pub home : State → List (Option Given) → Result (State × Action) StateFault
@@ -278,7 +301,8 @@ homed_here is_it axis at = if is_it then record axis { homed = true; at = at; re
 
 -- the axis 0, 1 or 2 homed: it stands here and reads so, whatever a G92 before it said
 unfoldable pub homed_at : State → ℕ → ℤ → State
-homed_at s k at = record s { x = homed_here (k == 0) s.x at; y = homed_here (k == 1) s.y at; z = homed_here (k == 2) s.z at }
+homed_at s k at =
+    record s { x = homed_here (k == 0) s.x at; y = homed_here (k == 1) s.y at; z = homed_here (k == 2) s.z at }
 
 -- what an action may hold
 abbrev pub IsValidAction : Action → Type 0

@@ -52,7 +52,8 @@ impl Modes {
     /// Applies one word. A refusal changes nothing.
     pub fn apply(&mut self, word: &Word) -> Result<Action, StateFault>
         requires { self.old.lines < 2 ^ 30 }
-        ensures value { MatchResult result (λ action. applied self.old word.now ≡ Ok (self.new, action)) (λ fault. applied self.old word.now ≡ Err fault) }
+        ensures value { MatchResult result (λ action. applied self.old word.now ≡ Ok (self.new, action))
+            (λ fault. applied self.old word.now ≡ Err fault) }
         ensures valid { IfOk result (λ action. IsValidAction action) }
         ensures lines { self.new.lines ≤ self.old.lines + 1 }
         ensures count { IfOk result (λ action. self.new.count ≡ self.old.count + weight action) }

@@ -9,14 +9,25 @@ use Rattle.text_core.specs.Numbers.{value_of}
 
 -- the G commands
 abbrev pub g_entry : ℕ → Entry
-g_entry n = if n == 0 then Known G0 else (if n == 1 then Known G1 else (if n == 4 then Known G4 else (if n == 28 then Known G28
-    else (if n == 90 then Known G90 else (if n == 91 then Known G91 else (if n == 92 then Known G92
+g_entry n =
+    if n == 0 then Known G0
+    else (if n == 1 then Known G1
+    else (if n == 4 then Known G4
+    else (if n == 28 then Known G28
+    else (if n == 90 then Known G90
+    else (if n == 91 then Known G91
+    else (if n == 92 then Known G92
     else (if (n == 2) || ((n == 3) || ((n == 10) || ((n == 11) || (n == 20)))) then Unsupported else Unknown)))))))
 
 -- the M commands
 abbrev pub m_entry : ℕ → Entry
-m_entry n = if n == 82 then Known M82 else (if n == 83 then Known M83 else (if n == 112 then Known M112 else (if n == 204 then Known M204
-    else (if n == 220 then Known M220 else (if n == 221 then Known M221 else (if n == 400 then Known M400 else Unknown))))))
+m_entry n =
+    if n == 82 then Known M82
+    else (if n == 83 then Known M83
+    else (if n == 112 then Known M112
+    else (if n == 204 then Known M204
+    else (if n == 220 then Known M220
+    else (if n == 221 then Known M221 else (if n == 400 then Known M400 else Unknown))))))
 
 -- what the table says of a letter and a number
 unfoldable pub entry_of : ℕ → ℕ → Entry
@@ -34,8 +45,11 @@ is_command_letter b = (b == 71) || ((b == 77) || (b == 84))
 
 -- the command with this letter: digits follow it, and behind these nothing, a blank or another letter
 abbrev pub head_with : ℕ → List ℕ → Option Head
-head_with letter text = if is_command_letter letter && (begins is_digit text && ends_or_begins (λ b. is_blank b || is_letter b) (behind is_digit text))
-    then Some (record { letter = letter; number = value_of (front is_digit text); rest = behind is_digit text }) else None
+head_with letter text =
+    if is_command_letter letter
+    && (begins is_digit text && ends_or_begins (λ b. is_blank b || is_letter b) (behind is_digit text))
+    then Some (record { letter = letter; number = value_of (front is_digit text); rest = behind is_digit text })
+    else None
 
 -- the command that stands first in a text; small letters count as capitals
 unfoldable pub head_of : List ℕ → Option Head

@@ -17,12 +17,17 @@ readable (Err kind) = None
 abbrev pub words_for : ℕ → ℕ → Option Head → Option (List (Option Given))
 words_for letter number None = None
 words_for letter number (Some head) =
-    if (head.letter == capital letter) && (head.number == number) then readable (words_of ((head.letter == 71) && (head.number == 28)) head.rest) else None
+    if (head.letter == capital letter) && (head.number == number)
+    then readable (words_of ((head.letter == 71) && (head.number == 28)) head.rest)
+    else None
 
 -- the words of a line whose command has this letter and this number, also where the table has no such command
 unfoldable pub words_in : List ℕ → ℕ → ℕ → Option (List (Option Given))
-words_in line letter number = if nat_lt 1024 (length line) then None else words_for letter number (head_of (unnumbered (behind is_blank (text_of line))))
+words_in line letter number =
+    if nat_lt 1024 (length line) then None
+    else words_for letter number (head_of (unnumbered (behind is_blank (text_of line))))
 
+-- a number that is given is above 0, or none is
 abbrev pub is_above_zero : Option Given → Bool
 is_above_zero (Some (Number (pos n))) = nat_lt 0 n
 is_above_zero (Some (Number (negsuc n))) = false
@@ -32,6 +37,7 @@ is_above_zero other = true
 abbrev pub switches_on : List (Option Given) → Bool
 switches_on words = is_above_zero (given_of words 83)
 
+-- to what a line switches the fan, by the words of an M107 and of an M106
 abbrev pub fan_by : Option (List (Option Given)) → Option (List (Option Given)) → Option Bool
 fan_by (Some words) on = Some false
 fan_by None on = option_map switches_on on

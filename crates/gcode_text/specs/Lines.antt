@@ -31,7 +31,9 @@ begins_number text = begins (λ b. is_digit b || (is_sign b || is_point b)) text
 
 -- what is given behind a letter; with bare, a letter may stand without a number
 unfoldable pub given_at : Bool → List ℕ → Result Given FaultKind
-given_at bare text = if bare && (if begins_number text then false else true) then if_word_next text Bare else number_given (number_at 9 text)
+given_at bare text =
+    if bare && (if begins_number text then false else true) then if_word_next text Bare
+    else number_given (number_at 9 text)
 
 -- the first fault is the answer
 infixl 10 ◌>>=◌
@@ -43,7 +45,9 @@ abbrev pub ◌>>=◌ : {A B : Type 0} → Result A FaultKind → (A → Result B
 -- first fault is the answer
 abbrev pub row : Bool → List (Option Given) → List ℕ → Result (List (Option Given)) FaultKind
 row bare slots [] = Ok slots
-row bare slots (b ∷ bs) = if is_letter b then (given_at bare bs >>= λ given. row bare (slice_set slots (capital b - 65) (Some given)) bs) else row bare slots bs
+row bare slots (b ∷ bs) =
+    if is_letter b then (given_at bare bs >>= λ given. row bare (slice_set slots (capital b - 65) (Some given)) bs)
+    else row bare slots bs
 
 -- no letter has anything
 abbrev pub no_words : List (Option Given)
@@ -64,7 +68,8 @@ takes_bare other = false
 
 -- what is given behind this capital letter
 abbrev pub given_of : List (Option Given) → ℕ → Option Given
-given_of letters letter = if nat_le 65 letter && nat_le letter 90 then slice_index_or letters (letter - 65) None else None
+given_of letters letter =
+    if nat_le 65 letter && nat_le letter 90 then slice_index_or letters (letter - 65) None else None
 
 -- a command with its words; M204 without S is passed over
 abbrev pub word_with : Command → List (Option Given) → Word
@@ -91,9 +96,11 @@ reading_of_text (b ∷ bs) = reading_of_head (head_of (unnumbered (b ∷ bs)))
 abbrev pub text_of : List ℕ → List ℕ
 text_of line = before 42 (before 59 line)
 
--- The reading of a line, which is its bytes without the end. A line of more than 1,024 bytes is too long, whatever it says.
+-- The reading of a line, which is its bytes without the end. A line of more than 1,024 bytes is too long,
+-- whatever it says.
 unfoldable pub reading : List ℕ → Result Word FaultKind
-reading line = if nat_lt 1024 (length line) then Err kinds.TooLongLine else reading_of_text (behind is_blank (text_of line))
+reading line =
+    if nat_lt 1024 (length line) then Err kinds.TooLongLine else reading_of_text (behind is_blank (text_of line))
 
 -- a reading whose fault stands at the line's number
 abbrev pub at_line : ℕ → Result Word FaultKind → Result Word LineFault

@@ -72,7 +72,8 @@ fn given(bare: bool, text: &[u8]) -> Result<(Given, &[u8]), FaultKind>
 /// The words of a text, all of it.
 #[tactic(auto, unfolding(crate::specs::Lines::words_of))]
 fn words(bare: bool, text: &[u8]) -> Result<Letters, FaultKind>
-    ensures { MatchResult result (λ values. words_of bare text.now ≡ Ok values) (λ kind. words_of bare text.now ≡ Err kind) }
+    ensures { MatchResult result (λ values. words_of bare text.now ≡ Ok values)
+        (λ kind. words_of bare text.now ≡ Err kind) }
 {
     let mut letters = Letters::new();
     let mut rest = next_word(text)?;
@@ -111,7 +112,9 @@ fn is_for_commands(letter: u8) -> bool
 /// The command with this letter, where it stands first in a text. Its number counts up to 10^18.
 fn head_behind(letter: u8, text: &[u8]) -> Option<Head<'_>>
     ensures none { IfNone result (head_with letter text.now ≡ None) }
-    ensures some { IfSome result (λ head. (n : ℕ) × (head_with letter text.now ≡ Some (record { letter = head.letter; number = n; rest = head.rest.now })) × (head.number ≡ min n 1000000000000000000)) }
+    ensures some { IfSome result (λ head. (n : ℕ)
+        × (head_with letter text.now ≡ Some (record { letter = head.letter; number = n; rest = head.rest.now }))
+        × (head.number ≡ min n 1000000000000000000)) }
 {
     if !is_for_commands(letter) || !front_digits(text) {
         return None;
@@ -131,7 +134,9 @@ fn head_behind(letter: u8, text: &[u8]) -> Option<Head<'_>>
 #[tactic(auto, unfolding(crate::specs::Commands::head_of))]
 fn first_command(text: &[u8]) -> Option<Head<'_>>
     ensures none { IfNone result (head_of text.now ≡ None) }
-    ensures some { IfSome result (λ head. (n : ℕ) × (head_of text.now ≡ Some (record { letter = head.letter; number = n; rest = head.rest.now })) × (head.number ≡ min n 1000000000000000000)) }
+    ensures some { IfSome result (λ head. (n : ℕ)
+        × (head_of text.now ≡ Some (record { letter = head.letter; number = n; rest = head.rest.now }))
+        × (head.number ≡ min n 1000000000000000000)) }
 {
     match text {
         [] => None,
@@ -235,7 +240,10 @@ pub fn read_line(line: &[u8], number: u64) -> Result<Word, LineFault>
 
 /// The words of a command, where it has this letter and this number.
 fn words_for(head: Head<'_>, letter: u8, number: u32) -> Option<Letters>
-    ensures { (n : ℕ) → head.entry.number ≡ min n 1000000000000000000 → result ≡ words_for letter number (Some (record { letter = head.entry.letter; number = n; rest = head.entry.rest.now })) }
+    ensures { (n : ℕ) → head.entry.number ≡ min n 1000000000000000000 →
+        result
+        ≡ words_for letter number
+        (Some (record { letter = head.entry.letter; number = n; rest = head.entry.rest.now })) }
 {
     if head.letter != to_capital(letter) || head.number != u64::from(number) {
         return None;
@@ -246,8 +254,8 @@ fn words_for(head: Head<'_>, letter: u8, number: u32) -> Option<Letters>
     }
 }
 
-/// The words of a line whose command has this letter and this number, also where the table has no such command. None where
-/// the line has another command or none, or its words can't be read.
+/// The words of a line whose command has this letter and this number, also where the table has no such
+/// command. None where the line has another command or none, or its words can't be read.
 #[tactic(auto, unfolding(crate::specs::Fans::words_in))]
 pub fn read_of(line: &[u8], letter: u8, number: u32) -> Option<Letters>
     ensures { result ≡ words_in line.now letter number }

@@ -6,7 +6,8 @@ use Rattle.generated_load.specs.Text.{load_moves}
 abbrev pub IsLineAt : List ℕ → ℕ → List ℕ → ℕ → ℕ → Type 0
 IsLineAt text at line left state = drop at text ≡ line ++ load_moves left state
 
--- so many bytes of a text, from a place on, were read into the front of a piece: what the piece was, and what it is then
+-- so many bytes of a text, from a place on, were read into the front of a piece: what the piece was, and what
+-- it is then
 pub record IsRead (text : List ℕ) (from : ℕ) (old : List ℕ) (count : ℕ) (new : List ℕ) : Type 0 where
   pub size : length new ≡ length old
   pub fits : count ≤ length old

@@ -13,17 +13,39 @@ load_board = record {
   start = 0;
   slots = 1_024;
   drift = pos 0;
-  pins = codes "PB0" ∷ codes "PB1" ∷ codes "PC0" ∷ codes "PB2" ∷ codes "PB3" ∷ codes "PC1" ∷ codes "PB4" ∷ codes "PB5" ∷ codes "PC2" ∷ codes "PB6" ∷ codes "PB7" ∷ [];
+  pins =
+      codes "PB0" ∷ codes "PB1" ∷ codes "PC0" ∷ codes "PB2" ∷ codes "PB3" ∷ codes "PC1" ∷ codes "PB4" ∷ codes "PB5"
+      ∷ codes "PC2" ∷ codes "PB6" ∷ codes "PB7" ∷ [];
 }
 
 -- a stepper of 16 microsteps with 200 full steps a turn, in which it goes so many nm
 abbrev pub load_stepper : List ℕ → ℕ → ℕ → ℕ → StepperDef
-load_stepper name number distance pin = record { name = name; board = 0; oid = number; drive = number; gear = record { distance = distance; steps = 3_200 }; step_pin = pin; dir_pin = pin + 1; inverted = false }
+load_stepper name number distance pin =
+    record {
+      name = name;
+      board = 0;
+      oid = number;
+      drive = number;
+      gear = record { distance = distance; steps = 3_200 };
+      step_pin = pin;
+      dir_pin = pin + 1;
+      inverted = false;
+    }
 
 -- an axis from 0 to 200 mm with its endstop at 0
 abbrev pub load_axis : ℕ → AxisDef
-load_axis pin = record { min = pos 0; max = pos 200_000_000; endstop = pos 0; speed = 10_000_000; board = 0; pin = pin; pressed = true }
+load_axis pin =
+    record {
+      min = pos 0;
+      max = pos 200_000_000;
+      endstop = pos 0;
+      speed = 10_000_000;
+      board = 0;
+      pin = pin;
+      pressed = true;
+    }
 
+-- the machine of generated G-code: cartesian, at most 300 mm/s and 3,000 mm/s², with one board
 abbrev pub load_machine : Machine
 load_machine = record {
   corexy = false;
@@ -33,7 +55,9 @@ load_machine = record {
   cruise = 500_000;
   homed = true;
   boards = load_board ∷ [];
-  steppers = load_stepper (codes "stepper_x") 0 40_000_000 0 ∷ load_stepper (codes "stepper_y") 1 40_000_000 3 ∷ load_stepper (codes "stepper_z") 2 8_000_000 6 ∷ load_stepper (codes "extruder") 3 32_000_000 9 ∷ [];
+  steppers =
+      load_stepper (codes "stepper_x") 0 40_000_000 0 ∷ load_stepper (codes "stepper_y") 1 40_000_000 3
+      ∷ load_stepper (codes "stepper_z") 2 8_000_000 6 ∷ load_stepper (codes "extruder") 3 32_000_000 9 ∷ [];
   axes = load_axis 2 ∷ load_axis 5 ∷ load_axis 8 ∷ [];
   fan = None;
   passed = 0;

@@ -19,7 +19,8 @@ millimetres n = decimal (n / 1_000) ++ 46 ∷ digit (n / 100 % 10) ∷ digit (n 
 
 -- the line of a move, by a number: x and y are from 0 to 200 mm
 abbrev pub move_line : ℕ → List ℕ
-move_line u = codes "G1 X" ++ (millimetres (u % 200_001) ++ (codes " Y" ++ (millimetres (u / 200_001 % 200_001) ++ codes "\n")))
+move_line u =
+    codes "G1 X" ++ (millimetres (u % 200_001) ++ (codes " Y" ++ (millimetres (u / 200_001 % 200_001) ++ codes "\n")))
 
 -- so many moves behind a state of the generator
 abbrev pub load_moves : ℕ → ℕ → List ℕ

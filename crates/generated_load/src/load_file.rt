@@ -1,4 +1,5 @@
-//! A load as a file that is read in pieces: its text is made while it is read, a line at a time, and is nowhere as a whole.
+//! A load as a file that is read in pieces: its text is made while it is read, a line at a time, and is
+//! nowhere as a whole.
 
 ghost use Rattle.std.specs.Prelude.{◌≡◌, ℕ, ◌+◌, ◌-◌, ◌<◌, ◌≤◌, ◌^◌, ◌⊎◌, ◌++◌, List, Option, Some, length, take, drop, min, IfOk, IsOk, OnOk, OnErr};
 ghost use Rattle.generated_load.specs.Text.{load_text, move_line, next, upper};

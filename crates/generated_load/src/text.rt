@@ -70,7 +70,8 @@ pub fn upper(state: u64) -> u64
     state >> 33
 }
 
-/// The line of a move, to the place that any number stands for: x is its remainder by the number of places, y that of its quotient.
+/// The line of a move, to the place that any number stands for: x is its remainder by the number of places, y
+/// that of its quotient.
 pub fn move_line(number: u64) -> Line
     ensures { result.items ≡ specs.move_line number }
 {

@@ -26,13 +26,15 @@ EndsWith c a = IsEnd c a ⊎ IsEnd cause.Memory a
 abbrev pub IsRefusal : Cause → Answer → Type 0
 IsRefusal c a = IsEnd c a ⊎ IsCutShort a
 
--- an answer of some lines on a machine, which end with the line of a cause, and of nothing else; or one that is cut short
+-- an answer of some lines on a machine, which end with the line of a cause, and of nothing else; or one that
+-- is cut short
 pub record IsAnswered (m : Machine) (c : Cause) (wanted : List ReportLine) (a : Answer) : Type 0 where
   pub machine : a.machine ≡ m
   pub cause : a.cause ≡ c
   pub lines : a.report.lines ≡ wanted
   pub bare : IsBare a.report
 
+-- an answer of some lines on a machine, with the cause that its last line tells, or one that is cut short
 abbrev pub IsAnswer : Machine → Cause → List ReportLine → Answer → Type 0
 IsAnswer m c wanted a = IsAnswered m c wanted a ⊎ IsCutShort a
 
@@ -42,7 +44,8 @@ IsMachineOf told m = (printer : List ℕ) → told ≡ Some printer → reading 
 
 -- the cause why a configuration has no machine: its first fault, where its bytes are told; or that it can't be read
 abbrev pub IsMachineFault : Option (List ℕ) → Cause → Type 0
-IsMachineFault told (cause.Config line kind) = (printer : List ℕ) → told ≡ Some printer → reading printer ≡ Err (At line kind)
+IsMachineFault told (cause.Config line kind) =
+    (printer : List ℕ) → told ≡ Some printer → reading printer ≡ Err (At line kind)
 IsMachineFault told cause.Memory = Unit {0}
 IsMachineFault told cause.ReadFault = Unit {0}
 IsMachineFault told other = ⊥

@@ -43,20 +43,23 @@ use Rattle.host_cli.specs.Scenes.{ShowsRun}
 use Rattle.host_cli.specs.Traffic.{ShowsTraffic, board_named}
 use Rattle.host_cli.specs.Loads.{ShowsLoad}
 
--- Something is asked of what a text says; or of the cause that its first fault is. Of a configuration, of a scene, of a trace and of a
--- bed's table.
+-- something is asked of the machine that a configuration describes, or of the cause that its first fault is
 pub record OnMachine (shows : Machine → Type 0) (refused : Cause → Type 0) (r : Result Machine CfgFault) : Type 0 where
   pub read : (m : Machine) → r ≡ Ok m → shows m
   pub fault : (line : ℕ) (kind : CfgKind) → r ≡ Err (config.At line kind) → refused (cause.Config line kind)
 
+-- something is asked of the scene that a text is, or of the cause that its first fault is
 pub record OnScene (shows : Scene → Type 0) (refused : Cause → Type 0) (r : Result Scene SceneFault) : Type 0 where
   pub read : (s : Scene) → r ≡ Ok s → shows s
   pub fault : (line : ℕ) (kind : SceneKind) → r ≡ Err (scenes.At line kind) → refused (cause.Scene line kind)
 
-pub record OnTrace (shows : List TraceTurn → Type 0) (refused : Cause → Type 0) (r : Result (List TraceTurn) TraceFault) : Type 0 where
+-- something is asked of the turns that a trace has, or of the cause that its first fault is
+pub record OnTrace (shows : List TraceTurn → Type 0) (refused : Cause → Type 0)
+    (r : Result (List TraceTurn) TraceFault) : Type 0 where
   pub read : (turns : List TraceTurn) → r ≡ Ok turns → shows turns
   pub fault : (line : ℕ) (kind : TraceKind) → r ≡ Err (trace.At line kind) → refused (cause.Trace line kind)
 
+-- something is asked of the table of heights that a text is, or of the cause that its first fault is
 pub record OnBed (shows : Mesh → Type 0) (refused : Cause → Type 0) (r : Result Mesh MeshFault) : Type 0 where
   pub read : (t : Mesh) → r ≡ Ok t → shows t
   pub fault : (line : ℕ) (kind : MeshKind) → r ≡ Err (beds.At line kind) → refused (cause.Mesh line kind)
@@ -81,9 +84,11 @@ pub record CountsFaults (files files' out out' : ℕ) (given : Cause) : Type 0 w
   pub quiet_files : given ≢ cause.ReadFault → given ≢ cause.WriteFault → given ≢ cause.Memory → files' ≡ files
   pub quiet_output : given ≢ cause.WriteFault → given ≢ cause.Memory → out' ≡ out
 
--- What a command answers, from these files and this output to those: how it ended, with its cause and its report, in which are the pulses of
--- each stepper and what the links carried. A load is a file of its own, and the lines of its run go to an output of its own.
-module _ {F S L O : Type 0} (f : Files F) (o : Sink S) (loads : Files L) (sure : Sink O) (files files' : F) (out out' : S) (e : Ended) where
+-- What a command answers, from these files and this output to those: how it ended, with its cause and its
+-- report, in which are the pulses of each stepper and what the links carried. A load is a file of its own,
+-- and the lines of its run go to an output of its own.
+module _ {F S L O : Type 0} (f : Files F) (o : Sink S) (loads : Files L) (sure : Sink O) (files files' : F)
+    (out out' : S) (e : Ended) where
   -- something of what was written before and behind, and of the cause and the report
   abbrev pub Shown : (Option (List ℕ) → Option (List ℕ) → Cause → Report → Type 0) → Type 0
   Shown shows = shows (o.written out) (o.written out') e.cause e.report
@@ -103,7 +108,8 @@ module _ {F S L O : Type 0} (f : Files F) (o : Sink S) (loads : Files L) (sure :
   -- a task with the trace of a file, on a board of a machine
   abbrev pub Does : Task → List ℕ → List ℕ → Machine → Type 0
   Does task name file m =
-      OnThere (λ (b : BoardDef). Holding (f.told files file) (λ text. OnTrace (λ turns. Shown (ShowsTraffic task b turns)) Refuses (traces.reading text)))
+      OnThere (λ (b : BoardDef). Holding (f.told files file)
+      (λ text. OnTrace (λ turns. Shown (ShowsTraffic task b turns)) Refuses (traces.reading text)))
       (Refuses cause.NoBoard) (board_named name m.boards)
 
   -- a G-code over the bed of a table, or a first fault, as a comment
@@ -115,11 +121,13 @@ module _ {F S L O : Type 0} (f : Files F) (o : Sink S) (loads : Files L) (sure :
   Answers None = Shown (EndsFor cause.Usage)
   Answers (Some (run config gcode)) = OnConfig config (λ m. Runs gcode m no_scene)
   Answers (Some (scene config gcode file)) =
-      OnConfig config (λ m. Holding (f.told files file) (λ text. OnScene (Runs gcode m) Refuses (scene_text.reading m text)))
+      OnConfig config
+      (λ m. Holding (f.told files file) (λ text. OnScene (Runs gcode m) Refuses (scene_text.reading m text)))
   Answers (Some (make seed moves)) = Shown (ShowsLoad loads sure seed moves)
   Answers (Some (fan config gcode)) =
-      OnConfig config (λ m. OnThere (λ (d : FanDef). HoldingText (f.told files gcode) (λ text. Shown (ShowsFan m d text)))
-      (Refuses cause.NoFan) m.fan)
+      OnConfig config (λ m. OnThere
+      (λ (d : FanDef). HoldingText (f.told files gcode) (λ text. Shown (ShowsFan m d text))) (Refuses cause.NoFan)
+      m.fan)
   Answers (Some (check config gcode log)) =
       OnConfig config (λ m. HoldingText (f.told files gcode) (λ text. HoldingText (f.told files log) (λ told.
       Shown (ShowsCheck m text told))))

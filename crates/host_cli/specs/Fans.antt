@@ -21,8 +21,8 @@ out_line f w = report.Out f.board f.pin w.tick w.on
 -- the lines of a text's fan: its switchings, how far the text was read, and the end
 abbrev pub fan_lines : Machine → FanDef → List ℕ → List ReportLine
 fan_lines m f text =
-    map (out_line f) (switched m f text)
-    ++ report.Lines (program_end m text).lines (program_end m text).passed ∷ report.End (cause_of (program_end m text).stop) ∷ []
+    map (out_line f) (switched m f text) ++ report.Lines (program_end m text).lines (program_end m text).passed
+    ∷ report.End (cause_of (program_end m text).stop) ∷ []
 
 -- the answer of a text's fan, before it is written
 abbrev pub IsFanAnswer : Machine → FanDef → List ℕ → Answer → Type 0
@@ -30,4 +30,5 @@ IsFanAnswer m f text a = IsAnswer m (cause_of (program_end m text).stop) (fan_li
 
 -- Fan: the report has the lines of the text's fan, and the cause of its reading.
 abbrev pub ShowsFan : Machine → FanDef → List ℕ → Option (List ℕ) → Option (List ℕ) → Cause → Report → Type 0
-ShowsFan m f text old new given r = ShowsAnswer m (cause_of (program_end m text).stop) (fan_lines m f text) old new given r
+ShowsFan m f text old new given r =
+    ShowsAnswer m (cause_of (program_end m text).stop) (fan_lines m f text) old new given r

@@ -27,11 +27,14 @@ abbrev pub IsLoadAnswer : {F S : Type 0} → Files F → Sink S → ℕ → ℕ 
 IsLoadAnswer f o seed moves a = IsSummary f o seed moves a ⊎ EndsWith cause.Memory a
 
 -- the report is a summary, which ends with the cause of the run, and what the links carried in it is told
-pub record ShowsSummary {F S : Type 0} (f : Files F) (o : Sink S) (seed moves : ℕ) (old new : Option (List ℕ)) (given : Cause) (r : Report) : Type 0 where
+pub record ShowsSummary {F S : Type 0} (f : Files F) (o : Sink S) (seed moves : ℕ) (old new : Option (List ℕ))
+    (given : Cause) (r : Report) : Type 0 where
   pub own : Cause
   pub run : AreCounts f o seed moves own r
   pub shows : ShowsLines load_machine own (summary seed moves r.counts own) old new given r.lines
 
 -- Load: the report is the summary of a run of the load, or there is an end line alone, of want of memory.
-abbrev pub ShowsLoad : {F S : Type 0} → Files F → Sink S → ℕ → ℕ → Option (List ℕ) → Option (List ℕ) → Cause → Report → Type 0
-ShowsLoad f o seed moves old new given r = ShowsSummary f o seed moves old new given r ⊎ EndsAlone cause.Memory old new given r
+abbrev pub ShowsLoad : {F S : Type 0} → Files F → Sink S → ℕ → ℕ → Option (List ℕ) → Option (List ℕ) → Cause → Report →
+    Type 0
+ShowsLoad f o seed moves old new given r =
+    ShowsSummary f o seed moves old new given r ⊎ EndsAlone cause.Memory old new given r

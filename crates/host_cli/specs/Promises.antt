@@ -21,15 +21,16 @@ abbrev pub EndsAs : Cause → ℕ → ℕ → Cause → Type 0
 EndsAs own before after given =
     ((given ≡ own) × (after ≡ before)) ⊎ ((given ≡ cause.Memory) ⊎ ((given ≡ with_failure own) × Rose before after))
 
--- Lines: these are the report's, and end with the line of a cause; it is the one that is given, but for want of memory and for a write that
--- fails; and their text is written.
-pub record ShowsLines (m : Machine) (own : Cause) (wanted : List ReportLine) (old new : Option (List ℕ)) (given : Cause) (lines : List ReportLine) : Type 0 where
+-- Lines: these are the report's, and end with the line of a cause; it is the one that is given, but for want
+-- of memory and for a write that fails; and their text is written.
+pub record ShowsLines (m : Machine) (own : Cause) (wanted : List ReportLine) (old new : Option (List ℕ)) (given : Cause)
+    (lines : List ReportLine) : Type 0 where
   pub same : lines ≡ wanted
   pub given_is : GivenFor own given
   pub bytes : WritesText m old new given lines
 
--- An end line alone, of a cause: it is the one that is given, but for want of memory and for a write that fails; its text is written, and
--- nothing is told of pulses or links.
+-- An end line alone, of a cause: it is the one that is given, but for want of memory and for a write that
+-- fails; its text is written, and nothing is told of pulses or links.
 pub record EndsAlone (own : Cause) (old new : Option (List ℕ)) (given : Cause) (r : Report) : Type 0 where
   pub alone : IsAlone own r.lines
   pub bare : IsBare r
@@ -49,6 +50,8 @@ EndsFor wanted old new given r = EndsAlone wanted old new given r ⊎ EndsAlone 
 abbrev pub IsRefused : Cause → Option (List ℕ) → Option (List ℕ) → Cause → Report → Type 0
 IsRefused wanted old new given r = EndsAlone wanted old new given r ⊎ IsCut old new given r
 
--- the lines that are asked for, and nothing of pulses or links; or an end line alone of want of memory, or of a file that can't be read
+-- the lines that are asked for, and nothing of pulses or links; or an end line alone of want of memory, or of
+-- a file that can't be read
 abbrev pub ShowsAnswer : Machine → Cause → List ReportLine → Option (List ℕ) → Option (List ℕ) → Cause → Report → Type 0
-ShowsAnswer m own wanted old new given r = (ShowsLines m own wanted old new given r.lines × IsBare r) ⊎ IsCut old new given r
+ShowsAnswer m own wanted old new given r =
+    (ShowsLines m own wanted old new given r.lines × IsBare r) ⊎ IsCut old new given r

@@ -12,11 +12,13 @@ use Rattle.wire_scene.specs.Reading as scenes
 use Rattle.host_cli.specs.Promises.{IsCut}
 use Rattle.laws_report.specs.reports.Linked.{IsLinkReport}
 
--- Links: the report is that of a run of the planner, a link for each board and the reactor, over this file of G-code; or there is
--- an end line alone, of want of memory or of a file that can't be read.
-abbrev pub ShowsRun : {F S : Type 0} → Files F → Sink S → Machine → Scene → List ℕ → F → F → S → S → Cause → Report → Type 0
+-- Links: the report is that of a run of the planner, a link for each board and the reactor, over this file of
+-- G-code; or there is an end line alone, of want of memory or of a file that can't be read.
+abbrev pub ShowsRun : {F S : Type 0} → Files F → Sink S → Machine → Scene → List ℕ → F → F → S → S → Cause → Report →
+    Type 0
 ShowsRun {F} f o m s gcode files files' out out' c r =
-    ((before : F) × ((name : List ℕ) → f.told before name ≡ f.told files name) × IsLinkReport f o m s gcode before files' out out' c r.lines r.counts r.links.items)
+    ((before : F) × ((name : List ℕ) → f.told before name ≡ f.told files name)
+    × IsLinkReport f o m s gcode before files' out out' c r.lines r.counts r.links.items)
     ⊎ IsCut (o.written out) (o.written out') c r
 
 -- the scene of a text for a machine, where its bytes are told
@@ -25,7 +27,8 @@ IsSceneIn m told s = (text : List ℕ) → told ≡ Some text → scenes.reading
 
 -- the cause why there is no scene: its first fault, where its bytes are told; or that it can't be read
 abbrev pub IsSceneFault : Machine → Option (List ℕ) → Cause → Type 0
-IsSceneFault m told (cause.Scene line kind) = (text : List ℕ) → told ≡ Some text → scenes.reading m text ≡ Err (fault.At line kind)
+IsSceneFault m told (cause.Scene line kind) =
+    (text : List ℕ) → told ≡ Some text → scenes.reading m text ≡ Err (fault.At line kind)
 IsSceneFault m told cause.Memory = Unit {0}
 IsSceneFault m told cause.ReadFault = Unit {0}
 IsSceneFault m told other = ⊥

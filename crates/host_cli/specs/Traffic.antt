@@ -33,15 +33,18 @@ board_named name (b ∷ boards) = if bytes_eq b.name name then Some b else board
 -- the text of a task: the dump of the trace, by the boards' own dictionary, or its replay on the board
 abbrev pub IsTrafficText : Task → BoardDef → List TraceTurn → List ℕ → Type 0
 IsTrafficText Dump b turns text = (lines : List DumpLine) × IsDump own_formats turns lines × (text ≡ dump_text lines)
-IsTrafficText Replay b turns text = (pulses : List Pulse) × (state : BoardState) × IsReplay b turns pulses state × (text ≡ replay_text b.name pulses state)
+IsTrafficText Replay b turns text =
+    (pulses : List Pulse) × (state : BoardState) × IsReplay b turns pulses state
+    × (text ≡ replay_text b.name pulses state)
 
 -- a text with the end line behind it
 abbrev pub with_end : List ℕ → List ℕ
 with_end text = text ++ codes "end 0 done\n"
 
--- The text of the task and the end line are written, a front of them where memory was wanted or a write failed; the report is the end line
--- alone.
-pub record WritesTraffic (task : Task) (b : BoardDef) (turns : List TraceTurn) (old new : Option (List ℕ)) (given : Cause) (r : Report) : Type 0 where
+-- The text of the task and the end line are written, a front of them where memory was wanted or a write
+-- failed; the report is the end line alone.
+pub record WritesTraffic (task : Task) (b : BoardDef) (turns : List TraceTurn) (old new : Option (List ℕ))
+    (given : Cause) (r : Report) : Type 0 where
   pub text : List ℕ
   pub is : IsTrafficText task b turns text
   pub given_is : GivenFor cause.Done given
@@ -58,10 +61,12 @@ ShowsTraffic task b turns old new given r = WritesTraffic task b turns old new g
 abbrev pub IsTraceIn : Option (List ℕ) → List TraceTurn → Type 0
 IsTraceIn told turns = (text : List ℕ) → told ≡ Some text → traces.reading text ≡ Ok turns
 
--- the cause why there is no trace: its first fault, where its bytes are told; or want of memory; or that it can't be read
+-- the cause why there is no trace: its first fault, where its bytes are told; or want of memory; or that it
+-- can't be read
 abbrev pub IsTraceFault : Option (List ℕ) → Cause → Type 0
 IsTraceFault told c =
-    ((line : ℕ) × (kind : TraceKind) × (c ≡ cause.Trace line kind) × ((text : List ℕ) → told ≡ Some text → traces.reading text ≡ Err (fault.At line kind)))
+    ((line : ℕ) × (kind : TraceKind) × (c ≡ cause.Trace line kind)
+    × ((text : List ℕ) → told ≡ Some text → traces.reading text ≡ Err (fault.At line kind)))
     ⊎ ((c ≡ cause.Memory) ⊎ (c ≡ cause.ReadFault))
 
 -- the cause of a command and its status, and that faults are told only where they were counted, before and behind it

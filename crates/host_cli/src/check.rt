@@ -65,11 +65,13 @@ fn check_file<F: Files>(
     report: &str,
 ) -> Answer
     requires { IsValidMachine machine }
-    ensures answer { (text log : List ℕ) → F.told files.old gcode.now ≡ Some text → length text < 2 ^ 62 → F.told files.old report.now ≡ Some log → length log < 2 ^ 62 → IsCheckAnswer machine text log result }
+    ensures answer { (text log : List ℕ) → F.told files.old gcode.now ≡ Some text → length text < 2 ^ 62 →
+        F.told files.old report.now ≡ Some log → length log < 2 ^ 62 → IsCheckAnswer machine text log result }
     ensures configured { IsRun result }
     ensures no_write { result.cause ≢ Cause.WriteFault }
     ensures read { result.cause ≡ Cause.ReadFault → Rose (F.faults files.old) (F.faults files.new) }
-    ensures quiet { result.cause ≢ Cause.ReadFault → result.cause ≢ Cause.Memory → F.faults files.new ≡ F.faults files.old }
+    ensures quiet { result.cause ≢ Cause.ReadFault → result.cause ≢ Cause.Memory →
+        F.faults files.new ≡ F.faults files.old }
 {
     let text = match read_text(alloc, files, gcode, GCODE_LIMIT) {
         Ok(text) => text,
@@ -91,12 +93,16 @@ pub fn check_files<F: Files>(
     gcode: &str,
     report: &str,
 ) -> Answer
-    ensures answer { (printer text log : List ℕ) (m : Machine) → F.told files.old config.now ≡ Some printer → reading printer ≡ Ok m → F.told files.old gcode.now ≡ Some text → length text < 2 ^ 62 → F.told files.old report.now ≡ Some log → length log < 2 ^ 62 → IsCheckAnswer m text log result }
-    ensures config { (printer : List ℕ) (line : ℕ) (kind : CfgKind) → F.told files.old config.now ≡ Some printer → reading printer ≡ Err (At line kind) → IsRefusal (Cause.Config line kind) result }
+    ensures answer { (printer text log : List ℕ) (m : Machine) → F.told files.old config.now ≡ Some printer →
+        reading printer ≡ Ok m → F.told files.old gcode.now ≡ Some text → length text < 2 ^ 62 →
+        F.told files.old report.now ≡ Some log → length log < 2 ^ 62 → IsCheckAnswer m text log result }
+    ensures config { (printer : List ℕ) (line : ℕ) (kind : CfgKind) → F.told files.old config.now ≡ Some printer →
+        reading printer ≡ Err (At line kind) → IsRefusal (Cause.Config line kind) result }
     ensures not_usage { result.cause ≢ Cause.Usage }
     ensures no_write { result.cause ≢ Cause.WriteFault }
     ensures read { result.cause ≡ Cause.ReadFault → Rose (F.faults files.old) (F.faults files.new) }
-    ensures quiet { result.cause ≢ Cause.ReadFault → result.cause ≢ Cause.Memory → F.faults files.new ≡ F.faults files.old }
+    ensures quiet { result.cause ≢ Cause.ReadFault → result.cause ≢ Cause.Memory →
+        F.faults files.new ≡ F.faults files.old }
 {
     match read_machine(alloc, files, config) {
         Ok(machine) => check_file(alloc, machine, files, gcode, report),
@@ -113,9 +119,15 @@ pub fn run_check<F: Files, S: Sink>(
     files: &mut F,
     out: &mut S,
 ) -> Ended
-    ensures shows { (printer text log : List ℕ) (m : Machine) → F.told files.old config.now ≡ Some printer → reading printer ≡ Ok m → F.told files.old gcode.now ≡ Some text → length text < 2 ^ 62 → F.told files.old report.now ≡ Some log → length log < 2 ^ 62 → ShowsCheck m text log (S.written out.old) (S.written out.new) result.cause result.report }
-    ensures config { (printer : List ℕ) (line : ℕ) (kind : CfgKind) → F.told files.old config.now ≡ Some printer → reading printer ≡ Err (At line kind) → IsRefused (Cause.Config line kind) (S.written out.old) (S.written out.new) result.cause result.report }
-    ensures ends { EndsCleanly (F.faults files.old) (F.faults files.new) (S.faults out.old) (S.faults out.new) result.status result.cause }
+    ensures shows { (printer text log : List ℕ) (m : Machine) → F.told files.old config.now ≡ Some printer →
+        reading printer ≡ Ok m → F.told files.old gcode.now ≡ Some text → length text < 2 ^ 62 →
+        F.told files.old report.now ≡ Some log → length log < 2 ^ 62 →
+        ShowsCheck m text log (S.written out.old) (S.written out.new) result.cause result.report }
+    ensures config { (printer : List ℕ) (line : ℕ) (kind : CfgKind) → F.told files.old config.now ≡ Some printer →
+        reading printer ≡ Err (At line kind) →
+        IsRefused (Cause.Config line kind) (S.written out.old) (S.written out.new) result.cause result.report }
+    ensures ends { EndsCleanly (F.faults files.old) (F.faults files.new) (S.faults out.old) (S.faults out.new)
+        result.status result.cause }
 {
     let answer = check_files(alloc, files, config, gcode, report);
     finish(alloc, answer, out)

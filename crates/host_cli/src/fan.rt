@@ -109,12 +109,14 @@ fn fan_of_text(alloc: Global, machine: Machine, fan: FanDef, text: &[u8]) -> Ans
 /// The fan of a file of G-code on a machine.
 fn fan_of_file<F: Files>(alloc: Global, machine: Machine, files: &mut F, name: &str) -> Answer
     requires { IsValidMachine machine }
-    ensures answer { (f : FanDef) (text : List ℕ) → machine.fan ≡ Some f → F.told files.old name.now ≡ Some text → length text < 2 ^ 62 → IsFanAnswer machine f text result }
+    ensures answer { (f : FanDef) (text : List ℕ) → machine.fan ≡ Some f → F.told files.old name.now ≡ Some text →
+        length text < 2 ^ 62 → IsFanAnswer machine f text result }
     ensures no_fan { machine.fan ≡ None → IsRefusal Cause.NoFan result }
     ensures configured { IsRun result }
     ensures no_write { result.cause ≢ Cause.WriteFault }
     ensures read { result.cause ≡ Cause.ReadFault → Rose (F.faults files.old) (F.faults files.new) }
-    ensures quiet { result.cause ≢ Cause.ReadFault → result.cause ≢ Cause.Memory → F.faults files.new ≡ F.faults files.old }
+    ensures quiet { result.cause ≢ Cause.ReadFault → result.cause ≢ Cause.Memory →
+        F.faults files.new ≡ F.faults files.old }
 {
     let Some(fan) = machine.fan else {
         return end_with(alloc, Cause::NoFan);
@@ -128,13 +130,18 @@ fn fan_of_file<F: Files>(alloc: Global, machine: Machine, files: &mut F, name: &
 
 /// The fan of a file of G-code on the machine of a configuration.
 pub fn fan_of_files<F: Files>(alloc: Global, files: &mut F, config: &str, gcode: &str) -> Answer
-    ensures answer { (printer text : List ℕ) (m : Machine) (f : FanDef) → F.told files.old config.now ≡ Some printer → reading printer ≡ Ok m → m.fan ≡ Some f → F.told files.old gcode.now ≡ Some text → length text < 2 ^ 62 → IsFanAnswer m f text result }
-    ensures no_fan { (printer : List ℕ) (m : Machine) → F.told files.old config.now ≡ Some printer → reading printer ≡ Ok m → m.fan ≡ None → IsRefusal Cause.NoFan result }
-    ensures config { (printer : List ℕ) (line : ℕ) (kind : CfgKind) → F.told files.old config.now ≡ Some printer → reading printer ≡ Err (At line kind) → IsRefusal (Cause.Config line kind) result }
+    ensures answer { (printer text : List ℕ) (m : Machine) (f : FanDef) → F.told files.old config.now ≡ Some printer →
+        reading printer ≡ Ok m → m.fan ≡ Some f → F.told files.old gcode.now ≡ Some text → length text < 2 ^ 62 →
+        IsFanAnswer m f text result }
+    ensures no_fan { (printer : List ℕ) (m : Machine) → F.told files.old config.now ≡ Some printer →
+        reading printer ≡ Ok m → m.fan ≡ None → IsRefusal Cause.NoFan result }
+    ensures config { (printer : List ℕ) (line : ℕ) (kind : CfgKind) → F.told files.old config.now ≡ Some printer →
+        reading printer ≡ Err (At line kind) → IsRefusal (Cause.Config line kind) result }
     ensures not_usage { result.cause ≢ Cause.Usage }
     ensures no_write { result.cause ≢ Cause.WriteFault }
     ensures read { result.cause ≡ Cause.ReadFault → Rose (F.faults files.old) (F.faults files.new) }
-    ensures quiet { result.cause ≢ Cause.ReadFault → result.cause ≢ Cause.Memory → F.faults files.new ≡ F.faults files.old }
+    ensures quiet { result.cause ≢ Cause.ReadFault → result.cause ≢ Cause.Memory →
+        F.faults files.new ≡ F.faults files.old }
 {
     match read_machine(alloc, files, config) {
         Ok(machine) => fan_of_file(alloc, machine, files, gcode),
@@ -150,10 +157,17 @@ pub fn run_fan<F: Files, S: Sink>(
     files: &mut F,
     out: &mut S,
 ) -> Ended
-    ensures shows { (printer text : List ℕ) (m : Machine) (f : FanDef) → F.told files.old config.now ≡ Some printer → reading printer ≡ Ok m → m.fan ≡ Some f → F.told files.old gcode.now ≡ Some text → length text < 2 ^ 62 → ShowsFan m f text (S.written out.old) (S.written out.new) result.cause result.report }
-    ensures no_fan { (printer : List ℕ) (m : Machine) → F.told files.old config.now ≡ Some printer → reading printer ≡ Ok m → m.fan ≡ None → IsRefused Cause.NoFan (S.written out.old) (S.written out.new) result.cause result.report }
-    ensures config { (printer : List ℕ) (line : ℕ) (kind : CfgKind) → F.told files.old config.now ≡ Some printer → reading printer ≡ Err (At line kind) → IsRefused (Cause.Config line kind) (S.written out.old) (S.written out.new) result.cause result.report }
-    ensures ends { EndsCleanly (F.faults files.old) (F.faults files.new) (S.faults out.old) (S.faults out.new) result.status result.cause }
+    ensures shows { (printer text : List ℕ) (m : Machine) (f : FanDef) → F.told files.old config.now ≡ Some printer →
+        reading printer ≡ Ok m → m.fan ≡ Some f → F.told files.old gcode.now ≡ Some text → length text < 2 ^ 62 →
+        ShowsFan m f text (S.written out.old) (S.written out.new) result.cause result.report }
+    ensures no_fan { (printer : List ℕ) (m : Machine) → F.told files.old config.now ≡ Some printer →
+        reading printer ≡ Ok m → m.fan ≡ None →
+        IsRefused Cause.NoFan (S.written out.old) (S.written out.new) result.cause result.report }
+    ensures config { (printer : List ℕ) (line : ℕ) (kind : CfgKind) → F.told files.old config.now ≡ Some printer →
+        reading printer ≡ Err (At line kind) →
+        IsRefused (Cause.Config line kind) (S.written out.old) (S.written out.new) result.cause result.report }
+    ensures ends { EndsCleanly (F.faults files.old) (F.faults files.new) (S.faults out.old) (S.faults out.new)
+        result.status result.cause }
 {
     let answer = fan_of_files(alloc, files, config, gcode);
     finish(alloc, answer, out)

@@ -104,11 +104,14 @@ fn write_mark<S: Sink>(
 
 /// Writes a code and the end line, and says how that ended.
 fn show<S: Sink>(alloc: Global, code: &[u8], cause: Cause, out: &mut S) -> Ended
-    ensures shows { WritesMarked code.now cause (S.written out.old) (S.written out.new) result.cause result.report ⊎ WritesMarked [] Cause.Memory (S.written out.old) (S.written out.new) result.cause result.report }
+    ensures shows { WritesMarked code.now cause (S.written out.old) (S.written out.new) result.cause result.report
+        ⊎ WritesMarked [] Cause.Memory (S.written out.old) (S.written out.new) result.cause result.report }
     ensures own { result.cause ≢ Cause.WriteFault → result.cause ≢ Cause.Memory → result.cause ≡ cause }
     ensures status { result.status ≡ status_of result.cause }
-    ensures write { cause ≢ Cause.WriteFault → result.cause ≡ Cause.WriteFault → Rose (S.faults out.old) (S.faults out.new) }
-    ensures quiet { result.cause ≢ Cause.WriteFault → result.cause ≢ Cause.Memory → S.faults out.new ≡ S.faults out.old }
+    ensures write { cause ≢ Cause.WriteFault → result.cause ≡ Cause.WriteFault →
+        Rose (S.faults out.old) (S.faults out.new) }
+    ensures quiet { result.cause ≢ Cause.WriteFault → result.cause ≢ Cause.Memory →
+        S.faults out.new ≡ S.faults out.old }
 {
     let names = no_machine(alloc);
     let Ok(lines) = end_line(alloc, cause) else {
@@ -132,8 +135,11 @@ fn over_bed<F: Files, S: Sink>(
 ) -> Ended
     requires machine { IsValidMachine machine.now }
     requires bed { IsValidMesh bed.now }
-    ensures shows { (text : List ℕ) → F.told files.old gcode.now ≡ Some text → length text < 2 ^ 62 → ShowsMarked (mesh_code machine.now bed.now text) (cause_of (mesh_end machine.now bed.now text).stop) (S.written out.old) (S.written out.new) result.cause result.report }
-    ensures ends { EndsCleanly (F.faults files.old) (F.faults files.new) (S.faults out.old) (S.faults out.new) result.status result.cause }
+    ensures shows { (text : List ℕ) → F.told files.old gcode.now ≡ Some text → length text < 2 ^ 62 →
+        ShowsMarked (mesh_code machine.now bed.now text) (cause_of (mesh_end machine.now bed.now text).stop)
+        (S.written out.old) (S.written out.new) result.cause result.report }
+    ensures ends { EndsCleanly (F.faults files.old) (F.faults files.new) (S.faults out.old) (S.faults out.new)
+        result.status result.cause }
 {
     let text = match read_text(alloc, files, gcode, GCODE_LIMIT) {
         Ok(text) => text,
@@ -155,9 +161,15 @@ fn on_machine<F: Files, S: Sink>(
     out: &mut S,
 ) -> Ended
     requires { IsValidMachine machine.now }
-    ensures shows { (rows text : List ℕ) (t : Mesh) → F.told files.old words.now.table.now ≡ Some rows → tables.reading rows ≡ Ok t → F.told files.old words.now.gcode.now ≡ Some text → length text < 2 ^ 62 → ShowsMarked (mesh_code machine.now t text) (cause_of (mesh_end machine.now t text).stop) (S.written out.old) (S.written out.new) result.cause result.report }
-    ensures table { (rows : List ℕ) (line : ℕ) (kind : MeshKind) → F.told files.old words.now.table.now ≡ Some rows → tables.reading rows ≡ Err (fault.At line kind) → ShowsMarked [] (Cause.Mesh line kind) (S.written out.old) (S.written out.new) result.cause result.report }
-    ensures ends { EndsCleanly (F.faults files.old) (F.faults files.new) (S.faults out.old) (S.faults out.new) result.status result.cause }
+    ensures shows { (rows text : List ℕ) (t : Mesh) → F.told files.old words.now.table.now ≡ Some rows →
+        tables.reading rows ≡ Ok t → F.told files.old words.now.gcode.now ≡ Some text → length text < 2 ^ 62 →
+        ShowsMarked (mesh_code machine.now t text) (cause_of (mesh_end machine.now t text).stop) (S.written out.old)
+        (S.written out.new) result.cause result.report }
+    ensures table { (rows : List ℕ) (line : ℕ) (kind : MeshKind) → F.told files.old words.now.table.now ≡ Some rows →
+        tables.reading rows ≡ Err (fault.At line kind) →
+        ShowsMarked [] (Cause.Mesh line kind) (S.written out.old) (S.written out.new) result.cause result.report }
+    ensures ends { EndsCleanly (F.faults files.old) (F.faults files.new) (S.faults out.old) (S.faults out.new)
+        result.status result.cause }
 {
     match read_table(alloc, files, words.table) {
         Ok(bed) => over_bed(alloc, machine, &bed, words.gcode, files, out),
@@ -172,10 +184,21 @@ pub fn run_mesh<F: Files, S: Sink>(
     files: &mut F,
     out: &mut S,
 ) -> Ended
-    ensures shows { (printer rows text : List ℕ) (m : Machine) (t : Mesh) → F.told files.old words.now.config.now ≡ Some printer → reading printer ≡ Ok m → F.told files.old words.now.table.now ≡ Some rows → tables.reading rows ≡ Ok t → F.told files.old words.now.gcode.now ≡ Some text → length text < 2 ^ 62 → ShowsMarked (mesh_code m t text) (cause_of (mesh_end m t text).stop) (S.written out.old) (S.written out.new) result.cause result.report }
-    ensures table { (printer rows : List ℕ) (m : Machine) (line : ℕ) (kind : MeshKind) → F.told files.old words.now.config.now ≡ Some printer → reading printer ≡ Ok m → F.told files.old words.now.table.now ≡ Some rows → tables.reading rows ≡ Err (fault.At line kind) → ShowsMarked [] (Cause.Mesh line kind) (S.written out.old) (S.written out.new) result.cause result.report }
-    ensures config { (printer : List ℕ) (line : ℕ) (kind : CfgKind) → F.told files.old words.now.config.now ≡ Some printer → reading printer ≡ Err (At line kind) → ShowsMarked [] (Cause.Config line kind) (S.written out.old) (S.written out.new) result.cause result.report }
-    ensures ends { EndsCleanly (F.faults files.old) (F.faults files.new) (S.faults out.old) (S.faults out.new) result.status result.cause }
+    ensures shows { (printer rows text : List ℕ) (m : Machine) (t : Mesh) →
+        F.told files.old words.now.config.now ≡ Some printer → reading printer ≡ Ok m →
+        F.told files.old words.now.table.now ≡ Some rows → tables.reading rows ≡ Ok t →
+        F.told files.old words.now.gcode.now ≡ Some text → length text < 2 ^ 62 →
+        ShowsMarked (mesh_code m t text) (cause_of (mesh_end m t text).stop) (S.written out.old) (S.written out.new)
+        result.cause result.report }
+    ensures table { (printer rows : List ℕ) (m : Machine) (line : ℕ) (kind : MeshKind) →
+        F.told files.old words.now.config.now ≡ Some printer → reading printer ≡ Ok m →
+        F.told files.old words.now.table.now ≡ Some rows → tables.reading rows ≡ Err (fault.At line kind) →
+        ShowsMarked [] (Cause.Mesh line kind) (S.written out.old) (S.written out.new) result.cause result.report }
+    ensures config { (printer : List ℕ) (line : ℕ) (kind : CfgKind) →
+        F.told files.old words.now.config.now ≡ Some printer → reading printer ≡ Err (At line kind) →
+        ShowsMarked [] (Cause.Config line kind) (S.written out.old) (S.written out.new) result.cause result.report }
+    ensures ends { EndsCleanly (F.faults files.old) (F.faults files.new) (S.faults out.old) (S.faults out.new)
+        result.status result.cause }
 {
     match read_machine(alloc, files, words.config) {
         Ok(machine) => on_machine(alloc, &machine, words, files, out),

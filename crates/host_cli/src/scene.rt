@@ -1,5 +1,5 @@
-//! Runs over links: a file of G-code, in the scene of a file, whose links lose, repeat, delay and garble blocks, or in one where
-//! nothing happens.
+//! Runs over links: a file of G-code, in the scene of a file, whose links lose, repeat, delay and garble
+//! blocks, or in one where nothing happens.
 
 ghost use Rattle.std.specs.Prelude.{◌≡◌, ◌≢◌, ◌⊎◌, ℕ, List, Some, Ok, Err, IfOk, IfErr, IfSome, OnOk, OnErr, map, string_bytes};
 ghost use Rattle.cfg_lines.specs.declared.fault.CfgFault.TheVariants.{At};
@@ -76,13 +76,17 @@ fn run_found<R: Threads + Wait + Sync, F: Files, S: Sink, G: Gate + Sync>(
 ) -> Ended
     requires machine { IsValidMachine machine.now }
     requires scene { IsValidScene machine.now scene.now }
-    ensures shows { HaveShortDictionaries machine.now → IsSceneFor machine.now scene.now → ShowsRun F.Files S.Sink machine.now scene.now gcode.now files.old files.new out.old out.new result.cause result.report }
+    ensures shows { HaveShortDictionaries machine.now → IsSceneFor machine.now scene.now →
+        ShowsRun F.Files S.Sink machine.now scene.now gcode.now files.old files.new out.old out.new result.cause
+        result.report }
     ensures named { IsRunCause result.cause }
     ensures status { result.status ≡ status_of result.cause }
     ensures read { result.cause ≡ Cause.ReadFault → Rose (F.faults files.old) (F.faults files.new) }
     ensures write { result.cause ≡ Cause.WriteFault → Rose (S.faults out.old) (S.faults out.new) }
-    ensures quiet_files { result.cause ≢ Cause.ReadFault → result.cause ≢ Cause.WriteFault → result.cause ≢ Cause.Memory → F.faults files.new ≡ F.faults files.old }
-    ensures quiet_output { result.cause ≢ Cause.WriteFault → result.cause ≢ Cause.Memory → S.faults out.new ≡ S.faults out.old }
+    ensures quiet_files { result.cause ≢ Cause.ReadFault → result.cause ≢ Cause.WriteFault →
+        result.cause ≢ Cause.Memory → F.faults files.new ≡ F.faults files.old }
+    ensures quiet_output { result.cause ≢ Cause.WriteFault → result.cause ≢ Cause.Memory →
+        S.faults out.new ≡ S.faults out.old }
 {
     run(
         rt,
@@ -102,8 +106,10 @@ pub fn refuse<S: Sink>(alloc: Global, cause: Cause, out: &mut S) -> Ended
     ensures refused { EndsFor cause (S.written out.old) (S.written out.new) result.cause result.report }
     ensures own { result.cause ≢ Cause.WriteFault → result.cause ≢ Cause.Memory → result.cause ≡ cause }
     ensures status { result.status ≡ status_of result.cause }
-    ensures write { cause ≢ Cause.WriteFault → result.cause ≡ Cause.WriteFault → Rose (S.faults out.old) (S.faults out.new) }
-    ensures quiet { result.cause ≢ Cause.WriteFault → result.cause ≢ Cause.Memory → S.faults out.new ≡ S.faults out.old }
+    ensures write { cause ≢ Cause.WriteFault → result.cause ≡ Cause.WriteFault →
+        Rose (S.faults out.old) (S.faults out.new) }
+    ensures quiet { result.cause ≢ Cause.WriteFault → result.cause ≢ Cause.Memory →
+        S.faults out.new ≡ S.faults out.old }
 {
     let answer = end_with(alloc, cause);
     finish(alloc, answer, out)
@@ -136,13 +142,17 @@ fn run_on<R: Threads + Wait + Sync, F: Files, S: Sink, G: Gate + Sync>(
 ) -> Ended
     requires machine { IsValidMachine machine.now }
     requires scene { IsValidScene machine.now scene.now }
-    ensures shows { HaveShortDictionaries machine.now → IsSceneFor machine.now scene.now → ShowsRun F.Files S.Sink machine.now scene.now gcode.now files.old files.new out.old out.new result.cause result.report }
+    ensures shows { HaveShortDictionaries machine.now → IsSceneFor machine.now scene.now →
+        ShowsRun F.Files S.Sink machine.now scene.now gcode.now files.old files.new out.old out.new result.cause
+        result.report }
     ensures named { IsRunCause result.cause }
     ensures status { result.status ≡ status_of result.cause }
     ensures read { result.cause ≡ Cause.ReadFault → Rose (F.faults files.old) (F.faults files.new) }
     ensures write { result.cause ≡ Cause.WriteFault → Rose (S.faults out.old) (S.faults out.new) }
-    ensures quiet_files { result.cause ≢ Cause.ReadFault → result.cause ≢ Cause.WriteFault → result.cause ≢ Cause.Memory → F.faults files.new ≡ F.faults files.old }
-    ensures quiet_output { result.cause ≢ Cause.WriteFault → result.cause ≢ Cause.Memory → S.faults out.new ≡ S.faults out.old }
+    ensures quiet_files { result.cause ≢ Cause.ReadFault → result.cause ≢ Cause.WriteFault →
+        result.cause ≢ Cause.Memory → F.faults files.new ≡ F.faults files.old }
+    ensures quiet_output { result.cause ≢ Cause.WriteFault → result.cause ≢ Cause.Memory →
+        S.faults out.new ≡ S.faults out.old }
 {
     match find_file(files, gcode) {
         Ok(()) => run_found(rt, alloc, machine, scene, gcode, files, out, gate),
@@ -162,14 +172,20 @@ fn run_in<R: Threads + Wait + Sync, F: Files, S: Sink, G: Gate + Sync>(
     gate: &G,
 ) -> Ended
     requires machine { IsValidMachine machine.now }
-    ensures shows { (text : List ℕ) (s : Scene) → F.told files.old scene.now ≡ Some text → scenes.reading machine.now text ≡ Ok s → HaveShortDictionaries machine.now → ShowsRun F.Files S.Sink machine.now s gcode.now files.old files.new out.old out.new result.cause result.report }
-    ensures scene { (text : List ℕ) (line : ℕ) (kind : SceneKind) → F.told files.old scene.now ≡ Some text → scenes.reading machine.now text ≡ Err (fault.At line kind) → IsRefused (Cause.Scene line kind) (S.written out.old) (S.written out.new) result.cause result.report }
+    ensures shows { (text : List ℕ) (s : Scene) → F.told files.old scene.now ≡ Some text →
+        scenes.reading machine.now text ≡ Ok s → HaveShortDictionaries machine.now →
+        ShowsRun F.Files S.Sink machine.now s gcode.now files.old files.new out.old out.new result.cause result.report }
+    ensures scene { (text : List ℕ) (line : ℕ) (kind : SceneKind) → F.told files.old scene.now ≡ Some text →
+        scenes.reading machine.now text ≡ Err (fault.At line kind) →
+        IsRefused (Cause.Scene line kind) (S.written out.old) (S.written out.new) result.cause result.report }
     ensures not_usage { result.cause ≢ Cause.Usage }
     ensures status { result.status ≡ status_of result.cause }
     ensures read { result.cause ≡ Cause.ReadFault → Rose (F.faults files.old) (F.faults files.new) }
     ensures write { result.cause ≡ Cause.WriteFault → Rose (S.faults out.old) (S.faults out.new) }
-    ensures quiet_files { result.cause ≢ Cause.ReadFault → result.cause ≢ Cause.WriteFault → result.cause ≢ Cause.Memory → F.faults files.new ≡ F.faults files.old }
-    ensures quiet_output { result.cause ≢ Cause.WriteFault → result.cause ≢ Cause.Memory → S.faults out.new ≡ S.faults out.old }
+    ensures quiet_files { result.cause ≢ Cause.ReadFault → result.cause ≢ Cause.WriteFault →
+        result.cause ≢ Cause.Memory → F.faults files.new ≡ F.faults files.old }
+    ensures quiet_output { result.cause ≢ Cause.WriteFault → result.cause ≢ Cause.Memory →
+        S.faults out.new ≡ S.faults out.old }
 {
     match read_scene_file(alloc, machine, files, scene) {
         Ok(scene) => run_on(rt, alloc, machine, &scene, gcode, files, out, gate),
@@ -188,15 +204,24 @@ pub fn run_scene<R: Threads + Wait + Sync, F: Files, S: Sink, G: Gate + Sync>(
     out: &mut S,
     gate: &G,
 ) -> Ended
-    ensures shows { (printer text : List ℕ) (m : Machine) (s : Scene) → F.told files.old config.now ≡ Some printer → F.told files.old scene.now ≡ Some text → reading printer ≡ Ok m → scenes.reading m text ≡ Ok s → ShowsRun F.Files S.Sink m s gcode.now files.old files.new out.old out.new result.cause result.report }
-    ensures scene { (printer text : List ℕ) (m : Machine) (line : ℕ) (kind : SceneKind) → F.told files.old config.now ≡ Some printer → F.told files.old scene.now ≡ Some text → reading printer ≡ Ok m → scenes.reading m text ≡ Err (fault.At line kind) → IsRefused (Cause.Scene line kind) (S.written out.old) (S.written out.new) result.cause result.report }
-    ensures config { (printer : List ℕ) (line : ℕ) (kind : CfgKind) → F.told files.old config.now ≡ Some printer → reading printer ≡ Err (At line kind) → IsRefused (Cause.Config line kind) (S.written out.old) (S.written out.new) result.cause result.report }
+    ensures shows { (printer text : List ℕ) (m : Machine) (s : Scene) → F.told files.old config.now ≡ Some printer →
+        F.told files.old scene.now ≡ Some text → reading printer ≡ Ok m → scenes.reading m text ≡ Ok s →
+        ShowsRun F.Files S.Sink m s gcode.now files.old files.new out.old out.new result.cause result.report }
+    ensures scene { (printer text : List ℕ) (m : Machine) (line : ℕ) (kind : SceneKind) →
+        F.told files.old config.now ≡ Some printer → F.told files.old scene.now ≡ Some text → reading printer ≡ Ok m →
+        scenes.reading m text ≡ Err (fault.At line kind) →
+        IsRefused (Cause.Scene line kind) (S.written out.old) (S.written out.new) result.cause result.report }
+    ensures config { (printer : List ℕ) (line : ℕ) (kind : CfgKind) → F.told files.old config.now ≡ Some printer →
+        reading printer ≡ Err (At line kind) →
+        IsRefused (Cause.Config line kind) (S.written out.old) (S.written out.new) result.cause result.report }
     ensures not_usage { result.cause ≢ Cause.Usage }
     ensures status { result.status ≡ status_of result.cause }
     ensures read { result.cause ≡ Cause.ReadFault → Rose (F.faults files.old) (F.faults files.new) }
     ensures write { result.cause ≡ Cause.WriteFault → Rose (S.faults out.old) (S.faults out.new) }
-    ensures quiet_files { result.cause ≢ Cause.ReadFault → result.cause ≢ Cause.WriteFault → result.cause ≢ Cause.Memory → F.faults files.new ≡ F.faults files.old }
-    ensures quiet_output { result.cause ≢ Cause.WriteFault → result.cause ≢ Cause.Memory → S.faults out.new ≡ S.faults out.old }
+    ensures quiet_files { result.cause ≢ Cause.ReadFault → result.cause ≢ Cause.WriteFault →
+        result.cause ≢ Cause.Memory → F.faults files.new ≡ F.faults files.old }
+    ensures quiet_output { result.cause ≢ Cause.WriteFault → result.cause ≢ Cause.Memory →
+        S.faults out.new ≡ S.faults out.old }
 {
     match read_machine(alloc, files, config) {
         Ok(machine) => run_in(rt, alloc, &machine, scene, gcode, files, out, gate),
@@ -214,15 +239,22 @@ pub fn run_plain<R: Threads + Wait + Sync, F: Files, S: Sink, G: Gate + Sync>(
     out: &mut S,
     gate: &G,
 ) -> Ended
-    ensures shows { (printer : List ℕ) (m : Machine) → F.told files.old config.now ≡ Some printer → reading printer ≡ Ok m → ShowsRun F.Files S.Sink m no_scene gcode.now files.old files.new out.old out.new result.cause result.report }
-    ensures config { (printer : List ℕ) (line : ℕ) (kind : CfgKind) → F.told files.old config.now ≡ Some printer → reading printer ≡ Err (At line kind) → IsRefused (Cause.Config line kind) (S.written out.old) (S.written out.new) result.cause result.report }
-    ensures config_only { (printer : List ℕ) (line : ℕ) (kind : CfgKind) → F.told files.old config.now ≡ Some printer → result.cause ≡ Cause.Config line kind → reading printer ≡ Err (At line kind) }
+    ensures shows { (printer : List ℕ) (m : Machine) → F.told files.old config.now ≡ Some printer →
+        reading printer ≡ Ok m →
+        ShowsRun F.Files S.Sink m no_scene gcode.now files.old files.new out.old out.new result.cause result.report }
+    ensures config { (printer : List ℕ) (line : ℕ) (kind : CfgKind) → F.told files.old config.now ≡ Some printer →
+        reading printer ≡ Err (At line kind) →
+        IsRefused (Cause.Config line kind) (S.written out.old) (S.written out.new) result.cause result.report }
+    ensures config_only { (printer : List ℕ) (line : ℕ) (kind : CfgKind) → F.told files.old config.now ≡ Some printer →
+        result.cause ≡ Cause.Config line kind → reading printer ≡ Err (At line kind) }
     ensures not_usage { result.cause ≢ Cause.Usage }
     ensures status { result.status ≡ status_of result.cause }
     ensures read { result.cause ≡ Cause.ReadFault → Rose (F.faults files.old) (F.faults files.new) }
     ensures write { result.cause ≡ Cause.WriteFault → Rose (S.faults out.old) (S.faults out.new) }
-    ensures quiet_files { result.cause ≢ Cause.ReadFault → result.cause ≢ Cause.WriteFault → result.cause ≢ Cause.Memory → F.faults files.new ≡ F.faults files.old }
-    ensures quiet_output { result.cause ≢ Cause.WriteFault → result.cause ≢ Cause.Memory → S.faults out.new ≡ S.faults out.old }
+    ensures quiet_files { result.cause ≢ Cause.ReadFault → result.cause ≢ Cause.WriteFault →
+        result.cause ≢ Cause.Memory → F.faults files.new ≡ F.faults files.old }
+    ensures quiet_output { result.cause ≢ Cause.WriteFault → result.cause ≢ Cause.Memory →
+        S.faults out.new ≡ S.faults out.old }
 {
     match read_machine(alloc, files, config) {
         Ok(machine) => {

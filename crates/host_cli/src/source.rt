@@ -19,8 +19,10 @@ pub enum ReadFault {
 /// Reads the next piece of a file and adds it to the bytes before it. Answers whether there was one.
 fn read_piece<F: Files>(files: &mut F, name: &str, text: &mut Vec<u8>) -> Result<bool, ReadFault>
     requires { length text.old.items < 2 ^ 63 }
-    ensures more { IfOk result (λ more. (bytes : List ℕ) → F.told files.old name.now ≡ Some bytes → IsFrontOf bytes text.old.items → IsFrontOf bytes text.new.items) }
-    ensures end { IfOk result (λ more. more ≡ false → (bytes : List ℕ) → F.told files.old name.now ≡ Some bytes → length bytes ≤ length text.new.items) }
+    ensures more { IfOk result (λ more. (bytes : List ℕ) → F.told files.old name.now ≡ Some bytes →
+        IsFrontOf bytes text.old.items → IsFrontOf bytes text.new.items) }
+    ensures end { IfOk result (λ more. more ≡ false → (bytes : List ℕ) → F.told files.old name.now ≡ Some bytes →
+        length bytes ≤ length text.new.items) }
     ensures end_size { IfOk result (λ more. more ≡ false → length text.new.items ≡ length text.old.items) }
     ensures grows { IfOk result (λ more. more ≡ true → length text.old.items < length text.new.items) }
     ensures keeps { length text.old.items ≤ length text.new.items }
@@ -48,7 +50,8 @@ pub fn read_text<F: Files>(
     limit: u64,
 ) -> Result<Vec<u8>, ReadFault>
     requires { limit < 2 ^ 62 }
-    ensures text { IfOk result (λ text. (bytes : List ℕ) → F.told files.old name.now ≡ Some bytes → text.items ≡ take (limit + 1) bytes) }
+    ensures text { IfOk result
+        (λ text. (bytes : List ℕ) → F.told files.old name.now ≡ Some bytes → text.items ≡ take (limit + 1) bytes) }
     ensures size { IfOk result (λ text. length text.items ≤ limit + 1) }
     ensures steady { OnOk result (F.faults files.new ≡ F.faults files.old) }
     ensures failed { IfErr result (λ stop. stop ≡ ReadFault.Failed → Rose (F.faults files.old) (F.faults files.new)) }

@@ -145,12 +145,14 @@ fn show<S: Sink>(
     ensures given { GivenFor Cause.Done result.cause }
     ensures unread { result.cause ≢ Cause.ReadFault }
     ensures front { WritesFront (S.written out.old) (S.written out.new) (with_end text.now) }
-    ensures all { result.cause ≢ Cause.Memory → result.cause ≢ Cause.WriteFault → WritesAll (S.written out.old) (S.written out.new) (with_end text.now) }
+    ensures all { result.cause ≢ Cause.Memory → result.cause ≢ Cause.WriteFault →
+        WritesAll (S.written out.old) (S.written out.new) (with_end text.now) }
     ensures lines { result.report.lines ≡ lines }
     ensures bare { IsBare result.report }
     ensures status { result.status ≡ status_of result.cause }
     ensures write { result.cause ≡ Cause.WriteFault → Rose (S.faults out.old) (S.faults out.new) }
-    ensures quiet { result.cause ≢ Cause.WriteFault → result.cause ≢ Cause.Memory → S.faults out.new ≡ S.faults out.old }
+    ensures quiet { result.cause ≢ Cause.WriteFault → result.cause ≢ Cause.Memory →
+        S.faults out.new ≡ S.faults out.old }
 {
     match write_text(alloc, machine, text, out) {
         Ok(()) => end_showing(alloc, Cause::Done, lines),
@@ -170,9 +172,14 @@ fn run_board<F: Files, S: Sink>(
     out: &mut S,
 ) -> Ended
     requires { IsValidBoard board.now }
-    ensures shows { (text : List ℕ) (turns : List TraceTurn) → F.told files.old trace.now ≡ Some text → traces.reading text ≡ Ok turns → ShowsTraffic task board.now turns (S.written out.old) (S.written out.new) result.cause result.report }
-    ensures trace { (text : List ℕ) (line : ℕ) (kind : TraceKind) → F.told files.old trace.now ≡ Some text → traces.reading text ≡ Err (fault.At line kind) → IsRefused (Cause.Trace line kind) (S.written out.old) (S.written out.new) result.cause result.report }
-    ensures ends { EndsCleanly (F.faults files.old) (F.faults files.new) (S.faults out.old) (S.faults out.new) result.status result.cause }
+    ensures shows { (text : List ℕ) (turns : List TraceTurn) → F.told files.old trace.now ≡ Some text →
+        traces.reading text ≡ Ok turns →
+        ShowsTraffic task board.now turns (S.written out.old) (S.written out.new) result.cause result.report }
+    ensures trace { (text : List ℕ) (line : ℕ) (kind : TraceKind) → F.told files.old trace.now ≡ Some text →
+        traces.reading text ≡ Err (fault.At line kind) →
+        IsRefused (Cause.Trace line kind) (S.written out.old) (S.written out.new) result.cause result.report }
+    ensures ends { EndsCleanly (F.faults files.old) (F.faults files.new) (S.faults out.old) (S.faults out.new)
+        result.status result.cause }
 {
     let trace = match read_trace_file(alloc, files, trace) {
         Ok(trace) => trace,
@@ -196,10 +203,18 @@ fn run_machine<F: Files, S: Sink>(
     out: &mut S,
 ) -> Ended
     requires { IsValidMachine machine.now }
-    ensures shows { (b : BoardDef) (text : List ℕ) (turns : List TraceTurn) → specs.board_named words.now.board.now machine.now.boards ≡ Some b → F.told files.old words.now.trace.now ≡ Some text → traces.reading text ≡ Ok turns → ShowsTraffic words.now.task b turns (S.written out.old) (S.written out.new) result.cause result.report }
-    ensures trace { (b : BoardDef) (text : List ℕ) (line : ℕ) (kind : TraceKind) → specs.board_named words.now.board.now machine.now.boards ≡ Some b → F.told files.old words.now.trace.now ≡ Some text → traces.reading text ≡ Err (fault.At line kind) → IsRefused (Cause.Trace line kind) (S.written out.old) (S.written out.new) result.cause result.report }
-    ensures no_board { specs.board_named words.now.board.now machine.now.boards ≡ None → IsRefused Cause.NoBoard (S.written out.old) (S.written out.new) result.cause result.report }
-    ensures ends { EndsCleanly (F.faults files.old) (F.faults files.new) (S.faults out.old) (S.faults out.new) result.status result.cause }
+    ensures shows { (b : BoardDef) (text : List ℕ) (turns : List TraceTurn) →
+        specs.board_named words.now.board.now machine.now.boards ≡ Some b →
+        F.told files.old words.now.trace.now ≡ Some text → traces.reading text ≡ Ok turns →
+        ShowsTraffic words.now.task b turns (S.written out.old) (S.written out.new) result.cause result.report }
+    ensures trace { (b : BoardDef) (text : List ℕ) (line : ℕ) (kind : TraceKind) →
+        specs.board_named words.now.board.now machine.now.boards ≡ Some b →
+        F.told files.old words.now.trace.now ≡ Some text → traces.reading text ≡ Err (fault.At line kind) →
+        IsRefused (Cause.Trace line kind) (S.written out.old) (S.written out.new) result.cause result.report }
+    ensures no_board { specs.board_named words.now.board.now machine.now.boards ≡ None →
+        IsRefused Cause.NoBoard (S.written out.old) (S.written out.new) result.cause result.report }
+    ensures ends { EndsCleanly (F.faults files.old) (F.faults files.new) (S.faults out.old) (S.faults out.new)
+        result.status result.cause }
 {
     match board_named(machine.boards.as_slice(), words.board.as_bytes()) {
         Some(board) => run_board(alloc, machine, words.task, board, words.trace, files, out),
@@ -214,11 +229,24 @@ pub fn run_traffic<F: Files, S: Sink>(
     files: &mut F,
     out: &mut S,
 ) -> Ended
-    ensures shows { (printer : List ℕ) (m : Machine) (b : BoardDef) (text : List ℕ) (turns : List TraceTurn) → F.told files.old words.now.config.now ≡ Some printer → reading printer ≡ Ok m → specs.board_named words.now.board.now m.boards ≡ Some b → F.told files.old words.now.trace.now ≡ Some text → traces.reading text ≡ Ok turns → ShowsTraffic words.now.task b turns (S.written out.old) (S.written out.new) result.cause result.report }
-    ensures trace { (printer : List ℕ) (m : Machine) (b : BoardDef) (text : List ℕ) (line : ℕ) (kind : TraceKind) → F.told files.old words.now.config.now ≡ Some printer → reading printer ≡ Ok m → specs.board_named words.now.board.now m.boards ≡ Some b → F.told files.old words.now.trace.now ≡ Some text → traces.reading text ≡ Err (fault.At line kind) → IsRefused (Cause.Trace line kind) (S.written out.old) (S.written out.new) result.cause result.report }
-    ensures no_board { (printer : List ℕ) (m : Machine) → F.told files.old words.now.config.now ≡ Some printer → reading printer ≡ Ok m → specs.board_named words.now.board.now m.boards ≡ None → IsRefused Cause.NoBoard (S.written out.old) (S.written out.new) result.cause result.report }
-    ensures config { (printer : List ℕ) (line : ℕ) (kind : CfgKind) → F.told files.old words.now.config.now ≡ Some printer → reading printer ≡ Err (At line kind) → IsRefused (Cause.Config line kind) (S.written out.old) (S.written out.new) result.cause result.report }
-    ensures ends { EndsCleanly (F.faults files.old) (F.faults files.new) (S.faults out.old) (S.faults out.new) result.status result.cause }
+    ensures shows { (printer : List ℕ) (m : Machine) (b : BoardDef) (text : List ℕ) (turns : List TraceTurn) →
+        F.told files.old words.now.config.now ≡ Some printer → reading printer ≡ Ok m →
+        specs.board_named words.now.board.now m.boards ≡ Some b → F.told files.old words.now.trace.now ≡ Some text →
+        traces.reading text ≡ Ok turns →
+        ShowsTraffic words.now.task b turns (S.written out.old) (S.written out.new) result.cause result.report }
+    ensures trace { (printer : List ℕ) (m : Machine) (b : BoardDef) (text : List ℕ) (line : ℕ) (kind : TraceKind) →
+        F.told files.old words.now.config.now ≡ Some printer → reading printer ≡ Ok m →
+        specs.board_named words.now.board.now m.boards ≡ Some b → F.told files.old words.now.trace.now ≡ Some text →
+        traces.reading text ≡ Err (fault.At line kind) →
+        IsRefused (Cause.Trace line kind) (S.written out.old) (S.written out.new) result.cause result.report }
+    ensures no_board { (printer : List ℕ) (m : Machine) → F.told files.old words.now.config.now ≡ Some printer →
+        reading printer ≡ Ok m → specs.board_named words.now.board.now m.boards ≡ None →
+        IsRefused Cause.NoBoard (S.written out.old) (S.written out.new) result.cause result.report }
+    ensures config { (printer : List ℕ) (line : ℕ) (kind : CfgKind) →
+        F.told files.old words.now.config.now ≡ Some printer → reading printer ≡ Err (At line kind) →
+        IsRefused (Cause.Config line kind) (S.written out.old) (S.written out.new) result.cause result.report }
+    ensures ends { EndsCleanly (F.faults files.old) (F.faults files.new) (S.faults out.old) (S.faults out.new)
+        result.status result.cause }
 {
     match read_machine(alloc, files, words.config) {
         Ok(machine) => run_machine(alloc, &machine, words, files, out),

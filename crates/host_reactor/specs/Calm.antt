@@ -10,10 +10,12 @@ use Rattle.board_asking.specs.Connecting.{control}
 use Rattle.host_reactor.specs.declared.ordered.Known.{Known}
 use Rattle.host_reactor.specs.Free.{any_drifts, is_quiet}
 
+-- no axis homes
 abbrev pub homes_none : Option Homing → Bool
 homes_none None = true
 homes_none (Some h) = false
 
+-- a list of numbers has none
 abbrev pub is_none : List ℕ → Bool
 is_none [] = true
 is_none (n ∷ numbers) = false

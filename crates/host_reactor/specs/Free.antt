@@ -17,6 +17,7 @@ use Rattle.msg_code.specs.declared.talk.State.{State}
 use Rattle.host_reactor.specs.declared.ordered.Ordered.{Ordered}
 use Rattle.host_reactor.specs.Reactor.{Reacted}
 
+-- connecting has ended, and no order to stop was given
 abbrev pub is_running : Phase → Bool
 is_running Running = true
 is_running phase = false
@@ -25,10 +26,12 @@ is_running phase = false
 abbrev pub rests : Asking → Bool
 rests a = not (is_out a.since) && not a.waits
 
+-- no asking of any board is out or waits
 abbrev pub all_rest : List Asking → Bool
 all_rest [] = true
 all_rest (a ∷ askings) = rests a && all_rest askings
 
+-- the clock of some board drifts
 abbrev pub any_drifts : List BoardDef → Bool
 any_drifts [] = false
 any_drifts (b ∷ boards) = drifts b.drift || any_drifts boards
@@ -37,22 +40,29 @@ any_drifts (b ∷ boards) = drifts b.drift || any_drifts boards
 abbrev pub is_quiet : Known → Bool
 is_quiet r = is_running r.phase && (all_rest r.askings.items && not (all_ended r.done r.reading))
 
--- the turns from this one on before the first controls of a homing section, and before the next asking
+-- of some turns from this one on, those before the first controls of a homing section, which go out 254 turns
+-- before its start
 abbrev pub before_homing : Option Homing → ℕ → ℕ → ℕ
 before_homing None turn count = count
 before_homing (Some h) turn count = min count (h.start - 254 - turn)
 
+-- of some turns from this one on, those before the next asking for clocks, where some board drifts: boards
+-- are asked in every thousandth turn
 abbrev pub before_asking : Bool → ℕ → ℕ → ℕ
 before_asking false turn count = count
 before_asking true turn count = min count ((1_000 - turn % 1_000) % 1_000)
 
--- and those whose notes have no news: the note of a turn is taken in the next one
+-- the turns from this one on that take notes without news, by the next turn whose note may have some: the note
+-- of a turn is taken in the next one
 abbrev pub clear_turns : ℕ → ℕ → ℕ
 clear_turns clear turn = min (clear + 1 - turn) (2 ^ 64 - 1)
 
+-- for how many turns, from this one on, a reactor has nothing to order, whatever the boards tell, unless it
+-- ends the run
 abbrev pub free_turns : Machine → Known → ℕ → ℕ
 free_turns m r turn =
-    if is_quiet r then before_asking (any_drifts m.boards) turn (before_homing r.homing turn (clear_turns r.clear turn)) else 0
+    if is_quiet r then before_asking (any_drifts m.boards) turn (before_homing r.homing turn (clear_turns r.clear turn))
+    else 0
 
 -- no asking is out, and none waits
 abbrev pub Resting : List Asking → Type 0
@@ -81,6 +91,7 @@ abbrev pub AreOf : ℕ → List State → Type 0
 AreOf turn [] = Unit {0}
 AreOf turn (s ∷ states) = (s.turn + 1 ≡ turn) × AreOf turn states
 
+-- no control has a command
 abbrev pub AreEmpty : List Control → Type 0
 AreEmpty [] = Unit {0}
 AreEmpty (c ∷ controls) = (c.commands ≡ []) × AreEmpty controls
@@ -92,4 +103,5 @@ pub record OrdersNothing (o : Ordered) : Type 0 where
 
 -- the run ends, or nothing is ordered and the reactor rests on
 abbrev pub EndsOrRests : Machine → ℕ → ℕ → Reacted → Type 0
-EndsOrRests m turn count x = ((cause : Cause) × (x.ordered.end ≡ Some cause)) ⊎ (OrdersNothing x.ordered × IsAtRest m x.known turn count)
+EndsOrRests m turn count x =
+    ((cause : Cause) × (x.ordered.end ≡ Some cause)) ⊎ (OrdersNothing x.ordered × IsAtRest m x.known turn count)

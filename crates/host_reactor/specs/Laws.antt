@@ -5,6 +5,7 @@ use Rattle.msg_code.specs.declared.cmd.Cmd.TheVariants as cmd
 use Rattle.msg_code.specs.declared.unit.Control.{Control}
 use Rattle.board_asking.specs.Drift.{bytes_of}
 
+-- a command asks for the clock
 abbrev pub is_uptime : Cmd → Bool
 is_uptime cmd.GetUptime = true
 is_uptime c = false

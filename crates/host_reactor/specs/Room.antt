@@ -16,12 +16,14 @@ use Rattle.host_reactor.specs.Runs.{Came, known_by}
 abbrev pub HasRoom : Machine → List Switch → ℕ → Came → List Came → Type 0
 HasRoom m switches b c before =
     let r = noted m c.note (known_by m switches before) in
-    bytes_of (homing_commands m (homing_turn r.clocks (length before) c.states r.homing) (clocks_at r.clocks b) b) < control_bytes
+    bytes_of (homing_commands m (homing_turn r.clocks (length before) c.states r.homing) (clocks_at r.clocks b) b)
+    < control_bytes
 
 -- so in one of any three turns in a row
 abbrev pub HaveRoom : Machine → List Switch → ℕ → List Came → Type 0
 HaveRoom m switches b (c ∷ (d ∷ (e ∷ before))) =
-    (HasRoom m switches b c (d ∷ (e ∷ before)) ⊎ (HasRoom m switches b d (e ∷ before) ⊎ HasRoom m switches b e before)) × HaveRoom m switches b (d ∷ (e ∷ before))
+    (HasRoom m switches b c (d ∷ (e ∷ before)) ⊎ (HasRoom m switches b d (e ∷ before) ⊎ HasRoom m switches b e before))
+    × HaveRoom m switches b (d ∷ (e ∷ before))
 HaveRoom m switches b came = Unit {0}
 
 -- every section that news of a turn begin starts 255 turns behind it or later

@@ -26,7 +26,8 @@ pub record IsRow (m : Machine) (k : ℕ) (o : Ordered) : Type 0 where
   pub turn : o.word.turn ≡ k
   pub end : o.word.end ≡ is_end o.end
 
--- a cause that a run has of itself: no fault of the reading or the writing, and no refusal of words or of a file before it
+-- a cause that a run has of itself: no fault of the reading or the writing, and no refusal of words or of a
+-- file before it
 abbrev pub IsOwn : Cause → Type 0
 IsOwn cause.Usage = ⊥
 IsOwn cause.ReadFault = ⊥

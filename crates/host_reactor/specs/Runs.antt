@@ -15,7 +15,8 @@ pub record Came : Type 0 where
 -- what a reactor knows as a turn begins, by what came in the turns from 0 on, of which the latest stands first
 abbrev pub known_by : Machine → List Switch → List Came → Known
 known_by m switches [] = new_known m
-known_by m switches (c ∷ before) = (reacts m switches (known_by m switches before) (length before) c.states c.note).known
+known_by m switches (c ∷ before) =
+    (reacts m switches (known_by m switches before) (length before) c.states c.note).known
 
 -- the last of these turns
 abbrev pub last_turn : Machine → List Switch → Came → List Came → Reacted

@@ -214,8 +214,11 @@ fn stop_turn(
     requires turns { All (λ s. s.turn < 2 ^ 59) states.now }
     requires kept { IsKept m.now r.old }
     ensures kept { IsKept m.now r.new }
-    ensures known { OnOk result (r.new ≡ (unless_late_stale (stale k 0 (listen_all r.old.askings.items states.now)) m.now r.old k lines line).known) }
-    ensures ordered { IfOk result (λ o. o ≡ (unless_late_stale (stale k 0 (listen_all r.old.askings.items states.now)) m.now r.old k lines line).ordered) }
+    ensures known { OnOk result (r.new
+        ≡ (unless_late_stale (stale k 0 (listen_all r.old.askings.items states.now)) m.now r.old k lines line).known) }
+    ensures ordered { IfOk result (λ o. o
+        ≡ (unless_late_stale (stale k 0 (listen_all r.old.askings.items states.now)) m.now r.old k lines
+        line).ordered) }
 {
     let askings = listen_all(r.askings.as_slice(), states);
     if let Some(cause) = stale(k, 0, askings.as_slice()) {
@@ -242,8 +245,10 @@ fn by_phase(
     requires turns { All (λ s. s.turn < 2 ^ 59) states.now }
     requires kept { IsKept m.now r.old }
     ensures kept { IsKept m.now r.new }
-    ensures known { OnOk result (r.new ≡ (by_phase r.old.phase m.now scene.now.switches r.old k states.now lines).known) }
-    ensures ordered { IfOk result (λ o. o ≡ (by_phase r.old.phase m.now scene.now.switches r.old k states.now lines).ordered) }
+    ensures known { OnOk result
+        (r.new ≡ (by_phase r.old.phase m.now scene.now.switches r.old k states.now lines).known) }
+    ensures ordered { IfOk result
+        (λ o. o ≡ (by_phase r.old.phase m.now scene.now.switches r.old k states.now lines).ordered) }
 {
     match r.phase {
         Phase::Connecting => connect(alloc, m, r, k, states, lines),
@@ -270,7 +275,8 @@ pub fn react(
     requires kept { IsKept m.now r.old }
     ensures kept { IsKept m.now r.new }
     ensures known { OnOk result (r.new ≡ (reacts_to m.now scene.now.switches r.old k states.now news.now out).known) }
-    ensures ordered { IfOk result (λ o. o ≡ (reacts_to m.now scene.now.switches r.old k states.now news.now out).ordered) }
+    ensures ordered { IfOk result
+        (λ o. o ≡ (reacts_to m.now scene.now.switches r.old k states.now news.now out).ordered) }
 {
     let mut lines = room_for_lines(alloc, states)?;
     put_first(m, r.begun, k, news, states, &mut lines)?;

@@ -25,7 +25,8 @@ use wire_scene::Scene;
 /// No run has this turn.
 const LAST_TURN: u64 = 1 << 59;
 
-/// What takes the states of the boards and the notes of the motion machine, and orders what is to be done, turn by turn.
+/// What takes the states of the boards and the notes of the motion machine, and orders what is to be done,
+/// turn by turn.
 #[derive(Drop)]
 pub struct Reactor<'a> {
     alloc: Global,
@@ -44,7 +45,8 @@ impl<'a> Model for Reactor<'a> {
 
     ghost Value = { Run };
 
-    ghost view = { λ r. record { machine = r.machine.now; switches = r.scene.now.switches; known = r.known; next = r.next } };
+    ghost view = { λ r.
+        record { machine = r.machine.now; switches = r.scene.now.switches; known = r.known; next = r.next } };
 
     ghost invariant = { λ r. IsValidMachine r.machine.now × IsKept r.machine.now r.known };
 }
@@ -76,8 +78,10 @@ impl<'a> Reactor<'a> {
         requires few { k < 2 ^ 59 }
         requires turns { All (λ s. s.turn + 1 ≡ k) states.items }
         requires boards { length states.items ≤ length self.old.machine.boards }
-        ensures known { OnOk result (self.new.known ≡ (reacts self.old.machine self.old.switches self.old.known k states.items note).known) }
-        ensures ordered { IfOk result (λ o. o ≡ (reacts self.old.machine self.old.switches self.old.known k states.items note).ordered) }
+        ensures known { OnOk result
+            (self.new.known ≡ (reacts self.old.machine self.old.switches self.old.known k states.items note).known) }
+        ensures ordered { IfOk result
+            (λ o. o ≡ (reacts self.old.machine self.old.switches self.old.known k states.items note).ordered) }
         ensures next { OnOk result (self.new.next ≡ k + 1) }
         ensures machine { self.new.machine ≡ self.old.machine }
         ensures switches { self.new.switches ≡ self.old.switches }
@@ -105,8 +109,8 @@ impl<'a> Reactor<'a> {
         k == self.next && k < LAST_TURN
     }
 
-    /// For how many turns, from the next one on, the controls have no commands and the word has no news, whatever states
-    /// come, as long as notes have no news and the run goes on.
+    /// For how many turns, from the next one on, the controls have no commands and the word has no news,
+    /// whatever states come, as long as notes have no news and the run goes on.
     pub fn free(&self) -> u64
         requires { self.now.next < 2 ^ 60 }
         ensures value { result ≡ free_turns self.now.machine self.now.known self.now.next }

@@ -40,7 +40,8 @@ fn put_control(
 ) -> Result<Asking, OutOfMemory>
     requires steppers { length m.now.steppers ≤ 16 }
     requires early { IsEarly a }
-    ensures control { OnOk result (out.new ≡ out.old ++ run_control m.now k board turn.now (stop_command stop) clocks.now a ∷ []) }
+    ensures control { OnOk result
+        (out.new ≡ out.old ++ run_control m.now k board turn.now (stop_command stop) clocks.now a ∷ []) }
     ensures asking { IfOk result (λ b. b ≡ after_question k (homing_commands m.now turn.now clocks.now board) a) }
     ensures early { IfOk result IsEarly }
 {
@@ -86,8 +87,10 @@ fn put_controls(
     requires room { array_vec_len after.old + length askings.now ≤ 8 }
     requires early { All IsEarly askings.now }
     requires before { All IsEarly after.old.items }
-    ensures controls { OnOk result (out.new ≡ out.old ++ run_controls m.now k board turn.now (stop_command stop) clocks.now askings.now) }
-    ensures askings { OnOk result (after.new.items ≡ after.old.items ++ run_askings m.now k board turn.now clocks.now askings.now) }
+    ensures controls { OnOk result
+        (out.new ≡ out.old ++ run_controls m.now k board turn.now (stop_command stop) clocks.now askings.now) }
+    ensures askings { OnOk result
+        (after.new.items ≡ after.old.items ++ run_askings m.now k board turn.now clocks.now askings.now) }
     ensures count { OnOk result (array_vec_len after.new ≡ array_vec_len after.old + length askings.now) }
     ensures early { OnOk result (All IsEarly after.new.items) }
 {
@@ -114,7 +117,8 @@ fn put_cut(
     turn: &HomingTurn,
     out: &mut Listed<ReportLine>,
 ) -> Result<(), OutOfMemory>
-    ensures { OnOk result (out.new ≡ out.old ++ cut_line m.now scene.now.switches turn.now.section (axis_at m.now turn.now.axis) turn.now.cut) }
+    ensures { OnOk result (out.new
+        ≡ out.old ++ cut_line m.now scene.now.switches turn.now.section (axis_at m.now turn.now.axis) turn.now.cut) }
 {
     if let Some(tick) = turn.cut {
         let axis = axis_at(m, turn.axis);
@@ -239,8 +243,10 @@ fn behind_homing(
     requires early { All IsEarly askings.now }
     requires kept { IsKept m.now r.old }
     ensures kept { IsKept m.now r.new }
-    ensures known { OnOk result (r.new ≡ (homes m.now scene.now.switches r.old k states.now lines askings.now turn.now).known) }
-    ensures ordered { IfOk result (λ o. o ≡ (homes m.now scene.now.switches r.old k states.now lines askings.now turn.now).ordered) }
+    ensures known { OnOk result
+        (r.new ≡ (homes m.now scene.now.switches r.old k states.now lines askings.now turn.now).known) }
+    ensures ordered { IfOk result
+        (λ o. o ≡ (homes m.now scene.now.switches r.old k states.now lines askings.now turn.now).ordered) }
 {
     if let Some(cause) = turn.end {
         return end(alloc, m, k, lines, cause, r);

@@ -1,4 +1,5 @@
-//! What the program reaches outside itself: files, an output, and a gate that its workers pass. Each has forms in memory.
+//! What the program reaches outside itself: files, an output, and a gate that its workers pass. Each has
+//! forms in memory.
 #![tactic(auto)]
 
 mod gate;

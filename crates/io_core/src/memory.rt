@@ -38,7 +38,8 @@ impl MemFiles {
     /// Adds a file; of several with one name the last holds.
     pub fn add(&mut self, name: &str, bytes: &[u8]) -> Result<(), AllocError>
         ensures here { OnOk result (⟦<MemFiles as Files>⟧.told self.new name.now ≡ Some bytes.now) }
-        ensures others { (other : List ℕ) → other ≢ name.now → ⟦<MemFiles as Files>⟧.told self.new other ≡ ⟦<MemFiles as Files>⟧.told self.old other }
+        ensures others { (other : List ℕ) → other ≢ name.now →
+            ⟦<MemFiles as Files>⟧.told self.new other ≡ ⟦<MemFiles as Files>⟧.told self.old other }
         ensures unchanged { OnErr result (self.new.files.items ≡ self.old.files.items) }
         ensures calls { self.new.calls ≡ self.old.calls }
         ensures fails { self.new.fails ≡ self.old.fails }
@@ -65,18 +66,23 @@ impl Files for MemFiles {
 
     ghost faults = { λ f. f.faults };
 
-    /// Reads as many bytes as there are and as the piece has room for. It fails exactly where this call's number, from 0 on, is one of those
-    /// that are to fail, or no file has the name.
+    /// Reads as many bytes as there are and as the piece has room for. It fails exactly where this call's
+    /// number, from 0 on, is one of those that are to fail, or no file has the name.
     fn read(&mut self, name: &str, from: u64, into: &mut [u8]) -> Result<usize, Failed>
         ensures fails { Contains self.old.fails.items self.old.calls → IsErr result }
         ensures unknown { stored self.old.files.items name.now ≡ None → IsErr result }
-        ensures only { IsErr result → Contains self.old.fails.items self.old.calls ⊎ (stored self.old.files.items name.now ≡ None) }
-        ensures count { IfOk result (λ n. (bytes : List ℕ) → stored self.old.files.items name.now ≡ Some bytes → n ≡ min (length into.old) (length bytes - from)) }
+        ensures only { IsErr result →
+            Contains self.old.fails.items self.old.calls ⊎ (stored self.old.files.items name.now ≡ None) }
+        ensures count { IfOk result (λ n. (bytes : List ℕ) → stored self.old.files.items name.now ≡ Some bytes →
+            n ≡ min (length into.old) (length bytes - from)) }
         ensures size { length into.new ≡ length into.old }
-        ensures bytes { IfOk result (λ n. (bytes : List ℕ) → stored self.old.files.items name.now ≡ Some bytes → take n into.new ≡ take n (drop from bytes)) }
+        ensures bytes { IfOk result (λ n. (bytes : List ℕ) → stored self.old.files.items name.now ≡ Some bytes →
+            take n into.new ≡ take n (drop from bytes)) }
         ensures within { IfOk result (λ n. n ≤ length into.old) }
-        ensures some { IfOk result (λ n. (bytes : List ℕ) → stored self.old.files.items name.now ≡ Some bytes → n ≤ length bytes - from) }
-        ensures at_end { IfOk result (λ n. (bytes : List ℕ) → stored self.old.files.items name.now ≡ Some bytes → n ≡ 0 → 0 < length into.old → length bytes ≤ from) }
+        ensures some { IfOk result
+            (λ n. (bytes : List ℕ) → stored self.old.files.items name.now ≡ Some bytes → n ≤ length bytes - from) }
+        ensures at_end { IfOk result (λ n. (bytes : List ℕ) → stored self.old.files.items name.now ≡ Some bytes →
+            n ≡ 0 → 0 < length into.old → length bytes ≤ from) }
         ensures steady { OnOk result (self.new.faults ≡ self.old.faults) }
         ensures failed { OnErr result (Rose self.old.faults self.new.faults) }
         ensures never_fall { self.old.faults ≤ self.new.faults }
@@ -139,8 +145,8 @@ impl Sink for MemSink {
 
     ghost faults = { λ s. s.faults };
 
-    /// Takes the whole piece. It fails where this call's number, from 0 on, is one of those that are to fail, or memory for the piece is
-    /// refused.
+    /// Takes the whole piece. It fails where this call's number, from 0 on, is one of those that are to fail,
+    /// or memory for the piece is refused.
     fn write(&mut self, piece: &[u8]) -> Result<usize, Failed>
         ensures whole { IfOk result (λ n. n ≡ length piece.now) }
         ensures fails { Contains self.old.fails.items self.old.writes → IsErr result }

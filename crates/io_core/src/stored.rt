@@ -29,9 +29,11 @@ fn find<'a>(files: &'a [MemFile], name: &[u8]) -> Option<&'a [u8]>
 /// A read of files in memory.
 pub fn read_stored(files: &[MemFile], name: &[u8], from: u64, into: &mut [u8]) -> Option<usize>
     ensures none { IsNone result ↔ (stored files.now name.now ≡ None) }
-    ensures count { IfSome result (λ n. (bytes : List ℕ) → stored files.now name.now ≡ Some bytes → n ≡ min (length into.old) (length bytes - from)) }
+    ensures count { IfSome result (λ n.
+        (bytes : List ℕ) → stored files.now name.now ≡ Some bytes → n ≡ min (length into.old) (length bytes - from)) }
     ensures size { length into.new ≡ length into.old }
-    ensures bytes { IfSome result (λ n. (bytes : List ℕ) → stored files.now name.now ≡ Some bytes → take n into.new ≡ take n (drop from bytes)) }
+    ensures bytes { IfSome result
+        (λ n. (bytes : List ℕ) → stored files.now name.now ≡ Some bytes → take n into.new ≡ take n (drop from bytes)) }
     ensures within { IfSome result (λ n. n ≤ length into.old) }
 {
     match find(files, name) {

@@ -23,9 +23,12 @@ pub trait Files {
     fn read(&mut self, name: &str, from: u64, into: &mut [u8]) -> Result<usize, Failed>
         ensures within { IfOk result (λ n. n ≤ length into.old) }
         ensures size { length into.new ≡ length into.old }
-        ensures bytes { IfOk result (λ n. (bytes : List ℕ) → told self.old name.now ≡ Some bytes → take n into.new ≡ take n (drop from bytes)) }
-        ensures some { IfOk result (λ n. (bytes : List ℕ) → told self.old name.now ≡ Some bytes → n ≤ length bytes - from) }
-        ensures at_end { IfOk result (λ n. (bytes : List ℕ) → told self.old name.now ≡ Some bytes → n ≡ 0 → 0 < length into.old → length bytes ≤ from) }
+        ensures bytes { IfOk result
+            (λ n. (bytes : List ℕ) → told self.old name.now ≡ Some bytes → take n into.new ≡ take n (drop from bytes)) }
+        ensures some { IfOk result
+            (λ n. (bytes : List ℕ) → told self.old name.now ≡ Some bytes → n ≤ length bytes - from) }
+        ensures at_end { IfOk result (λ n. (bytes : List ℕ) → told self.old name.now ≡ Some bytes → n ≡ 0 →
+            0 < length into.old → length bytes ≤ from) }
         ensures steady { OnOk result (faults self.new ≡ faults self.old) }
         ensures failed { OnErr result (Rose (faults self.old) (faults self.new)) }
         ensures never_fall { faults self.old ≤ faults self.new }
@@ -44,7 +47,8 @@ pub trait Sink {
     fn write(&mut self, piece: &[u8]) -> Result<usize, Failed>
         ensures within { IfOk result (λ n. n ≤ length piece.now) }
         ensures some { IfOk result (λ n. 0 < length piece.now → 0 < n) }
-        ensures written { IfOk result (λ n. (bytes : List ℕ) → written self.old ≡ Some bytes → written self.new ≡ Some (bytes ++ take n piece.now)) }
+        ensures written { IfOk result (λ n.
+            (bytes : List ℕ) → written self.old ≡ Some bytes → written self.new ≡ Some (bytes ++ take n piece.now)) }
         ensures unwritten { OnErr result (written self.new ≡ written self.old) }
         ensures steady { OnOk result (faults self.new ≡ faults self.old) }
         ensures failed { OnErr result (Rose (faults self.old) (faults self.new)) }

@@ -16,4 +16,5 @@ IsLinear place = (drive : ℕ) (a b : List ℤ) → drive < 4 → place drive (p
 
 -- no two positions have the same coordinates of all four drives
 abbrev pub TellsApart : (ℕ → List ℤ → ℤ) → Type 0
-TellsApart place = (a b : List ℤ) → length a ≡ 4 → length b ≡ 4 → ((drive : ℕ) → drive < 4 → place drive a ≡ place drive b) → a ≡ b
+TellsApart place =
+    (a b : List ℤ) → length a ≡ 4 → length b ≡ 4 → ((drive : ℕ) → drive < 4 → place drive a ≡ place drive b) → a ≡ b

@@ -34,7 +34,8 @@ module _ {T : Type 0} where
 
   -- what a pass knows of both sides is so, and the one that puts knows the room
   abbrev pub Agrees : ℕ → ℕ → ℕ → ℕ → List T → List T → ℕ → Log T → Type 0
-  Agrees writer reader room first put taken pass v = Knows writer first put pass v.put × Knows reader first taken pass v.taken × (v.put.may ≡ true → v.room ≡ room)
+  Agrees writer reader room first put taken pass v =
+      Knows writer first put pass v.put × Knows reader first taken pass v.taken × (v.put.may ≡ true → v.room ≡ room)
 
   -- what was put is what was taken, and then what the lane holds, which is no more than it has room for; the numbers of
   -- what was put run from the first one; one pass knows what was put, one what was taken

@@ -55,7 +55,8 @@ fn cut<T: Numbered, K: Start>(
     requires room { K.room ≡ ruled_capacity (sends_on sender.now) }
     requires first { K.first ≡ first }
     requires pass { IsSeatAt (sends_on sender.now) pass × (view pass ≡ log 0 (side true 0 []) (side true 0 [])) }
-    ensures put { IsSeatAt (sends_on sender.now) result.0 × (view result.0 ≡ log (ruled_capacity (sends_on sender.now)) (side true first []) nothing) }
+    ensures put { IsSeatAt (sends_on sender.now) result.0
+        × (view result.0 ≡ log (ruled_capacity (sends_on sender.now)) (side true first []) nothing) }
     ensures take { IsSeatAt (sends_on sender.now) result.1 × (view result.1 ≡ log 0 nothing (side true first [])) }
 {
     let mut pass = pass;
@@ -73,9 +74,12 @@ fn pass_on<T: Numbered, K: Handed<T>>(
     requires pass { IsSeatAt (sends_on sender.now) pass.old }
     requires may { ((view pass.old).put.may ≡ true) × ((view pass.old).taken.may ≡ true) }
     requires number { T.number msg.now ≡ (view pass.old).put.first + length (view pass.old).put.list }
-    requires empty { (view pass.old).taken.first + length (view pass.old).taken.list ≡ (view pass.old).put.first + length (view pass.old).put.list }
-    ensures put { IsSeatAt (sends_on sender.now) pass.new × (view pass.new ≡ log (view pass.old).room (grown (view pass.old).put msg.now) nothing) }
-    ensures take { IsSeatAt (sends_on sender.now) result × (view result ≡ log 0 nothing (grown (view pass.old).taken msg.now)) }
+    requires empty { (view pass.old).taken.first + length (view pass.old).taken.list
+        ≡ (view pass.old).put.first + length (view pass.old).put.list }
+    ensures put { IsSeatAt (sends_on sender.now) pass.new
+        × (view pass.new ≡ log (view pass.old).room (grown (view pass.old).put msg.now) nothing) }
+    ensures take { IsSeatAt (sends_on sender.now) result
+        × (view result ≡ log 0 nothing (grown (view pass.old).taken msg.now)) }
 {
     sender.another::<Behind<K>>(pass)
 }
@@ -104,7 +108,8 @@ impl<T: Numbered> Lane<T> {
     fn try_take<R: Wait>(&self, rt: &R, pass: &mut TakePass<T>) -> Option<T>
         requires lane { IsTakeOf self.now pass.old }
         ensures lane { IsTakeOf self.now pass.new }
-        ensures some { IfSome result (λ msg. (T.number msg ≡ next_take pass.old) × (take_first pass.new ≡ take_first pass.old) × (taken pass.new ≡ taken pass.old ++ msg ∷ [])) }
+        ensures some { IfSome result (λ msg. (T.number msg ≡ next_take pass.old)
+            × (take_first pass.new ≡ take_first pass.old) × (taken pass.new ≡ taken pass.old ++ msg ∷ [])) }
         ensures none { IfNone result ((take_first pass.new ≡ take_first pass.old) × (taken pass.new ≡ taken pass.old)) }
     {
         self.receiver
@@ -146,8 +151,8 @@ impl<T: Numbered> Lane<T> {
         unreachable!()
     }
 
-    /// Hands a message from the side that puts to the side that takes, on one thread: as it were put and taken, where all
-    /// that was put has been taken. The lane never holds it.
+    /// Hands a message from the side that puts to the side that takes, on one thread: as it were put and
+    /// taken, where all that was put has been taken. The lane never holds it.
     pub fn hand(&self, send: &mut SendPass<T>, take: &mut TakePass<T>, msg: &T)
         requires send { IsSendOf self.now send.old }
         requires take { IsTakeOf self.now take.old }

@@ -110,7 +110,8 @@ impl<T: Numbered> Lesson<T, Log<T>> for Puts {
 pub struct Takes;
 
 impl<T: Numbered> Outcome<T, Log<T>> for Takes {
-    ghost then = { λ v x w. (w ≡ log v.room v.put (grown v.taken x)) × (T.number x ≡ v.taken.first + length v.taken.list) };
+    ghost then = { λ v x w.
+        (w ≡ log v.room v.put (grown v.taken x)) × (T.number x ≡ v.taken.first + length v.taken.list) };
 }
 
 impl<T: Numbered> Lesson<T, Log<T>> for Takes {
@@ -123,5 +124,7 @@ impl<T: Numbered> Lesson<T, Log<T>> for Takes {
 pub struct Total;
 
 impl<T: Numbered> Lesson<T, Log<T>> for Total {
-    ghost fact = { λ v items. (v.put.list ≡ v.taken.list ++ items) × (length items ≤ v.room) × (v.taken.first ≡ v.put.first) × RunsFrom T.number v.put.first v.put.list × RunsFrom T.number v.put.first v.taken.list };
+    ghost fact = { λ v items. (v.put.list ≡ v.taken.list ++ items) × (length items ≤ v.room)
+        × (v.taken.first ≡ v.put.first) × RunsFrom T.number v.put.first v.put.list
+        × RunsFrom T.number v.put.first v.taken.list };
 }

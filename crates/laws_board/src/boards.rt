@@ -21,24 +21,26 @@ ghost use Rattle.laws_board.specs.sections.Events.{AreTicks};
 ghost use Rattle.laws_board.specs.sections.Parts.{AreInARow, AreTracked, IsRun};
 ghost use Rattle.laws_board.specs.sections.Runs.{AreSpilled};
 
-/// The law of releases: where no unit that is due before a turn is released more than n turns behind its due one, all units of
-/// sections that ended n turns before another, at most that one, are released before it.
+/// The law of releases: where no unit that is due before a turn is released more than n turns behind its due
+/// one, all units of sections that ended n turns before another, at most that one, are released before it.
 pub fn units_are_released()
-    ensures { (own : ℕ → ℕ) (clocks : Clocks) (freq slots ready n turns turn : ℕ) (ss : List BoardSection) (os : List Orders) → AreTicks own → IsRun own clocks freq slots ready ss os →
-        AreSpilled turns n ss → turn ≤ turns → All (λ s. s.end + n < turn) ss → AreReleased turn ss }
+    ensures { (own : ℕ → ℕ) (clocks : Clocks) (freq slots ready n turns turn : ℕ) (ss : List BoardSection)
+        (os : List Orders) → AreTicks own → IsRun own clocks freq slots ready ss os → AreSpilled turns n ss →
+        turn ≤ turns → All (λ s. s.end + n < turn) ss → AreReleased turn ss }
 {}
 
-/// The law of a turn's units: where none that is due before a turn is released behind its due one, the units that the sections of
-/// a run release in an earlier turn have 210 bytes at most.
+/// The law of a turn's units: where none that is due before a turn is released behind its due one, the units
+/// that the sections of a run release in an earlier turn have 210 bytes at most.
 pub fn units_keep_their_limit()
-    ensures { (own : ℕ → ℕ) (clocks : Clocks) (freq slots ready turns : ℕ) (ss : List BoardSection) (k : ℕ) → AreTicks own → (tracked : AreTracked own clocks ready) →
-        All (IsSection clocks freq slots) ss → AreInARow tracked.until ready ss → AreSpilled turns 0 ss → k < turns →
+    ensures { (own : ℕ → ℕ) (clocks : Clocks) (freq slots ready turns : ℕ) (ss : List BoardSection) (k : ℕ) →
+        AreTicks own → (tracked : AreTracked own clocks ready) → All (IsSection clocks freq slots) ss →
+        AreInARow tracked.until ready ss → AreSpilled turns 0 ss → k < turns →
         bytes_in (map on_wire (units_orders (flat_map (λ s. batch_at k s.releases) ss))) ≤ 210 }
 {}
 
 /// The law of clear scenes: without entries no turn of a link is spoiled.
 pub fn clear_scenes_spoil_nothing()
-    ensures { (clock : BoardClock) (b : BoardDef) (pins : List (List Level)) (board : ℕ) (entries : List Entry) (os : List Orders) (m : LinkState)
-        (t : AreTurns clock 0 os (first_state b pins board entries) m) (k : ℕ) → entries ≡ [] →
-        spoiled (take k (ends_of clock 0 os (first_state b pins board entries) m t)) ≡ 0 }
+    ensures { (clock : BoardClock) (b : BoardDef) (pins : List (List Level)) (board : ℕ) (entries : List Entry)
+        (os : List Orders) (m : LinkState) (t : AreTurns clock 0 os (first_state b pins board entries) m) (k : ℕ) →
+        entries ≡ [] → spoiled (take k (ends_of clock 0 os (first_state b pins board entries) m t)) ≡ 0 }
 {}

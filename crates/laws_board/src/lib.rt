@@ -1,5 +1,5 @@
-//! Laws of a board with its link, the reactor and the planner, turn by turn: clocks and connecting, what the planner puts, what the board does with
-//! the units of its sections, and why a run ends for it.
+//! Laws of a board with its link, the reactor and the planner, turn by turn: clocks and connecting, what the
+//! planner puts, what the board does with the units of its sections, and why a run ends for it.
 #![tactic(auto)]
 
 pub mod boards;

@@ -31,14 +31,21 @@ ghost use Rattle.laws_homing.specs.fired_runs.Since.{AreBehind, AreRead, AreRead
 ghost use Rattle.laws_board.specs.sections.Finds.{StepsFindHalted};
 ghost use Rattle.laws_homing.specs.fired_runs.Waiting.{MoveNoneIn, TookNone};
 
-/// The law of firings: as the turn begins in which the group of a homing section answers, each member's board took the command that starts its trigger for
-/// this section, with all that was queued before it, and its trigger has triggered since, whatever happens on the lines. What it takes is that the board's
-/// reports that count are read as ticks since which its trigger could not trigger (`AreReadTrue`), that it is no more than a turn ahead of its lines as
-/// sections start (`AreBehind`), and that homing sections are begun where none is known, 251 turns before their starts or earlier (`BeginsApart`).
+/// The law of firings: as the turn begins in which the group of a homing section answers, each member's board
+/// took the command that starts its trigger for this section, with all that was queued before it, and its
+/// trigger has triggered since, whatever happens on the lines. What it takes is that the board's reports that
+/// count are read as ticks since which its trigger could not trigger (`AreReadTrue`), that it is no more than
+/// a turn ahead of its lines as sections start (`AreBehind`), and that homing sections are begun where none
+/// is known, 251 turns before their starts or earlier (`BeginsApart`).
 pub fn answered_triggers_have_fired()
-    ensures { (m : Machine) (switches : List Switch) (pins : List (List Level)) (entries : List Entry) (b : ℕ) (c : Came) (before : List Came) (turns : List BoardTurn) (h : Homing) (e : End) → IsValidMachine m →
-        IsInRun m switches pins entries b before turns → state_at b c.states ≡ latest_state turns → BeginsApart m switches (c ∷ before) → AreReadTrue m switches b (c ∷ before) turns → AreBehind m switches b (c ∷ before) →
-        (noted m c.note (known_by m switches before)).homing ≡ Some h → answer_in (length before) h.start (hears_all (noted m c.note (known_by m switches before)).clocks c.states h).group ≡ Some e → IsMember b (members_of h.group) →
+    ensures { (m : Machine) (switches : List Switch) (pins : List (List Level)) (entries : List Entry) (b : ℕ)
+        (c : Came) (before : List Came) (turns : List BoardTurn) (h : Homing) (e : End) → IsValidMachine m →
+        IsInRun m switches pins entries b before turns → state_at b c.states ≡ latest_state turns →
+        BeginsApart m switches (c ∷ before) → AreReadTrue m switches b (c ∷ before) turns →
+        AreBehind m switches b (c ∷ before) → (noted m c.note (known_by m switches before)).homing ≡ Some h →
+        answer_in (length before) h.start
+        (hears_all (noted m c.note (known_by m switches before)).clocks c.states h).group ≡ Some e →
+        IsMember b (members_of h.group) →
         HasFiredSince (trigger_of m b) h.start (first_state (board_at m b) pins b entries) turns }
 {}
 
@@ -49,9 +56,14 @@ pub fn answered_triggers_have_fired()
 /// its trigger are read as ticks since which it could not trigger for that reason (`ReadsSwitchTrue`), and else what
 /// the law of firings takes.
 pub fn answers_are_of_trigger_ticks()
-    ensures { (m : Machine) (switches : List Switch) (pins : List (List Level)) (entries : List Entry) (b : ℕ) (c : Came) (before : List Came) (turns : List BoardTurn) (h : Homing) (tick : ℕ) → IsValidMachine m →
-        IsInRun m switches pins entries b before turns → state_at b c.states ≡ latest_state turns → BeginsApart m switches (c ∷ before) → AreRead (ReadsSwitchTrue m switches b) (c ∷ before) turns → AreBehind m switches b (c ∷ before) →
-        (noted m c.note (known_by m switches before)).homing ≡ Some h → (axis_at m h.axis).board ≡ b → answer_in (length before) h.start (hears_all (noted m c.note (known_by m switches before)).clocks c.states h).group ≡ Some (Endstop tick) →
+    ensures { (m : Machine) (switches : List Switch) (pins : List (List Level)) (entries : List Entry) (b : ℕ)
+        (c : Came) (before : List Came) (turns : List BoardTurn) (h : Homing) (tick : ℕ) → IsValidMachine m →
+        IsInRun m switches pins entries b before turns → state_at b c.states ≡ latest_state turns →
+        BeginsApart m switches (c ∷ before) → AreRead (ReadsSwitchTrue m switches b) (c ∷ before) turns →
+        AreBehind m switches b (c ∷ before) → (noted m c.note (known_by m switches before)).homing ≡ Some h →
+        (axis_at m h.axis).board ≡ b →
+        answer_in (length before) h.start
+        (hears_all (noted m c.note (known_by m switches before)).clocks c.states h).group ≡ Some (Endstop tick) →
         IsTriggerOf m switches pins entries b h.start h.axis before turns tick }
 {}
 
@@ -61,33 +73,49 @@ pub fn answers_are_of_trigger_ticks()
 /// it takes is that the section is known from 254 turns before its start on, and that no unit sets a clock from there
 /// on.
 pub fn reports_heard_soon_are_read_true()
-    ensures { (m : Machine) (switches : List Switch) (pins : List (List Level)) (entries : List Entry) (b : ℕ) (c : Came) (before : List Came) (h : Homing) (from : ℕ) (t : BoardTurn) (earlier : List BoardTurn) → IsValidMachine m →
-        IsInRun m switches pins entries b before (t ∷ earlier) → state_at b c.states ≡ latest_state (t ∷ earlier) → (noted m c.note (known_by m switches before)).homing ≡ Some h → from + 254 ≡ h.start →
-        HomesFrom m switches from h.start (members_of h.group) before → SetNoClockFrom from (t ∷ earlier) → TakesSetUp (first_state (board_at m b) pins b entries) h.start (t ∷ earlier) →
-        (stands_after (first_state (board_at m b) pins b entries) (t ∷ earlier)).core.board.controller.state ≡ Running → HearsSoon m switches b h.start c before t (length earlier) →
+    ensures { (m : Machine) (switches : List Switch) (pins : List (List Level)) (entries : List Entry) (b : ℕ)
+        (c : Came) (before : List Came) (h : Homing) (from : ℕ) (t : BoardTurn) (earlier : List BoardTurn) →
+        IsValidMachine m → IsInRun m switches pins entries b before (t ∷ earlier) →
+        state_at b c.states ≡ latest_state (t ∷ earlier) →
+        (noted m c.note (known_by m switches before)).homing ≡ Some h → from + 254 ≡ h.start →
+        HomesFrom m switches from h.start (members_of h.group) before → SetNoClockFrom from (t ∷ earlier) →
+        TakesSetUp (first_state (board_at m b) pins b entries) h.start (t ∷ earlier) →
+        (stands_after (first_state (board_at m b) pins b entries) (t ∷ earlier)).core.board.controller.state ≡ Running →
+        HearsSoon m switches b h.start c before t (length earlier) →
         ReadsTrue m switches b c before (t ∷ earlier) × ReadsSwitchTrue m switches b c before (t ∷ earlier)
         × ReadsAsTold m switches b c before (t ∷ earlier) }
 {}
 
-/// The law of halts, whatever comes late: as the turn begins in which the group of a homing section answers, every stepper that moves in the section is
-/// halted on each board that runs, or the board took no step of it since 254 turns before the section's start. What it takes is what the law of firings
-/// takes, and that no unit of the stepper is sent from there on up to 250 turns before the start, in the four turns of the set-up.
+/// The law of halts, whatever comes late: as the turn begins in which the group of a homing section answers,
+/// every stepper that moves in the section is halted on each board that runs, or the board took no step of it
+/// since 254 turns before the section's start. What it takes is what the law of firings takes, and that no
+/// unit of the stepper is sent from there on up to 250 turns before the start, in the four turns of the
+/// set-up.
 pub fn answered_sections_halt_or_wait()
-    ensures { (m : Machine) (switches : List Switch) (pins : List (List Level)) (entries : List Entry) (b : ℕ) (c : Came) (before : List Came) (turns : List BoardTurn) (h : Homing) (stepper : ℕ) → IsValidMachine m →
-        IsInRun m switches pins entries b before turns → state_at b c.states ≡ latest_state turns → (a : IsAnswered m switches c before h) → IsMoved m b h turns stepper → BeginsApart m switches (c ∷ before) →
-        AreReadTrue m switches b (c ∷ before) turns → AreBehind m switches b (c ∷ before) → MoveNoneIn (machine.stepper_at m stepper).oid a.from (a.from + 4) turns →
+    ensures { (m : Machine) (switches : List Switch) (pins : List (List Level)) (entries : List Entry) (b : ℕ)
+        (c : Came) (before : List Came) (turns : List BoardTurn) (h : Homing) (stepper : ℕ) → IsValidMachine m →
+        IsInRun m switches pins entries b before turns → state_at b c.states ≡ latest_state turns →
+        (a : IsAnswered m switches c before h) → IsMoved m b h turns stepper → BeginsApart m switches (c ∷ before) →
+        AreReadTrue m switches b (c ∷ before) turns → AreBehind m switches b (c ∷ before) →
+        MoveNoneIn (machine.stepper_at m stepper).oid a.from (a.from + 4) turns →
         (stands_after (first_state (board_at m b) pins b entries) turns).core.board.controller.state ≡ Running →
-        IsHalted (stepper_at (stands_after (first_state (board_at m b) pins b entries) turns).core.board.controller (machine.stepper_at m stepper).oid)
+        IsHalted (stepper_at (stands_after (first_state (board_at m b) pins b entries) turns).core.board.controller
+        (machine.stepper_at m stepper).oid)
         ⊎ TookNone (machine.stepper_at m stepper).oid a.from (first_state (board_at m b) pins b entries) turns }
 {}
 
-/// The law of steps that find halts: from the turn on in which the group of a homing section answers, whatever happens on the link of a board that runs
-/// then, a stepper that moves in the section is halted before the board takes a step of it, up to the next command that it takes which sets the clock of
-/// the stepper. What it takes is what the law of halts takes.
+/// The law of steps that find halts: from the turn on in which the group of a homing section answers,
+/// whatever happens on the link of a board that runs then, a stepper that moves in the section is halted
+/// before the board takes a step of it, up to the next command that it takes which sets the clock of the
+/// stepper. What it takes is what the law of halts takes.
 pub fn answered_steppers_halt_before_they_step()
-    ensures { (m : Machine) (switches : List Switch) (pins : List (List Level)) (entries : List Entry) (b : ℕ) (c : Came) (before : List Came) (turns : List BoardTurn) (h : Homing) (stepper : ℕ) (steps : List Step) → IsValidMachine m →
-        IsInRun m switches pins entries b before turns → state_at b c.states ≡ latest_state turns → (a : IsAnswered m switches c before h) → IsMoved m b h turns stepper → BeginsApart m switches (c ∷ before) →
-        AreReadTrue m switches b (c ∷ before) turns → AreBehind m switches b (c ∷ before) → MoveNoneIn (machine.stepper_at m stepper).oid a.from (a.from + 4) turns →
+    ensures { (m : Machine) (switches : List Switch) (pins : List (List Level)) (entries : List Entry) (b : ℕ)
+        (c : Came) (before : List Came) (turns : List BoardTurn) (h : Homing) (stepper : ℕ) (steps : List Step) →
+        IsValidMachine m → IsInRun m switches pins entries b before turns → state_at b c.states ≡ latest_state turns →
+        (a : IsAnswered m switches c before h) → IsMoved m b h turns stepper → BeginsApart m switches (c ∷ before) →
+        AreReadTrue m switches b (c ∷ before) turns → AreBehind m switches b (c ∷ before) →
+        MoveNoneIn (machine.stepper_at m stepper).oid a.from (a.from + 4) turns →
         (stands_after (first_state (board_at m b) pins b entries) turns).core.board.controller.state ≡ Running →
-        StepsFindHalted (machine.stepper_at m stepper).oid (stands_after (first_state (board_at m b) pins b entries) turns).core steps }
+        StepsFindHalted (machine.stepper_at m stepper).oid
+        (stands_after (first_state (board_at m b) pins b entries) turns).core steps }
 {}

@@ -40,11 +40,12 @@ pub fn clear_links_rest()
         AllKeepLimits (orders_in turns) → RestsFrom from turns }
 {}
 
-/// The law of boards that expire, in any scene: where as a turn ends the trigger of a board stands expired (2), of a
-/// homing section of which it is a member, since a tick that isn't that of the turn behind the section's last one, the
-/// link of a member's board was hindered in a turn up to this one, from 252 turns before the section's start on, or from
-/// an earlier one. What it takes is that the section was known in the turn behind that one and its group new, that clock
-/// lines follow the boards, and that what these tell of their triggers is read true (`IsGoingOn`).
+/// The law of boards that expire, in any scene: where as a turn ends the trigger of a board stands expired
+/// (2), of a homing section of which it is a member, since a tick that isn't that of the turn behind the
+/// section's last one, the link of a member's board was hindered in a turn up to this one, from 252 turns
+/// before the section's start on, or from an earlier one. What it takes is that the section was known in the
+/// turn behind that one and its group new, that clock lines follow the boards, and that what these tell of
+/// their triggers is read true (`IsGoingOn`).
 pub fn boards_expire_where_links_are_hindered()
     ensures { (m : Machine) (switches : List Switch) (pins : ℕ → List (List Level)) (entries : List Entry)
         (lines : ℕ → Clocks) (ready since start last until : ℕ) (members : List Member) → IsValidMachine m →

@@ -23,20 +23,33 @@ ghost use Rattle.laws_homing.specs.fired_runs.Since.{AreRead, AreReadTrue, Reads
 ghost use Rattle.laws_homing.specs.missed_groups.Known.{AxesLow};
 ghost use Rattle.laws_homing.specs.missed_groups.Ticks.{IsSwitchTick};
 
-/// The law of missed switches: in a clear run of all boards, whose clock lines track them until 276 turns ahead, a homing group answers that no switch closed only where the tick at which its axis's
-/// switch triggers, by the levels of the pin and the section's readings from its start on, isn't before the tick of the turn behind the section's last one, or there is none.
-/// And where it is before that tick, the group answers that the switch closed, once it answers.
+/// The law of missed switches: in a clear run of all boards, whose clock lines track them until 276 turns
+/// ahead, a homing group answers that no switch closed only where the tick at which its axis's switch
+/// triggers, by the levels of the pin and the section's readings from its start on, isn't before the tick of
+/// the turn behind the section's last one, or there is none. And where it is before that tick, the group
+/// answers that the switch closed, once it answers.
 pub fn groups_miss_no_switch()
-    ensures late { (m : Machine) (switches : List Switch) (pins : ℕ → List (List Level)) (entries : List Entry) (lines : ℕ → ℕ → Clocks) (ready until : ℕ) → IsValidMachine m → entries ≡ [] → (c : Came) (before : List Came) (all : List (ℕ → BoardTurn)) →
-        IsClearRun m switches pins entries lines ready until c before all → length before + 276 ≤ until → AxesLow m switches (c ∷ before) → (h : Homing) → (noted m c.note (known_by m switches before)).homing ≡ Some h →
-        answer_in (length before) h.start (hears_all (noted m c.note (known_by m switches before)).clocks c.states h).group ≡ Some NoSwitch →
-        (tick : ℕ) → IsSwitchTick m (pins (axis_at m h.axis).board) (axis_at m h.axis).board (axis_at m h.axis) (lines_tick (lines h.start (axis_at m h.axis).board) (h.start * turn_ns)) tick →
+    ensures late { (m : Machine) (switches : List Switch) (pins : ℕ → List (List Level)) (entries : List Entry)
+        (lines : ℕ → ℕ → Clocks) (ready until : ℕ) → IsValidMachine m → entries ≡ [] → (c : Came) (before : List Came)
+        (all : List (ℕ → BoardTurn)) → IsClearRun m switches pins entries lines ready until c before all →
+        length before + 276 ≤ until → AxesLow m switches (c ∷ before) → (h : Homing) →
+        (noted m c.note (known_by m switches before)).homing ≡ Some h →
+        answer_in (length before) h.start
+        (hears_all (noted m c.note (known_by m switches before)).clocks c.states h).group ≡ Some NoSwitch → (tick : ℕ) →
+        IsSwitchTick m (pins (axis_at m h.axis).board) (axis_at m h.axis).board (axis_at m h.axis)
+        (lines_tick (lines h.start (axis_at m h.axis).board) (h.start * turn_ns)) tick →
         lines_tick (lines h.start (axis_at m h.axis).board) ((h.group.last + 1) * turn_ns) ≤ tick }
-    ensures closes { (m : Machine) (switches : List Switch) (pins : ℕ → List (List Level)) (entries : List Entry) (lines : ℕ → ℕ → Clocks) (ready until : ℕ) → IsValidMachine m → entries ≡ [] → (c : Came) (before : List Came) (all : List (ℕ → BoardTurn)) →
-        IsClearRun m switches pins entries lines ready until c before all → length before + 276 ≤ until → AxesLow m switches (c ∷ before) → (h : Homing) → (noted m c.note (known_by m switches before)).homing ≡ Some h →
-        (tick : ℕ) → IsSwitchTick m (pins (axis_at m h.axis).board) (axis_at m h.axis).board (axis_at m h.axis) (lines_tick (lines h.start (axis_at m h.axis).board) (h.start * turn_ns)) tick →
+    ensures closes { (m : Machine) (switches : List Switch) (pins : ℕ → List (List Level)) (entries : List Entry)
+        (lines : ℕ → ℕ → Clocks) (ready until : ℕ) → IsValidMachine m → entries ≡ [] → (c : Came) (before : List Came)
+        (all : List (ℕ → BoardTurn)) → IsClearRun m switches pins entries lines ready until c before all →
+        length before + 276 ≤ until → AxesLow m switches (c ∷ before) → (h : Homing) →
+        (noted m c.note (known_by m switches before)).homing ≡ Some h → (tick : ℕ) →
+        IsSwitchTick m (pins (axis_at m h.axis).board) (axis_at m h.axis).board (axis_at m h.axis)
+        (lines_tick (lines h.start (axis_at m h.axis).board) (h.start * turn_ns)) tick →
         tick < lines_tick (lines h.start (axis_at m h.axis).board) ((h.group.last + 1) * turn_ns) → (x : End) →
-        answer_in (length before) h.start (hears_all (noted m c.note (known_by m switches before)).clocks c.states h).group ≡ Some x → (at : ℕ) × (x ≡ Endstop at) }
+        answer_in (length before) h.start
+        (hears_all (noted m c.note (known_by m switches before)).clocks c.states h).group ≡ Some x →
+        (at : ℕ) × (x ≡ Endstop at) }
 {}
 
 /// The law of reports in a clear run: in a clear run of all boards, whose clock lines track them until 276 turns ahead,
@@ -44,8 +57,13 @@ pub fn groups_miss_no_switch()
 /// they tell of readings that triggered it. For a group answers soon after a member's trigger has triggered, so no
 /// report comes long after that.
 pub fn clear_reports_are_read_true()
-    ensures { (m : Machine) (switches : List Switch) (pins : ℕ → List (List Level)) (entries : List Entry) (lines : ℕ → ℕ → Clocks) (ready until : ℕ) → IsValidMachine m → entries ≡ [] →
-        ((start b : ℕ) → b < length m.boards → (k : AreTracked (λ n. board_tick (clock_of (board_at m b)) n) (lines start b) ready) × (until ≤ k.until) × (k.until < run_turns)) →
-        (c : Came) (before : List Came) (all : List (ℕ → BoardTurn)) → IsClearRun m switches pins entries lines ready until c before all → length before + 276 ≤ until → (b : ℕ) → b < length m.boards →
-        AreReadTrue m switches b (c ∷ before) (turns_of b all) × AreRead (ReadsSwitchTrue m switches b) (c ∷ before) (turns_of b all) }
+    ensures { (m : Machine) (switches : List Switch) (pins : ℕ → List (List Level)) (entries : List Entry)
+        (lines : ℕ → ℕ → Clocks) (ready until : ℕ) → IsValidMachine m → entries ≡ [] →
+        ((start b : ℕ) → b < length m.boards →
+        (k : AreTracked (λ n. board_tick (clock_of (board_at m b)) n) (lines start b) ready) × (until ≤ k.until)
+        × (k.until < run_turns)) → (c : Came) (before : List Came)
+        (all : List (ℕ → BoardTurn)) → IsClearRun m switches pins entries lines ready until c before all →
+        length before + 276 ≤ until → (b : ℕ) → b < length m.boards →
+        AreReadTrue m switches b (c ∷ before) (turns_of b all)
+        × AreRead (ReadsSwitchTrue m switches b) (c ∷ before) (turns_of b all) }
 {}

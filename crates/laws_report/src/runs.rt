@@ -17,11 +17,12 @@ use io_core::{Files, Sink};
 use plan_types::Cause;
 
 /// The law of runs of moves: where no line of such a run held a command for half a round of the 32-bit clock
-/// (`HoldsNothingLong`), and it did not end for want of memory, each board takes all near (`AllTakeNear`). So what a run
-/// over links shows of its text, and the laws below, hold of it.
+/// (`HoldsNothingLong`), and it did not end for want of memory, each board takes all near (`AllTakeNear`). So
+/// what a run over links shows of its text, and the laws below, hold of it.
 pub fn runs_of_moves_over_links_take_near<F: Files, S: Sink>()
-    ensures { (printer : List ℕ) (m : Machine) (s : Scene) (gcode : List ℕ) (files files' : F) (out out' : S) (c : Cause) (lines : List ReportLine) (counts : List ℕ) (links : List LinkLog) →
-        reading printer ≡ Ok m → (r : IsLinkReport F.Files S.Sink m s gcode files files' out out' c lines counts links) → (text : List ℕ) →
+    ensures { (printer : List ℕ) (m : Machine) (s : Scene) (gcode : List ℕ) (files files' : F) (out out' : S)
+        (c : Cause) (lines : List ReportLine) (counts : List ℕ) (links : List LinkLog) → reading printer ≡ Ok m →
+        (r : IsLinkReport F.Files S.Sink m s gcode files files' out out' c lines counts links) → (text : List ℕ) →
         AreOfMoves (sections_over m text) → (r.reported.told.cause ≡ Cause.Memory → ⊥) →
         HoldsNothingLong m s text r.reported.runs.runs.0 (r.reported.runs.runs.1 ++ r.reported.runs.runs.2 ∷ []) →
         AllTakeNear m s text r.reported.runs.runs.0 (r.reported.runs.runs.1 ++ r.reported.runs.runs.2 ∷ []) }

@@ -19,17 +19,20 @@ ghost use Rattle.laws_run.specs.run_headline.Timely.{HoldsNothingLong};
 
 use plan_types::Cause;
 
-/// The law of clear links: in a scene without entries no asking of a board is hindered, in any turn of a run that is not about to
-/// stop, as units of at most 210 bytes a turn come beside the controls: at the end of each turn the link holds nothing, and nothing
-/// waits or is outstanding.
+/// The law of clear links: in a scene without entries no asking of a board is hindered, in any turn of a run
+/// that is not about to stop, as units of at most 210 bytes a turn come beside the controls: at the end of
+/// each turn the link holds nothing, and nothing waits or is outstanding.
 pub fn clear_links_hinder_nothing()
-    ensures { (m : Machine) (switches : List Switch) (pins : List (List Level)) (entries : List Entry) (b : ℕ) (came : List Came) (turns : List BoardTurn) (k : ℕ) → IsValidMachine m →
-        IsInRun m switches pins entries b came turns → entries ≡ [] → ((line : ℕ) → (known_by m switches came).phase ≡ Stopping line → ⊥) → UnitsFit turns →
+    ensures { (m : Machine) (switches : List Switch) (pins : List (List Level)) (entries : List Entry) (b : ℕ)
+        (came : List Came) (turns : List BoardTurn) (k : ℕ) → IsValidMachine m →
+        IsInRun m switches pins entries b came turns → entries ≡ [] →
+        ((line : ℕ) → (known_by m switches came).phase ≡ Stopping line → ⊥) → UnitsFit turns →
         IsHindered (first_state (board_at m b) pins b entries) turns k → ⊥ }
 {}
 
-/// The law of links that hold nothing long: in a scene without entries no line holds a command for half a round of the 32-bit clock,
-/// in any turns of a run.
+/// The law of links that hold nothing long: in a scene without entries no line holds a command for half a
+/// round of the 32-bit clock, in any turns of a run.
 pub fn clear_links_hold_nothing_long()
-    ensures { (m : Machine) (s : Scene) (text : List ℕ) (planned : List MotionTurn) (turns : List ReactorTurn) → s.entries ≡ [] → HoldsNothingLong m s text planned turns }
+    ensures { (m : Machine) (s : Scene) (text : List ℕ) (planned : List MotionTurn) (turns : List ReactorTurn) →
+        s.entries ≡ [] → HoldsNothingLong m s text planned turns }
 {}

@@ -20,14 +20,19 @@ ghost use Rattle.laws_homing.specs.home_plans.Notes.{CameNotes};
 ghost use Rattle.laws_run.specs.run_headline.Timely.{link_of};
 ghost use Rattle.laws_run.specs.clock_ages.Renewed.{StayYoung};
 
-/// The law of renewed clocks: in a whole run, whatever its scene, of a machine whose dictionaries are short, the clock lines of each board that the
-/// planner takes up are renewed in time (`StayYoung`): none holds later than 345 turns behind the last turn, and where the board's clock drifts
-/// each line is followed by the next before it is too old, up to 400 turns behind the last turn.
+/// The law of renewed clocks: in a whole run, whatever its scene, of a machine whose dictionaries are short,
+/// the clock lines of each board that the planner takes up are renewed in time (`StayYoung`): none holds
+/// later than 345 turns behind the last turn, and where the board's clock drifts each line is followed by the
+/// next before it is too old, up to 400 turns behind the last turn.
 pub fn runs_renew_their_clocks()
-    ensures { (m : Machine) (s : Scene) (ts : List MotionTurn) (p : Plans m (length m.boards) ts) (t : Told) (first : ReactorTurn) (rest : List ReactorTurn) (end : ReactorTurn) (n : ℕ) (left : List WordMsg) (b : ℕ) →
-        IsValidMachine m → HaveShortDictionaries m → p.seen.told ≡ Some t → AreReactorTurns m s.switches [] (first ∷ rest) →
-        gather (λ x. x.word ∷ []) (first ∷ rest) ++ last_words (length (first ∷ rest)) n ≡ gather (λ x. x.words) ts ++ left →
+    ensures { (m : Machine) (s : Scene) (ts : List MotionTurn) (p : Plans m (length m.boards) ts) (t : Told)
+        (first : ReactorTurn) (rest : List ReactorTurn) (end : ReactorTurn) (n : ℕ) (left : List WordMsg) (b : ℕ) →
+        IsValidMachine m → HaveShortDictionaries m → p.seen.told ≡ Some t →
+        AreReactorTurns m s.switches [] (first ∷ rest) →
+        gather (λ x. x.word ∷ []) (first ∷ rest) ++ last_words (length (first ∷ rest)) n
+        ≡ gather (λ x. x.words) ts ++ left →
         CameNotes p.seen.begun (came_from [] (first ∷ rest)) → length rest ≤ length p.made →
-        ((b : ℕ) → b < length m.boards → IsInWhole m s.switches b (clock_of (board_at m b)) (link_of m s b) ts first (rest ++ end ∷ [])) → b < length m.boards →
-        StayYoung m b (clocks_at t.clocks b) (length rest) }
+        ((b : ℕ) → b < length m.boards →
+        IsInWhole m s.switches b (clock_of (board_at m b)) (link_of m s b) ts first (rest ++ end ∷ [])) →
+        b < length m.boards → StayYoung m b (clocks_at t.clocks b) (length rest) }
 {}

@@ -1,5 +1,5 @@
-//! Where the pulses that a run's report tells of sections of moves are all of their plans, and whose readings cut a homing section, in a whole
-//! run in which axes home, as laws.
+//! Where the pulses that a run's report tells of sections of moves are all of their plans, and whose readings
+//! cut a homing section, in a whole run in which axes home, as laws.
 
 ghost use Rattle.std.specs.Prelude.{◌≡◌, ◌≢◌, ◌+◌, ◌++◌, ◌∷◌, ◌≤◌, ℕ, true, false, List, [], Some, length, take};
 ghost use Rattle.plan_types.specs.declared.levels.Level.{Level};
@@ -53,15 +53,19 @@ use plan_types::Cause;
 /// board wasn't told to stop, and its state tells that the link is idle and of no shutdown for a unit that came too
 /// late; or where it has told any pulse behind the section's turns.
 pub fn homing_boards_make_whole_sections()
-    ensures idle { (place : ℕ) (entries : List Entry) (ready turns from to n : ℕ) (x : OnBoard) (past : List RunSection) (s : RunSection) (later : List RunSection) (states others : List State) (last : State) →
-        (k : IsHomeBoard place entries ready turns (past ++ s ∷ later) x) → s.homes ≡ false → (s.section.start ≤ lost_at turns k.split.tail → IsStillIn place entries s.section x) → from + 1 ≡ s.section.start → from ≤ to → NextBehind to later → s.section.end + 5 ≤ to →
-        to ≤ n → n ≤ turns → AreBefore n s.section.releases → x.states ≡ (states ++ last ∷ []) ++ others → length (states ++ last ∷ []) ≡ n → NeverStop (take n x.orders) →
-        ((news : ShutNews) → last.shut ≡ Some news → news.reason ≡ timer_too_close → ⊥) → last.idle ≡ true →
-        (oid : ℕ) → length (only oid (told_in from to x)) ≡ length (s.section.plan oid) }
-    ensures passed { (place : ℕ) (entries : List Entry) (ready turns from to : ℕ) (x : OnBoard) (past : List RunSection) (s : RunSection) (later : List RunSection) →
-        (k : IsHomeBoard place entries ready turns (past ++ s ∷ later) x) → s.homes ≡ false → (s.section.start ≤ lost_at turns k.split.tail → IsStillIn place entries s.section x) → from + 1 ≡ s.section.start → from ≤ to → NextBehind to later → s.section.end + 5 ≤ to →
-        told_in to turns x ≢ [] →
-        (oid : ℕ) → length (only oid (told_in from to x)) ≡ length (s.section.plan oid) }
+    ensures idle { (place : ℕ) (entries : List Entry) (ready turns from to n : ℕ) (x : OnBoard) (past : List RunSection)
+        (s : RunSection) (later : List RunSection) (states others : List State) (last : State) →
+        (k : IsHomeBoard place entries ready turns (past ++ s ∷ later) x) → s.homes ≡ false →
+        (s.section.start ≤ lost_at turns k.split.tail → IsStillIn place entries s.section x) →
+        from + 1 ≡ s.section.start → from ≤ to → NextBehind to later → s.section.end + 5 ≤ to → to ≤ n → n ≤ turns →
+        AreBefore n s.section.releases → x.states ≡ (states ++ last ∷ []) ++ others → length (states ++ last ∷ []) ≡ n →
+        NeverStop (take n x.orders) → ((news : ShutNews) → last.shut ≡ Some news → news.reason ≡ timer_too_close → ⊥) →
+        last.idle ≡ true → (oid : ℕ) → length (only oid (told_in from to x)) ≡ length (s.section.plan oid) }
+    ensures passed { (place : ℕ) (entries : List Entry) (ready turns from to : ℕ) (x : OnBoard) (past : List RunSection)
+        (s : RunSection) (later : List RunSection) → (k : IsHomeBoard place entries ready turns (past ++ s ∷ later) x) →
+        s.homes ≡ false → (s.section.start ≤ lost_at turns k.split.tail → IsStillIn place entries s.section x) →
+        from + 1 ≡ s.section.start → from ≤ to → NextBehind to later → s.section.end + 5 ≤ to →
+        told_in to turns x ≢ [] → (oid : ℕ) → length (only oid (told_in from to x)) ≡ length (s.section.plan oid) }
 {}
 
 /// The law of still boards: where the homing sections of a board that have ended in some turns of a run, whose parts
@@ -69,27 +73,42 @@ pub fn homing_boards_make_whole_sections()
 /// and whose units are released from that turn on at the latest: what was set up for a homing section before it has
 /// answered, and behind it none is set up before the section is long over.
 pub fn boards_are_still_in_sections_of_moves()
-    ensures { (m : Machine) (switches : List Switch) (pins : List (List Level)) (entries : List Entry) (b ready until : ℕ) (begun past : List Started) (x : Started) (later : List Started) (came : List Came) (turns : List BoardTurn)
-        (clocks : Clocks) (sections : List BoardSection) (plan : ℕ → List Planned) (releases : List Release) (states : List State) → IsValidMachine m → IsInRun m switches pins entries b came turns →
-        CameNotes begun came → 260 ≤ ready → AreInARow ready begun → AreHomed m switches pins entries b until (stops_of begun) turns → begun ≡ past ++ x ∷ later → x.section.kind ≡ Moves → x.start ≤ length turns + 250 →
-        x.start ≤ until + 250 →
+    ensures { (m : Machine) (switches : List Switch) (pins : List (List Level)) (entries : List Entry)
+        (b ready until : ℕ) (begun past : List Started) (x : Started) (later : List Started) (came : List Came)
+        (turns : List BoardTurn) (clocks : Clocks) (sections : List BoardSection) (plan : ℕ → List Planned)
+        (releases : List Release) (states : List State) → IsValidMachine m →
+        IsInRun m switches pins entries b came turns → CameNotes begun came → 260 ≤ ready → AreInARow ready begun →
+        AreHomed m switches pins entries b until (stops_of begun) turns → begun ≡ past ++ x ∷ later →
+        x.section.kind ≡ Moves → x.start ≤ length turns + 250 → x.start ≤ until + 250 →
         IsStillIn b entries (record { start = x.start; end = x.end; plan = plan; releases = releases })
-        (record { board = board_at m b; pins = pins; clocks = clocks; sections = sections; orders = orders_in turns; states = states }) }
+        (record {
+          board = board_at m b;
+          pins = pins;
+          clocks = clocks;
+          sections = sections;
+          orders = orders_in turns;
+          states = states;
+        }) }
 {}
 
-/// The law of whole sections where axes home: in whatever threads a run went that does not end for want of memory, the lines of its report
-/// follow the plans of the sections of the file's text (`AllShowHomes`), and of sections of moves they tell whole plans: where the run went
-/// through, of each stepper as many pulses as its plan of the section has steps; and so, whatever ended the run, where any pulse of a stepper
-/// of the same board is told behind the section. It is asked that each board keeps up (`AllKeepUp`). Without that, each turn
-/// tells of a switch exactly where a homing section ended in it (`TellEnds`).
+/// The law of whole sections where axes home: in whatever threads a run went that does not end for want of
+/// memory, the lines of its report follow the plans of the sections of the file's text (`AllShowHomes`), and
+/// of sections of moves they tell whole plans: where the run went through, of each stepper as many pulses as
+/// its plan of the section has steps; and so, whatever ended the run, where any pulse of a stepper of the
+/// same board is told behind the section. It is asked that each board keeps up (`AllKeepUp`). Without that,
+/// each turn tells of a switch exactly where a homing section ended in it (`TellEnds`).
 pub fn homing_runs_are_whole<F: Files, S: Sink>()
-    ensures { (m : Machine) (s : Scene) (name : List ℕ) (files files' : F) (out out' : S) (kept kept' : Kept) (t : Told Run) →
-        (r : RunsOver F.Files S.Sink m s name files out kept t files' out' kept') → IsValidMachine m → (text : List ℕ) → F.told files name ≡ Some text → kept.at ≡ 0 →
-        ∥ ((made : IsMade m s r.runs.0 r.runs.1) × (made.plans.seen.text ≡ text) ×
-        ((t.cause ≡ Cause.Memory → ⊥) → HaveShortDictionaries m → AllKeepUp m s text r.runs.0 (r.runs.1 ++ r.runs.2 ∷ []) →
-        AllShowHomes m made.plans.seen (clocks_heard made.plans.seen.told) (ready_heard made.plans.seen.told) t.cause (r.runs.1 ++ r.runs.2 ∷ []) ×
-        AllWholeHomes m made.plans.seen (clocks_heard made.plans.seen.told) t.cause (r.runs.1 ++ r.runs.2 ∷ [])) ×
-        ((t.cause ≡ Cause.Memory → ⊥) → TellEnds m s.switches made.plans.seen.begun 0 (r.runs.1 ++ r.runs.2 ∷ []))) ∥₁ }
+    ensures { (m : Machine) (s : Scene) (name : List ℕ) (files files' : F) (out out' : S) (kept kept' : Kept)
+        (t : Told Run) → (r : RunsOver F.Files S.Sink m s name files out kept t files' out' kept') → IsValidMachine m →
+        (text : List ℕ) → F.told files name ≡ Some text → kept.at ≡ 0 →
+        ∥ ((made : IsMade m s r.runs.0 r.runs.1) × (made.plans.seen.text ≡ text)
+        × ((t.cause ≡ Cause.Memory → ⊥) → HaveShortDictionaries m →
+        AllKeepUp m s text r.runs.0 (r.runs.1 ++ r.runs.2 ∷ []) →
+        AllShowHomes m made.plans.seen (clocks_heard made.plans.seen.told) (ready_heard made.plans.seen.told) t.cause
+        (r.runs.1 ++ r.runs.2 ∷ [])
+        × AllWholeHomes m made.plans.seen (clocks_heard made.plans.seen.told) t.cause (r.runs.1 ++ r.runs.2 ∷ []))
+        × ((t.cause ≡ Cause.Memory → ⊥) →
+        TellEnds m s.switches made.plans.seen.begun 0 (r.runs.1 ++ r.runs.2 ∷ []))) ∥₁ }
 {}
 
 /// The law of trigger ticks: of a whole run that doesn't end for want of memory, in any scene, each turn before the
@@ -100,10 +119,12 @@ pub fn homing_runs_are_whole<F: Files, S: Sink>()
 ///
 /// It is asked that each board's reports that readings triggered its trigger are read true (`AllSwitchesReadTrue`).
 pub fn homing_runs_are_cut_at_trigger_ticks<F: Files, S: Sink>()
-    ensures { (m : Machine) (s : Scene) (name : List ℕ) (files files' : F) (out out' : S) (kept kept' : Kept) (t : Told Run) →
-        (r : RunsOver F.Files S.Sink m s name files out kept t files' out' kept') → IsValidMachine m → HaveShortDictionaries m → (text : List ℕ) → F.told files name ≡ Some text → kept.at ≡ 0 →
+    ensures { (m : Machine) (s : Scene) (name : List ℕ) (files files' : F) (out out' : S) (kept kept' : Kept)
+        (t : Told Run) → (r : RunsOver F.Files S.Sink m s name files out kept t files' out' kept') → IsValidMachine m →
+        HaveShortDictionaries m → (text : List ℕ) → F.told files name ≡ Some text → kept.at ≡ 0 →
         (t.cause ≡ Cause.Memory → ⊥) → AllSwitchesReadTrue m s r.runs.0 (r.runs.1 ++ r.runs.2 ∷ []) →
-        ∥ ((made : IsMade m s r.runs.0 r.runs.1) × (made.plans.seen.text ≡ text) × TellTriggers m s made.plans.seen r.runs.0 r.runs.1 r.runs.2) ∥₁ }
+        ∥ ((made : IsMade m s r.runs.0 r.runs.1) × (made.plans.seen.text ≡ text)
+        × TellTriggers m s made.plans.seen r.runs.0 r.runs.1 r.runs.2) ∥₁ }
 {}
 
 /// The law of set-ups: each board of a run in a scene without entries takes the set-up of each homing section in time
@@ -117,12 +138,14 @@ pub fn clear_runs_take_set_ups_in_time<F: Files, S: Sink>()
 {}
 
 /// The law of first ticks: where moreover each board takes the set-up of each homing section in time
-/// (`AllTakeInTime`), each of those turns tells of the first tick, from the section's start on by the clock lines that the
-/// planner was told, at which four readings in a row show its switch pressed (`TellFirst`).
+/// (`AllTakeInTime`), each of those turns tells of the first tick, from the section's start on by the clock
+/// lines that the planner was told, at which four readings in a row show its switch pressed (`TellFirst`).
 pub fn homing_runs_are_cut_at_first_ticks<F: Files, S: Sink>()
-    ensures { (m : Machine) (s : Scene) (name : List ℕ) (files files' : F) (out out' : S) (kept kept' : Kept) (t : Told Run) →
-        (r : RunsOver F.Files S.Sink m s name files out kept t files' out' kept') → IsValidMachine m → HaveShortDictionaries m → (text : List ℕ) → F.told files name ≡ Some text → kept.at ≡ 0 →
+    ensures { (m : Machine) (s : Scene) (name : List ℕ) (files files' : F) (out out' : S) (kept kept' : Kept)
+        (t : Told Run) → (r : RunsOver F.Files S.Sink m s name files out kept t files' out' kept') → IsValidMachine m →
+        HaveShortDictionaries m → (text : List ℕ) → F.told files name ≡ Some text → kept.at ≡ 0 →
         (t.cause ≡ Cause.Memory → ⊥) → AllSwitchesReadTrue m s r.runs.0 (r.runs.1 ++ r.runs.2 ∷ []) →
         AllTakeInTime m s text r.runs.0 (r.runs.1 ++ r.runs.2 ∷ []) →
-        ∥ ((made : IsMade m s r.runs.0 r.runs.1) × (made.plans.seen.text ≡ text) × TellFirst m s made.plans.seen [] r.runs.1) ∥₁ }
+        ∥ ((made : IsMade m s r.runs.0 r.runs.1) × (made.plans.seen.text ≡ text)
+        × TellFirst m s made.plans.seen [] r.runs.1) ∥₁ }
 {}

@@ -19,14 +19,18 @@ ghost use Rattle.laws_run.specs.lanes.Turns.{AllGoOn, AllHaveControls, IsLastTur
 
 use session_work::{LinkMachine, MotionMachine, Outside, ReactorMachine};
 
-/// The law of boards: in a whole run, whatever threads it went in, each board took in each turn the control that the reactor ordered
-/// for it and the next batch of the planner, and the reactor took in the turn behind it what the board's link told of it, up to the
-/// turn that ends the run, where that is not for want of memory.
+/// The law of boards: in a whole run, whatever threads it went in, each board took in each turn the control
+/// that the reactor ordered for it and the next batch of the planner, and the reactor took in the turn behind
+/// it what the board's link told of it, up to the turn that ends the run, where that is not for want of
+/// memory.
 pub fn boards_are_in_the_run<M: MotionMachine, L: LinkMachine, A: ReactorMachine, O: Outside>()
-    ensures { (view : L → Seen) → ShowsLink L.turns view →
-        (m : Machine) (switches : List Switch) (b : ℕ) (clock : BoardClock) (begin : LinkState) (ts : List MotionTurn) (first : ReactorTurn) (rest : List ReactorTurn) (end : ReactorTurn) (n : ℕ) (links : List L) (logs : List LinkLog) (s : L) →
-        b < length m.boards → AllGoOn m switches [] (first ∷ rest) → IsLastTurn m end → AreLogs M.MotionMachine L.LinkMachine A.ReactorMachine O.Outside ts (first ∷ rest) end n 0 links logs → item b links ≡ s ∷ [] →
-        StandsFor (view s) begin → (view s).clock ≡ clock → IsInWhole m switches b clock begin ts first (rest ++ end ∷ []) }
+    ensures { (view : L → Seen) → ShowsLink L.turns view → (m : Machine) (switches : List Switch) (b : ℕ)
+        (clock : BoardClock) (begin : LinkState) (ts : List MotionTurn) (first : ReactorTurn) (rest : List ReactorTurn)
+        (end : ReactorTurn) (n : ℕ) (links : List L) (logs : List LinkLog) (s : L) → b < length m.boards →
+        AllGoOn m switches [] (first ∷ rest) → IsLastTurn m end →
+        AreLogs M.MotionMachine L.LinkMachine A.ReactorMachine O.Outside ts (first ∷ rest) end n 0 links logs →
+        item b links ≡ s ∷ [] → StandsFor (view s) begin → (view s).clock ≡ clock →
+        IsInWhole m switches b clock begin ts first (rest ++ end ∷ []) }
 {}
 
 /// The law of controls: in each turn of a whole run's reactor there is a control for each board.

@@ -16,5 +16,6 @@ use plan_types::Cause;
 /// clock lines; and all of them where the run went through.
 pub fn sections_have_their_lines()
     ensures { (m : Machine) (text : List ℕ) (clocks : List Clocks) (ready : ℕ) (c : Cause) (lines : List ReportLine) →
-        HaveBegunLines m text clocks ready c lines → AreOfMoves (program_sections m text) → HaveTheirLines m text clocks ready c lines }
+        HaveBegunLines m text clocks ready c lines → AreOfMoves (program_sections m text) →
+        HaveTheirLines m text clocks ready c lines }
 {}

@@ -8,7 +8,8 @@ use Rattle.link_core.specs.Core.{Command}
 pub record Host : Type 0 where
   -- the commands that are in no block
   pub waiting : List Command
-  -- the contents of the blocks that the board hasn't acknowledged, the oldest first, and the turns in which they were last put
+  -- the contents of the blocks that the board hasn't acknowledged, the oldest first, and the turns in which
+  -- they were last put
   pub contents : List (List ℕ)
   pub puts : List ℕ
   -- how many blocks were given

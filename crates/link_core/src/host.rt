@@ -61,7 +61,8 @@ impl Model for HostEnd {
 impl HostEnd {
     /// An end to which nothing was given.
     pub fn new(alloc: Global) -> Self
-        ensures { result ≡ record { waiting = []; contents = []; puts = []; sent = 0; turn = 0; empty = None; closed = false } }
+        ensures { result
+            ≡ record { waiting = []; contents = []; puts = []; sent = 0; turn = 0; empty = None; closed = false } }
     {
         HostEnd {
             waiting: VecDeque::new(alloc),
@@ -141,7 +142,8 @@ impl HostEnd {
         ensures unchanged { IfNone result (self.new ≡ self.old) }
         ensures some { IsSome result → (length self.old.contents < 12) × (0 < length self.old.waiting) }
         ensures given { IsSome result → self.new ≡ given self.old turn (next_block 59 self.old.waiting) }
-        ensures block { IfSome result (λ b. b.items ≡ block_text (self.old.sent % 16) (content_of (next_block 59 self.old.waiting))) }
+        ensures block { IfSome result
+            (λ b. b.items ≡ block_text (self.old.sent % 16) (content_of (next_block 59 self.old.waiting))) }
     {
         if self.outstanding.is_full() || self.waiting.is_empty() {
             return None;
@@ -168,7 +170,8 @@ impl HostEnd {
     #[tactic(auto, using(crate::proofs::Views::length_contents))]
     pub fn again(&mut self, i: usize) -> Block
         requires { i < length self.old.contents }
-        ensures block { result.items ≡ block_text ((acked_of self.old + i) % 16) (slice_index_or self.old.contents i []) }
+        ensures block { result.items
+            ≡ block_text ((acked_of self.old + i) % 16) (slice_index_or self.old.contents i []) }
         ensures after { self.new ≡ put_again self.old i }
     {
         let block = block_at(self.outstanding.as_slice(), self.sent, i);
@@ -176,13 +179,15 @@ impl HostEnd {
         block
     }
 
-    /// Takes the number of a reply, and gives the whole number that it stands for. One that stands for none changes nothing,
-    /// and gives the number of the oldest outstanding block, or the next new one.
+    /// Takes the number of a reply, and gives the whole number that it stands for. One that stands for none
+    /// changes nothing, and gives the number of the oldest outstanding block, or the next new one.
     #[tactic(auto, using(crate::proofs::Views::length_contents, crate::proofs::Views::contents_drop, crate::proofs::Views::puts_drop))]
     pub fn acked(&mut self, number: u8, empty: bool) -> u64
         requires { number < 16 }
-        ensures found { (w : ℕ) → IsWhole (acked_of self.old) self.old.sent number w → (result ≡ w) × (self.new ≡ acked_by self.old w empty) }
-        ensures none { ((w : ℕ) → IsWhole (acked_of self.old) self.old.sent number w → ⊥) → (result ≡ acked_of self.old) × (self.new ≡ self.old) }
+        ensures found { (w : ℕ) → IsWhole (acked_of self.old) self.old.sent number w →
+            (result ≡ w) × (self.new ≡ acked_by self.old w empty) }
+        ensures none { ((w : ℕ) → IsWhole (acked_of self.old) self.old.sent number w → ⊥) →
+            (result ≡ acked_of self.old) × (self.new ≡ self.old) }
     {
         let oldest = self.sent - self.outstanding.len() as u64;
         let Some(n) = whole_number(oldest, self.sent, number) else {
@@ -210,9 +215,12 @@ ghost use Rattle.link_core.specs.Views.{commands};
 
 /// Moves the commands that fit into a block, up to one that closes it.
 fn fill(waiting: &mut VecDeque<Waiting>, content: &mut ArrayVec<u8, 59>, closed: bool) -> bool
-    ensures content { content.new.items ≡ content.old.items ++ content_of (next_block (59 - length content.old.items) (commands waiting.old.items)) }
-    ensures rest { waiting.new.items ≡ drop (length (next_block (59 - length content.old.items) (commands waiting.old.items))) waiting.old.items }
-    ensures closed { result ≡ closes_last closed (next_block (59 - length content.old.items) (commands waiting.old.items)) }
+    ensures content { content.new.items
+        ≡ content.old.items ++ content_of (next_block (59 - length content.old.items) (commands waiting.old.items)) }
+    ensures rest { waiting.new.items
+        ≡ drop (length (next_block (59 - length content.old.items) (commands waiting.old.items))) waiting.old.items }
+    ensures closed { result
+        ≡ closes_last closed (next_block (59 - length content.old.items) (commands waiting.old.items)) }
 {
     let Some(first) = waiting.front() else {
         return closed;
@@ -260,7 +268,8 @@ fn drop_first(outstanding: &mut ArrayVec<Outstanding, 12>, count: usize)
 fn block_at(outstanding: &[Outstanding], sent: u64, i: usize) -> Block
     requires place { i < length outstanding.now }
     requires sent { length outstanding.now ≤ sent }
-    ensures { result.items ≡ block_text ((sent - length outstanding.now + i) % 16) (slice_index_or (contents outstanding.now) i []) }
+    ensures { result.items
+        ≡ block_text ((sent - length outstanding.now + i) % 16) (slice_index_or (contents outstanding.now) i []) }
 {
     let number = (sent - outstanding.len() as u64 + i as u64) % 16;
     build(number as u8, outstanding[i].content.as_slice())
@@ -280,7 +289,9 @@ fn put_at(outstanding: &mut ArrayVec<Outstanding, 12>, i: usize, turn: u64)
 /// Whether a block is old, or the board wants the oldest one.
 fn is_due(outstanding: &[Outstanding], sent: u64, empty: Option<(u64, u64)>, turn: u64) -> bool
     requires { length outstanding.now ≤ sent }
-    ensures { IsTrue result ↔ (0 < length outstanding.now) × (IsOld (puts outstanding.now) turn ⊎ HintIs empty (sent - length outstanding.now) turn) }
+    ensures { IsTrue result
+        ↔ (0 < length outstanding.now)
+        × (IsOld (puts outstanding.now) turn ⊎ HintIs empty (sent - length outstanding.now) turn) }
 {
     let Some(oldest) = outstanding.first() else {
         return false;

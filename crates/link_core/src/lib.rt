@@ -15,7 +15,8 @@ pub fn in_step()
 
 /// The law of order: the commands that the board took are the first ones that were queued, in order, each once.
 pub fn in_order()
-    ensures { (events : List Event) → (rest : List Command) × (run events start).taken ++ rest ≡ flat_map commands_of events }
+    ensures { (events : List Event) →
+        (rest : List Command) × (run events start).taken ++ rest ≡ flat_map commands_of events }
 {}
 
 mod host;
@@ -65,18 +66,18 @@ impl BoardEnd {
         self.expected
     }
 
-    /// Takes the number of a good block, from 0 to 15: exactly the expected one is accepted, and the reply has the number
-    /// that is expected next.
+    /// Takes the number of a good block, from 0 to 15: exactly the expected one is accepted, and the reply
+    /// has the number that is expected next.
     pub fn arrive(&mut self, number: u8) -> Arrival
         requires { number < 16 }
         ensures below { self.new < 16 }
         ensures accepted { IsTrue result.accepted ↔ number ≡ self.old }
         ensures next { self.new ≡ (if number == self.old then (self.old + 1) % 16 else self.old) }
         ensures reply { result.reply ≡ self.new }
-        // Where it stands for the whole number of the block that is expected, and the block that came is near to that one,
-        // exactly the expected block is accepted, and it stands for the next one.
-        ensures accepts { (accepted n : ℕ) → self.old ≡ accepted % 16 → number ≡ n % 16 → n < accepted + 12 → accepted ≤ n + 12 →
-            (IsTrue result.accepted ↔ n ≡ accepted) × (self.new ≡ next_after accepted n % 16) }
+        // Where it stands for the whole number of the block that is expected, and the block that came is near
+        // to that one, exactly the expected block is accepted, and it stands for the next one.
+        ensures accepts { (accepted n : ℕ) → self.old ≡ accepted % 16 → number ≡ n % 16 → n < accepted + 12 →
+            accepted ≤ n + 12 → (IsTrue result.accepted ↔ n ≡ accepted) × (self.new ≡ next_after accepted n % 16) }
     {
         let accepted = number == self.expected;
         if accepted {
@@ -113,8 +114,10 @@ ghost use Rattle.link_core.specs.Stands.{host_of};
 
 /// The law of the host's end: its calls do what happens to the link.
 pub fn host_stands()
-    ensures first { host_of start ≡ record { waiting = []; contents = []; puts = []; sent = 0; turn = 0; empty = None; closed = false } }
-    ensures queue { (h : Link) (c : Command) → host_of (happens h (Put (c ∷ []))) ≡ queued_by (host_of h) c.bytes c.closes }
+    ensures first { host_of start
+        ≡ record { waiting = []; contents = []; puts = []; sent = 0; turn = 0; empty = None; closed = false } }
+    ensures queue { (h : Link) (c : Command) →
+        host_of (happens h (Put (c ∷ []))) ≡ queued_by (host_of h) c.bytes c.closes }
     ensures send { (h : Link) → InStep h → sent h < h.acked + 12 → 0 < length h.waiting →
         host_of (happens h Send) ≡ given (host_of h) h.turn (next_block 59 h.waiting) }
     ensures reply { (h : Link) (r : Reply) (rs : List Reply) → InStep h → h.up ≡ r ∷ rs →

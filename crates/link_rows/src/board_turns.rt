@@ -176,7 +176,8 @@ fn pulses_come_in_the_order_of_ticks(rt: HostRuntime) -> Result<(), Fail> {
     Ok(())
 }
 
-/// What shuts a board down: the block that comes, the first tick that came too late, and what the turns give from then on.
+/// What shuts a board down: the block that comes, the first tick that came too late, and what the turns give
+/// from then on.
 type Shutdown<'a> = (&'a str, u64, &'a str, &'a str, &'a str);
 
 /// Each with the reason of its place, from 1 on.
@@ -226,8 +227,8 @@ const CONFIGURED: Row<'static> = (
     &[],
 );
 
-/// Whether a board shuts down: at tick 16,000 a block comes; at tick 32,000 a triple and a direction, which change nothing any
-/// more, and two questions; then a turn that stands, and one that runs on.
+/// Whether a board shuts down: at tick 16,000 a block comes; at tick 32,000 a triple and a direction, which
+/// change nothing any more, and two questions; then a turn that stands, and one that runs on.
 fn shuts(
     alloc: Global,
     board: &mut Board,
@@ -320,8 +321,9 @@ fn answers(alloc: Global, rows: &[(&str, &str)]) -> Result<bool, AllocError> {
     answers_all(alloc, &mut board, rows)
 }
 
-/// Bytes that end blocks; bad ones, which go on; a block with another number, with emergency_stop; bad ones again; a block in
-/// two pieces, with get_uptime, what is no command, and get_uptime; the same block again; the next block.
+/// Bytes that end blocks; bad ones, which go on; a block with another number, with emergency_stop; bad ones
+/// again; a block in two pieces, with get_uptime, what is no command, and get_uptime; the same block again;
+/// the next block.
 const ANY_BYTES: [(&str, &str); 10] = [
     ("7e 7e", ""),
     ("01 02", "05 10 9e 81 7e"),
@@ -380,9 +382,9 @@ fn dictionary_and_configuration_are_told(rt: HostRuntime) -> Result<(), Fail> {
     Ok(())
 }
 
-/// A stepper, a trigger and an endstop at pin 1; the trigger is started, with reports from 84,481,000 on and a timeout at
-/// 85,000,000; the stepper is bound to it. Then steps at 84,487,959 and 84,487,960, and readings as from 60,481,000 on.
-/// Behind the trigger a step and an order to trigger.
+/// A stepper, a trigger and an endstop at pin 1; the trigger is started, with reports from 84,481,000 on and
+/// a timeout at 85,000,000; the stepper is bound to it. Then steps at 84,487,959 and 84,487,960, and readings
+/// as from 60,481,000 on. Behind the trigger a step and an order to trigger.
 const SWITCH: [Row<'static>; 5] = [
     ("", 84_400_000, "", &[]),
     (
@@ -417,10 +419,11 @@ fn a_switch_stops_a_stepper_at_its_tick(rt: HostRuntime) -> Result<(), Fail> {
     Ok(())
 }
 
-/// Two steppers, a trigger and an endstop at pin 1; reports from 10,000 on every 1,000 ticks, a timeout at 12,000 with reason
-/// 2; stepper 0 is bound to it. Steps of stepper 0 at 11,999 and 12,000, of stepper 3 at 12,000 and 13,000. Behind the timeout
-/// stepper 3 is bound, and halted; a start with a report at 20,000. Steps of stepper 3 at 25,000, 30,000 and 35,000, and
-/// readings from 20,000 on: the switch triggers at 30,600. The expected bytes and pulses are those of another program's board.
+/// Two steppers, a trigger and an endstop at pin 1; reports from 10,000 on every 1,000 ticks, a timeout at
+/// 12,000 with reason 2; stepper 0 is bound to it. Steps of stepper 0 at 11,999 and 12,000, of stepper 3 at
+/// 12,000 and 13,000. Behind the timeout stepper 3 is bound, and halted; a start with a report at 20,000.
+/// Steps of stepper 3 at 25,000, 30,000 and 35,000, and readings from 20,000 on: the switch triggers at
+/// 30,600. The expected bytes and pulses are those of another program's board.
 const TIMEOUT: [Row<'static>; 4] = [
     (
         "29 10 07 00 02 03 00 00 07 03 04 05 00 00 0b 01 10 02 01 00 0c 01 ce 10 87 68 02 0d 01 dd 60 0f 00 01 0a 00 c6 28 17 5e 7e",

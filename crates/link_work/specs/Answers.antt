@@ -28,8 +28,9 @@ pub record IsInBlock (blocks : List (List Command)) (place n : ℕ) : Type 0 whe
   pub from : length (flat_map (λ cs. cs) (take n blocks)) ≤ place
   pub before : place < length (flat_map (λ cs. cs) (take (n + 1) blocks))
 
--- the command at this place was taken by a board that stood at its tick of a turn, and all that the board answers is among
--- the news: each answer that can be told in bytes, with the number of the block behind that of the command
+-- the command at this place was taken by a board that stood at its tick of a turn, and all that the board
+-- answers is among the news: each answer that can be told in bytes, with the number of the block behind that
+-- of the command
 pub record IsAnswered (clock : BoardClock) (turn : ℕ) (l : LinkState) (place : ℕ) (news : List News) : Type 0 where
   pub number : ℕ
   pub block : IsInBlock l.core.link.blocks place number
@@ -40,7 +41,8 @@ pub record IsAnswered (clock : BoardClock) (turn : ℕ) (l : LinkState) (place :
   pub at : length front ≡ place
   pub board : Rig
   pub in_time : board.controller.tick ≡ board_tick clock turn
-  pub heard : (answer : Cmd) → IsAmong answer (takes board command.command).answers → IsText own_formats answer (text_of answer) → IsAmong (record { number = number + 1; answer = answer }) news
+  pub heard : (answer : Cmd) → IsAmong answer (takes board command.command).answers →
+      IsText own_formats answer (text_of answer) → IsAmong (record { number = number + 1; answer = answer }) news
 
 -- no entry of a line was used in a turn or later
 abbrev pub IsCalm : ℕ → Line → Type 0
@@ -61,7 +63,8 @@ TellSo clock turn [] before (e ∷ ends) states = ⊥
 TellSo clock turn (o ∷ os) before [] states = ⊥
 TellSo clock turn (o ∷ os) before (e ∷ ends) [] = ⊥
 TellSo clock turn (o ∷ os) before (e ∷ ends) (s ∷ states) =
-    (e.turn ≡ turn) × ((t : IsTurn clock turn o before e.link) × IsTold clock turn o before t.resent e.link.core s) × TellSo clock (turn + 1) os e.link ends states
+    (e.turn ≡ turn) × ((t : IsTurn clock turn o before e.link) × IsTold clock turn o before t.resent e.link.core s)
+    × TellSo clock (turn + 1) os e.link ends states
 
 -- in these turns no entry was used from a turn on, and nothing is held at the end of each
 abbrev pub AreClear : ℕ → List Ended → Type 0
@@ -72,7 +75,8 @@ AreClear since (e ∷ ends) = IsClear since e.link × AreClear since ends
 abbrev pub AnsweredSo : BoardClock → ℕ → ℕ → List Ended → List State → Type 0
 AnsweredSo clock turn place [] states = ⊥
 AnsweredSo clock turn place (e ∷ ends) [] = ⊥
-AnsweredSo clock turn place (e ∷ ends) (s ∷ states) = IsAnswered clock turn e.link place s.news ⊎ AnsweredSo clock (turn + 1) place ends states
+AnsweredSo clock turn place (e ∷ ends) (s ∷ states) =
+    IsAnswered clock turn e.link place s.news ⊎ AnsweredSo clock (turn + 1) place ends states
 
 -- all commands that were queued by the end of a turn were sent in it
 abbrev pub SentAll : Ended → Type 0

@@ -35,35 +35,43 @@ counted_to due turns = length (filter (λ turn. nat_le turn due) turns)
 abbrev pub spoiled_with : List ℕ → ℕ → Bool → List ℕ
 spoiled_with turns turn quiet = if quiet then turns else turns ++ turn ∷ []
 
--- by how many turns a board must be disturbed before steps come too late: 250, and one less for a board whose clock is off
+-- by how many turns a board must be disturbed before steps come too late: 250, and one less for a board whose
+-- clock is off
 abbrev pub lead_of : ℤ → ℕ
 lead_of (pos zero) = 250
 lead_of (pos (suc n)) = 249
 lead_of (negsuc n) = 249
 
--- a unit with this first tick may have come too late: with its spill, more turns than the lead were spoiled up to its due turn
+-- a unit with this first tick may have come too late: with its spill, more turns than the lead were spoiled
+-- up to its due turn
 abbrev pub may_be_late : ℕ → List ℕ → ℕ → HeldUnit → Bool
 may_be_late lead spoiled first h = (h.first == first) && nat_lt lead (counted_to h.due spoiled + h.spill)
 
 -- the spoiled turns and the spill of the first such unit
 abbrev pub late_by : ℕ → List ℕ → ℕ → List HeldUnit → ℕ × ℕ
 late_by lead spoiled first [] = (0, 0)
-late_by lead spoiled first (h ∷ hs) = if may_be_late lead spoiled first h then (counted_to h.due spoiled, h.spill) else late_by lead spoiled first hs
+late_by lead spoiled first (h ∷ hs) =
+    if may_be_late lead spoiled first h then (counted_to h.due spoiled, h.spill) else late_by lead spoiled first hs
 
+-- the spoiled turns and the spill that are told of a shutdown: none, unless a step came too late
 abbrev pub told_by : Bool → ℕ × ℕ → ℕ × ℕ
 told_by true late = late
 told_by false late = (0, 0)
 
--- what is told of a shutdown beside its reason: of one for steps that came too late, their spoiled turns and their spill
+-- what is told of a shutdown beside its reason: of one for steps that came too late, their spoiled turns and
+-- their spill
 abbrev pub IsCounted : ℕ → List ℕ → List HeldUnit → Option ShutNews → Type 0
 IsCounted lead spoiled hs None = Unit {0}
-IsCounted lead spoiled hs (Some n) = (n.spoiled, n.spill) ≡ told_by (n.reason == timer_too_close) (late_by lead spoiled n.first hs)
+IsCounted lead spoiled hs (Some n) =
+    (n.spoiled, n.spill) ≡ told_by (n.reason == timer_too_close) (late_by lead spoiled n.first hs)
 
--- by the board's own clock the due turns of units are those of their first ticks; where it is off they may be one turn later
+-- by the board's own clock the due turns of units are those of their first ticks; where it is off they may be
+-- one turn later
 abbrev pub AreDue : BoardClock → List StepUnit → Type 0
 AreDue clock [] = Unit {0}
 AreDue clock (u ∷ us) = (board_tick clock (u.due - (250 - lead_of clock.drift)) ≤ u.first) × AreDue clock us
 
+-- so the units of each of some turns
 abbrev pub AllDue : BoardClock → List Orders → Type 0
 AllDue clock [] = Unit {0}
 AllDue clock (o ∷ os) = AreDue clock o.batch.units × AllDue clock os

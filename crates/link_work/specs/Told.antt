@@ -17,7 +17,9 @@ use Rattle.link_work.specs.Turn.{LinkState, Orders, after_board, after_host, com
 
 -- a block that is put and ends with a get_uptime: its number
 abbrev pub asked_by : Core → Core → List ℕ
-asked_by before after = if nat_lt (sent before.link) (sent after.link) && last_closes false after.link.blocks then sent before.link ∷ [] else []
+asked_by before after =
+    if nat_lt (sent before.link) (sent after.link) && last_closes false after.link.blocks then sent before.link ∷ []
+    else []
 
 -- what is asked in a step
 abbrev pub asked_at : Step → Core → List ℕ
@@ -47,7 +49,8 @@ news_of r (Some c) = record { number = r.number; answer = c } ∷ []
 -- the answers in replies, each with its reply's number
 abbrev pub AreNews : List Reply → List News → Type 0
 AreNews [] news = news ≡ []
-AreNews (r ∷ rs) news = (o : Option Cmd) × (rest : List News) × IsAnswer r o × AreNews rs rest × (news ≡ news_of r o ++ rest)
+AreNews (r ∷ rs) news =
+    (o : Option Cmd) × (rest : List News) × IsAnswer r o × AreNews rs rest × (news ≡ news_of r o ++ rest)
 
 -- news and the answers in replies behind them
 abbrev pub Adds : List News → List News → List Reply → Type 0
@@ -56,18 +59,23 @@ Adds before now rs = (more : List News) × (now ≡ before ++ more) × AreNews r
 -- a shutdown is told as it stands in the board
 abbrev pub IsShutNews : BoardState → Option ShutNews → Type 0
 IsShutNews Running o = o ≡ None
-IsShutNews (Shut reason tick first) o = (n : ShutNews) × (o ≡ Some n) × (n.reason ≡ reason) × (n.tick ≡ tick) × (n.first ≡ first)
+IsShutNews (Shut reason tick first) o =
+    (n : ShutNews) × (o ≡ Some n) × (n.reason ≡ reason) × (n.tick ≡ tick) × (n.first ≡ first)
 
 -- the link as the board's part of a turn leaves it
 abbrev pub before_replies : BoardClock → ℕ → Orders → Bool → LinkState → LinkState
 before_replies clock turn o resent before = after_board clock turn (after_host turn o resent before)
 
--- what is told of a turn: the pulses made in it, the answers that came, the numbers of the blocks first put that end with a
--- get_uptime, why the board is shut down after it, and whether nothing waits or is outstanding
-pub record IsTold (clock : BoardClock) (k : ℕ) (o : Orders) (before : LinkState) (resent : Bool) (after : Core) (s : State) : Type 0 where
+-- what is told of a turn: the pulses made in it, the answers that came, the numbers of the blocks first put
+-- that end with a get_uptime, why the board is shut down after it, and whether nothing waits or is
+-- outstanding
+pub record IsTold (clock : BoardClock) (k : ℕ) (o : Orders) (before : LinkState) (resent : Bool) (after : Core)
+    (s : State) : Type 0 where
   pub turn : s.turn ≡ k
   pub pulses : before.core.made ++ s.pulses ≡ after.made
-  pub news : AreNews (heard_in (come Up k (before_replies clock k o resent before).up.copies) (before_replies clock k o resent before).core) s.news
+  pub news : AreNews (heard_in (come Up k (before_replies clock k o resent before).up.copies)
+      (before_replies clock k o resent before).core)
+      s.news
   pub asked : s.asked ≡ asked_in (host_steps k o resent) before.core
   pub shut : IsShutNews after.board.controller.state s.shut
   pub idle : (s.idle ≡ true) ↔ (after.link.waiting ≡ []) × (after.link.acked ≡ sent after.link)

@@ -9,8 +9,8 @@ use msg_code::Unit;
 use std::alloc::Global;
 use std::marker::Model;
 
-/// A unit that was queued: its first tick, the turn of this tick, and by how many turns later than 250 turns before that
-/// turn it was queued.
+/// A unit that was queued: its first tick, the turn of this tick, and by how many turns later than 250 turns
+/// before that turn it was queued.
 #[derive(Clone, Copy, Debug, PartialEq, Eq)]
 pub struct HeldUnit {
     pub first: u64,
@@ -61,8 +61,8 @@ impl Held {
         self.units.clear();
     }
 
-    /// Of the first unit with this first tick that may have come too late: how many turns were spoiled up to its due turn, and
-    /// its spill.
+    /// Of the first unit with this first tick that may have come too late: how many turns were spoiled up to
+    /// its due turn, and its spill.
     pub fn late_by(&self, lead: u64, stretch: &Stretch, first: u64) -> (u64, u64)
         requires { lead < 2 ^ 32 }
         ensures { result ≡ late_by lead stretch.now first self.now }

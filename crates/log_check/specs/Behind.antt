@@ -48,6 +48,7 @@ abbrev pub further_of : Said → Option Further
 further_of (Ok (line.Line b turn tick from)) = Some (record { board = b; turn = turn; tick = tick; from = from })
 further_of _ = None
 
+-- a further clock line before others, where there is one
 abbrev pub with_one : Option Further → List Further → List Further
 with_one None further = further
 with_one (Some f) further = f ∷ further
@@ -64,18 +65,20 @@ with_further m b (f ∷ further) clocks =
     let more = added_where clocks f.from (told_line m b f.turn f.tick) in
     with_further m b further (if f.board == b then more else clocks)
 
--- The clock lines of the boards that told one, in order: each board's own, and behind it those of the log's further ones that are
--- the board's.
+-- The clock lines of the boards that told one, in order: each board's own, and behind it those of the log's
+-- further ones that are the board's.
 abbrev pub clocks : Machine → List Further → List LogLine → List Clocks
 clocks m further [] = []
-clocks m further (line.Board b turn tick ∷ lines) = clocks m further lines ++ with_further m b further (one_line (told_line m b turn tick)) ∷ []
+clocks m further (line.Board b turn tick ∷ lines) =
+    clocks m further lines ++ with_further m b further (one_line (told_line m b turn tick)) ∷ []
 clocks m further (_ ∷ lines) = clocks m further lines
 
 -- those of them that were told so far
 abbrev pub told : Machine → List LogLine → List Clocks
 told m [] = []
 told m (line.Board b turn tick ∷ lines) = told m lines ++ one_line (told_line m b turn tick) ∷ []
-told m (line.Line b turn tick from ∷ lines) = set (told m lines) b (added_where (clocks_at (told m lines) b) from (told_line m b turn tick))
+told m (line.Line b turn tick from ∷ lines) =
+    set (told m lines) b (added_where (clocks_at (told m lines) b) from (told_line m b turn tick))
 told m (_ ∷ lines) = told m lines
 
 -- the pulses of a stepper in the present section, the last one first

@@ -51,11 +51,16 @@ is_home (Home a) = true
 
 -- a board's first clock line holds from before a turn on, and has ticks for so many moves behind it
 abbrev pub has_room : Line → ℕ → ℕ → Bool
-has_room l moves turn = nat_le l.at (turn * turn_ns) && nat_lt (tick l ((turn + moves * turns_of_move) * turn_ns)) 12_999_999_995_705_032_704
+has_room l moves turn =
+    nat_le l.at (turn * turn_ns)
+    && nat_lt (tick l ((turn + moves * turns_of_move) * turn_ns)) 12_999_999_995_705_032_704
 
--- a board's own ticks are few enough for so many moves from a turn on, with 4 more for each step that follows too closely
+-- a board's own ticks are few enough for so many moves from a turn on, with 4 more for each step that follows
+-- too closely
 abbrev pub are_few : Clocks → ℕ → ℕ → Bool
-are_few c moves turn = not (nat_lt (12_999_999_999_999_999_998 - 4 * (moves * steps_of_move)) (lines_tick c (turn * turn_ns + moves * move_ns + turn_ns)))
+are_few c moves turn =
+    not (nat_lt (12_999_999_999_999_999_998 - 4 * (moves * steps_of_move))
+    (lines_tick c (turn * turn_ns + moves * move_ns + turn_ns)))
 
 -- so they are where it has further lines; with one line they are where that has room
 abbrev pub has_own_room : Clocks → List Held → ℕ → ℕ → Bool
@@ -71,25 +76,31 @@ abbrev pub have_room : List Clocks → ℕ → ℕ → Bool
 have_room [] moves turn = true
 have_room (c ∷ clocks) moves turn = is_roomy c moves turn && have_room clocks moves turn
 
--- The turn from which on the next section may start, without its dwells: the first one, or 260 turns behind that in which the plan
--- of the present section ends; behind a section that was cut, 260 turns behind that in which it started.
+-- The turn from which on the next section may start, without its dwells: the first one, or 260 turns behind
+-- that in which the plan of the present section ends; behind a section that was cut, 260 turns behind that in
+-- which it started.
 abbrev pub ready : Bool → ℕ → ℕ → ℕ → ℕ
 ready cut zero start end = first_turn
 ready true (suc i) start end = start + 260
 ready false (suc i) start end = end + 260
 
--- A section of this number and kind may start in this turn: it is the next one of the text, not before its turn, and the boards
--- told their clocks, which have ticks for it.
+-- A section of this number and kind may start in this turn: it is the next one of the text, not before its
+-- turn, and the boards told their clocks, which have ticks for it.
 abbrev pub may_start : Machine → List Section → Point → ℕ → ℕ → SectionKind → Bool
 may_start m sections p i turn kind =
-    (i == p.begun) && (nat_lt p.begun (length sections) && (same_kind kind (section_at sections p.begun).kind && ((length p.clocks == length m.boards)
-    && (nat_le (ready p.cut p.begun p.start p.end + (section_at sections p.begun).dwell) turn && have_room p.clocks (length (section_at sections p.begun).moves) turn))))
+    (i == p.begun)
+    && (nat_lt p.begun (length sections)
+    && (same_kind kind (section_at sections p.begun).kind
+    && ((length p.clocks == length m.boards)
+    && (nat_le (ready p.cut p.begun p.start p.end + (section_at sections p.begun).dwell) turn
+    && have_room p.clocks (length (section_at sections p.begun).moves) turn))))
 
 -- the present section is this one, and it homes
 abbrev pub may_cut : List Section → ℕ → ℕ → Bool
 may_cut sections zero i = false
 may_cut sections (suc now) i = (i == now) && is_home (section_at sections now).kind
 
+-- a fault of this kind, where it is one
 abbrev pub fault_if : MisfitKind → Bool → Option MisfitKind
 fault_if kind true = Some kind
 fault_if kind false = None
@@ -102,16 +113,21 @@ section_fault false false = Some misfit.Section
 
 -- a further clock line of a board may hold behind those that the board told
 abbrev pub may_follow : Machine → List Clocks → ℕ → ℕ → ℕ → ℕ → Bool
-may_follow m told b turn tick from = nat_lt b (length told) && may_hold (clocks_at told b) from (told_line m b turn tick)
+may_follow m told b turn tick from =
+    nat_lt b (length told) && may_hold (clocks_at told b) from (told_line m b turn tick)
 
 -- why a line doesn't fit where no end was told
 abbrev pub open_fault : Machine → List Section → Point → LogLine → Option MisfitKind
 open_fault m sections p line.Note = None
-open_fault m sections p (line.Board b turn tick) = if (p.begun == 0) && (b == length p.clocks) then None else Some misfit.BadLine
-open_fault m sections p (line.Line b turn tick from) = if may_follow m p.told b turn tick from then None else Some misfit.BadLine
-open_fault m sections p (line.Section i turn kind) = section_fault (is_short p.cut p.plans p.tallies) (may_start m sections p i turn kind)
+open_fault m sections p (line.Board b turn tick) =
+    if (p.begun == 0) && (b == length p.clocks) then None else Some misfit.BadLine
+open_fault m sections p (line.Line b turn tick from) =
+    if may_follow m p.told b turn tick from then None else Some misfit.BadLine
+open_fault m sections p (line.Section i turn kind) =
+    section_fault (is_short p.cut p.plans p.tallies) (may_start m sections p i turn kind)
 open_fault m sections p (line.Pulse s tick up) =
-    pulse_fault (clocks_at p.clocks (stepper_at m s).board).first.freq (slice_index_or p.bases s 0) (slice_index_or p.plans s []) (slice_index_or p.tallies s no_tally).made tick up
+    pulse_fault (clocks_at p.clocks (stepper_at m s).board).first.freq (slice_index_or p.bases s 0)
+    (slice_index_or p.plans s []) (slice_index_or p.tallies s no_tally).made tick up
 open_fault m sections p (line.Cut i) = if may_cut sections p.begun i then None else Some misfit.Section
 open_fault m sections p line.End = fault_if misfit.Missing (is_short p.cut p.plans p.tallies)
 

@@ -39,8 +39,9 @@ abbrev pub end_by : Machine → List Section → List Clocks → ℕ → ℕ →
 end_by m sections lines zero turn = 0
 end_by m sections lines (suc i) turn = section_end m lines (section_at sections i).moves turn
 
--- What the lines so far told, and the plan of the present section with its pulses. Sections are planned by the boards' clock lines
--- with the further ones of the whole log; a further one is judged by those that were told so far.
+-- What the lines so far told, and the plan of the present section with its pulses. Sections are planned by
+-- the boards' clock lines with the further ones of the whole log; a further one is judged by those that were
+-- told so far.
 pub record Point : Type 0 where
   pub further : List Further
   pub clocks : List Clocks

@@ -20,12 +20,14 @@ tick_before base plan (suc i) = (slice_index_or plan i no_step).tick
 abbrev pub step_fault : ℕ → ℕ → Planned → ℕ → Bool → Option MisfitKind
 step_fault freq before step tick up =
     if opposite step.up up then Some Direction
-    else (if nat_lt tick (window freq before step.tick) then Some Early else (if nat_lt step.tick tick then Some Late else None))
+    else (if nat_lt tick (window freq before step.tick) then Some Early
+    else (if nat_lt step.tick tick then Some Late else None))
 
 -- Why a pulse behind so many others of its stepper isn't made for the planned step of its place, or that there is none.
 abbrev pub pulse_fault : ℕ → ℕ → List Planned → ℕ → ℕ → Bool → Option MisfitKind
 pulse_fault freq base plan i tick up =
-    if nat_lt i (length plan) then step_fault freq (tick_before base plan i) (slice_index_or plan i no_step) tick up else Some Extra
+    if nat_lt i (length plan) then step_fault freq (tick_before base plan i) (slice_index_or plan i no_step) tick up
+    else Some Extra
 
 -- by how many ticks a pulse is before the planned tick of its place
 abbrev pub ahead : List Planned → ℕ → ℕ → ℕ
@@ -51,4 +53,9 @@ tally_of plan pulses = record { made = length pulses; early = most_early plan pu
 
 -- the same with one more pulse
 abbrev pub with_pulse : List Planned → Tally → ℕ → Tally
-with_pulse plan t tick = record { made = suc t.made; early = max t.early (ahead plan t.made tick); late = max t.late (behind plan t.made tick) }
+with_pulse plan t tick =
+    record {
+      made = suc t.made;
+      early = max t.early (ahead plan t.made tick);
+      late = max t.late (behind plan t.made tick);
+    }

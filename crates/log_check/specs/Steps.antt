@@ -52,8 +52,8 @@ pub record IsTold (m : Machine) (c : Clocks) (b : ℕ) : Type 0 where
   pub soon : last_from c.first.at c.held < 2 ^ 62 * turn_ns
   pub freq : c.first.freq ≡ (board_at m b).freq
 
--- a point has as many tallies as steppers, and a plan for each of them behind all clock lines or none at all; no stepper has more
--- pulses than planned
+-- a point has as many tallies as steppers, and a plan for each of them behind all clock lines or none at all;
+-- no stepper has more pulses than planned
 pub record IsSound (m : Machine) (p : Point) : Type 0 where
   pub tallies : length p.tallies ≡ length m.steppers
   pub plans : length p.plans ≤ length m.steppers
@@ -62,11 +62,25 @@ pub record IsSound (m : Machine) (p : Point) : Type 0 where
   pub early : All (λ f. f.from < 2 ^ 64) p.further
   pub lines : (b : ℕ) → b < length p.clocks → IsTold m (clocks_at p.clocks b) b
   pub none : p.begun ≡ 0 → p.plans ≡ []
-  pub few : (s : ℕ) → s < length m.steppers → (slice_index_or p.tallies s no_tally).made ≤ length (slice_index_or p.plans s [])
+  pub few : (s : ℕ) → s < length m.steppers →
+      (slice_index_or p.tallies s no_tally).made ≤ length (slice_index_or p.plans s [])
 
 -- the point with a line told behind it that fits
 abbrev pub with_clock : Point → Clocks → Clocks → Point
-with_clock p c t = record { further = p.further; clocks = p.clocks ++ c ∷ []; told = p.told ++ t ∷ []; begun = p.begun; start = p.start; end = p.end; cut = p.cut; ended = p.ended; plans = p.plans; bases = p.bases; tallies = p.tallies }
+with_clock p c t =
+    record {
+      further = p.further;
+      clocks = p.clocks ++ c ∷ [];
+      told = p.told ++ t ∷ [];
+      begun = p.begun;
+      start = p.start;
+      end = p.end;
+      cut = p.cut;
+      ended = p.ended;
+      plans = p.plans;
+      bases = p.bases;
+      tallies = p.tallies;
+    }
 
 -- the point with a further clock line told behind it that fits
 abbrev pub with_line : Machine → Point → ℕ → ℕ → ℕ → ℕ → Point
@@ -84,14 +98,56 @@ with_line m p b turn tick from = record {
   tallies = p.tallies;
 }
 
+-- a point of the check at which a stepper's pulses are counted so
 abbrev pub with_tally : Point → ℕ → Tally → Point
-with_tally p s t = record { further = p.further; clocks = p.clocks; told = p.told; begun = p.begun; start = p.start; end = p.end; cut = p.cut; ended = p.ended; plans = p.plans; bases = p.bases; tallies = set p.tallies s t }
+with_tally p s t =
+    record {
+      further = p.further;
+      clocks = p.clocks;
+      told = p.told;
+      begun = p.begun;
+      start = p.start;
+      end = p.end;
+      cut = p.cut;
+      ended = p.ended;
+      plans = p.plans;
+      bases = p.bases;
+      tallies = set p.tallies s t;
+    }
 
+-- a point behind the line that ends a homing section
 abbrev pub with_cut : Point → Point
-with_cut p = record { further = p.further; clocks = p.clocks; told = p.told; begun = p.begun; start = p.start; end = p.end; cut = true; ended = p.ended; plans = p.plans; bases = p.bases; tallies = p.tallies }
+with_cut p =
+    record {
+      further = p.further;
+      clocks = p.clocks;
+      told = p.told;
+      begun = p.begun;
+      start = p.start;
+      end = p.end;
+      cut = true;
+      ended = p.ended;
+      plans = p.plans;
+      bases = p.bases;
+      tallies = p.tallies;
+    }
 
+-- a point behind the log's end line
 abbrev pub with_end : Point → Point
-with_end p = record { further = p.further; clocks = p.clocks; told = p.told; begun = p.begun; start = p.start; end = p.end; cut = p.cut; ended = true; plans = p.plans; bases = p.bases; tallies = p.tallies }
+with_end p =
+    record {
+      further = p.further;
+      clocks = p.clocks;
+      told = p.told;
+      begun = p.begun;
+      start = p.start;
+      end = p.end;
+      cut = p.cut;
+      ended = true;
+      plans = p.plans;
+      bases = p.bases;
+      tallies = p.tallies;
+    }
 
 -- the point at which a section begins
 abbrev pub with_section : Machine → List Section → Point → ℕ → Point
@@ -111,12 +167,16 @@ with_section m sections p turn =
       tallies = for_each_stepper m (λ s. no_tally);
     }
 
+-- a point behind a pulse of a stepper at a tick
 abbrev pub with_made : Point → ℕ → ℕ → Point
-with_made p s tick = with_tally p s (with_pulse (slice_index_or p.plans s []) (slice_index_or p.tallies s no_tally) tick)
+with_made p s tick =
+    with_tally p s (with_pulse (slice_index_or p.plans s []) (slice_index_or p.tallies s no_tally) tick)
 
+-- the point of the check behind a line
 abbrev pub next : Machine → List Section → Point → LogLine → Point
 next m sections p line.Note = p
-next m sections p (line.Board b turn tick) = with_clock p (with_further m b p.further (one_line (told_line m b turn tick))) (one_line (told_line m b turn tick))
+next m sections p (line.Board b turn tick) =
+    with_clock p (with_further m b p.further (one_line (told_line m b turn tick))) (one_line (told_line m b turn tick))
 next m sections p (line.Line b turn tick from) = with_line m p b turn tick from
 next m sections p (line.Section i turn kind) = with_section m sections p turn
 next m sections p (line.Pulse s tick up) = with_made p s tick
@@ -144,16 +204,22 @@ told_at p (line.Cut i) = []
 told_at p line.End = []
 
 -- a line was taken at a point: it led to another point, and what is told became longer; or it doesn't fit
-abbrev pub TookLine : Machine → List Section → Point → Point → List ReportLine → List ReportLine → LogLine → Option MisfitKind → Option MisfitKind → Type 0
-TookLine m sections p after old new l None found = (found ≡ None) × (after ≡ next m sections p l) × (new ≡ old ++ told_at p l)
+abbrev pub TookLine : Machine → List Section → Point → Point → List ReportLine → List ReportLine → LogLine →
+    Option MisfitKind → Option MisfitKind → Type 0
+TookLine m sections p after old new l None found =
+    (found ≡ None) × (after ≡ next m sections p l) × (new ≡ old ++ told_at p l)
 TookLine m sections p after old new l (Some kind) found = (found ≡ Some kind) × (after ≡ counted p l) × (new ≡ old)
 
-abbrev pub Took : Machine → List Section → Point → Point → List ReportLine → List ReportLine → Said → Option MisfitKind → Type 0
+-- The check took what a line says: it is at the next point, with what is told there; or at a fault, with
+-- nothing more told.
+abbrev pub Took : Machine → List Section → Point → Point → List ReportLine → List ReportLine → Said →
+    Option MisfitKind → Type 0
 Took m sections p after old new (Err kind) found = (found ≡ Some kind) × (after ≡ p) × (new ≡ old)
 Took m sections p after old new (Ok l) found = TookLine m sections p after old new l (fault_at m sections p l) found
 
 -- some lines were taken, the last of which has a number, and these are left
-pub record CheckSofar (m : Machine) (sections : List Section) (further : List Further) (p : Point) (told : List ReportLine) (last : ℕ) (left : List (ℕ × List Text)) (wanted : Verdict) : Type 0 where
+pub record CheckSofar (m : Machine) (sections : List Section) (further : List Further) (p : Point)
+    (told : List ReportLine) (last : ℕ) (left : List (ℕ × List Text)) (wanted : Verdict) : Type 0 where
   pub lines : List LogLine
   pub at : p ≡ point m sections further lines
   pub told_is : told ≡ fits_before m sections further lines

@@ -99,7 +99,8 @@ fn bases_of(
 ) -> Result<Vec<u64>, AllocError>
     requires boards { (s : ℕ) → s < length machine.now.steppers → (stepper_at machine.now s).board < length clocks.now }
     requires small { (s : ℕ) → s < length machine.now.steppers → base_tick machine.now clocks.now turn s < 2 ^ 64 }
-    ensures { IfOk result (λ bases. bases.items ≡ for_each_stepper machine.now (base_tick machine.now clocks.now turn)) }
+    ensures { IfOk result
+        (λ bases. bases.items ≡ for_each_stepper machine.now (base_tick machine.now clocks.now turn)) }
 {
     let mut bases = Vec::new(alloc);
     for s in 0..machine.steppers.len() {
@@ -135,7 +136,8 @@ fn begin(
 /// Counts a pulse of a stepper.
 fn count(stand: &mut Stand, s: usize, tick: u64)
     requires there { s < length stand.old.tallies.items }
-    requires few { (slice_index_or stand.old.tallies.items s no_tally).made ≤ length (slice_index_or stand.old.plans s []) }
+    requires few { (slice_index_or stand.old.tallies.items s no_tally).made
+        ≤ length (slice_index_or stand.old.plans s []) }
     ensures { point_of stand.new ≡ with_made (point_of stand.old) s tick }
 {
     let tally = stand.tallies[s];
@@ -160,7 +162,10 @@ fn keep_clock(
     requires machine { IsValidMachine machine.now }
     requires there { board < length machine.now.boards }
     requires turn { turn < 2 ^ 62 }
-    ensures { OnOk result (point_of stand.new ≡ with_clock (point_of stand.old) (with_further machine.now board stand.old.further.items (one_line (told_line machine.now board turn tick))) (one_line (told_line machine.now board turn tick))) }
+    ensures { OnOk result (point_of stand.new
+        ≡ with_clock (point_of stand.old)
+        (with_further machine.now board stand.old.further.items (one_line (told_line machine.now board turn tick)))
+        (one_line (told_line machine.now board turn tick))) }
 {
     let line = told_line(machine, board, turn, tick);
     let lines = lines_with(alloc, machine, &stand.further, board, line)?;
@@ -251,7 +256,8 @@ fn take(
     requires sections { CanPlan sections.now }
     requires sound { IsSound machine.now (point_of stand.old) }
     requires begun { stand.old.begun ≤ length sections.now }
-    ensures took { IfOk result (Took machine.now sections.now (point_of stand.old) (point_of stand.new) out.old.items out.new.items (line_said machine.now (words_of words.now))) }
+    ensures took { IfOk result (Took machine.now sections.now (point_of stand.old) (point_of stand.new) out.old.items
+        out.new.items (line_said machine.now (words_of words.now))) }
     ensures sound { IfOk result (λ found. IfNone found (IsSound machine.now (point_of stand.new))) }
     ensures begun { IfOk result (λ found. stand.new.begun ≤ length sections.now) }
     ensures few { IfOk result (λ found. length stand.new.plans ≤ 16) }
@@ -272,7 +278,8 @@ fn take(
 fn close(stand: &Stand, out: Vec<ReportLine>, cause: Cause) -> Result<Checked, AllocError>
     requires { length stand.now.plans ≤ 16 }
     ensures cause { IfOk result (λ checked. checked.cause ≡ cause) }
-    ensures lines { IfOk result (λ checked. checked.lines.items ≡ out.items ++ (present_fits (point_of stand.now) ++ report.End cause ∷ [])) }
+    ensures lines { IfOk result
+        (λ checked. checked.lines.items ≡ out.items ++ (present_fits (point_of stand.now) ++ report.End cause ∷ [])) }
 {
     let mut lines = out;
     put_fits(&mut lines, stand)?;
@@ -294,8 +301,8 @@ fn cause_at_end(stand: &Stand, last: u64) -> Cause
     }
 }
 
-/// Checks the text of a log against the plans of some sections on a machine: whether each line fits, and for each section
-/// and stepper how the pulses stand to the plan.
+/// Checks the text of a log against the plans of some sections on a machine: whether each line fits, and for
+/// each section and stepper how the pulses stand to the plan.
 pub fn check_log(
     alloc: Global,
     machine: &Machine,

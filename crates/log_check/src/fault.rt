@@ -184,7 +184,10 @@ fn place_fault(
     requires machine { IsValidMachine machine.now }
     requires sound { IsSound machine.now (point_of stand.now) }
     requires there { s < length machine.now.steppers }
-    ensures { result ≡ pulses.pulse_fault (clocks_at stand.now.clocks.items (stepper_at machine.now s).board).first.freq (slice_index_or stand.now.bases.items s 0) (slice_index_or stand.now.plans s []) (slice_index_or stand.now.tallies.items s no_tally).made tick up }
+    ensures { result
+        ≡ pulses.pulse_fault (clocks_at stand.now.clocks.items (stepper_at machine.now s).board).first.freq
+        (slice_index_or stand.now.bases.items s 0) (slice_index_or stand.now.plans s [])
+        (slice_index_or stand.now.tallies.items s no_tally).made tick up }
 {
     if s >= stand.plans.len() {
         return Some(MisfitKind::Extra);

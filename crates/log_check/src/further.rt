@@ -23,7 +23,8 @@ const COMMENT: u8 = b'#';
 /// The nanoseconds of a turn.
 const TURN_NS: u128 = 1_000_000;
 
-/// A further clock line of a board: the turn in which it was asked, its tick then, and the time in ns from which the line holds.
+/// A further clock line of a board: the turn in which it was asked, its tick then, and the time in ns from
+/// which the line holds.
 #[derive(Debug, Clone, Copy, PartialEq, Eq)]
 pub struct Further {
     pub board: u8,
@@ -76,7 +77,8 @@ fn further_of(machine: &Machine, words: &[u8]) -> Option<Further>
 fn push_further(machine: &Machine, words: &[u8], found: &mut Vec<Further>) -> Result<(), AllocError>
     requires machine { IsValidMachine machine.now }
     requires early { All (λ f. f.from < 2 ^ 64) found.old.items }
-    ensures value { OnOk result (found.new.items ≡ found.old.items ++ with_one (specs.further_of (line_said machine.now (words_of words.now))) []) }
+    ensures value { OnOk result (found.new.items
+        ≡ found.old.items ++ with_one (specs.further_of (line_said machine.now (words_of words.now))) []) }
     ensures early { OnOk result (All (λ f. f.from < 2 ^ 64) found.new.items) }
 {
     if let Some(further) = further_of(machine, words) {
@@ -99,7 +101,8 @@ fn is_pulse(line: &[u8]) -> bool
 fn look_at(machine: &Machine, line: &[u8], found: &mut Vec<Further>) -> Result<(), AllocError>
     requires machine { IsValidMachine machine.now }
     requires early { All (λ f. f.from < 2 ^ 64) found.old.items }
-    ensures value { OnOk result (found.new.items ≡ found.old.items ++ with_one (specs.further_of (line_said machine.now (line_words 35 line.now))) []) }
+    ensures value { OnOk result (found.new.items
+        ≡ found.old.items ++ with_one (specs.further_of (line_said machine.now (line_words 35 line.now))) []) }
     ensures early { OnOk result (All (λ f. f.from < 2 ^ 64) found.new.items) }
 {
     if is_pulse(line) {

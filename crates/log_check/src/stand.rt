@@ -5,9 +5,9 @@ use crate::tally::Tally;
 use clock_line::Lines;
 use plan_types::{Listed, Planned};
 
-/// Where a check stands: the log's further clock lines, the boards' clocks with all of these and with those told so far, how many
-/// sections began, the start of the present one, the turn in which its
-/// plan ends, whether it was cut and whether the log ended, and of each stepper the planned steps, the tick at which the
+/// Where a check stands: the log's further clock lines, the boards' clocks with all of these and with those
+/// told so far, how many sections began, the start of the present one, the turn in which its plan ends,
+/// whether it was cut and whether the log ended, and of each stepper the planned steps, the tick at which the
 /// section begins, and how its pulses stand to the plan.
 #[derive(Drop)]
 pub struct Stand {

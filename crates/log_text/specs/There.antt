@@ -15,7 +15,8 @@ IsEarly (line.Pulse s tick up) = ⊥
 IsEarly (line.Cut i) = ⊥
 IsEarly line.End = ⊥
 
--- the machine has the board or the stepper that the line names, its turn is one in which a section may start, and a time has 64 bits
+-- the machine has the board or the stepper that the line names, its turn is one in which a section may start,
+-- and a time has 64 bits
 abbrev pub IsThere : Machine → LogLine → Type 0
 IsThere m line.Note = Unit {0}
 IsThere m (line.Board b turn tick) = (b < length m.boards) × (turn < turn_limit)

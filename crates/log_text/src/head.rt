@@ -34,7 +34,9 @@ fn is_machine(
     boards: u64,
     steppers: u64,
 ) -> Result<LogLine, MisfitKind>
-    ensures value { result ≡ specs.machine_if (specs.same corexy machine.now.corexy && (boards == length machine.now.boards) && (steppers == length machine.now.steppers)) }
+    ensures value { result
+        ≡ specs.machine_if (specs.same corexy machine.now.corexy && (boards == length machine.now.boards)
+        && (steppers == length machine.now.steppers)) }
     ensures there { IfOk result (IsThere machine.now) }
 {
     if corexy == machine.corexy

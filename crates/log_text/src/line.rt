@@ -25,8 +25,8 @@ pub enum LogLine {
         turn: u64,
         tick: u64,
     },
-    /// A further clock line of a board: the turn in which it was asked, its tick then, and the time in ns from which the line
-    /// holds.
+    /// A further clock line of a board: the turn in which it was asked, its tick then, and the time in ns
+    /// from which the line holds.
     Line {
         board: u8,
         turn: u64,
@@ -73,7 +73,9 @@ fn pulse_told(
     up: bool,
 ) -> Result<LogLine, MisfitKind>
     requires { IsValidMachine machine.now }
-    ensures value { result ≡ specs.pulse_told machine.now tick up (board_from 0 board.now machine.now.boards) (stepper_from 0 stepper.now machine.now.steppers) }
+    ensures value { result
+        ≡ specs.pulse_told machine.now tick up (board_from 0 board.now machine.now.boards)
+        (stepper_from 0 stepper.now machine.now.steppers) }
     ensures there { IfOk result (IsThere machine.now) }
 {
     let Some(board) = board_named(machine.boards.as_slice(), board) else {
@@ -187,7 +189,8 @@ fn line_behind(machine: &Machine, word: &[u8], rest: &[u8]) -> Result<LogLine, M
 ///
 /// # Errors
 ///
-/// `BadLine` for a line that is none of a report, before `Unknown` for a board or a stepper that the machine doesn't have.
+/// `BadLine` for a line that is none of a report, before `Unknown` for a board or a stepper that the machine
+/// doesn't have.
 pub fn read_line(machine: &Machine, text: &[u8]) -> Result<LogLine, MisfitKind>
     requires { IsValidMachine machine.now }
     ensures value { result ≡ specs.line_said machine.now (words_of text.now) }

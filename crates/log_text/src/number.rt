@@ -24,7 +24,8 @@ pub fn number(word: &[u8]) -> Option<u64>
 
 /// The number behind a label, and what stands behind it.
 pub fn labelled<'a>(label: &[u8], text: &'a [u8]) -> Option<(u64, &'a [u8])>
-    ensures some { IfSome result (λ found. specs.labelled label.now (words_of text.now) ≡ Some (found.0, words_of found.1.now)) }
+    ensures some { IfSome result
+        (λ found. specs.labelled label.now (words_of text.now) ≡ Some (found.0, words_of found.1.now)) }
     ensures none { IfNone result (specs.labelled label.now (words_of text.now) ≡ None) }
 {
     let (word, behind) = next_word(text)?;

@@ -33,10 +33,15 @@ height changes caps j = rise changes caps j + place_of changes j
 pub record AreLows (heights : ℕ → ℕ) (count from : ℕ) (lows : List Low) : Type 0 where
   pub each_from : (e : ℕ) → e < length lows → from ≤ (slice_index_or lows e no_low).at
   pub each_to : (e : ℕ) → e < length lows → (slice_index_or lows e no_low).at < count
-  pub each_is : (e : ℕ) → e < length lows → (slice_index_or lows e no_low).height ≡ heights ((slice_index_or lows e no_low).at)
-  pub rising : (e f : ℕ) → e < f → f < length lows → (slice_index_or lows e no_low).height < (slice_index_or lows f no_low).height
-  pub onward : (e f : ℕ) → e < f → f < length lows → (slice_index_or lows e no_low).at < (slice_index_or lows f no_low).at
-  pub covered : (j : ℕ) → from ≤ j → j < count → (e : ℕ) × (e < length lows) × (j ≤ (slice_index_or lows e no_low).at) × ((slice_index_or lows e no_low).height ≤ heights j)
+  pub each_is : (e : ℕ) → e < length lows →
+      (slice_index_or lows e no_low).height ≡ heights ((slice_index_or lows e no_low).at)
+  pub rising : (e f : ℕ) → e < f → f < length lows →
+      (slice_index_or lows e no_low).height < (slice_index_or lows f no_low).height
+  pub onward : (e f : ℕ) → e < f → f < length lows →
+      (slice_index_or lows e no_low).at < (slice_index_or lows f no_low).at
+  pub covered : (j : ℕ) → from ≤ j → j < count →
+      (e : ℕ) × (e < length lows) × (j ≤ (slice_index_or lows e no_low).at)
+      × ((slice_index_or lows e no_low).height ≤ heights j)
 
 -- a stream to which these moves were pushed, and which knows these caps
 pub record IsStreamOf (s : LookStream) (scv : ℕ) (moves : List Move) (caps : List ℕ) : Type 0 where
@@ -57,7 +62,10 @@ pub record IsStreamOf (s : LookStream) (scv : ℕ) (moves : List Move) (caps : L
 -- a stream to which these moves were pushed, and to which more may be
 pub record IsOpenStreamOf (s : LookStream) (scv : ℕ) (moves : List Move) : Type 0 where
   pub stream : IsStreamOf s scv moves (known_caps moves scv)
-  pub risen_is : 0 < s.pushed → s.risen ≡ rise (map speed_change moves) (known_caps moves scv) (s.pushed - 1) + slice_index (map speed_change moves) (s.pushed - 1)
+  pub risen_is : 0 < s.pushed →
+      s.risen
+      ≡ rise (map speed_change moves) (known_caps moves scv) (s.pushed - 1)
+      + slice_index (map speed_change moves) (s.pushed - 1)
   pub not_yet : s.pushed ≡ 0 → s.risen ≡ 0
   pub room : 0 < s.pushed → deque_len s.lows < deque_capacity s.lows
 
@@ -81,4 +89,5 @@ IsFinalSpeed moves scv k speed = (more : List Move) → speed_at (moves ++ more)
 -- slower there, should it end behind the last move.
 abbrev pub IsOpenEnd : List Move → ℕ → ℕ → Type 0
 IsOpenEnd moves scv count =
-    (length moves ≤ count + 1) ⊎ (speed_at moves scv (count + 1) < speed_by (map speed_change moves) (known_caps moves scv) (count + 1))
+    (length moves ≤ count + 1)
+    ⊎ (speed_at moves scv (count + 1) < speed_by (map speed_change moves) (known_caps moves scv) (count + 1))

@@ -23,7 +23,8 @@ pub fn speeds(alloc: Global, moves: &[Move], scv: u64) -> Result<Vec<u128>, OutO
     requires valid { All IsValidMove moves.now }
     requires speed { scv ≤ 100_000_000 }
     ensures least { IfOk result (λ speeds. speeds.items ≡ greatest_speeds moves.now scv) }
-    ensures greatest { IfOk result (λ speeds. AreGreatest (caps moves.now scv) (map speed_change moves.now) speeds.items) }
+    ensures greatest { IfOk result
+        (λ speeds. AreGreatest (caps moves.now scv) (map speed_change moves.now) speeds.items) }
 {
     let mut speeds = junction_caps(alloc, moves, scv)?;
     settle(&mut speeds, moves);

@@ -17,8 +17,10 @@ pub struct Low {
 pub fn cut(lows: &mut VecDeque<Low>, height: u128)
     ensures front { lows.new.items ≡ take (length lows.new.items) lows.old.items }
     ensures shorter { length lows.new.items ≤ length lows.old.items }
-    ensures dropped { (e : ℕ) → length lows.new.items ≤ e → e < length lows.old.items → height ≤ (slice_index_or lows.old.items e no_low).height }
-    ensures below { 0 < length lows.new.items → (slice_index_or lows.new.items (length lows.new.items - 1) no_low).height < height }
+    ensures dropped { (e : ℕ) → length lows.new.items ≤ e → e < length lows.old.items →
+        height ≤ (slice_index_or lows.old.items e no_low).height }
+    ensures below { 0 < length lows.new.items →
+        (slice_index_or lows.new.items (length lows.new.items - 1) no_low).height < height }
     ensures fewer { deque_len lows.new ≤ deque_len lows.old }
     ensures capacity { deque_capacity lows.new ≡ deque_capacity lows.old }
 {
@@ -46,7 +48,8 @@ pub fn leave(lows: &mut VecDeque<Low>, at: u64)
 
 /// The first low.
 pub fn first(lows: &VecDeque<Low>) -> Option<Low>
-    ensures { MatchOption result (length lows.now.items ≡ 0) (λ low. (0 < length lows.now.items) × (low ≡ slice_index_or lows.now.items 0 no_low)) }
+    ensures { MatchOption result (length lows.now.items ≡ 0)
+        (λ low. (0 < length lows.now.items) × (low ≡ slice_index_or lows.now.items 0 no_low)) }
 {
     match lows.front() {
         Some(low) => Some(*low),
@@ -57,9 +60,11 @@ pub fn first(lows: &VecDeque<Low>) -> Option<Low>
 /// Adds a low behind those that it does not undercut, where there is room for it; none for the junction at the start.
 pub fn add(lows: &mut VecDeque<Low>, at: u64, height: u128)
     ensures start { at ≡ 0 → lows.new.items ≡ lows.old.items }
-    ensures later { 0 < at → deque_len lows.old < deque_capacity lows.old → IsAdded lows.old.items lows.new.items at height }
+    ensures later { 0 < at → deque_len lows.old < deque_capacity lows.old →
+        IsAdded lows.old.items lows.new.items at height }
     ensures more { deque_len lows.new ≤ deque_len lows.old + 1 }
-    ensures capacity { deque_len lows.old < deque_capacity lows.old → deque_capacity lows.new ≡ deque_capacity lows.old }
+    ensures capacity { deque_len lows.old < deque_capacity lows.old →
+        deque_capacity lows.new ≡ deque_capacity lows.old }
 {
     if at == 0 {
         return;

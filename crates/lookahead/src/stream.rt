@@ -58,8 +58,10 @@ impl LookStream {
     /// Adds a move behind the others.
     pub fn push(&mut self, one: Move) -> Result<(), OutOfMemory>
         requires valid { IsValidMove one }
-        ensures ok { OnOk result ((moves : List Move) → (scv : ℕ) → length moves < 2_000_000 → IsOpenStreamOf self.old scv moves → IsOpenStreamOf self.new scv (moves ++ one ∷ [])) }
-        ensures unchanged { OnErr result ((moves : List Move) → (scv : ℕ) → IsOpenStreamOf self.old scv moves → IsOpenStreamOf self.new scv moves) }
+        ensures ok { OnOk result ((moves : List Move) → (scv : ℕ) → length moves < 2_000_000 →
+            IsOpenStreamOf self.old scv moves → IsOpenStreamOf self.new scv (moves ++ one ∷ [])) }
+        ensures unchanged { OnErr result
+            ((moves : List Move) → (scv : ℕ) → IsOpenStreamOf self.old scv moves → IsOpenStreamOf self.new scv moves) }
         ensures count { settled_count self.new ≡ settled_count self.old }
     {
         self.moves.reserve(1)?;
@@ -78,7 +80,11 @@ impl LookStream {
     fn next_rise(&self, one: &Move) -> u128
         requires { IsValidMove one.now }
         ensures start { length self.now.moves.items ≡ 0 → result ≡ 0 }
-        ensures later { 0 < length self.now.moves.items → result ≡ min (junction_cap (slice_index_or self.now.moves.items (length self.now.moves.items - 1) one.now) one.now self.now.scv) self.now.risen }
+        ensures later { 0 < length self.now.moves.items →
+            result
+            ≡ min (junction_cap (slice_index_or self.now.moves.items (length self.now.moves.items - 1) one.now) one.now
+            self.now.scv)
+            self.now.risen }
         ensures small { result ≤ 1_000_000_000_000_000_000 }
     {
         match self.moves.back() {
@@ -89,7 +95,8 @@ impl LookStream {
 
     /// The section ends behind the last move.
     pub fn finish(&mut self)
-        ensures ended { (moves : List Move) → (scv : ℕ) → IsOpenStreamOf self.old scv moves → IsEndedStreamOf self.new scv moves }
+        ensures ended { (moves : List Move) → (scv : ℕ) → IsOpenStreamOf self.old scv moves →
+            IsEndedStreamOf self.new scv moves }
         ensures count { settled_count self.new ≡ settled_count self.old }
     {
         // The last push left room for this.
@@ -98,18 +105,44 @@ impl LookStream {
 
     /// Takes the first move out with its two squared speeds, once no later cap can lower them.
     pub fn settled(&mut self) -> Option<(Move, u128, u128)>
-        ensures open { (moves : List Move) → (scv : ℕ) → IsOpenStreamOf self.old scv moves → MatchOption result (IsOpenEnd moves scv (settled_count self.old) × (settled_count self.new ≡ settled_count self.old) × IsOpenStreamOf self.new scv moves) (λ r. (r.0 ≡ slice_index_or moves (settled_count self.old) r.0) × IsFinalSpeed moves scv (settled_count self.old) r.1 × IsFinalSpeed moves scv (settled_count self.old + 1) r.2 × (settled_count self.new ≡ settled_count self.old + 1) × IsOpenStreamOf self.new scv moves) }
-        ensures ended { (moves : List Move) → (scv : ℕ) → IsEndedStreamOf self.old scv moves → MatchOption result ((settled_count self.old ≡ length moves) × (settled_count self.new ≡ settled_count self.old) × IsEndedStreamOf self.new scv moves) (λ r. (r.0 ≡ slice_index_or moves (settled_count self.old) r.0) × (r.1 ≡ speed_at moves scv (settled_count self.old)) × (r.2 ≡ speed_at moves scv (settled_count self.old + 1)) × (settled_count self.new ≡ settled_count self.old + 1) × IsEndedStreamOf self.new scv moves) }
+        ensures open { (moves : List Move) → (scv : ℕ) → IsOpenStreamOf self.old scv moves →
+            MatchOption result (IsOpenEnd moves scv (settled_count self.old)
+            × (settled_count self.new ≡ settled_count self.old) × IsOpenStreamOf self.new scv moves)
+            (λ r. (r.0 ≡ slice_index_or moves (settled_count self.old) r.0)
+            × IsFinalSpeed moves scv (settled_count self.old) r.1
+            × IsFinalSpeed moves scv (settled_count self.old + 1) r.2
+            × (settled_count self.new ≡ settled_count self.old + 1) × IsOpenStreamOf self.new scv moves) }
+        ensures ended { (moves : List Move) → (scv : ℕ) → IsEndedStreamOf self.old scv moves →
+            MatchOption result ((settled_count self.old ≡ length moves)
+            × (settled_count self.new ≡ settled_count self.old) × IsEndedStreamOf self.new scv moves)
+            (λ r. (r.0 ≡ slice_index_or moves (settled_count self.old) r.0)
+            × (r.1 ≡ speed_at moves scv (settled_count self.old))
+            × (r.2 ≡ speed_at moves scv (settled_count self.old + 1))
+            × (settled_count self.new ≡ settled_count self.old + 1) × IsEndedStreamOf self.new scv moves) }
     {
         self.take_first()
     }
 
     /// Takes the first move out, where the speed at its end is known.
     fn take_first(&mut self) -> Option<(Move, u128, u128)>
-        ensures speeds { (moves : List Move) → (scv : ℕ) → (caps : List ℕ) → IsStreamOf self.old scv moves caps → MatchOption result (((length caps ≤ self.old.taken + 1) ⊎ (place_of (map speed_change moves) (length moves) < speed_by (map speed_change moves) caps (self.old.taken + 1) + place_of (map speed_change moves) (self.old.taken + 1))) × (self.new.taken ≡ self.old.taken) × IsStreamOf self.new scv moves caps) (λ r. (r.0 ≡ slice_index_or moves self.old.taken r.0) × (r.1 ≡ speed_by (map speed_change moves) caps self.old.taken) × (r.2 ≡ speed_by (map speed_change moves) caps (self.old.taken + 1)) × (speed_by (map speed_change moves) caps (self.old.taken + 1) + place_of (map speed_change moves) (self.old.taken + 1) ≤ place_of (map speed_change moves) (length moves)) × (self.old.taken + 1 < length caps) × (self.new.taken ≡ self.old.taken + 1) × IsStreamOf self.new scv moves caps) }
+        ensures speeds { (moves : List Move) → (scv : ℕ) → (caps : List ℕ) → IsStreamOf self.old scv moves caps →
+            MatchOption result (((length caps ≤ self.old.taken + 1)
+            ⊎ (place_of (map speed_change moves) (length moves)
+            < speed_by (map speed_change moves) caps (self.old.taken + 1)
+            + place_of (map speed_change moves) (self.old.taken + 1)))
+            × (self.new.taken ≡ self.old.taken) × IsStreamOf self.new scv moves caps)
+            (λ r. (r.0 ≡ slice_index_or moves self.old.taken r.0)
+            × (r.1 ≡ speed_by (map speed_change moves) caps self.old.taken)
+            × (r.2 ≡ speed_by (map speed_change moves) caps (self.old.taken + 1))
+            × (speed_by (map speed_change moves) caps (self.old.taken + 1)
+            + place_of (map speed_change moves) (self.old.taken + 1)
+            ≤ place_of (map speed_change moves) (length moves))
+            × (self.old.taken + 1 < length caps) × (self.new.taken ≡ self.old.taken + 1)
+            × IsStreamOf self.new scv moves caps) }
         ensures pushed { self.new.pushed ≡ self.old.pushed }
         ensures risen { self.new.risen ≡ self.old.risen }
-        ensures room { deque_len self.old.lows < deque_capacity self.old.lows → deque_len self.new.lows < deque_capacity self.new.lows }
+        ensures room { deque_len self.old.lows < deque_capacity self.old.lows →
+            deque_len self.new.lows < deque_capacity self.new.lows }
     {
         let low = first(&self.lows)?;
         if low.height > self.reach {

@@ -94,8 +94,8 @@ rotation_distance: 32
 microsteps: 16
 ";
 
-/// The same printer with a slow board and very fine steps: x has 512,000 steps a millimetre, and the steps of a board of 1 MHz are at
-/// least four microseconds apart.
+/// The same printer with a slow board and very fine steps: x has 512,000 steps a millimetre, and the steps of
+/// a board of 1 MHz are at least four microseconds apart.
 pub const SLOW: &str = "[printer]
 kinematics: cartesian
 max_velocity: 300
@@ -190,8 +190,9 @@ rotation_distance: 32
 microsteps: 16
 ";
 
-/// What a machine put: the units of the first board, each with its turn, and the news of the notes, each with its turn; the word
-/// that it wanted before each turn; and how many bytes of the text were taken by each turn before which some were.
+/// What a machine put: the units of the first board, each with its turn, and the news of the notes, each with
+/// its turn; the word that it wanted before each turn; and how many bytes of the text were taken by each turn
+/// before which some were.
 #[derive(Drop)]
 pub struct Ran {
     pub units: Vec<(u64, Unit)>,
@@ -234,8 +235,8 @@ fn add_line(alloc: Global, news: &mut Listed<WordNews>, freq: u32) -> Result<(),
     news.push(WordNews::Lines(lines))
 }
 
-/// The word of a turn: in turn 44 the board's line, that of 16 MHz, of 1 MHz or of 200 MHz (the others are passed over), in some turns the
-/// answer of a homing group, and in some a further line of the board.
+/// The word of a turn: in turn 44 the board's line, that of 16 MHz, of 1 MHz or of 200 MHz (the others are
+/// passed over), in some turns the answer of a homing group, and in some a further line of the board.
 pub fn word(
     alloc: Global,
     turn: u64,
@@ -307,8 +308,8 @@ pub fn slicer_news() -> [(u64, NoteNews); 7] {
     ]
 }
 
-/// Whether these words are wanted where an axis homes until turn 1,762: that of the same turn before turn 45, when connecting
-/// ended, and from its start on, else that of 64 turns before.
+/// Whether these words are wanted where an axis homes until turn 1,762: that of the same turn before turn 45,
+/// when connecting ended, and from its start on, else that of 64 turns before.
 pub fn are_wanted(wants: &[(u64, u64)]) -> bool {
     for (turn, word) in wants {
         let together = *turn < 45 || (1_260..1_763).contains(turn);

@@ -23,7 +23,8 @@ position_max: 500
 /// 499 seconds of a move in which x makes no step, with a millimetre of both behind them.
 const TEXT: &str = "G1 X499 F60\nG1 X500 Y1 F600\n";
 
-/// What was made until the section ended: how many steps of x and of y, and the tick of the last one of y; and how many lines were taken up.
+/// What was made until the section ended: how many steps of x and of y, and the tick of the last one of y;
+/// and how many lines were taken up.
 #[derive(Clone, Copy, Debug, PartialEq, Eq)]
 struct Counts {
     x: u64,
@@ -42,7 +43,8 @@ const NONE: Counts = Counts {
     ended: false,
 };
 
-/// The line that the word of a turn tells: each 1,000 turns the board is asked, and it has 1,600 ticks more than by its frequency.
+/// The line that the word of a turn tells: each 1,000 turns the board is asked, and it has 1,600 ticks more
+/// than by its frequency.
 fn further(turn: u64) -> Option<Line> {
     let sent = turn.saturating_sub(1);
     if sent == 0 || sent % 1_000 != 0 {

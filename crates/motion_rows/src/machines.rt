@@ -66,7 +66,16 @@ fn stepper() -> StepperDef
 
 /// An axis whose endstop is on a board's second pin.
 fn axis(board: u8) -> AxisDef
-    ensures { result ≡ record { min = pos 0; max = pos 200000000; endstop = pos 0; speed = 10000000; board = board; pin = 1; pressed = true } }
+    ensures { result
+        ≡ record {
+          min = pos 0;
+          max = pos 200000000;
+          endstop = pos 0;
+          speed = 10000000;
+          board = board;
+          pin = 1;
+          pressed = true;
+        } }
 {
     AxisDef {
         min: 0,

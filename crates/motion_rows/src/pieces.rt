@@ -61,7 +61,8 @@ const TEXTS: [&str; 5] = [
 /// How many ticks of the board a step may be early: those of 25 microseconds.
 pub const EARLY: u64 = 400;
 
-/// Tells a machine the next pieces of a text, of so many bytes, as long as it needs more for turn k. Answers where the next begins.
+/// Tells a machine the next pieces of a text, of so many bytes, as long as it needs more for turn k. Answers
+/// where the next begins.
 pub fn feed(
     motion: &mut Motion,
     text: &[u8],
@@ -99,8 +100,8 @@ fn hear(
     Ok(from.max(to + 1))
 }
 
-/// Turns 0 to 2,199 of a text that comes in pieces of so many bytes, for the printer of a configuration, in which homing groups answer
-/// in some turns.
+/// Turns 0 to 2,199 of a text that comes in pieces of so many bytes, for the printer of a configuration, in
+/// which homing groups answer in some turns.
 fn run(
     alloc: Global,
     printer: &str,
@@ -347,7 +348,8 @@ const TWO_READ: NoteNews = NoteNews::Read {
     sections: 2,
 };
 
-/// Two sections with a dwell of 100 turns between them: the second one starts 260 turns behind the end of the first, and as many later.
+/// Two sections with a dwell of 100 turns between them: the second one starts 260 turns behind the end of the
+/// first, and as many later.
 #[test]
 fn sections_are_told(rt: HostRuntime) -> Result<(), AllocError> {
     let alloc = rt.alloc();
@@ -370,9 +372,10 @@ fn has_steps(
     Ok(steps.len() == count && steps.first().copied() == first)
 }
 
-/// The planned tick of a step of a move of 1 mm with 10 mm/s and 3,000 mm/s^2 that begins with turn 1,260, which is tick 20,160,000.
-/// It takes 53,331 ticks over the first 16,666 nm and over the last ones, and 8 ticks over 5 nm between them. The first step is at
-/// 6,250 nm, the others are 12,500 nm apart, and each falls at the first tick that is not before its place.
+/// The planned tick of a step of a move of 1 mm with 10 mm/s and 3,000 mm/s^2 that begins with turn 1,260,
+/// which is tick 20,160,000. It takes 53,331 ticks over the first 16,666 nm and over the last ones, and 8
+/// ticks over 5 nm between them. The first step is at 6,250 nm, the others are 12,500 nm apart, and each
+/// falls at the first tick that is not before its place.
 pub fn planned(place: usize) -> u64 {
     match place {
         0 => 20_192_660,
@@ -435,8 +438,8 @@ fn is_asked_for_as_needed(taken: &[(u64, usize)]) -> bool {
     taken.len() > 20 && first && last
 }
 
-/// A byte of the text is asked for at first, a line before a section is begun, and then moves as they are needed. Behind a stop
-/// nothing is asked for, and it is told as the section ends that goes on.
+/// A byte of the text is asked for at first, a line before a section is begun, and then moves as they are
+/// needed. Behind a stop nothing is asked for, and it is told as the section ends that goes on.
 #[test]
 fn text_is_asked_for(rt: HostRuntime) -> Result<(), AllocError> {
     let ran = run(rt.alloc(), PRINTER, STOPPED, 1, &[])?;
@@ -478,7 +481,8 @@ fn set_no_clock(ran: &Ran) -> bool {
     ran.units.first().is_some_and(|first| first.0 == 1_012)
 }
 
-/// Whether the x axis homes until turn 1,762, and gives its steps turn by turn until then, those that are due some 250 turns later.
+/// Whether the x axis homes until turn 1,762, and gives its steps turn by turn until then, those that are due
+/// some 250 turns later.
 fn homes_x(alloc: Global, ran: &Ran) -> Result<bool, AllocError> {
     let ended = (1_762, done(0, 1_762));
     let steps = steps_of(alloc, ran, 0)?;
@@ -514,8 +518,8 @@ fn ends_late(alloc: Global, ran: &Ran) -> Result<bool, AllocError> {
     Ok(ran.news.as_slice().contains(&ended) && steps_of(alloc, ran, 0)?.len() == 81_920)
 }
 
-/// Steps that run far behind their moves: these are over some 30 turns behind the start, and the last step comes in turn 1,587. Its
-/// units are given turn by turn, and the section ends with it.
+/// Steps that run far behind their moves: these are over some 30 turns behind the start, and the last step
+/// comes in turn 1,587. Its units are given turn by turn, and the section ends with it.
 #[test]
 fn steps_run_behind_moves(rt: HostRuntime) -> Result<(), AllocError> {
     let ran = run(rt.alloc(), SLOW, FINE, 4_096, &[])?;
@@ -544,7 +548,8 @@ fn end_of(ran: &Ran) -> u64 {
     0
 }
 
-/// Whether a section ends in its first turn, its last units are put five turns behind that, and only then it is told how the text was read.
+/// Whether a section ends in its first turn, its last units are put five turns behind that, and only then it
+/// is told how the text was read.
 fn is_told_behind_units(alloc: Global, ran: &Ran) -> Result<bool, AllocError> {
     let Some((last, _)) = ran.units.last() else {
         return Ok(false);
@@ -557,7 +562,8 @@ fn is_told_behind_units(alloc: Global, ran: &Ran) -> Result<bool, AllocError> {
     )
 }
 
-/// A section whose last turn has more triples of one stepper than its queue has slots: the last of them wait until the first ones are over.
+/// A section whose last turn has more triples of one stepper than its queue has slots: the last of them wait
+/// until the first ones are over.
 #[test]
 fn units_wait_behind_the_end(rt: HostRuntime) -> Result<(), AllocError> {
     let ran = run(rt.alloc(), BURST, "G1 X0.01 F60000\n", 4_096, &[])?;

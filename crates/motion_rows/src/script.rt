@@ -12,8 +12,8 @@ use report_text::{ReportLine, line_of};
 use std::alloc::{AllocError, Global};
 use wire_scene::Scene;
 
-/// A trigger of a board: it reports every five turns from a start on that it can trigger, and in a turn that it has, with a
-/// reason and a clock.
+/// A trigger of a board: it reports every five turns from a start on that it can trigger, and in a turn that
+/// it has, with a reason and a clock.
 #[derive(Clone, Copy)]
 pub struct Trigger {
     pub board: u8,
@@ -23,8 +23,8 @@ pub struct Trigger {
     pub clock: u32,
 }
 
-/// What happens in a run: no answer comes in the turns from `quiet` to `again`; the triggers; the motion machine's news,
-/// each in its turn; and the turns whose orders are noted.
+/// What happens in a run: no answer comes in the turns from `quiet` to `again`; the triggers; the motion
+/// machine's news, each in its turn; and the turns whose orders are noted.
 #[derive(Clone, Copy)]
 pub struct Script<'a> {
     pub quiet: u64,

@@ -13,7 +13,8 @@ const AHEAD: Line = Line {
     freq: 16_000_000,
 };
 
-/// A line by which it is so far behind that within six turns from 1,342 ms on it would not be past the error of a step there.
+/// A line by which it is so far behind that within six turns from 1,342 ms on it would not be past the error
+/// of a step there.
 const BEHIND: Line = Line {
     at: 1_000_000_000,
     clock: 15_904_399,
@@ -37,7 +38,8 @@ const LATE: Line = Line {
 /// The tick of the first line at 1,342 ms, from where on a line holds that is taken up in turn 1,065.
 const TAKEN: u64 = 21_472_000;
 
-/// Whether each step is at most so much early: those before a tick as planned, the others as planned so many ticks later.
+/// Whether each step is at most so much early: those before a tick as planned, the others as planned so many
+/// ticks later.
 fn are_planned(steps: &[Step], from: u64, ahead: u64) -> bool {
     for (place, step) in steps.iter().enumerate() {
         let mut at = planned(place);
@@ -51,8 +53,8 @@ fn are_planned(steps: &[Step], from: u64, ahead: u64) -> bool {
     steps.len() == 80
 }
 
-/// Whether each step is at most so much early: those before a tick as planned, the others as planned so many ticks sooner, but not before
-/// the tick, and each at least 4 ticks behind the one before it.
+/// Whether each step is at most so much early: those before a tick as planned, the others as planned so many
+/// ticks sooner, but not before the tick, and each at least 4 ticks behind the one before it.
 fn stand_still(steps: &[Step], from: u64, behind: u64) -> bool {
     let mut before = 0u64;
     for (place, step) in steps.iter().enumerate() {
@@ -107,8 +109,8 @@ fn is_planned(alloc: Global, ran: &Ran, ahead: u64) -> Result<bool, AllocError> 
     Ok(are_planned(&steps_of(alloc, ran, 0)?, TAKEN, ahead))
 }
 
-/// A line of word 1,001 is taken up in turn 1,065, tells it, and holds from turn 1,342 on, amid the move: the steps from there on are
-/// planned by it, and those before as they were.
+/// A line of word 1,001 is taken up in turn 1,065, tells it, and holds from turn 1,342 on, amid the move: the
+/// steps from there on are planned by it, and those before as they were.
 #[test]
 fn a_further_line_is_taken_up(rt: HostRuntime) -> Result<(), AllocError> {
     let ran = run_move(rt.alloc(), &[(1_001, AHEAD)])?;
@@ -130,7 +132,8 @@ fn takes_up(
     Ok(count(alloc, &ran)? == number && is_planned(alloc, &ran, ahead)?)
 }
 
-/// Whether a move where a line is told takes it up, and is planned so many ticks sooner, where the board's ticks do not stand still.
+/// Whether a move where a line is told takes it up, and is planned so many ticks sooner, where the board's
+/// ticks do not stand still.
 fn takes_back(alloc: Global, line: Line, behind: u64) -> Result<bool, AllocError> {
     let ran = run_move(alloc, &[(1_001, line)])?;
     let steps = steps_of(alloc, &ran, 0)?;
@@ -145,7 +148,8 @@ fn ticks_stand_still_for_turns(rt: HostRuntime) -> Result<(), AllocError> {
     Ok(())
 }
 
-/// A line by which the board would show ticks of six whole turns again is passed over, and another one of its word is not.
+/// A line by which the board would show ticks of six whole turns again is passed over, and another one of its
+/// word is not.
 #[test]
 fn lines_are_passed_over(rt: HostRuntime) -> Result<(), AllocError> {
     assert!(rt; takes_up(rt.alloc(), &[(1_001, BEHIND)], 0, 0)?);
@@ -163,8 +167,8 @@ fn last_of(ran: &Ran) -> u64 {
     0
 }
 
-/// Whether a section of a text that homes has its last planned step in a turn, and a line of word 1,100 is taken up in turn 1,164 alone,
-/// where the section has its answer in turn 1,262.
+/// Whether a section of a text that homes has its last planned step in a turn, and a line of word 1,100 is
+/// taken up in turn 1,164 alone, where the section has its answer in turn 1,262.
 fn goes_on(alloc: Global, text: &str, last: u64) -> Result<bool, AllocError> {
     let ran = run_by(alloc, SHORT, text, 4_096, &[1_262], &[(1_100, AHEAD)])?;
     let line = NoteNews::Line {
@@ -175,9 +179,10 @@ fn goes_on(alloc: Global, text: &str, last: u64) -> Result<bool, AllocError> {
     Ok(last_of(&ran) == last && has_taken(alloc, &ran, (1_164, line))?)
 }
 
-/// A line is taken up while an axis homes, too: its section is begun in turn 1,000 and has its answer in turn 1,262. The axes home over one
-/// and a half times their length, at 10 mm/s from turn 1,260 on; the last planned step that is told stays in the turn in which they are
-/// half a step short of the end, two milliseconds before it, by the lines of the section's begin.
+/// A line is taken up while an axis homes, too: its section is begun in turn 1,000 and has its answer in turn
+/// 1,262. The axes home over one and a half times their length, at 10 mm/s from turn 1,260 on; the last
+/// planned step that is told stays in the turn in which they are half a step short of the end, two
+/// milliseconds before it, by the lines of the section's begin.
 #[test]
 fn a_line_is_taken_up_while_an_axis_homes(rt: HostRuntime) -> Result<(), AllocError> {
     assert!(rt; goes_on(rt.alloc(), "G28 X", 1_561)?);

@@ -38,14 +38,18 @@ next_begin ready (other ∷ rest) = ready - 260
 abbrev pub idle_clear : Course → ℕ
 idle_clear c =
     if c.goes then c.ready - 260
-    else (if c.connected then (if (is_none_left c.source.items.items && is_some c.source.end) && c.read then never else max (next_begin c.ready c.source.items.items) c.next) else c.next)
+    else (if c.connected
+    then (if (is_none_left c.source.items.items && is_some c.source.end) && c.read then never
+    else max (next_begin c.ready c.source.items.items) c.next)
+    else c.next)
 
--- The first turn whose note may begin or end a section: of a homing section its start; of a section of moves the turn in which those
--- end that are settled.
+-- The first turn whose note may begin or end a section: of a homing section its start; of a section of moves
+-- the turn in which those end that are settled.
 abbrev pub clear_by : Course → Open → ℕ
 clear_by c opens.Nothing = idle_clear c
 clear_by c (opens.Goes s homes) = if homes then max c.next c.start else max (settled_turn s) c.next
 
+-- the first later turn whose note may begin or end a section
 abbrev pub clear_of : Course → ℕ
 clear_of c = clear_by c c.current
 
@@ -53,12 +57,16 @@ clear_of c = clear_by c c.current
 abbrev pub EndsOutside : ℕ → ℕ → Started → Type 0
 EndsOutside next n s = (s.end < next) ⊎ (n ≤ s.end)
 
--- Turns are clear up to n, from the next one on, whatever text and answers follow: none of the sections that were begun ends in them, and
--- none of the text's sections behind these is begun in them, 260 turns before it starts.
+-- Turns are clear up to n, from the next one on, whatever text and answers follow: none of the sections that
+-- were begun ends in them, and none of the text's sections behind these is begun in them, 260 turns before it
+-- starts.
 pub record IsClearTo (m : Machine) (seen : Seen) (n : ℕ) : Type 0 where
-  pub ends : (all : List Started) → AreWhole m seen.told seen.next seen.begun seen.going all → All (EndsOutside seen.next n) all
-  pub begins : (t : Told) (whole : List ℕ) (all : List Started) (others : List Section) (s : Section) → seen.told ≡ Some t → MayBecome seen.ended seen.text whole → AreWhole m seen.told seen.next seen.begun seen.going all → program_sections m whole ≡ sections_in all ++ s ∷ others
-      → n + 260 ≤ ready_after t.first all + s.dwell
+  pub ends : (all : List Started) → AreWhole m seen.told seen.next seen.begun seen.going all →
+      All (EndsOutside seen.next n) all
+  pub begins : (t : Told) (whole : List ℕ) (all : List Started) (others : List Section) (s : Section) →
+      seen.told ≡ Some t → MayBecome seen.ended seen.text whole →
+      AreWhole m seen.told seen.next seen.begun seen.going all →
+      program_sections m whole ≡ sections_in all ++ s ∷ others → n + 260 ≤ ready_after t.first all + s.dwell
   pub unheard : seen.told ≡ None → n ≤ seen.next
 
 -- news of a section, that it begins or ends
@@ -67,6 +75,7 @@ is_of_section (news.Read end sections) = false
 is_of_section (news.Line board line from) = false
 is_of_section other = true
 
+-- some of the news tell of a section
 abbrev pub tells_sections : List NoteNews → Bool
 tells_sections [] = false
 tells_sections (n ∷ ns) = is_of_section n || tells_sections ns

@@ -50,8 +50,8 @@ pub record MovesOn (m : Machine) (clocks : List Clocks) (next : ℕ) (g : Going)
   pub last : g.last ≡ 0
   pub moving : g.moving ≡ 0
 
--- A section that homes goes on: it has all its moves, and it is known in which turn its last step is planned by the lines that were taken up when
--- it was begun.
+-- A section that homes goes on: it has all its moves, and it is known in which turn its last step is planned
+-- by the lines that were taken up when it was begun.
 pub record HomesOn (m : Machine) (clocks : List Clocks) (g : Going) : Type 0 where
   pub whole : g.goes ≡ false
   pub last : g.last ≡ last_step m (map (lines_by (g.start + 17)) clocks) g.moves g.start
@@ -63,9 +63,10 @@ abbrev pub GoesAs : SectionKind → Machine → List Clocks → ℕ → Going �
 GoesAs Moves m clocks next g = MovesOn m clocks next g
 GoesAs (Home axis) m clocks next g = HomesOn m clocks g
 
--- A section goes on, whose stream has given what was released, and gives the next units in the next turn, or 250 turns before the
--- section starts.
-pub record IsGoingOn (m : Machine) (s : SectionStream) (homes : Bool) (c : Course) (told : Option Told) (begun : List Started) (going : Option Going) : Type 0 where
+-- A section goes on, whose stream has given what was released, and gives the next units in the next turn, or
+-- 250 turns before the section starts.
+pub record IsGoingOn (m : Machine) (s : SectionStream) (homes : Bool) (c : Course) (told : Option Told)
+    (begun : List Started) (going : Option Going) : Type 0 where
   pub g : Going
   pub is : going ≡ Some g
   pub homes_is : homes ≡ homes_by g.kind
@@ -89,18 +90,21 @@ abbrev pub IsGoing : Machine → Open → Course → Option Told → List Starte
 IsGoing m opens.Nothing c told begun going = IsIdle m c begun going
 IsGoing m (opens.Goes s homes) c told begun going = IsGoingOn m s homes c told begun going
 
--- A section of moves starts in a turn or an earlier one, and so its last step is planned; one that homes ended 268 turns before it, or earlier. And
--- so of some sections.
+-- A section of moves starts in a turn or an earlier one, and so its last step is planned; one that homes
+-- ended 268 turns before it, or earlier. And so of some sections.
 abbrev pub IsLaid : SectionKind → Machine → List Clocks → ℕ → Started → Type 0
-IsLaid Moves m clocks low s = (s.start ≤ low) × (latest (for_each_stepper m (stepper_end m clocks s.section.moves s.start)) ≤ low)
+IsLaid Moves m clocks low s =
+    (s.start ≤ low) × (latest (for_each_stepper m (stepper_end m clocks s.section.moves s.start)) ≤ low)
 IsLaid (Home axis) m clocks low s = s.end + 268 ≤ low
 
+-- so all sections that were begun
 abbrev pub AreLaid : Machine → List Clocks → ℕ → List Started → Type 0
 AreLaid m clocks low [] = Unit {0}
 AreLaid m clocks low (s ∷ begun) = IsLaid s.section.kind m clocks low s × AreLaid m clocks low begun
 
 -- what is known where connecting ended
-pub record IsConnected (m : Machine) (c : Course) (t : Told) (begun : List Started) (going : Option Going) : Type 0 where
+pub record IsConnected (m : Machine) (c : Course) (t : Told) (begun : List Started) (going : Option Going)
+    : Type 0 where
   pub connected : c.connected ≡ true
   pub lines : c.lines.each.items ≡ t.clocks
   pub ready : going ≡ None → c.ready ≡ ready_after t.first begun
@@ -116,8 +120,8 @@ abbrev pub IsTold : Machine → Course → Option Told → List Started → Opti
 IsTold m c None begun going = (c.connected ≡ false) × (begun ≡ []) × (going ≡ None)
 IsTold m c (Some t) begun going = IsConnected m c t begun going
 
--- The next section does not start before a turn: before one where it has begun in the text, and before another where it has not, and
--- still may.
+-- The next section does not start before a turn: before one where it has begun in the text, and before
+-- another where it has not, and still may.
 abbrev pub IsLater : ℕ → ℕ → ℕ → Option ReadEnd → List Item → Type 0
 IsLater turn free ready None [] = free ≤ ready
 IsLater turn free ready (Some e) [] = Unit {0}
@@ -135,8 +139,8 @@ abbrev pub IsEarly : Open → ℕ → ℕ → Course → Type 0
 IsEarly opens.Nothing turn free c = c.connected ≡ true → IsLater turn free c.ready c.source.end c.source.items.items
 IsEarly (opens.Goes s homes) turn free c = is_taking (queue_of s) ≡ true → IsStopped c.source.items.items
 
--- The further lines that wait are those that words told since the last turn; none waits before connecting ended; and each that was taken up
--- holds by 16 turns behind another.
+-- The further lines that wait are those that words told since the last turn; none waits before connecting
+-- ended; and each that was taken up holds by 16 turns behind another.
 pub record IsUptake (c : Course) (free : ℕ) (fresh : List BoardLine) : Type 0 where
   pub waiting : c.lines.waiting.items ≡ fresh
   pub none : c.connected ≡ false → fresh ≡ []

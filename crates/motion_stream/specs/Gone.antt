@@ -35,7 +35,9 @@ pub record HasTaken (old new : SectionStream) (waiting left : List Item) : Type 
   pub ends : Bool
   pub items_are : waiting ≡ (moves_in more ++ ending ends) ++ left
   pub takes : is_taking (queue_of new) ≡ not ends
-  pub on : (m : Machine) (clocks : List Clocks) (turn : ℕ) (homing : Bool) (moves : List Move) (released : ℕ → List Release) → IsSectionOn m clocks turn homing old moves released → IsSectionOn m clocks turn homing new (moves ++ more) released
+  pub on : (m : Machine) (clocks : List Clocks) (turn : ℕ) (homing : Bool) (moves : List Move)
+      (released : ℕ → List Release) → IsSectionOn m clocks turn homing old moves released →
+      IsSectionOn m clocks turn homing new (moves ++ more) released
   pub next : next_of new ≡ next_of old
   pub boards : boards_in new ≡ boards_in old
 
@@ -49,6 +51,7 @@ abbrev pub HasHeardBy : Bool → SectionStream → SectionStream → List Item �
 HasHeardBy true old new waiting left = HasTakenAll old new waiting left
 HasHeardBy false old new waiting left = (new ≡ old) × (left ≡ waiting)
 
+-- a section took the moves that waited, where it still takes some
 abbrev pub HasHeard : SectionStream → SectionStream → List Item → List Item → Type 0
 HasHeard old new waiting left = HasHeardBy (is_taking (queue_of old)) old new waiting left
 
@@ -65,10 +68,12 @@ pub record MayOpen (m : Machine) (clocks : List Clocks) (start : ℕ) (waiting :
 -- of one that homes all moves are there, and it is known when its last step is planned and which steppers move in it
 abbrev pub TellsAs : SectionKind → Machine → List Clocks → ℕ → List Move → Bool → ℕ → ℕ → Type 0
 TellsAs Moves m clocks start moves ends last moving = (last ≡ 0) × (moving ≡ 0)
-TellsAs (Home axis) m clocks start moves ends last moving = (ends ≡ true) × (last ≡ last_step m clocks moves start) × (last < 2 ^ 61) × (moving ≡ moving_in m moves)
+TellsAs (Home axis) m clocks start moves ends last moving =
+    (ends ≡ true) × (last ≡ last_step m clocks moves start) × (last < 2 ^ 61) × (moving ≡ moving_in m moves)
 
 -- A section of a kind was opened that starts in a turn: of what waits it took moves, and maybe its end behind them.
-pub record HasOpened (m : Machine) (clocks : List Clocks) (kind : SectionKind) (start : ℕ) (waiting left : List Item) (s : SectionStream) (last moving : ℕ) : Type 0 where
+pub record HasOpened (m : Machine) (clocks : List Clocks) (kind : SectionKind) (start : ℕ) (waiting left : List Item)
+    (s : SectionStream) (last moving : ℕ) : Type 0 where
   pub moves : List Move
   pub ends : Bool
   pub items_are : waiting ≡ (moves_in moves ++ ending ends) ++ left
@@ -85,10 +90,13 @@ released_in turn (row ∷ rows) b = at_turn turn (slice_index_or row b []) ++ re
 
 -- a stream that gave these units, from the next turn on
 pub record HasGivenRows (old new : SectionStream) (turn : ℕ) (rows : List (List (List StepUnit))) : Type 0 where
-  pub on : (m : Machine) (clocks : List Clocks) (start : ℕ) (homing : Bool) (moves : List Move) (released : ℕ → List Release) → IsSectionOn m clocks start homing old moves released → IsSectionOn m clocks start homing new moves (λ b. released b ++ released_in turn rows b)
+  pub on : (m : Machine) (clocks : List Clocks) (start : ℕ) (homing : Bool) (moves : List Move)
+      (released : ℕ → List Release) → IsSectionOn m clocks start homing old moves released →
+      IsSectionOn m clocks start homing new moves (λ b. released b ++ released_in turn rows b)
   pub takes : is_taking (queue_of new) ≡ is_taking (queue_of old)
 
--- all moves of a section came, all its steps are planned and all its units are given, and so the turn is known in which it ends
+-- all moves of a section came, all its steps are planned and all its units are given, and so the turn is
+-- known in which it ends
 pub record HasEnded (s : SectionStream) (end : ℕ) : Type 0 where
   pub drawn : IsDrawn (queue_of s)
   pub released : AreReleased (boards_in s)

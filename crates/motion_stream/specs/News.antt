@@ -21,7 +21,8 @@ read_news told None sections = None
 read_news true (Some end) sections = None
 read_news false (Some end) sections = Some (news.Read end sections)
 
--- All that a text told was begun and ended, and on none of so many boards a unit waits for a later turn: so how it was read is told.
+-- All that a text told was begun and ended, and on none of so many boards a unit waits for a later turn: so
+-- how it was read is told.
 pub record HasPutAll (boards : ℕ) (c : Course) : Type 0 where
   pub nothing : c.current ≡ opens.Nothing
   pub ended : c.goes ≡ false

@@ -11,7 +11,8 @@ units_in row b = slice_index_or row b []
 
 -- the batches of a turn for so many boards, with the units of some sections and of one more behind them
 abbrev pub batches_of : ℕ → ℕ → List (List StepUnit) → List (List StepUnit) → List Batch
-batches_of boards turn ahead own = map (λ b. record { turn = turn; units = units_in ahead b ++ units_in own b; end = false }) (range_with_len 0 boards)
+batches_of boards turn ahead own =
+    map (λ b. record { turn = turn; units = units_in ahead b ++ units_in own b; end = false }) (range_with_len 0 boards)
 
 -- turn by turn and board by board the units of two, of the second behind those of the first
 pub record AreJoined (boards : ℕ) (one two joined : List (List (List StepUnit))) : Type 0 where

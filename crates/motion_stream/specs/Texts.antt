@@ -17,18 +17,21 @@ abbrev pub text_after : List ℕ → Bool → List ℕ → List ℕ
 text_after text true bytes = text
 text_after text false bytes = text ++ bytes
 
+-- whether a text has ended behind a piece
 abbrev pub ended_after : Bool → Bool → Bool
 ended_after true end = true
 ended_after false end = end
 
--- Of a text that was read these things were told and taken, and those that wait stand behind them. Where the reading goes on, that
--- is what the reader told, and nothing before the first piece; once it is over, these are all that the text tells, whatever follows.
+-- Of a text that was read these things were told and taken, and those that wait stand behind them. Where the
+-- reading goes on, that is what the reader told, and nothing before the first piece; once it is over, these
+-- are all that the text tells, whatever follows.
 pub record IsSourceOf (m : Machine) (s : Source) (text : List ℕ) (ended : Bool) (told : List Item) : Type 0 where
   pub ended_is : s.ended ≡ ended
   pub goes : s.end ≡ None → (ended ≡ false) × IsReaderOf s.reader m text (told ++ s.items.items)
   pub reads : s.end ≡ None → stop_of s.reader ≡ None
   pub first : s.end ≡ None → s.opened ≡ false → told ++ s.items.items ≡ []
-  pub over : (e : ReadEnd) → s.end ≡ Some e → (whole : List ℕ) → MayBecome ended text whole → IsAll m whole e (told ++ s.items.items)
+  pub over : (e : ReadEnd) → s.end ≡ Some e → (whole : List ℕ) → MayBecome ended text whole →
+      IsAll m whole e (told ++ s.items.items)
 
 -- It is known how a text is read of which this was read, and which may have ended: no reading of it goes on.
 abbrev pub IsReadOver : Machine → List ℕ → Bool → Type 0

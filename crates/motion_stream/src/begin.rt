@@ -48,7 +48,8 @@ fn next_due(course: &Course, turn: u64) -> Option<Due>
     Some(Due { kind, start })
 }
 
-/// A section that is begun: its stream, and, of one that homes, the turn of its last planned step, and the steppers that move in it.
+/// A section that is begun: its stream, and, of one that homes, the turn of its last planned step, and the
+/// steppers that move in it.
 #[derive(Drop)]
 struct Opened {
     pub section: SectionStream,
@@ -65,7 +66,8 @@ fn open_moves(
     start: u64,
 ) -> Result<Opened, OutOfMemory>
     requires { MayOpen machine.now lines.now start items.old.items }
-    ensures { IfOk result (λ o. HasOpened machine.now lines.now Moves start items.old.items items.new.items o.section o.last o.moving) }
+    ensures { IfOk result
+        (λ o. HasOpened machine.now lines.now Moves start items.old.items items.new.items o.section o.last o.moving) }
 {
     let mut section = new_section(alloc, machine, lines, start, false)?;
     take_moves(items, &mut section)?;
@@ -99,7 +101,8 @@ fn open_home(
     start: u64,
 ) -> Result<Opened, OutOfMemory>
     requires { MayOpen machine.now lines.now start items.old.items }
-    ensures { IfOk result (λ o. HasOpened machine.now lines.now (Home axis) start items.old.items items.new.items o.section o.last o.moving) }
+    ensures { IfOk result (λ o.
+        HasOpened machine.now lines.now (Home axis) start items.old.items items.new.items o.section o.last o.moving) }
 {
     let _ = axis;
     let Some(one) = take_home(items) else {
@@ -127,7 +130,8 @@ fn open_section(
     due: Due,
 ) -> Result<Opened, OutOfMemory>
     requires { MayOpen machine.now lines.now due.start items.old.items }
-    ensures { IfOk result (λ o. HasOpened machine.now lines.now due.kind due.start items.old.items items.new.items o.section o.last o.moving) }
+    ensures { IfOk result (λ o.
+        HasOpened machine.now lines.now due.kind due.start items.old.items items.new.items o.section o.last o.moving) }
 {
     match due.kind {
         SectionKind::Moves => open_moves(alloc, machine, lines, items, due.start),

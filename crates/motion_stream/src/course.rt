@@ -37,7 +37,8 @@ pub const REACH: u128 = 261;
 /// The nanoseconds of a turn.
 pub const TURN_NS: u128 = 1_000_000;
 
-/// What goes on: no section, or one whose end is known; or one whose end is not, and whether it homes, and so ends by its answer.
+/// What goes on: no section, or one whose end is known; or one whose end is not, and whether it homes, and so
+/// ends by its answer.
 #[derive(Drop)]
 pub enum Open {
     Nothing,
@@ -51,10 +52,11 @@ pub struct BoardLines {
     pub waiting: Vec<BoardLine>,
 }
 
-/// Where a motion machine is: in the text; whether it was told how that was read; whether connecting ended, and the boards' clock
-/// lines; the turn from which on the next section may start, as far as that is known; when the last section starts that was
-/// begun; how many were begun, and whether one goes on whose end is known; what goes on else; the units of the sections whose end
-/// is known, turn by turn from the next one on; and the turn whose batches are made next.
+/// Where a motion machine is: in the text; whether it was told how that was read; whether connecting ended,
+/// and the boards' clock lines; the turn from which on the next section may start, as far as that is known;
+/// when the last section starts that was begun; how many were begun, and whether one goes on whose end is
+/// known; what goes on else; the units of the sections whose end is known, turn by turn from the next one on;
+/// and the turn whose batches are made next.
 #[derive(Drop)]
 pub struct Course {
     pub source: Source,
@@ -141,7 +143,8 @@ pub fn sated(course: &Course, k: u64) -> u64 {
     until.max(k.saturating_add(1))
 }
 
-/// The first turn for which a section that goes on, or the one behind it, may lack moves. One that homes may end in any turn.
+/// The first turn for which a section that goes on, or the one behind it, may lack moves. One that homes may
+/// end in any turn.
 fn section_sated(section: &SectionStream, homes: bool) -> u64 {
     if homes {
         return 0;
@@ -238,7 +241,8 @@ fn are_early(lines: &[Lines]) -> bool
 pub fn can_turn(course: &Course, k: u64) -> bool
     ensures next { result ≡ true → course.now.next ≡ k }
     ensures small { result ≡ true → k < 2 ^ 42 }
-    ensures early { result ≡ true → (b : ℕ) → b < length course.now.lines.each.items → (clocks_at course.now.lines.each.items b).first.clock < 2 ^ 62 }
+    ensures early { result ≡ true → (b : ℕ) → b < length course.now.lines.each.items →
+        (clocks_at course.now.lines.each.items b).first.clock < 2 ^ 62 }
 {
     course.next == k && k < LAST_TURN && are_early(&course.lines.each)
 }

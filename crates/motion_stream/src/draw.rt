@@ -23,14 +23,16 @@ use std::collections::VecDeque;
 use std::mem;
 use step_feed::LEAD;
 
-/// What is put in a turn, before it is told which section is begun: the batches of all boards, and that the last section ends.
+/// What is put in a turn, before it is told which section is begun: the batches of all boards, and that the
+/// last section ends.
 #[derive(Drop)]
 pub struct Passed {
     pub batches: Vec<Batch>,
     pub done: Option<NoteNews>,
 }
 
-/// Goes on to the next turn: the batches of this one, with the units of the sections whose end is known and of one more.
+/// Goes on to the next turn: the batches of this one, with the units of the sections whose end is known and
+/// of one more.
 fn pass(
     alloc: Global,
     machine: &Machine,
@@ -60,7 +62,8 @@ fn goes_on(goes: bool, ready: u64, k: u64) -> bool
 fn pass_idle(alloc: Global, machine: &Machine, course: &mut Course) -> Result<Passed, OutOfMemory>
     requires idle { course.old.current ≡ opens.Nothing }
     requires small { course.old.next < 2 ^ 42 }
-    ensures passed { IfOk result (λ p. Advances machine.now course.old course.old.next p.batches.items p.done course.new) }
+    ensures passed { IfOk result
+        (λ p. Advances machine.now course.old course.old.next p.batches.items p.done course.new) }
     ensures turn { IfOk result (λ p. AreOfTurn course.old.next (length machine.now.boards) p.batches.items) }
     ensures plain { IfOk result (λ p. IsPlain p.done) }
 {
@@ -81,7 +84,8 @@ fn pass_before(
 ) -> Result<Passed, OutOfMemory>
     requires small { course.old.next < 2 ^ 42 }
     requires before { course.old.next + 250 < course.old.start }
-    ensures passed { IfOk result (λ p. Advances machine.now (record course.old { current = opens.Goes section homes }) course.old.next p.batches.items p.done course.new) }
+    ensures passed { IfOk result (λ p. Advances machine.now (record course.old { current = opens.Goes section homes })
+        course.old.next p.batches.items p.done course.new) }
     ensures turn { IfOk result (λ p. AreOfTurn course.old.next (length machine.now.boards) p.batches.items) }
     ensures plain { IfOk result (λ p. IsPlain p.done) }
 {
@@ -102,8 +106,9 @@ fn is_over(section: &SectionStream, homes: bool) -> bool
     !homes && section.end().is_some()
 }
 
-/// A turn of a section that goes on. Once all steps of a section of moves are packed its end is known, and so are all its units, which
-/// is some 250 turns ahead; its last steps may come long behind its moves. One that homes goes on until its answer.
+/// A turn of a section that goes on. Once all steps of a section of moves are packed its end is known, and so
+/// are all its units, which is some 250 turns ahead; its last steps may come long behind its moves. One that
+/// homes goes on until its answer.
 fn pass_section(
     alloc: Global,
     machine: &Machine,
@@ -114,7 +119,8 @@ fn pass_section(
     requires small { course.old.next < 2 ^ 42 }
     requires from { course.old.start ≤ course.old.next + 250 }
     requires next { next_of section ≡ course.old.next }
-    ensures passed { IfOk result (λ p. Advances machine.now (record course.old { current = opens.Goes section homes }) course.old.next p.batches.items p.done course.new) }
+    ensures passed { IfOk result (λ p. Advances machine.now (record course.old { current = opens.Goes section homes })
+        course.old.next p.batches.items p.done course.new) }
     ensures turn { IfOk result (λ p. AreOfTurn course.old.next (length machine.now.boards) p.batches.items) }
     ensures plain { IfOk result (λ p. IsPlain p.done) }
 {
@@ -149,7 +155,8 @@ fn advance_open(
 ) -> Result<Passed, OutOfMemory>
     requires sound { IsSoundBy machine.now course.old course.old.next }
     requires small { course.old.next < 2 ^ 42 }
-    ensures passed { IfOk result (λ p. Advances machine.now course.old course.old.next p.batches.items p.done course.new) }
+    ensures passed { IfOk result
+        (λ p. Advances machine.now course.old course.old.next p.batches.items p.done course.new) }
     ensures turn { IfOk result (λ p. AreOfTurn course.old.next (length machine.now.boards) p.batches.items) }
     ensures plain { IfOk result (λ p. IsPlain p.done) }
 {
@@ -169,7 +176,8 @@ fn advance_open(
 pub fn advance(alloc: Global, machine: &Machine, course: &mut Course) -> Result<Passed, OutOfMemory>
     requires sound { IsSoundBy machine.now course.old course.old.next }
     requires small { course.old.next < 2 ^ 42 }
-    ensures passed { IfOk result (λ p. Advances machine.now course.old course.old.next p.batches.items p.done course.new) }
+    ensures passed { IfOk result
+        (λ p. Advances machine.now course.old course.old.next p.batches.items p.done course.new) }
     ensures turn { IfOk result (λ p. AreOfTurn course.old.next (length machine.now.boards) p.batches.items) }
     ensures plain { IfOk result (λ p. IsPlain p.done) }
 {

@@ -1,4 +1,5 @@
-//! The motion machine over a text in pieces: from G-code as it comes and the boards' clock lines to the batches of every turn.
+//! The motion machine over a text in pieces: from G-code as it comes and the boards' clock lines to the
+//! batches of every turn.
 //!
 //! It holds the moves that are not planned yet and the steps of some 270 turns, and never the text.
 #![tactic(auto)]

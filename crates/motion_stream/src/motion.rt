@@ -14,8 +14,8 @@ const WORD_LEAD: u64 = 64;
 
 /// What reads the text, takes words, and plans: it gives the batches of every turn and its note.
 ///
-/// The text comes in pieces, as it is needed. A section is begun 260 turns before it starts, and one of moves is planned and packed
-/// while its moves still come.
+/// The text comes in pieces, as it is needed. A section is begun 260 turns before it starts, and one of moves
+/// is planned and packed while its moves still come.
 #[derive(Drop)]
 pub struct Motion<'a> {
     alloc: Global,
@@ -60,8 +60,8 @@ impl<'a> Motion<'a> {
         }
     }
 
-    /// The number of the word that must be taken before the batches of turn k, None where none must: k itself while connecting,
-    /// and while a homing section waits for its answer.
+    /// The number of the word that must be taken before the batches of turn k, None where none must: k itself
+    /// while connecting, and while a homing section waits for its answer.
     pub fn wants(&self, k: u64) -> Option<u64>
         ensures value { result ≡ wants self.now k }
         ensures bound { IfSome result (λ j. j ≤ k) }
@@ -78,8 +78,8 @@ impl<'a> Motion<'a> {
         Some(k - WORD_LEAD)
     }
 
-    /// Whether more of the text must be taken before the batches of turn k: none while the section that is planned next has its end in the
-    /// text so far (law `planners_hunger`).
+    /// Whether more of the text must be taken before the batches of turn k: none while the section that is
+    /// planned next has its end in the text so far (law `planners_hunger`).
     pub fn hungry(&self, k: u64) -> bool
         ensures { result ≡ hungry self.now k }
     {
@@ -98,8 +98,9 @@ impl<'a> Motion<'a> {
         can_turn(&self.course, k)
     }
 
-    /// Takes the next word. Further clock lines that it tells are taken up in the next turn, while a section homes, too: such a line holds
-    /// from 277 turns later on, and the note of that turn tells it. Lines that their boards may not have then are passed over.
+    /// Takes the next word. Further clock lines that it tells are taken up in the next turn, while a section
+    /// homes, too: such a line holds from 277 turns later on, and the note of that turn tells it. Lines that
+    /// their boards may not have then are passed over.
     ///
     /// # Errors
     ///
@@ -135,9 +136,10 @@ impl<'a> Motion<'a> {
         Ok(())
     }
 
-    /// Makes turn k: the batches of all boards, and the note. The batches are exactly the units that the sections which were begun release in
-    /// this turn (law `turns_put_units`). How the text was read is told in the first turn by which all its sections ended and none of their
-    /// units waits (law `ends_are_told`). After a refusal the machine is used no more.
+    /// Makes turn k: the batches of all boards, and the note. The batches are exactly the units that the
+    /// sections which were begun release in this turn (law `turns_put_units`). How the text was read is told
+    /// in the first turn by which all its sections ended and none of their units waits (law `ends_are_told`).
+    /// After a refusal the machine is used no more.
     ///
     /// # Errors
     ///

@@ -53,7 +53,8 @@ fn begins_in(items: &VecDeque<Item>) -> u64
     count
 }
 
-/// The news how the text was read, where that is known and was not told yet; so many sections were begun, and these things wait.
+/// The news how the text was read, where that is known and was not told yet; so many sections were begun, and
+/// these things wait.
 pub fn read_news(
     told: bool,
     end: Option<ReadEnd>,
@@ -72,8 +73,9 @@ pub fn read_news(
     }
 }
 
-/// How the text was read, where that is known and may be told: all sections ended, and none of their units waits. So a run doesn't
-/// end while a unit waits for room behind its section's end, and a note before the turn that was told as clear has no news.
+/// How the text was read, where that is known and may be told: all sections ended, and none of their units
+/// waits. So a run doesn't end while a unit waits for room behind its section's end, and a note before the
+/// turn that was told as clear has no news.
 pub fn telling(course: &Course, boards: usize) -> Option<ReadEnd>
     ensures told { HasPutAll boards course.now → result ≡ course.now.source.end }
     ensures put { (result ≡ None) ⊎ ((result ≡ course.now.source.end) × HasPutAll boards course.now) }

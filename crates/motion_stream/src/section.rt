@@ -44,8 +44,10 @@ fn take_next(items: &mut VecDeque<Item>, section: &mut SectionStream) -> Result<
     ensures taken { IfOk result (λ goes. HasTaken section.old section.new items.old.items items.new.items) }
     ensures good { IfOk result (λ goes. All IsGood items.new.items) }
     ensures open { IfOk result (λ goes. goes ≡ true → is_taking (queue_of section.new) ≡ true) }
-    ensures stops { IfOk result (λ goes. goes ≡ false → is_taking (queue_of section.new) ≡ true → IsStopped items.new.items) }
-    ensures few { IfOk result (λ goes. goes ≡ true → count_in (queue_of section.new) + moves_ahead items.new.items ≤ 2_000_000) }
+    ensures stops { IfOk result
+        (λ goes. goes ≡ false → is_taking (queue_of section.new) ≡ true → IsStopped items.new.items) }
+    ensures few { IfOk result
+        (λ goes. goes ≡ true → count_in (queue_of section.new) + moves_ahead items.new.items ≤ 2_000_000) }
 {
     match first_item(items) {
         Some(Item::Move(one)) => {

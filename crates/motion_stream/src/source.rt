@@ -11,8 +11,8 @@ use plan_types::{Machine, ReadEnd};
 use std::alloc::Global;
 use std::collections::VecDeque;
 
-/// A text that is read in pieces: what it told and what is not taken yet, how it was read once that is known, whether it ended,
-/// and whether a piece of it was taken.
+/// A text that is read in pieces: what it told and what is not taken yet, how it was read once that is known,
+/// whether it ended, and whether a piece of it was taken.
 #[derive(Drop)]
 pub struct Source {
     pub reader: Reader,
@@ -46,7 +46,8 @@ fn read_bytes(
     requires machine { IsValidMachine machine.now }
     requires goes { source.old.end ≡ None }
     requires open { source.old.ended ≡ false }
-    ensures read { OnOk result ((text : List ℕ) (told : List Item) → IsSourceOf machine.now source.old text false told → IsSourceOf machine.now source.new (text ++ bytes.now) false told) }
+    ensures read { OnOk result ((text : List ℕ) (told : List Item) → IsSourceOf machine.now source.old text false told →
+        IsSourceOf machine.now source.new (text ++ bytes.now) false told) }
     ensures grown { OnOk result (HasGrown source.old source.new) }
     ensures goes { OnOk result (source.new.ended ≡ false) }
 {
@@ -67,7 +68,8 @@ fn take_bytes(
 ) -> Result<(), OutOfMemory>
     requires machine { IsValidMachine machine.now }
     requires open { source.old.ended ≡ false }
-    ensures read { OnOk result ((text : List ℕ) (told : List Item) → IsSourceOf machine.now source.old text false told → IsSourceOf machine.now source.new (text ++ bytes.now) false told) }
+    ensures read { OnOk result ((text : List ℕ) (told : List Item) → IsSourceOf machine.now source.old text false told →
+        IsSourceOf machine.now source.new (text ++ bytes.now) false told) }
     ensures grown { OnOk result (HasGrown source.old source.new) }
     ensures goes { OnOk result (source.new.ended ≡ false) }
 {
@@ -82,7 +84,8 @@ fn take_bytes(
 fn finish_text(alloc: Global, machine: &Machine, source: &mut Source) -> Result<(), OutOfMemory>
     requires machine { IsValidMachine machine.now }
     requires goes { source.old.end ≡ None }
-    ensures read { OnOk result ((text : List ℕ) (told : List Item) → IsSourceOf machine.now source.old text false told → IsSourceOf machine.now source.new text true told) }
+    ensures read { OnOk result ((text : List ℕ) (told : List Item) → IsSourceOf machine.now source.old text false told →
+        IsSourceOf machine.now source.new text true told) }
     ensures grown { OnOk result (HasGrown source.old source.new) }
 {
     let mut items = VecDeque::new(alloc);
@@ -97,7 +100,8 @@ fn finish_text(alloc: Global, machine: &Machine, source: &mut Source) -> Result<
 fn end_text(alloc: Global, machine: &Machine, source: &mut Source) -> Result<(), OutOfMemory>
     requires machine { IsValidMachine machine.now }
     requires open { source.old.ended ≡ false }
-    ensures read { OnOk result ((text : List ℕ) (told : List Item) → IsSourceOf machine.now source.old text false told → IsSourceOf machine.now source.new text true told) }
+    ensures read { OnOk result ((text : List ℕ) (told : List Item) → IsSourceOf machine.now source.old text false told →
+        IsSourceOf machine.now source.new text true told) }
     ensures grown { OnOk result (HasGrown source.old source.new) }
 {
     if source.end.is_none() {
@@ -117,7 +121,8 @@ fn take_more(
 ) -> Result<(), OutOfMemory>
     requires machine { IsValidMachine machine.now }
     requires open { source.old.ended ≡ false }
-    ensures read { OnOk result ((text : List ℕ) (told : List Item) → IsSourceOf machine.now source.old text false told → IsSourceOf machine.now source.new (text ++ bytes.now) end told) }
+    ensures read { OnOk result ((text : List ℕ) (told : List Item) → IsSourceOf machine.now source.old text false told →
+        IsSourceOf machine.now source.new (text ++ bytes.now) end told) }
     ensures grown { OnOk result (HasGrown source.old source.new) }
 {
     take_bytes(alloc, machine, source, bytes)?;
@@ -136,7 +141,9 @@ pub fn take_piece(
     end: bool,
 ) -> Result<(), OutOfMemory>
     requires { IsValidMachine machine.now }
-    ensures read { OnOk result ((text : List ℕ) (ended : Bool) (told : List Item) → IsSourceOf machine.now source.old text ended told → IsSourceOf machine.now source.new (text_after text ended bytes.now) (ended_after ended end) told) }
+    ensures read { OnOk result ((text : List ℕ) (ended : Bool) (told : List Item) →
+        IsSourceOf machine.now source.old text ended told →
+        IsSourceOf machine.now source.new (text_after text ended bytes.now) (ended_after ended end) told) }
     ensures grown { OnOk result (HasGrown source.old source.new) }
 {
     if source.ended {

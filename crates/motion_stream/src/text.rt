@@ -26,7 +26,8 @@ use std::mem;
 /// Takes the moves that wait for a section that goes on.
 fn take_waiting(items: &mut VecDeque<Item>, section: &mut SectionStream) -> Result<(), OutOfMemory>
     requires good { All IsGood items.old.items }
-    requires few { is_taking (queue_of section.old) ≡ true → count_in (queue_of section.old) + moves_ahead items.old.items ≤ 2_000_000 }
+    requires few { is_taking (queue_of section.old) ≡ true →
+        count_in (queue_of section.old) + moves_ahead items.old.items ≤ 2_000_000 }
     ensures { OnOk result (HasHeard section.old section.new items.old.items items.new.items) }
 {
     if !section.is_open() {
@@ -44,7 +45,9 @@ pub fn take_text(
     end: bool,
 ) -> Result<(), OutOfMemory>
     requires { IsSound machine.now course.old }
-    ensures { OnOk result ((seen : Seen) → IsCourseOf machine.now course.old seen → (going : Option Going) × IsMore seen.going going × IsCourseOf machine.now course.new (read_on seen bytes.now end going)) }
+    ensures { OnOk result ((seen : Seen) → IsCourseOf machine.now course.old seen →
+        (going : Option Going) × IsMore seen.going going
+        × IsCourseOf machine.now course.new (read_on seen bytes.now end going)) }
 {
     take_piece(alloc, machine, &mut course.source, bytes, end)?;
     match mem::replace(&mut course.current, Open::Nothing) {
@@ -66,7 +69,8 @@ fn take_lines(
     word: &WordMsg,
 ) -> Result<(), OutOfMemory>
     requires { IsSound machine.now course.old }
-    ensures { OnOk result ((seen : Seen) → IsCourseOf machine.now course.old seen → IsCourseOf machine.now course.new (with_lines machine.now seen word.now)) }
+    ensures { OnOk result ((seen : Seen) → IsCourseOf machine.now course.old seen →
+        IsCourseOf machine.now course.new (with_lines machine.now seen word.now)) }
 {
     if course.connected {
         return Ok(());
@@ -87,11 +91,12 @@ fn is_answered(course: &Course, word: &WordMsg) -> bool
     says_homed(word) && waits_by(&course.current, course.start, course.next)
 }
 
-/// Takes the answer of a homing group that a word tells. It counts where a section waits for it and has started; that ends in the next
-/// turn, and what it has not given by then is given no more.
+/// Takes the answer of a homing group that a word tells. It counts where a section waits for it and has
+/// started; that ends in the next turn, and what it has not given by then is given no more.
 fn take_answer(machine: &Machine, course: &mut Course, word: &WordMsg)
     requires { course.old.next ≤ 2 ^ 42 }
-    ensures { (seen : Seen) → IsCourseOf machine.now course.old seen → IsCourseOf machine.now course.new (with_answer machine.now seen word.now) }
+    ensures { (seen : Seen) → IsCourseOf machine.now course.old seen →
+        IsCourseOf machine.now course.new (with_answer machine.now seen word.now) }
 {
     let _ = machine;
     if !is_answered(course, word) {
@@ -102,9 +107,11 @@ fn take_answer(machine: &Machine, course: &mut Course, word: &WordMsg)
     course.ready = course.next + BETWEEN;
 }
 
-/// Keeps the further clock lines that a word tells until they are taken up in the next turn. None is told before connecting ended.
+/// Keeps the further clock lines that a word tells until they are taken up in the next turn. None is told
+/// before connecting ended.
 fn keep_lines(machine: &Machine, course: &mut Course, word: &WordMsg) -> Result<(), OutOfMemory>
-    ensures { OnOk result ((seen : Seen) → IsCourseOf machine.now course.old seen → IsCourseOf machine.now course.new (with_further seen word.now)) }
+    ensures { OnOk result ((seen : Seen) → IsCourseOf machine.now course.old seen →
+        IsCourseOf machine.now course.new (with_further seen word.now)) }
 {
     let _ = machine;
     if !course.connected {
@@ -122,7 +129,8 @@ fn heed_word(
     word: &WordMsg,
 ) -> Result<(), OutOfMemory>
     requires { IsSound machine.now course.old }
-    ensures { OnOk result ((seen : Seen) → IsCourseOf machine.now course.old seen → IsCourseOf machine.now course.new (with_heed machine.now seen word.now)) }
+    ensures { OnOk result ((seen : Seen) → IsCourseOf machine.now course.old seen →
+        IsCourseOf machine.now course.new (with_heed machine.now seen word.now)) }
 {
     take_lines(alloc, machine, course, word)?;
     take_answer(machine, course, word);
@@ -137,7 +145,8 @@ pub fn take_word(
     word: &WordMsg,
 ) -> Result<(), OutOfMemory>
     requires { IsSound machine.now course.old }
-    ensures { OnOk result ((seen : Seen) → IsCourseOf machine.now course.old seen → IsCourseOf machine.now course.new (with_word machine.now seen word.now)) }
+    ensures { OnOk result ((seen : Seen) → IsCourseOf machine.now course.old seen →
+        IsCourseOf machine.now course.new (with_word machine.now seen word.now)) }
 {
     heed_word(alloc, machine, course, word)?;
     keep_lines(machine, course, word)?;

@@ -101,7 +101,8 @@ fn take_each(
     Ok(())
 }
 
-/// Takes up the lines that wait before turn k, and tells which. Lines that their boards may not have then are passed over.
+/// Takes up the lines that wait before turn k, and tells which. Lines that their boards may not have then are
+/// passed over.
 pub fn take_up(
     alloc: Global,
     machine: &Machine,

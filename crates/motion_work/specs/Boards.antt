@@ -9,8 +9,8 @@ use Rattle.motion_work.specs.Seen.{Started, part_on}
 abbrev pub parts_on : Machine → List Clocks → List Started → ℕ → List BoardSection
 parts_on m clocks begun b = map (λ s. part_on m clocks s b) begun
 
--- sections one behind the other: the first starts in a turn or later, each later one 260 turns or more behind the end of the
--- one before
+-- sections one behind the other: the first starts in a turn or later, each later one 260 turns or more behind
+-- the end of the one before
 abbrev pub AreApart : ℕ → List BoardSection → Type 0
 AreApart ready [] = Unit {0}
 AreApart ready (s ∷ ss) = (ready ≤ s.start) × (s.start ≤ s.end) × AreApart (s.end + 260) ss

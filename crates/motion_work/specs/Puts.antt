@@ -19,16 +19,19 @@ pub record Put : Type 0 where
 -- the sections, from a number on, that are begun in a turn: 260 turns before they start
 abbrev pub begun_notes : ℕ → ℕ → List Started → List NoteNews
 begun_notes k i [] = []
-begun_notes k i (s ∷ ss) = if s.start == k + 260 then news.Start i s.section.kind s.start s.last s.moving ∷ begun_notes k (i + 1) ss else begun_notes k (i + 1) ss
+begun_notes k i (s ∷ ss) =
+    if s.start == k + 260 then news.Start i s.section.kind s.start s.last s.moving ∷ begun_notes k (i + 1) ss
+    else begun_notes k (i + 1) ss
 
 -- how the text was read, or nothing
 abbrev pub IsReadNews : Machine → List ℕ → List NoteNews → Type 0
 IsReadNews m text told =
     (told ≡ []) ⊎ (told ≡ news.Read (program_end m text) (length (program_sections m text)) ∷ [])
 
--- What was put in turn k, told by the text and all sections: each board's batch has what the sections release in that turn, and the
--- note tells the sections that end in it and those that are begun in it, maybe how the text was read, once all its sections
--- ended and none of their units waits, and behind all else the further clock lines of boards that were taken up.
+-- What was put in turn k, told by the text and all sections: each board's batch has what the sections release
+-- in that turn, and the note tells the sections that end in it and those that are begun in it, maybe how the
+-- text was read, once all its sections ended and none of their units waits, and behind all else the further
+-- clock lines of boards that were taken up.
 pub record IsPut (m : Machine) (text : List ℕ) (begun : List Started) (k : ℕ) (p : Put) : Type 0 where
   pub batches_are : p.batches ≡ batches_at (length m.boards) k (map (λ s. s.boards) begun)
   pub turn : p.note.turn ≡ k

@@ -18,9 +18,9 @@ use Rattle.motion_work.specs.Homes.{all_before, last_step, moving_in, no_end}
 use Rattle.section_units.specs.Merged.{section_of}
 use Rattle.section_units.specs.Plans.{AreOnBoards, AreOnBoardsBy, AreSentOn, AreSentToOn, plans_on}
 
--- A section that was begun: what the text says of it, the turns in which it starts and ends, and its units on each board. Of
--- a homing section also the turn of its last planned step, and which steppers move in it; its end is `no_end` until it has an
--- answer, and its units are those that are released before its end.
+-- A section that was begun: what the text says of it, the turns in which it starts and ends, and its units on
+-- each board. Of a homing section also the turn of its last planned step, and which steppers move in it; its
+-- end is `no_end` until it has an answer, and its units are those that are released before its end.
 pub record Started : Type 0 where
   pub section : Section
   pub start : ℕ
@@ -41,10 +41,11 @@ pub record IsMoved (m : Machine) (clocks : List Clocks) (s : Started) : Type 0 w
   pub moving : s.moving ≡ 0
   pub boards : AreOnBoards m clocks s.section.moves s.start s.boards
 
--- A homing section: the turn of its last step is that of its plan by the lines that hold by 17 turns behind its start, which are those that
--- were taken up when it was begun. Its units are those of its plan by the lines that hold by 276 turns behind its end, which are those that were
--- taken up by then, and none of them sets a clock; where its end is known, they are those that are released before it, and end seven turns before
--- another line may hold, or earlier.
+-- A homing section: the turn of its last step is that of its plan by the lines that hold by 17 turns behind
+-- its start, which are those that were taken up when it was begun. Its units are those of its plan by the
+-- lines that hold by 276 turns behind its end, which are those that were taken up by then, and none of them
+-- sets a clock; where its end is known, they are those that are released before it, and end seven turns
+-- before another line may hold, or earlier.
 pub record IsHomed (m : Machine) (clocks : List Clocks) (s : Started) : Type 0 where
   pub late : s.start ≤ s.end
   pub last : s.last ≡ last_step m (map (lines_by (s.start + 17)) clocks) s.section.moves s.start
@@ -53,7 +54,9 @@ pub record IsHomed (m : Machine) (clocks : List Clocks) (s : Started) : Type 0 w
   pub planned : List (List Release)
   pub are : AreOnBoardsBy true m (map (lines_by (s.end + 276)) clocks) s.section.moves s.start planned
   pub boards : ((s.end ≡ no_end) × (s.boards ≡ planned)) ⊎ ((s.end < no_end) × (s.boards ≡ all_before s.end planned))
-  pub near : s.end < no_end → (b : ℕ) → b < length m.boards → All (λ r. r.unit.last + max_error (board_at m b).freq < lines_tick (clocks_at clocks b) ((s.end + 270) * turn_ns)) (slice_index_or s.boards b [])
+  pub near : s.end < no_end → (b : ℕ) → b < length m.boards →
+      All (λ r. r.unit.last + max_error (board_at m b).freq < lines_tick (clocks_at clocks b) ((s.end + 270) * turn_ns))
+      (slice_index_or s.boards b [])
 
 -- a section of a kind is planned
 abbrev pub IsPlanned : SectionKind → Machine → List Clocks → Started → Type 0
@@ -65,8 +68,8 @@ pub record IsStarted (m : Machine) (clocks : List Clocks) (ready : ℕ) (s : Sta
   pub start : s.start ≡ ready + s.section.dwell
   pub planned : IsPlanned s.section.kind m clocks s
 
--- sections one behind the other, each 260 turns after the end of the one before, and as many later as the dwells before it
--- have milliseconds
+-- sections one behind the other, each 260 turns after the end of the one before, and as many later as the
+-- dwells before it have milliseconds
 abbrev pub AreStarted : Machine → List Clocks → ℕ → List Started → Type 0
 AreStarted m clocks ready [] = Unit {0}
 AreStarted m clocks ready (s ∷ ss) = IsStarted m clocks ready s × AreStarted m clocks (s.end + 260) ss
@@ -84,7 +87,9 @@ AreDone next (s ∷ ss) = s.end < next × AreDone next ss
 -- all sections ended before a turn, or all but the last
 abbrev pub IsOpen : Bool → ℕ → List Started → Type 0
 IsOpen false next begun = AreDone next begun
-IsOpen true next begun = (past : List Started) × (s : Started) × (begun ≡ past ++ s ∷ []) × AreDone next past × (next ≤ s.end) × (s.start ≤ s.end)
+IsOpen true next begun =
+    (past : List Started) × (s : Started) × (begun ≡ past ++ s ∷ []) × AreDone next past × (next ≤ s.end)
+    × (s.start ≤ s.end)
 
 -- a section ended by turn k, and none of its units on so many boards is released behind it
 abbrev pub IsOut : ℕ → ℕ → Started → Type 0
@@ -108,27 +113,33 @@ pub record AreClocks (m : Machine) (clocks : List Clocks) (ready : ℕ) : Type 0
 pub record AreBoardClocks (m : Machine) (clocks : List Clocks) (ready : ℕ) : Type 0 where
   pub count : length clocks ≡ length m.boards
   pub valid : (b : ℕ) → b < length m.boards → IsValidLine (clocks_at clocks b).first
-  pub lasting : (b : ℕ) → b < length m.boards → (clocks_at clocks b).first.clock < 2 ^ 62 → IsLasting (clocks_at clocks b)
+  pub lasting : (b : ℕ) → b < length m.boards → (clocks_at clocks b).first.clock < 2 ^ 62 →
+      IsLasting (clocks_at clocks b)
   pub freq : (b : ℕ) → b < length m.boards → (clocks_at clocks b).first.freq ≡ (board_at m b).freq
   pub before : (b : ℕ) → b < length m.boards → (clocks_at clocks b).first.at ≤ ready * turn_ns
 
 -- the section that a board has of one that was begun
 abbrev pub part_on : Machine → List Clocks → Started → ℕ → BoardSection
-part_on m clocks s b = section_of s.start s.end (plans_on m clocks s.section.moves s.start b) (slice_index_or s.boards b [])
+part_on m clocks s b =
+    section_of s.start s.end (plans_on m clocks s.section.moves s.start b) (slice_index_or s.boards b [])
 
 -- these sections are of moves, none homes
 abbrev pub AreMoves : List Started → Type 0
 AreMoves [] = Unit {0}
 AreMoves (s ∷ begun) = (s.section.kind ≡ Moves) × AreMoves begun
 
--- The clock lines by which a section is planned that ends in a turn: where it homes those that hold by 276 turns behind it.
+-- The clock lines by which a section is planned that ends in a turn: where it homes those that hold by 276
+-- turns behind it.
 abbrev pub lines_of : SectionKind → ℕ → List Clocks → List Clocks
 lines_of Moves end clocks = clocks
 lines_of (Home axis) end clocks = map (lines_by (end + 276)) clocks
 
--- the units of a section on each board are such as that is sent: in order, with triples that cover as many steps as one can
+-- the units of a section on each board are such as that is sent: in order, with triples that cover as many
+-- steps as one can
 abbrev pub IsSentOf : Machine → List Clocks → Started → Type 0
-IsSentOf m clocks s = (b : ℕ) → b < length m.boards → AreSentOn m (lines_of s.section.kind s.end clocks) s.section.moves s.start b (slice_index_or s.boards b [])
+IsSentOf m clocks s =
+    (b : ℕ) → b < length m.boards →
+    AreSentOn m (lines_of s.section.kind s.end clocks) s.section.moves s.start b (slice_index_or s.boards b [])
 
 -- so they are in all of some sections
 abbrev pub AreAllSent : Machine → List Clocks → List Started → Type 0
@@ -139,4 +150,6 @@ AreAllSent m clocks (s ∷ begun) = IsSentOf m clocks s × AreAllSent m clocks b
 abbrev pub AreSentBy : Machine → List Clocks → ℕ → List Started → Type 0
 AreSentBy m clocks next [] = Unit {0}
 AreSentBy m clocks next (s ∷ begun) =
-    ((b : ℕ) → b < length m.boards → AreSentToOn m (lines_of s.section.kind s.end clocks) s.section.moves s.start b next (slice_index_or s.boards b [])) × AreSentBy m clocks next begun
+    ((b : ℕ) → b < length m.boards →
+    AreSentToOn m (lines_of s.section.kind s.end clocks) s.section.moves s.start b next (slice_index_or s.boards b []))
+    × AreSentBy m clocks next begun

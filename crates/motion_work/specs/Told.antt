@@ -10,8 +10,8 @@ use Rattle.plan_types.specs.Clock.{turn_ns}
 use Rattle.plan_types.specs.Lines.{Clocks, one_line}
 use Rattle.motion_work.specs.declared.told.BoardLine.{BoardLine}
 
--- a line that a board may have when connecting ended in a turn: of its frequency, and from the beginning of a turn that is not
--- a later one
+-- a line that a board may have when connecting ended in a turn: of its frequency, and from the beginning of a
+-- turn that is not a later one
 abbrev pub is_fit : BoardDef → ℕ → Line → Bool
 is_fit b turn l = l.freq == b.freq && nat_le l.at (turn * turn_ns) && l.at % 1_000_000 == 0
 
@@ -69,8 +69,8 @@ abbrev pub told_at : ℕ → Option (List Clocks) → Option Told
 told_at turn None = None
 told_at turn (Some clocks) = Some (record { first = first_start turn; clocks = clocks })
 
--- What is known of connecting behind a word, where the batches of turn `next` are made next. The first lines that are told
--- hold.
+-- What is known of connecting behind a word, where the batches of turn `next` are made next. The first lines
+-- that are told hold.
 abbrev pub heard : Machine → ℕ → WordMsg → Option Told → Option Told
 heard m next w (Some told) = Some told
 heard m next w None = told_at (max next w.turn) (told_of m w)

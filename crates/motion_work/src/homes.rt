@@ -19,8 +19,8 @@ use std::alloc::Global;
 /// The turn in which a homing section ends that has no answer yet.
 pub const NO_END: u64 = 1 << 62;
 
-/// The turn of the last planned step of a homing section of some moves that starts in a turn, and its start where it has none. Its
-/// plan is made for this alone.
+/// The turn of the last planned step of a homing section of some moves that starts in a turn, and its start
+/// where it has none. Its plan is made for this alone.
 pub fn home_end(
     alloc: Global,
     machine: &Machine,

@@ -20,21 +20,29 @@ ghost use Rattle.section_feed.specs.Boards.{most_ns};
 ghost use Rattle.section_feed.specs.Lined.{line_at};
 ghost use Rattle.motion_work.specs.Homes.{no_end};
 
-/// The law of boards: sections that were begun one behind the other are, on each board, a list of sections, one behind the other, of moves
-/// where none homes; and what these release in a turn is what the board's batch of that turn has.
+/// The law of boards: sections that were begun one behind the other are, on each board, a list of sections,
+/// one behind the other, of moves where none homes; and what these release in a turn is what the board's
+/// batch of that turn has.
 pub fn boards_have_sections()
-    ensures sections { (m : Machine) (clocks : List Clocks) (ready : ℕ) (begun : List Started) (b : ℕ) → AreStarted m clocks ready begun → AreMoves begun → b < length m.boards →
+    ensures sections { (m : Machine) (clocks : List Clocks) (ready : ℕ) (begun : List Started) (b : ℕ) →
+        AreStarted m clocks ready begun → AreMoves begun → b < length m.boards →
         All (IsSection (clocks_at clocks b) (board_at m b).freq (board_at m b).slots) (parts_on m clocks begun b) }
-    ensures apart { (m : Machine) (clocks : List Clocks) (ready : ℕ) (begun : List Started) (b : ℕ) → AreStarted m clocks ready begun → AreApart ready (parts_on m clocks begun b) }
-    ensures units { (m : Machine) (clocks : List Clocks) (begun : List Started) (b k : ℕ) → units_at b k (map (λ s. s.boards) begun) ≡ flat_map (λ s. batch_at k s.releases) (parts_on m clocks begun b) }
+    ensures apart { (m : Machine) (clocks : List Clocks) (ready : ℕ) (begun : List Started) (b : ℕ) →
+        AreStarted m clocks ready begun → AreApart ready (parts_on m clocks begun b) }
+    ensures units { (m : Machine) (clocks : List Clocks) (begun : List Started) (b k : ℕ) →
+        units_at b k (map (λ s. s.boards) begun) ≡ flat_map (λ s. batch_at k s.releases) (parts_on m clocks begun b) }
 {}
 
-/// The law of sections that home: what such a section has released on a board are the first units of its plan by all lines of the board, the
-/// first of which it was planned by; and where its end is known, they are released before it. It stays one by a line more, on any board, that
-/// holds from 277 turns behind its end on or later.
+/// The law of sections that home: what such a section has released on a board are the first units of its plan
+/// by all lines of the board, the first of which it was planned by; and where its end is known, they are
+/// released before it. It stays one by a line more, on any board, that holds from 277 turns behind its end on
+/// or later.
 pub fn homed_sections_follow_plans()
-    ensures front { (m : Machine) (clocks : List Clocks) (s : Started) (b : ℕ) → AreKept (clocks_at clocks b) → last_from 0 (clocks_at clocks b).held < most_ns → b < length clocks → b < length m.boards → IsHomed m clocks s →
+    ensures front { (m : Machine) (clocks : List Clocks) (s : Started) (b : ℕ) → AreKept (clocks_at clocks b) →
+        last_from 0 (clocks_at clocks b).held < most_ns → b < length clocks → b < length m.boards → IsHomed m clocks s →
         IsFrontOnBy true m clocks s.section.moves s.start b (slice_index_or s.boards b []) }
-    ensures before { (m : Machine) (clocks : List Clocks) (s : Started) (b : ℕ) → b < length m.boards → IsHomed m clocks s → (s.end ≡ no_end) ⊎ AreBefore s.end (slice_index_or s.boards b []) }
-    ensures stay { (m : Machine) (clocks : List Clocks) (s : Started) (b turn : ℕ) (line : Line) → b < length clocks → s.end + 276 < turn → IsHomed m clocks s → IsHomed m (line_at clocks b turn line) s }
+    ensures before { (m : Machine) (clocks : List Clocks) (s : Started) (b : ℕ) → b < length m.boards →
+        IsHomed m clocks s → (s.end ≡ no_end) ⊎ AreBefore s.end (slice_index_or s.boards b []) }
+    ensures stay { (m : Machine) (clocks : List Clocks) (s : Started) (b turn : ℕ) (line : Line) → b < length clocks →
+        s.end + 276 < turn → IsHomed m clocks s → IsHomed m (line_at clocks b turn line) s }
 {}

@@ -1,5 +1,5 @@
-//! What planners share: what words tell of the boards' clocks, what a homing section moves and when its last planned step is, and, as
-//! definitions and laws, what the sections that were begun put in every turn.
+//! What planners share: what words tell of the boards' clocks, what a homing section moves and when its last
+//! planned step is, and, as definitions and laws, what the sections that were begun put in every turn.
 //!
 //! A turn is a millisecond of the session; ticks are those of a board.
 #![tactic(auto)]

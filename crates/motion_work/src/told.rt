@@ -76,7 +76,8 @@ fn told_by(
 ) -> Result<Option<Vec<Lines>>, OutOfMemory>
     requires machine { IsValidMachine machine.now }
     requires small { turn < 2 ^ 61 }
-    ensures { IfOk result (λ told. MatchOption told (told_by machine.now turn news.now ≡ None) (λ lines. told_by machine.now turn news.now ≡ Some lines.items)) }
+    ensures { IfOk result (λ told. MatchOption told (told_by machine.now turn news.now ≡ None)
+        (λ lines. told_by machine.now turn news.now ≡ Some lines.items)) }
 {
     match news {
         WordNews::Lines(lines) => {
@@ -99,7 +100,8 @@ fn told_in(
 ) -> Result<Option<Vec<Lines>>, OutOfMemory>
     requires machine { IsValidMachine machine.now }
     requires small { turn < 2 ^ 61 }
-    ensures { IfOk result (λ told. MatchOption told (told_in machine.now turn news.now ≡ None) (λ lines. told_in machine.now turn news.now ≡ Some lines.items)) }
+    ensures { IfOk result (λ told. MatchOption told (told_in machine.now turn news.now ≡ None)
+        (λ lines. told_in machine.now turn news.now ≡ Some lines.items)) }
 {
     for one in news {
         let told = told_by(alloc, machine, turn, one)?;
@@ -117,7 +119,8 @@ pub fn told_of(
     word: &WordMsg,
 ) -> Result<Option<Vec<Lines>>, OutOfMemory>
     requires { IsValidMachine machine.now }
-    ensures { IfOk result (λ told. MatchOption told (told_of machine.now word.now ≡ None) (λ lines. told_of machine.now word.now ≡ Some lines.items)) }
+    ensures { IfOk result (λ told. MatchOption told (told_of machine.now word.now ≡ None)
+        (λ lines. told_of machine.now word.now ≡ Some lines.items)) }
 {
     if word.turn >= LAST_TURN {
         return Ok(None);

@@ -14,8 +14,8 @@ is_name word = list_all name_byte word && nat_lt 0 (length word)
 -- one of the types of parameters
 abbrev pub is_type : List ℕ → Bool
 is_type t =
-    bytes_eq t (codes "%u") || bytes_eq t (codes "%i") || bytes_eq t (codes "%hu") || bytes_eq t (codes "%hi") || bytes_eq t (codes "%c")
-    || bytes_eq t (codes "%s") || bytes_eq t (codes "%*s") || bytes_eq t (codes "%.*s")
+    bytes_eq t (codes "%u") || bytes_eq t (codes "%i") || bytes_eq t (codes "%hu") || bytes_eq t (codes "%hi")
+    || bytes_eq t (codes "%c") || bytes_eq t (codes "%s") || bytes_eq t (codes "%*s") || bytes_eq t (codes "%.*s")
 
 -- a name, the first `=`, and a type: the name so far, and what follows it
 abbrev pub parameter_from : List ℕ → List ℕ → Bool
@@ -33,7 +33,8 @@ is_word first word = if first then is_name word else is_parameter word
 -- a word so far, and what follows it, up to and from each space
 abbrev pub are_words : Bool → List ℕ → List ℕ → Bool
 are_words first word [] = is_word first word
-are_words first word (b ∷ bs) = if b == 32 then is_word first word && are_words false [] bs else are_words first (word ++ b ∷ []) bs
+are_words first word (b ∷ bs) =
+    if b == 32 then is_word first word && are_words false [] bs else are_words first (word ++ b ∷ []) bs
 
 -- a name, and parameters behind it, separated by single spaces
 unfoldable pub is_format : List ℕ → Bool

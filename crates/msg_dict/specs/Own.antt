@@ -37,21 +37,24 @@ reasons =
 
 -- the enumerations of a simulated board
 abbrev pub enumerations : BoardDef → Members
-enumerations b = put (codes "static_string_id") (object reasons) (put (codes "pin") (object (with_pins 0 b.pins no_members)) no_members)
+enumerations b =
+    put (codes "static_string_id") (object reasons)
+    (put (codes "pin") (object (with_pins 0 b.pins no_members)) no_members)
 
 -- the dictionary of a simulated board as JSON
 unfoldable pub own_dictionary : BoardDef → Data
 own_dictionary b =
-    object
-    (put (codes "enumerations") (object (enumerations b))
-    (put (codes "config") (object (put (codes "CLOCK_FREQ") (whole b.freq) no_members))
-    (put (codes "responses") (object (with_rows answer_rows no_members)) (put (codes "commands") (object (with_rows command_rows no_members)) no_members))))
+    object (put (codes "enumerations") (object (enumerations b)) (put (codes "config")
+    (object (put (codes "CLOCK_FREQ") (whole b.freq) no_members)) (put (codes "responses")
+    (object (with_rows answer_rows no_members))
+    (put (codes "commands") (object (with_rows command_rows no_members)) no_members))))
 
 -- the reasons of a shutdown with their numbers
 abbrev pub reason_numbers : List Named
 reason_numbers =
     record { name = codes "Timer too close"; number = 1 } ∷ record { name = codes "Move queue overflow"; number = 2 }
-    ∷ record { name = codes "Can't reset time when stepper active"; number = 3 } ∷ record { name = codes "Invalid count parameter"; number = 4 }
+    ∷ record { name = codes "Can't reset time when stepper active"; number = 3 }
+    ∷ record { name = codes "Invalid count parameter"; number = 4 }
     ∷ record { name = codes "Command request"; number = 5 } ∷ []
 
 -- the number of a pin: its place, where its name is text
@@ -62,10 +65,12 @@ pin_number name pins = if is_utf8 name then position (λ pin. bytes_eq pin name)
 pub record IsOwn (b : BoardDef) (d : Dictionary) : Type 0 where
   pub formats : (format : List ℕ) → number_of format d.formats ≡ option_map own_id (row_named format)
   pub names : (id : ℕ) → name_of id d.formats ≡ option_map format_text (row_numbered id)
-  pub constants : (name : List ℕ) → number_of name d.constants ≡ number_of name (record { name = codes "CLOCK_FREQ"; number = b.freq } ∷ [])
+  pub constants : (name : List ℕ) →
+      number_of name d.constants ≡ number_of name (record { name = codes "CLOCK_FREQ"; number = b.freq } ∷ [])
   pub pins : IsValidBoard b → (name : List ℕ) → enumerated (codes "pin") name d.numbers ≡ pin_number name b.pins
   pub reasons : (name : List ℕ) → enumerated (codes "static_string_id") name d.numbers ≡ number_of name reason_numbers
-  pub no_other : (enumeration name : List ℕ) → enumeration ≢ codes "pin" → enumeration ≢ codes "static_string_id" → enumerated enumeration name d.numbers ≡ None
+  pub no_other : (enumeration name : List ℕ) → enumeration ≢ codes "pin" → enumeration ≢ codes "static_string_id" →
+      enumerated enumeration name d.numbers ≡ None
 
 -- a row's format with the boards' own identifier
 abbrev pub own_format : Row → Named

@@ -13,7 +13,8 @@ use Rattle.msg_dict.specs.Format.{is_format}
 -- an identifier is a whole number from -2 ^ 31 to 2 ^ 32 - 1, modulo 2 ^ 32
 abbrev pub id_of_number : Num → Option ℕ
 id_of_number (unsigned n) = if nat_lt n (2 ^ 32) then Some n else None
-id_of_number (negative z) = if int_le (negsuc (2 ^ 31 - 1)) z && int_lt z (pos 0) then Some (cast_unsigned w32 z) else None
+id_of_number (negative z) =
+    if int_le (negsuc (2 ^ 31 - 1)) z && int_lt z (pos 0) then Some (cast_unsigned w32 z) else None
 id_of_number (float x) = None
 
 -- the identifier that a value is
@@ -46,6 +47,7 @@ abbrev pub below_32 : Option ℕ → Option ℕ
 below_32 None = None
 below_32 (Some n) = if nat_lt n (2 ^ 32) then Some n else None
 
+-- a name of an enumeration with its number, where it has one, before others
 abbrev pub with_choice : List ℕ → List ℕ → Option ℕ → List Enumerated → List Enumerated
 with_choice enumeration name None rest = rest
 with_choice enumeration name (Some n) rest = record { enumeration = enumeration; name = name; number = n } ∷ rest
@@ -56,6 +58,7 @@ choices_of enumeration no_members = []
 choices_of enumeration (member name d ms) =
     with_choice enumeration name (below_32 (option_and_then as_u64 (as_number d))) (choices_of enumeration ms)
 
+-- the names of an enumeration with their numbers, where it is an object
 abbrev pub choices_in : List ℕ → Option Members → List Enumerated
 choices_in enumeration None = []
 choices_in enumeration (Some ms) = choices_of enumeration ms
@@ -73,25 +76,31 @@ object_at name d = option_and_then as_object (get name d)
 abbrev pub checked : List Named → List Named → List Enumerated → Result Dictionary DictFault
 checked formats constants numbers =
     if list_all (λ f. is_format f.name) formats
-    then (if numbers_differ formats then Ok (record { formats = formats; constants = constants; numbers = numbers }) else Err SameId)
+    then (if numbers_differ formats then Ok (record { formats = formats; constants = constants; numbers = numbers })
+    else Err SameId)
     else Err BadFormat
 
 -- the dictionary of these formats, or the fault
 abbrev pub of_formats : Option (List Named) → Option (List Named) → Members → Members → Result Dictionary DictFault
 of_formats None responses config enumerations = Err Shape
 of_formats (Some commands) None config enumerations = Err Shape
-of_formats (Some commands) (Some responses) config enumerations = checked (commands ++ responses) (constants_of config) (enumerations_of enumerations)
+of_formats (Some commands) (Some responses) config enumerations =
+    checked (commands ++ responses) (constants_of config) (enumerations_of enumerations)
 
+-- a dictionary by its four objects, where all are there
 abbrev pub of_objects : Option Members → Option Members → Option Members → Option Members → Result Dictionary DictFault
 of_objects None responses config enumerations = Err Shape
 of_objects (Some commands) None config enumerations = Err Shape
 of_objects (Some commands) (Some responses) None enumerations = Err Shape
 of_objects (Some commands) (Some responses) (Some config) None = Err Shape
-of_objects (Some commands) (Some responses) (Some config) (Some enumerations) = of_formats (formats_of commands) (formats_of responses) config enumerations
+of_objects (Some commands) (Some responses) (Some config) (Some enumerations) =
+    of_formats (formats_of commands) (formats_of responses) config enumerations
 
 -- the dictionary that a value is
 unfoldable pub dictionary_of : Data → Result Dictionary DictFault
-dictionary_of d = of_objects (object_at (codes "commands") d) (object_at (codes "responses") d) (object_at (codes "config") d) (object_at (codes "enumerations") d)
+dictionary_of d =
+    of_objects (object_at (codes "commands") d) (object_at (codes "responses") d) (object_at (codes "config") d)
+    (object_at (codes "enumerations") d)
 
 -- the bytes are this JSON value; bytes that aren't UTF-8 are none
 abbrev pub IsJson : List ℕ → Data → Type 0

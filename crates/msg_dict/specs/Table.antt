@@ -23,7 +23,8 @@ format_text row.TrsyncSetTimeout = codes "trsync_set_timeout oid=%c clock=%u"
 format_text row.TrsyncTrigger = codes "trsync_trigger oid=%c reason=%c"
 format_text row.StepperStopOnTrigger = codes "stepper_stop_on_trigger oid=%c trsync_oid=%c"
 format_text row.ConfigEndstop = codes "config_endstop oid=%c pin=%c pull_up=%c"
-format_text row.EndstopHome = codes "endstop_home oid=%c clock=%u sample_ticks=%u sample_count=%c rest_ticks=%u pin_value=%c trsync_oid=%c trigger_reason=%c"
+format_text row.EndstopHome =
+    codes "endstop_home oid=%c clock=%u sample_ticks=%u sample_count=%c rest_ticks=%u pin_value=%c trsync_oid=%c trigger_reason=%c"
 format_text row.Config = codes "config is_config=%c crc=%u is_shutdown=%c move_count=%hu"
 format_text row.Uptime = codes "uptime high=%u clock=%u"
 format_text row.TrsyncState = codes "trsync_state oid=%c can_trigger=%c trigger_reason=%c clock=%u"
@@ -59,12 +60,17 @@ own_id row.IsShutdown = 36
 -- the rows of the table
 abbrev pub all_rows : List Row
 all_rows =
-    row.IdentifyResponse ∷ row.Identify ∷ row.AllocateOids ∷ row.GetConfig ∷ row.FinalizeConfig ∷ row.GetUptime ∷ row.EmergencyStop ∷ row.ConfigStepper ∷ row.QueueStep ∷ row.SetNextStepDir ∷ row.ResetStepClock ∷ row.ConfigTrsync ∷ row.TrsyncStart ∷ row.TrsyncSetTimeout ∷ row.TrsyncTrigger ∷ row.StepperStopOnTrigger ∷ row.ConfigEndstop ∷ row.EndstopHome ∷ row.Config ∷ row.Uptime ∷ row.TrsyncState ∷ row.Shutdown ∷ row.IsShutdown ∷ []
+    row.IdentifyResponse ∷ row.Identify ∷ row.AllocateOids ∷ row.GetConfig ∷ row.FinalizeConfig ∷ row.GetUptime
+    ∷ row.EmergencyStop ∷ row.ConfigStepper ∷ row.QueueStep ∷ row.SetNextStepDir ∷ row.ResetStepClock ∷ row.ConfigTrsync
+    ∷ row.TrsyncStart ∷ row.TrsyncSetTimeout ∷ row.TrsyncTrigger ∷ row.StepperStopOnTrigger ∷ row.ConfigEndstop
+    ∷ row.EndstopHome ∷ row.Config ∷ row.Uptime ∷ row.TrsyncState ∷ row.Shutdown ∷ row.IsShutdown ∷ []
 
 -- the rows of commands, and those of answers
 abbrev pub command_rows : List Row
 command_rows =
-    row.Identify ∷ row.AllocateOids ∷ row.GetConfig ∷ row.FinalizeConfig ∷ row.GetUptime ∷ row.EmergencyStop ∷ row.ConfigStepper ∷ row.QueueStep ∷ row.SetNextStepDir ∷ row.ResetStepClock ∷ row.ConfigTrsync ∷ row.TrsyncStart ∷ row.TrsyncSetTimeout ∷ row.TrsyncTrigger ∷ row.StepperStopOnTrigger ∷ row.ConfigEndstop ∷ row.EndstopHome ∷ []
+    row.Identify ∷ row.AllocateOids ∷ row.GetConfig ∷ row.FinalizeConfig ∷ row.GetUptime ∷ row.EmergencyStop
+    ∷ row.ConfigStepper ∷ row.QueueStep ∷ row.SetNextStepDir ∷ row.ResetStepClock ∷ row.ConfigTrsync ∷ row.TrsyncStart
+    ∷ row.TrsyncSetTimeout ∷ row.TrsyncTrigger ∷ row.StepperStopOnTrigger ∷ row.ConfigEndstop ∷ row.EndstopHome ∷ []
 
 -- the rows of answers
 abbrev pub answer_rows : List Row

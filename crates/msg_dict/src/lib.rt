@@ -80,7 +80,11 @@ impl Model for Dict {
 
     ghost use Rattle.msg_dict.specs.Kept.{format_of, constant_of, choice_of};
 
-    ghost view = { λ d. record { formats = map format_of d.formats.items; constants = map constant_of d.constants.items; numbers = map choice_of d.choices.items } };
+    ghost view = { λ d. record {
+      formats = map format_of d.formats.items;
+      constants = map constant_of d.constants.items;
+      numbers = map choice_of d.choices.items;
+    } };
 
     ghost invariant = { λ d. numbers_differ (map format_of d.formats.items) ≡ true };
 }
@@ -100,8 +104,8 @@ impl Dict {
         format_among(self.formats.as_slice(), id)
     }
 
-    /// The row of the format that has this identifier: `None` exactly where none has it, `Some(None)` where its format is not in
-    /// the table.
+    /// The row of the format that has this identifier: `None` exactly where none has it, `Some(None)` where
+    /// its format is not in the table.
     pub fn row(&self, id: u32) -> Option<Option<Row>>
         ensures { result ≡ row_of_format (name_of id self.now.formats) }
     {

@@ -19,8 +19,8 @@ use plan_types::{BoardDef, Name};
 use serde_json::{Map, Value, put};
 use std::alloc::{AllocError, Global};
 
-/// The text of a board's dictionary, as compact JSON: the commands and answers of the table, the frequency, the pins and
-/// the reasons of a shutdown.
+/// The text of a board's dictionary, as compact JSON: the commands and answers of the table, the frequency,
+/// the pins and the reasons of a shutdown.
 #[tactic(auto, using(crate::proofs::Floats::no_float, crate::proofs::Shallow::shallow))]
 pub fn dict_text(alloc: Global, b: &BoardDef) -> Result<Vec<u8>, AllocError>
     ensures text { IfOk result (λ text. text.items ≡ compact_text (own_dictionary b.now)) }
@@ -91,7 +91,8 @@ fn add_pin(
     name: &[u8],
     number: usize,
 ) -> Result<(), AllocError>
-    ensures { OnOk result (members_view map.new.entries ≡ with_pin (is_utf8 name.now) name.now number (members_view map.old.entries)) }
+    ensures { OnOk result
+        (members_view map.new.entries ≡ with_pin (is_utf8 name.now) name.now number (members_view map.old.entries)) }
 {
     match str::from_utf8(name) {
         Ok(text) => put(map, alloc, text, Value::from(number))?,

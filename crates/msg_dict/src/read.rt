@@ -73,9 +73,11 @@ fn of_objects(
     config: &Map<String, Value>,
     enumerations: &Map<String, Value>,
 ) -> Result<Dict, DictFault>
-    ensures ok { IfOk result (λ d. of_formats (formats_of (members_view commands.now.entries)) (formats_of (members_view responses.now.entries))
-        (members_view config.now.entries) (members_view enumerations.now.entries) ≡ Ok d) }
-    ensures err { IfErr result (λ e. ¬ (e ≡ DictFault.Memory) → of_formats (formats_of (members_view commands.now.entries)) (formats_of (members_view responses.now.entries))
+    ensures ok { IfOk result (λ d. of_formats (formats_of (members_view commands.now.entries))
+        (formats_of (members_view responses.now.entries)) (members_view config.now.entries)
+        (members_view enumerations.now.entries) ≡ Ok d) }
+    ensures err { IfErr result (λ e. ¬ (e ≡ DictFault.Memory) →
+        of_formats (formats_of (members_view commands.now.entries)) (formats_of (members_view responses.now.entries))
         (members_view config.now.entries) (members_view enumerations.now.entries) ≡ Err e) }
     ensures json { IfErr result (λ e. ¬ (e ≡ DictFault.NotJson)) }
 {
@@ -107,7 +109,8 @@ fn add_formats(
     object: &Map<String, Value>,
     out: &mut Vec<Format>,
 ) -> Result<bool, AllocError>
-    ensures { IfOk result (λ good. AddsFormats good (formats_of (members_view object.now.entries)) (map format_of out.old.items) (map format_of out.new.items)) }
+    ensures { IfOk result (λ good. AddsFormats good (formats_of (members_view object.now.entries))
+        (map format_of out.old.items) (map format_of out.new.items)) }
 {
     for (name, value) in object.iter() {
         let Some(id) = id_of(value) else {
@@ -197,7 +200,8 @@ fn add_choices(
     object: &Map<String, Value>,
     out: &mut Vec<Choice>,
 ) -> Result<(), AllocError>
-    ensures { OnOk result (map choice_of out.new.items ≡ map choice_of out.old.items ++ choices_of enumeration.now (members_view object.now.entries)) }
+    ensures { OnOk result (map choice_of out.new.items
+        ≡ map choice_of out.old.items ++ choices_of enumeration.now (members_view object.now.entries)) }
 {
     for (key, member) in object.iter() {
         if let Some(number) = small(member.as_u64()) {

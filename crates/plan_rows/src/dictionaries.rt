@@ -148,7 +148,8 @@ fn first_not_refused(alloc: Global, rows: &[(&[u8], DictFault)]) -> Option<usize
     None
 }
 
-/// A dictionary with a command, two constants, one of which is no whole number, and two enumerations, one of which is none.
+/// A dictionary with a command, two constants, one of which is no whole number, and two enumerations, one of
+/// which is none.
 const SMALL: &str =
     "{\"commands\":{\"get_uptime\":-32},\"responses\":{},\"config\":{\"a\":1.5,\"b\":2},\"enumerations\":{\"c\":1,\"d\":{\"e\":3}}}";
 

@@ -8,7 +8,8 @@ use crate::BoardDef;
 /// The ticks of every run stay below this.
 const TICK_LIMIT: u128 = 13_000_000_000_000_000_000;
 
-/// The clock of a board: its tick at the session's start, its ticks a second, and how far it is off, in parts per million.
+/// The clock of a board: its tick at the session's start, its ticks a second, and how far it is off, in parts
+/// per million.
 #[derive(Clone, Copy, Debug, PartialEq, Eq)]
 pub struct BoardClock {
     pub start: u64,
@@ -59,6 +60,8 @@ fn rate(drift: i16) -> u32
 
 /// The law of own ticks: a board without drift has the ticks of its clock line, and no board's ticks ever fall.
 pub fn boards_keep_their_ticks()
-    ensures exact { (start freq turn : ℕ) → own_tick start freq (pos 0) turn ≡ tick (record { at = 0; clock = start; freq = freq }) (turn * turn_ns) }
-    ensures rise { (start freq turn later : ℕ) (drift : ℤ) → turn ≤ later → own_tick start freq drift turn ≤ own_tick start freq drift later }
+    ensures exact { (start freq turn : ℕ) →
+        own_tick start freq (pos 0) turn ≡ tick (record { at = 0; clock = start; freq = freq }) (turn * turn_ns) }
+    ensures rise { (start freq turn later : ℕ) (drift : ℤ) → turn ≤ later →
+        own_tick start freq drift turn ≤ own_tick start freq drift later }
 {}

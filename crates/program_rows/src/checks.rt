@@ -184,8 +184,8 @@ const CHECKS: [Check<'static>; 30] = [
         "section 0 stepper_x 3 3 0 0\nsection 1 stepper_x 1 2 0 100\nsection 1 stepper_y 0 2 0 0\n",
         "end 15 misfit 8 Late\n",
     ),
-    // one that holds no later than the line before it, one from before the board's first line on, one before that line, one of a
-    // board that isn't there
+    // one that holds no later than the line before it, one from before the board's first line on, one before
+    // that line, one of a board that isn't there
     (
         1,
         "board mcu freq 16000000 turn 1260 tick 20160000\nline mcu turn 1400 tick 22400140 from 1530000000\nline mcu turn 1401 tick 22416140 from 1530000000\n",

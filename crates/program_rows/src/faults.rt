@@ -130,8 +130,9 @@ fn a_read_that_fails_on_the_way(rt: HostRuntime) -> Result<(), Fail> {
     Ok(())
 }
 
-/// A write that fails while the end line of a want of memory is written leaves that status. No test can refuse memory at
-/// one place of a run, so it is asked of the call that the end of every command goes through.
+/// A write that fails while the end line of a want of memory is written leaves that status. No test can
+/// refuse memory at one place of a run, so it is asked of the call that the end of every command goes
+/// through.
 #[test]
 fn a_write_that_fails_behind_a_want_of_memory(rt: HostRuntime) -> Result<(), Fail> {
     assert_eq!(rt; status_of(&with_failure(Cause::Memory)), 1);

@@ -6,7 +6,8 @@ use std::alloc::{AllocError, Global};
 use std::sync::Wait;
 use std::thread::Threads;
 
-/// A cartesian printer with one board, of 42 lines: what stands before the rotation distance of x, that line, and the rest.
+/// A cartesian printer with one board, of 42 lines: what stands before the rotation distance of x, that line,
+/// and the rest.
 const HEAD: &str = "[printer]
 kinematics: cartesian
 max_velocity: 300

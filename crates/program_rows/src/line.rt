@@ -1,5 +1,5 @@
-//! The trace in examples that the host's end sends for one millimetre along x, dumped and replayed. (`turn_rows` has that it is
-//! sent.)
+//! The trace in examples that the host's end sends for one millimetre along x, dumped and replayed.
+//! (`turn_rows` has that it is sent.)
 
 use crate::files::{X_DISTANCE, files, run};
 use io_core::MemSink;
@@ -79,8 +79,8 @@ fn printed<R: Threads + Wait + Sync>(
     out.bytes().to_vec(alloc)
 }
 
-/// What the trace holds: the boards' dictionary and clock are asked for, steppers, trigger and endstops are set up, and the steps
-/// are sent, turn by turn, each turn's in a block.
+/// What the trace holds: the boards' dictionary and clock are asked for, steppers, trigger and endstops are
+/// set up, and the steps are sent, turn by turn, each turn's in a block.
 fn things(alloc: Global) -> Result<String, AllocError> {
     let mut text = String::new(alloc);
     for turn in 0..42_u32 {

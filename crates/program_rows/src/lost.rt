@@ -1,5 +1,5 @@
-//! Steps that could be lost: many at once behind a section's end, and those behind clock lines that a board takes up, in moves and
-//! while an axis homes.
+//! Steps that could be lost: many at once behind a section's end, and those behind clock lines that a board
+//! takes up, in moves and while an axis homes.
 
 use crate::files::{X_DISTANCE, files, run};
 use crate::shown::{pulses, tells};
@@ -11,9 +11,9 @@ use std::sync::Wait;
 use std::test::Fail;
 use std::thread::Threads;
 
-/// A text on a board that drifts: lines behind those of the configuration, the G-code, for how many turns the answers are delayed by which
-/// the board's first clock line is chosen, how many pulses x and y make and the planned tick of the last one, and the report's other lines,
-/// as the first and the last ones.
+/// A text on a board that drifts: lines behind those of the configuration, the G-code, for how many turns the
+/// answers are delayed by which the board's first clock line is chosen, how many pulses x and y make and the
+/// planned tick of the last one, and the report's other lines, as the first and the last ones.
 type Kept<'a> = (&'a str, &'a str, u64, [(u64, u64); 2], [&'a str; 2]);
 
 /// The scene in which those answers are delayed.
@@ -87,7 +87,8 @@ lines 1 passed 0
 end 0 done
 ";
 
-/// Whether a stepper makes so many pulses, the last one at most 25 microseconds of 16 MHz before its planned tick, and not behind it.
+/// Whether a stepper makes so many pulses, the last one at most 25 microseconds of 16 MHz before its planned
+/// tick, and not behind it.
 fn makes(
     alloc: Global,
     report: &[u8],
@@ -137,9 +138,10 @@ fn steps_behind_further_lines(rt: HostRuntime) -> Result<(), Fail> {
     Ok(())
 }
 
-/// A run in which x homes for 49 seconds on a board that drifts, and moves a millimetre behind that: lines behind those of the configuration,
-/// how many pulses x makes and the planned tick of the last one, the board's ticks in a second, and the report's other lines, as the
-/// first and the last ones, but for those that tell its clock while x homes.
+/// A run in which x homes for 49 seconds on a board that drifts, and moves a millimetre behind that: lines
+/// behind those of the configuration, how many pulses x makes and the planned tick of the last one, the
+/// board's ticks in a second, and the report's other lines, as the first and the last ones, but for those
+/// that tell its clock while x homes.
 type Homed<'a> = (&'a str, (u64, u64), u64, [&'a str; 2]);
 
 const FAST_HOME: &str = "[simulation]
@@ -197,7 +199,8 @@ end 0 done
     ),
 ];
 
-/// Lines that tell the clock of a board in each second from the second one on and before another, each of which holds so many turns behind its own turn.
+/// Lines that tell the clock of a board in each second from the second one on and before another, each of
+/// which holds so many turns behind its own turn.
 fn told_each_second(
     alloc: Global,
     head: &str,
@@ -257,7 +260,8 @@ line mcu turn 1000 tick 16001600 from 1342000000
 section 0 turn 1260 move
 ";
 
-/// 4,990 seconds of a move in which x makes no step, and a millimetre of both x and y behind them, which make all their steps.
+/// 4,990 seconds of a move in which x makes no step, and a millimetre of both x and y behind them, which make
+/// all their steps.
 #[test]
 fn steps_behind_an_hour_without_one(rt: HostRuntime) -> Result<(), Fail> {
     let alloc = rt.alloc();
@@ -296,8 +300,8 @@ fn is_behind_slots(first: u64) -> bool {
     (252_010_875..=252_132_899).contains(&first)
 }
 
-/// Whether a burst ends the run, since a step came late. Its units wait until the first ones are over, five turns behind their ticks: the
-/// next one is sent 255 turns later than it could be, and no turn was spoiled.
+/// Whether a burst ends the run, since a step came late. Its units wait until the first ones are over, five
+/// turns behind their ticks: the next one is sent 255 turns later than it could be, and no turn was spoiled.
 fn comes_late<R: Threads + Wait + Sync>(rt: &R, alloc: Global) -> Result<bool, AllocError> {
     let mut out = MemSink::new(alloc, Vec::new(alloc));
     let ended = play(rt, alloc, BURST, "G1 X0.01 F60000\n", "", &mut out)?;

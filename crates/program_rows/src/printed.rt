@@ -6,7 +6,8 @@ use std::alloc::{AllocError, Global};
 use std::sync::Wait;
 use std::thread::Threads;
 
-/// A command: its words, lines behind those of the configuration, the text of `t.gcode`, the status, and what is printed.
+/// A command: its words, lines behind those of the configuration, the text of `t.gcode`, the status, and what
+/// is printed.
 pub type Printed<'a> = (&'a [&'a str], &'a str, &'a str, u8, &'a str);
 
 /// Whether a command prints this and ends so.

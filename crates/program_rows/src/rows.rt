@@ -12,8 +12,8 @@ use std::thread::Threads;
 
 const JOB: [&str; 3] = ["run", "m.cfg", "t.gcode"];
 
-/// A run: lines behind those of the configuration, the G-code, the pulses of x, y and the extruder, and the report's other lines, as the
-/// first and the last ones.
+/// A run: lines behind those of the configuration, the G-code, the pulses of x, y and the extruder, and the
+/// report's other lines, as the first and the last ones.
 type Run<'a> = (&'a str, &'a str, [Pulses; 3], [&'a str; 2]);
 
 /// What stands before the first section of a report.
@@ -239,7 +239,8 @@ fn a_drifting_board(rt: HostRuntime) -> Result<(), Fail> {
     Ok(())
 }
 
-/// At full speed through a straight junction: from the first move's last step to the second's first it is a gap as before.
+/// At full speed through a straight junction: from the first move's last step to the second's first it is a
+/// gap as before.
 #[test]
 fn straight_on(rt: HostRuntime) -> Result<(), Fail> {
     let alloc = rt.alloc();

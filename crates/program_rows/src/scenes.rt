@@ -13,15 +13,15 @@ use std::thread::Threads;
 /// A scene: lines of its own, and one way of a link whose first blocks are lost, with their number.
 type Scene<'a> = (&'a str, &'a str, u64);
 
-/// What a run makes and tells: how many pulses of x, y, z and the extruder, how many of those of x are down, the planned tick of the last
-/// one of x, and the report's other lines, as the first and the last ones.
+/// What a run makes and tells: how many pulses of x, y, z and the extruder, how many of those of x are down,
+/// the planned tick of the last one of x, and the report's other lines, as the first and the last ones.
 type Made<'a> = ([u64; 4], u64, u64, [&'a str; 2]);
 
 /// A run in a scene: lines behind those of the configuration, the G-code, the scene, and what it makes and tells.
 type Played<'a> = (&'a str, &'a str, Scene<'a>, Made<'a>);
 
-/// A late block: the scene, how many steps were made before, the planned tick of the first step that came late, the tick at which it came,
-/// and how many turns were spoiled.
+/// A late block: the scene, how many steps were made before, the planned tick of the first step that came
+/// late, the tick at which it came, and how many turns were spoiled.
 type Late<'a> = (Scene<'a>, u64, u64, u64, u64);
 
 const MOVE: &str = "G1 X1 F600\n";
@@ -86,8 +86,9 @@ cut 2 mcu PC2 28512720 3
 section 3 turn 2043 move
 ";
 
-/// Homing over two boards: as the switch closes; the same, and a move from the homed place, which starts 260 turns behind that; where a
-/// board isn't heard; and where the switch closes before the first step. A board that gives no answer while it is connected.
+/// Homing over two boards: as the switch closes; the same, and a move from the homed place, which starts 260
+/// turns behind that; where a board isn't heard; and where the switch closes before the first step. A board
+/// that gives no answer while it is connected.
 const PLAYED: [Played<'static>; 5] = [
     (
         TWO_BOARDS,

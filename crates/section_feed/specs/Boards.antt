@@ -31,10 +31,11 @@ pub record IsUpTo (clocks : Clocks) (goes : Bool) (time turn place : ℕ) (s : S
 
 -- all steppers of a board are
 pub record AreUpTo (clocks : Clocks) (goes : Bool) (time turn : ℕ) (steppers : List StepperStream) : Type 0 where
-  pub each : (k : ℕ) (d : StepperStream) → k < length steppers → IsUpTo clocks goes time turn k (slice_index_or steppers k d)
+  pub each : (k : ℕ) (d : StepperStream) → k < length steppers →
+      IsUpTo clocks goes time turn k (slice_index_or steppers k d)
 
--- A board whose lines hold one after the other, all from times of the next 500 years on: its turns are apart from the sixth ones behind
--- them by as much as a step may be early, and no tick of these years is too great.
+-- A board whose lines hold one after the other, all from times of the next 500 years on: its turns are apart
+-- from the sixth ones behind them by as much as a step may be early, and no tick of these years is too great.
 pub record IsLasting (clocks : Clocks) : Type 0 where
   pub valid : IsValidLine clocks.first
   pub kept : ∥ AreKept clocks ∥₁
@@ -43,8 +44,8 @@ pub record IsLasting (clocks : Clocks) : Type 0 where
   pub soon : last_from 0 clocks.held < most_ns
   pub small : lines_board clocks (tick clocks.first most_ns) < tick_limit
 
--- A line that a board may take up from the beginning of a turn on: it holds later than those before it, is not too far behind them,
--- and no tick of the next 500 years is too great by it.
+-- A line that a board may take up from the beginning of a turn on: it holds later than those before it, is
+-- not too far behind them, and no tick of the next 500 years is too great by it.
 pub record MayTake (clocks : Clocks) (turn : ℕ) (line : Line) : Type 0 where
   pub fit : IsFit clocks.first line (turn * turn_ns)
   pub after : last_from 0 clocks.held < turn * turn_ns
@@ -58,8 +59,8 @@ pub record MayStart (clocks : Clocks) (turn : ℕ) : Type 0 where
   pub begun : clocks.first.at ≤ turn * turn_ns
   pub turn_small : turn < 2 ^ 43
 
--- Of these parts of the section's moves a stepper's steps were planned, as far as they are known and asked for; the first
--- of them were packed, in pieces of some turns each, and these units given.
+-- Of these parts of the section's moves a stepper's steps were planned, as far as they are known and asked
+-- for; the first of them were packed, in pieces of some turns each, and these units given.
 pub record HasGiven (s : StepperStream) (base : ℕ) (parts : List TimedPart) (given : List StepUnit) : Type 0 where
   pub out : List Planned
   pub pieces : List Piece
@@ -68,8 +69,10 @@ pub record HasGiven (s : StepperStream) (base : ℕ) (parts : List TimedPart) (g
   pub past : last_turn 0 pieces ≤ planned_turn s
 
 -- the units of a board are those that its steppers have given
-pub record HaveGiven (steppers : List StepperStream) (base : ℕ) (parts : List TimedPart) (units : List StepUnit) : Type 0 where
-  pub each : (k : ℕ) (d : StepperStream) → k < length steppers → HasGiven (slice_index_or steppers k d) base parts (of_stepper k units)
+pub record HaveGiven (steppers : List StepperStream) (base : ℕ) (parts : List TimedPart) (units : List StepUnit)
+    : Type 0 where
+  pub each : (k : ℕ) (d : StepperStream) → k < length steppers →
+      HasGiven (slice_index_or steppers k d) base parts (of_stepper k units)
   pub others : (k : ℕ) → length steppers ≤ k → of_stepper k units ≡ []
 
 -- which stepper stands at each place

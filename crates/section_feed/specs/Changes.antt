@@ -21,18 +21,23 @@ pub record AreChangedTo {A : Type 0} (R : ℕ → A → A → Type 0) (count : �
   pub others : (k : ℕ) (d : A) → count ≤ k → k < length old → slice_index_or new k d ≡ slice_index_or old k d
 
 -- a stepper was given more parts, and gave more units
-pub record GoesOn (clocks : Clocks) (goes : Bool) (time turn : ℕ) (more : List TimedPart) (units : List StepUnit) (place : ℕ) (old new : StepperStream) : Type 0 where
+pub record GoesOn (clocks : Clocks) (goes : Bool) (time turn : ℕ) (more : List TimedPart) (units : List StepUnit)
+    (place : ℕ) (old new : StepperStream) : Type 0 where
   pub up : IsUpTo clocks goes time turn place new
   pub kind : kind_of new ≡ kind_of old
   pub due : (low : ℕ) → IsDueFrom low old → IsDueFrom low new
-  pub on : (base : ℕ) (parts : List TimedPart) (given : List StepUnit) → HasGiven old base parts given → HasGiven new base (parts ++ more) (given ++ of_stepper place units)
+  pub on : (base : ℕ) (parts : List TimedPart) (given : List StepUnit) → HasGiven old base parts given →
+      HasGiven new base (parts ++ more) (given ++ of_stepper place units)
 
--- a stepper took up a line that holds from the beginning of a turn on: what it gave stays, and what is left is due as before
-pub record IsLined (clocks : Clocks) (goes : Bool) (time packed turn : ℕ) (place : ℕ) (old new : StepperStream) : Type 0 where
+-- a stepper took up a line that holds from the beginning of a turn on: what it gave stays, and what is left
+-- is due as before
+pub record IsLined (clocks : Clocks) (goes : Bool) (time packed turn : ℕ) (place : ℕ) (old new : StepperStream)
+    : Type 0 where
   pub up : IsUpTo clocks goes time packed place new
   pub kind : kind_of new ≡ kind_of old
   pub due : (low : ℕ) → low < turn → IsDueFrom low old → IsDueFrom low new
-  pub on : (base : ℕ) (parts : List TimedPart) (given : List StepUnit) → HasGiven old base parts given → HasGiven new base parts given
+  pub on : (base : ℕ) (parts : List TimedPart) (given : List StepUnit) → HasGiven old base parts given →
+      HasGiven new base parts given
   pub rested : (low : ℕ) → low < turn → IsRested low old → IsRested low new
 
 -- all steppers of a board did
@@ -40,5 +45,6 @@ abbrev pub AreLined : Clocks → Bool → ℕ → ℕ → ℕ → List StepperSt
 AreLined clocks goes time packed turn old new = AreChanged (IsLined clocks goes time packed turn) old new
 
 -- all steppers of a board were given them, and gave them
-abbrev pub GoOn : Clocks → Bool → ℕ → ℕ → List TimedPart → List StepUnit → List StepperStream → List StepperStream → Type 0
+abbrev pub GoOn : Clocks → Bool → ℕ → ℕ → List TimedPart → List StepUnit → List StepperStream → List StepperStream →
+    Type 0
 GoOn clocks goes time turn more units old new = AreChanged (GoesOn clocks goes time turn more units) old new

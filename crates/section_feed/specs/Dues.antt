@@ -22,10 +22,11 @@ StartsBehind order (u ∷ us) = order < order_of u
 
 -- so do the units of all steppers
 pub record AreBehind (order : ℕ) (steppers : List StepperStream) : Type 0 where
-  pub each : (k : ℕ) (d : StepperStream) → k < length steppers → StartsBehind order (units_of (slice_index_or steppers k d))
+  pub each : (k : ℕ) (d : StepperStream) → k < length steppers →
+      StartsBehind order (units_of (slice_index_or steppers k d))
 
--- The first of the units of the stepper at place k, if it is due by a turn, comes behind a unit of another one: it begins later, or
--- with it, and then its stepper stands behind the other.
+-- The first of the units of the stepper at place k, if it is due by a turn, comes behind a unit of another
+-- one: it begins later, or with it, and then its stepper stands behind the other.
 abbrev pub ComesLater : ℕ → ℕ → ℕ → ℕ → List StepUnit → Type 0
 ComesLater due first place k [] = Unit {0}
 ComesLater due first place k (v ∷ vs) = v.due ≤ due → (first ≤ v.first) × (k < place → first < v.first)
@@ -38,7 +39,8 @@ pub record HasFirst (due count : ℕ) (steppers : List StepperStream) (place : �
   pub rest : List StepUnit
   pub waits : (d : StepperStream) → units_of (slice_index_or steppers place d) ≡ unit ∷ rest
   pub soon : unit.due ≤ due
-  pub others : (k : ℕ) (d : StepperStream) → k < count → k < length steppers → ComesLater due unit.first place k (units_of (slice_index_or steppers k d))
+  pub others : (k : ℕ) (d : StepperStream) → k < count → k < length steppers →
+      ComesLater due unit.first place k (units_of (slice_index_or steppers k d))
 
 -- a unit that was taken out: it is due from one turn on up to another, and its ticks and its number are small
 pub record IsTaken (clocks : Clocks) (low due : ℕ) (u : StepUnit) : Type 0 where

@@ -13,9 +13,10 @@ use Rattle.section_stream.specs.declared.stepper.StepperStream.{StepperStream}
 use Rattle.section_stream.specs.Steppers.{StepperKind}
 use Rattle.section_feed.specs.Boards.{HaveGiven, HaveKinds}
 
--- Of these parts of the section's moves the steppers of a board have given units, which stand in their order, and of which these
--- were released.
-pub record AreFeeding (steppers : List StepperStream) (feed : FeedStream) (clocks : Clocks) (order : ℕ) (kinds : ℕ → StepperKind) (base : ℕ) (parts : List TimedPart) (released : List Release) : Type 0 where
+-- Of these parts of the section's moves the steppers of a board have given units, which stand in their order,
+-- and of which these were released.
+pub record AreFeeding (steppers : List StepperStream) (feed : FeedStream) (clocks : Clocks) (order : ℕ)
+    (kinds : ℕ → StepperKind) (base : ℕ) (parts : List TimedPart) (released : List Release) : Type 0 where
   pub units : List StepUnit
   pub kinds_are : HaveKinds steppers kinds
   pub given : HaveGiven steppers base parts units
@@ -23,23 +24,28 @@ pub record AreFeeding (steppers : List StepperStream) (feed : FeedStream) (clock
   pub order_is : order ≡ last_order 0 units
   pub fed : IsFedOf feed clocks units released
 
+-- a board's stream was given these parts, packs its steppers' steps by their kinds, and gave these releases
 abbrev pub IsBoardOf : BoardStream → (ℕ → StepperKind) → ℕ → List TimedPart → List Release → Type 0
-IsBoardOf b kinds base parts released = ∥ AreFeeding b.steppers.items b.feed b.lines b.order kinds base parts released ∥₁
+IsBoardOf b kinds base parts released =
+    ∥ AreFeeding b.steppers.items b.feed b.lines b.order kinds base parts released ∥₁
 
--- when the moves end that it was given, its clock lines, and the turn whose units it gives next
+-- when the moves end that a board's stream was given, in nanoseconds since the session's start
 abbrev pub time_of : BoardStream → ℕ
 time_of b = b.time
 
+-- its clock lines
 abbrev pub lines_of : BoardStream → Clocks
 lines_of b = b.lines
 
+-- the turn whose units it gives next
 abbrev pub turn_of : BoardStream → ℕ
 turn_of b = next_turn b.feed
 
--- from which turn on its units may be released, and how many slots the queue of each stepper has
+-- from which turn on its units may be released
 abbrev pub first_of : BoardStream → ℕ
 first_of b = first_turn b.feed
 
+-- how many slots the queue of each of its steppers has
 abbrev pub slots_in : BoardStream → ℕ
 slots_in b = slots_of b.feed
 

@@ -28,7 +28,8 @@ AreSameTo bound [] (q ∷ qs) = ⊥
 AreSameTo bound (p ∷ ps) [] = ⊥
 AreSameTo bound (p ∷ ps) (q ∷ qs) = ((p ≡ q) ⊎ ((bound ≤ p.tick) × (bound ≤ q.tick))) × AreSameTo bound ps qs
 
--- The plans of a stepper in a section by two boards' clock lines have the same start, are the same up to a tick, and have as many steps.
+-- The plans of a stepper in a section by two boards' clock lines have the same start, are the same up to a
+-- tick, and have as many steps.
 pub record PlansAgree (m : Machine) (short long : List Clocks) (moves : List Move) (start s bound : ℕ) : Type 0 where
   pub freq : (clocks_at short (stepper_at m s).board).first.freq ≡ (clocks_at long (stepper_at m s).board).first.freq
   pub base : base_tick m short start s ≡ base_tick m long start s

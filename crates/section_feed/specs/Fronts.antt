@@ -14,13 +14,18 @@ use Rattle.section_feed.specs.Queues.{begin_in, cruise_in}
 use Rattle.section_feed.specs.Sections.{queue_of}
 use Rattle.section_feed.specs.Wholes.{sent_plan}
 
--- The units that were released on a board are the first ones of its steppers' plans for these parts, in a section that homes or not, in
--- their order; their triples cover as many steps as one can; and each is released in its turn.
-pub record IsBoardFront (homing : Bool) (clocks : Clocks) (freq slots first base : ℕ) (kinds : ℕ → StepperKind) (count : ℕ) (parts : List TimedPart) (released : List Release) : Type 0 where
-  pub units : (oid : ℕ) → oid < count → AreFirstOfBy homing clocks freq oid base (sent_plan (kinds oid) clocks base parts) (of_stepper oid (units_of released))
+-- The units that were released on a board are the first ones of its steppers' plans for these parts, in a
+-- section that homes or not, in their order; their triples cover as many steps as one can; and each is
+-- released in its turn.
+pub record IsBoardFront (homing : Bool) (clocks : Clocks) (freq slots first base : ℕ) (kinds : ℕ → StepperKind)
+    (count : ℕ) (parts : List TimedPart) (released : List Release) : Type 0 where
+  pub units : (oid : ℕ) → oid < count →
+      AreFirstOfBy homing clocks freq oid base (sent_plan (kinds oid) clocks base parts)
+      (of_stepper oid (units_of released))
   pub others : (oid : ℕ) → count ≤ oid → of_stepper oid (units_of released) ≡ []
   pub in_order : AreInOrder 0 (units_of released)
-  pub longest : (oid : ℕ) → oid < count → AreLongestOf clocks freq base (sent_plan (kinds oid) clocks base parts) (of_stepper oid (units_of released))
+  pub longest : (oid : ℕ) → oid < count →
+      AreLongestOf clocks freq base (sent_plan (kinds oid) clocks base parts) (of_stepper oid (units_of released))
   pub paced : ArePaced clocks slots first [] released
 
 -- the parts of a section with all these moves

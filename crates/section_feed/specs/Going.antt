@@ -16,7 +16,9 @@ use Rattle.section_feed.specs.Sets.{goes_of, set_of}
 
 -- a board was given a move
 pub record IsPushed (ready : Ready) (place : ℕ) (old new : BoardStream) : Type 0 where
-  pub on : (kinds : ℕ → StepperKind) (base : ℕ) (parts : List TimedPart) (released : List Release) → IsBoardOf old kinds base parts released → IsBoardOf new kinds base (parts ++ timed ready.one 0 (time_of old) ready.parts) released
+  pub on : (kinds : ℕ → StepperKind) (base : ℕ) (parts : List TimedPart) (released : List Release) →
+      IsBoardOf old kinds base parts released →
+      IsBoardOf new kinds base (parts ++ timed ready.one 0 (time_of old) ready.parts) released
   pub time : time_of new ≡ time_of old + duration ready.parts
   pub turn : turn_of new ≡ turn_of old
   pub set : set_of new ≡ set_of old
@@ -25,7 +27,8 @@ pub record IsPushed (ready : Ready) (place : ℕ) (old new : BoardStream) : Type
 
 -- no more moves come for a board
 pub record IsKept (place : ℕ) (old new : BoardStream) : Type 0 where
-  pub on : (kinds : ℕ → StepperKind) (base : ℕ) (parts : List TimedPart) (released : List Release) → IsBoardOf old kinds base parts released → IsBoardOf new kinds base parts released
+  pub on : (kinds : ℕ → StepperKind) (base : ℕ) (parts : List TimedPart) (released : List Release) →
+      IsBoardOf old kinds base parts released → IsBoardOf new kinds base parts released
   pub time : time_of new ≡ time_of old
   pub turn : turn_of new ≡ turn_of old
   pub set : set_of new ≡ set_of old
@@ -33,7 +36,8 @@ pub record IsKept (place : ℕ) (old new : BoardStream) : Type 0 where
 
 -- a board planned more steps, up to a turn
 pub record IsPlanned (turn place : ℕ) (old new : BoardStream) : Type 0 where
-  pub on : (kinds : ℕ → StepperKind) (base : ℕ) (parts : List TimedPart) (released : List Release) → IsBoardOf old kinds base parts released → IsBoardOf new kinds base parts released
+  pub on : (kinds : ℕ → StepperKind) (base : ℕ) (parts : List TimedPart) (released : List Release) →
+      IsBoardOf old kinds base parts released → IsBoardOf new kinds base parts released
   pub time : time_of new ≡ time_of old
   pub next : turn_of new ≡ turn_of old
   pub set : set_of new ≡ set_of old
@@ -43,7 +47,9 @@ pub record IsPlanned (turn place : ℕ) (old new : BoardStream) : Type 0 where
 
 -- a board gave the units of a turn
 pub record HasBatch (turn : ℕ) (batches : ℕ → List StepUnit) (place : ℕ) (old new : BoardStream) : Type 0 where
-  pub on : (kinds : ℕ → StepperKind) (base : ℕ) (parts : List TimedPart) (released : List Release) → IsBoardOf old kinds base parts released → IsBoardOf new kinds base parts (released ++ at_turn turn (batches place))
+  pub on : (kinds : ℕ → StepperKind) (base : ℕ) (parts : List TimedPart) (released : List Release) →
+      IsBoardOf old kinds base parts released →
+      IsBoardOf new kinds base parts (released ++ at_turn turn (batches place))
   pub time : time_of new ≡ time_of old
   pub next : turn_of new ≡ turn + 1
   pub set : set_of new ≡ set_of old
@@ -64,10 +70,11 @@ pub record IsAtTurn (turn : ℕ) (b : BoardStream) : Type 0 where
 pub record IsPackedTo (turn : ℕ) (b : BoardStream) : Type 0 where
   pub packed : turn ≤ packed_of b
 
--- Its steps are packed so far ahead of a turn that all units are made that are due by 250 turns behind it: up to a turn that begins behind
--- the next one by as many ticks as a step may be early.
+-- Its steps are packed so far ahead of a turn that all units are made that are due by 250 turns behind it: up
+-- to a turn that begins behind the next one by as many ticks as a step may be early.
 pub record IsAhead (turn : ℕ) (b : BoardStream) : Type 0 where
-  pub ahead : lines_tick (lines_of b) ((turn + 251) * turn_ns) + max_error (lines_of b).first.freq ≤ lines_tick (lines_of b) (packed_of b * turn_ns)
+  pub ahead : lines_tick (lines_of b) ((turn + 251) * turn_ns) + max_error (lines_of b).first.freq
+      ≤ lines_tick (lines_of b) (packed_of b * turn_ns)
 
 -- more moves may come for a board
 pub record IsOpen (b : BoardStream) : Type 0 where

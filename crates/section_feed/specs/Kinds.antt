@@ -16,4 +16,5 @@ steppers_on b (s ∷ ss) = if s.board == b then s ∷ steppers_on b ss else step
 -- what the steppers of a board are in a section that begins with a turn; in a homing section no clock is set
 abbrev pub board_kinds : Machine → Clocks → ℕ → ℕ → Bool → ℕ → StepperKind
 board_kinds m clocks b turn homing k =
-    kind_from m.corexy (slice_index_or (steppers_on b m.steppers) k no_stepper) clocks.first (set_to homing (lines_tick clocks (turn * turn_ns)))
+    kind_from m.corexy (slice_index_or (steppers_on b m.steppers) k no_stepper) clocks.first
+    (set_to homing (lines_tick clocks (turn * turn_ns)))

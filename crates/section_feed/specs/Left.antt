@@ -17,10 +17,12 @@ IsOutside clocks t = (t < clocks.first.clock) ⊎ (tick_limit ≤ t)
 pub record AreLeft (clocks : Clocks) (steppers : List StepperStream) : Type 0 where
   pub place : ℕ
   pub inside : place < length steppers
-  pub left : (d : StepperStream) → HasStepsLeft (slice_index_or steppers place d) ⊎ IsOutside clocks (packed_to (slice_index_or steppers place d))
+  pub left : (d : StepperStream) →
+      HasStepsLeft (slice_index_or steppers place d) ⊎ IsOutside clocks (packed_to (slice_index_or steppers place d))
 
 -- one of some boards has such a stepper
 pub record AreLeftOn (boards : List BoardStream) : Type 0 where
   pub board : ℕ
   pub inside : board < length boards
-  pub left : (d : BoardStream) → AreLeft (lines_of (slice_index_or boards board d)) (steppers_in (slice_index_or boards board d))
+  pub left : (d : BoardStream) →
+      AreLeft (lines_of (slice_index_or boards board d)) (steppers_in (slice_index_or boards board d))

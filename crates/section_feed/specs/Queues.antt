@@ -18,12 +18,14 @@ waiting_end time [] = time
 waiting_end time (r ∷ rs) = waiting_end (time + duration r.parts) rs
 
 -- these moves were pushed; of those whose speeds are final the first ones were taken out, with these parts
-pub record AreQueued (moves : MoveStream) (drawn : ℕ) (ready : List Ready) (scv : ℕ) (all : List Move) (parts : List TimedPart) : Type 0 where
+pub record AreQueued (moves : MoveStream) (drawn : ℕ) (ready : List Ready) (scv : ℕ) (all : List Move)
+    (parts : List TimedPart) : Type 0 where
   pub made : List TimedPart
   pub moves_are : IsMovesOf moves scv all made
   pub split : made ≡ parts ++ waiting_parts drawn ready
   pub ends : time_of moves ≡ waiting_end drawn ready
 
+-- a queue of moves was given these, and gave these parts of them
 abbrev pub IsQueueOf : MoveQueue → ℕ → List Move → List TimedPart → Type 0
 IsQueueOf q scv moves parts = AreQueued q.moves q.drawn q.ready.items scv moves parts
 
@@ -35,13 +37,15 @@ drawn_to q = q.drawn
 abbrev pub settled_to : MoveQueue → ℕ
 settled_to q = time_of q.moves
 
--- whether more moves may be pushed, how many were, and the least share of each that cruises
+-- whether more moves may be pushed
 abbrev pub is_taking : MoveQueue → Bool
 is_taking q = is_open q.moves
 
+-- how many moves were pushed
 abbrev pub count_in : MoveQueue → ℕ
 count_in q = pushed_count q.moves
 
+-- the least share of each move that cruises
 abbrev pub cruise_in : MoveQueue → ℕ
 cruise_in q = cruise_of q.moves
 

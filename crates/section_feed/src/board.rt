@@ -27,8 +27,8 @@ const MOST_NS: u128 = 17_592_186_044_416_000_000;
 /// The nanoseconds of a turn.
 const TURN_NS: u128 = 1_000_000;
 
-/// The steppers of one board in a section: the moves that they were given end at a time, their steps are packed up to a turn,
-/// and their units wait for the turns in which they are released.
+/// The steppers of one board in a section: the moves that they were given end at a time, their steps are
+/// packed up to a turn, and their units wait for the turns in which they are released.
 #[derive(Drop)]
 pub struct BoardStream {
     alloc: Global,
@@ -107,7 +107,11 @@ impl BoardStream {
         requires number { stepper.now.oid ≡ count_of self.old }
         requires going { goes_of self.old ≡ true }
         requires begins { time_of self.old ≡ packed_of self.old * turn_ns }
-        ensures empty { OnOk result ((kinds : ℕ → StepperKind) → IsBoardOf self.old kinds (base_of self.old) [] [] → kinds (count_of self.old) ≡ kind_from corexy stepper.now (lines_of self.old).first (if homing then None else Some (base_of self.old)) → IsBoardOf self.new kinds (base_of self.old) [] []) }
+        ensures empty { OnOk result ((kinds : ℕ → StepperKind) → IsBoardOf self.old kinds (base_of self.old) [] [] →
+            kinds (count_of self.old)
+            ≡ kind_from corexy stepper.now (lines_of self.old).first
+            (if homing then None else Some (base_of self.old)) →
+            IsBoardOf self.new kinds (base_of self.old) [] []) }
         ensures base { base_of self.new ≡ base_of self.old }
         ensures lines { lines_of self.new ≡ lines_of self.old }
         ensures time { time_of self.new ≡ time_of self.old }
@@ -128,7 +132,10 @@ impl BoardStream {
     /// Adds a move behind the others.
     pub fn push(&mut self, ready: &Ready) -> Result<(), OutOfMemory>
         requires going { goes_of self.old ≡ true }
-        ensures on { OnOk result ((kinds : ℕ → StepperKind) (base : ℕ) (parts : List TimedPart) (released : List Release) → IsBoardOf self.old kinds base parts released → IsBoardOf self.new kinds base (parts ++ timed ready.now.one 0 (time_of self.old) ready.now.parts) released) }
+        ensures on { OnOk result ((kinds : ℕ → StepperKind) (base : ℕ) (parts : List TimedPart)
+            (released : List Release) → IsBoardOf self.old kinds base parts released →
+            IsBoardOf self.new kinds base (parts ++ timed ready.now.one 0 (time_of self.old) ready.now.parts)
+            released) }
         ensures time { OnOk result (time_of self.new ≡ time_of self.old + duration ready.now.parts) }
         ensures lines { lines_of self.new ≡ lines_of self.old }
         ensures turn { turn_of self.new ≡ turn_of self.old }
@@ -152,7 +159,9 @@ impl BoardStream {
     /// Plans and packs the steps up to a turn, where that is a later one.
     pub fn plan(&mut self, turn: u64) -> Result<(), OutOfMemory>
         requires small { turn < 2 ^ 44 }
-        ensures on { OnOk result ((kinds : ℕ → StepperKind) (base : ℕ) (parts : List TimedPart) (released : List Release) → IsBoardOf self.old kinds base parts released → IsBoardOf self.new kinds base parts released) }
+        ensures on { OnOk result ((kinds : ℕ → StepperKind) (base : ℕ) (parts : List TimedPart)
+            (released : List Release) → IsBoardOf self.old kinds base parts released →
+            IsBoardOf self.new kinds base parts released) }
         ensures time { time_of self.new ≡ time_of self.old }
         ensures lines { lines_of self.new ≡ lines_of self.old }
         ensures turn { turn_of self.new ≡ turn_of self.old }
@@ -185,7 +194,8 @@ impl BoardStream {
 
     /// No more moves come.
     pub fn finish(&mut self)
-        ensures on { (kinds : ℕ → StepperKind) (base : ℕ) (parts : List TimedPart) (released : List Release) → IsBoardOf self.old kinds base parts released → IsBoardOf self.new kinds base parts released }
+        ensures on { (kinds : ℕ → StepperKind) (base : ℕ) (parts : List TimedPart) (released : List Release) →
+            IsBoardOf self.old kinds base parts released → IsBoardOf self.new kinds base parts released }
         ensures time { time_of self.new ≡ time_of self.old }
         ensures lines { lines_of self.new ≡ lines_of self.old }
         ensures turn { turn_of self.new ≡ turn_of self.old }
@@ -207,7 +217,9 @@ impl BoardStream {
     pub fn add_line(&mut self, turn: u64, line: Line) -> Result<(), OutOfMemory>
         requires may { MayTake (lines_of self.old) turn line }
         requires behind { packed_of self.old < turn }
-        ensures on { OnOk result ((kinds : ℕ → StepperKind) (base : ℕ) (parts : List TimedPart) (released : List Release) → IsBoardOf self.old kinds base parts released → IsBoardOf self.new kinds base parts released) }
+        ensures on { OnOk result ((kinds : ℕ → StepperKind) (base : ℕ) (parts : List TimedPart)
+            (released : List Release) → IsBoardOf self.old kinds base parts released →
+            IsBoardOf self.new kinds base parts released) }
         ensures lines { OnOk result (lines_of self.new ≡ added (lines_of self.old) (turn * turn_ns) line) }
         ensures time { time_of self.new ≡ time_of self.old }
         ensures turn { turn_of self.new ≡ turn_of self.old }
@@ -216,7 +228,8 @@ impl BoardStream {
         ensures count { OnOk result (count_of self.new ≡ count_of self.old) }
         ensures packed { packed_of self.new ≡ packed_of self.old }
         ensures goes { goes_of self.new ≡ goes_of self.old }
-        ensures rested { OnOk result ((low : ℕ) → low < turn → ∥ AreRested low (steppers_in self.old) ∥₁ → ∥ AreRested low (steppers_in self.new) ∥₁) }
+        ensures rested { OnOk result ((low : ℕ) → low < turn → ∥ AreRested low (steppers_in self.old) ∥₁ →
+            ∥ AreRested low (steppers_in self.new) ∥₁) }
     {
         let mut steppers = mem::replace(&mut self.steppers, Vec::new(self.alloc));
         line_all(
@@ -248,7 +261,9 @@ impl BoardStream {
         requires next { turn ≡ turn_of self.old }
         requires small { turn < 2 ^ 44 }
         requires ahead { IsAhead turn self.old }
-        ensures on { IfOk result (λ units. (kinds : ℕ → StepperKind) (base : ℕ) (parts : List TimedPart) (released : List Release) → IsBoardOf self.old kinds base parts released → IsBoardOf self.new kinds base parts (released ++ at_turn turn units.items)) }
+        ensures on { IfOk result (λ units. (kinds : ℕ → StepperKind) (base : ℕ) (parts : List TimedPart)
+            (released : List Release) → IsBoardOf self.old kinds base parts released →
+            IsBoardOf self.new kinds base parts (released ++ at_turn turn units.items)) }
         ensures turn { OnOk result (turn_of self.new ≡ turn + 1) }
         ensures time { time_of self.new ≡ time_of self.old }
         ensures lines { lines_of self.new ≡ lines_of self.old }

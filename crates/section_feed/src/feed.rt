@@ -19,12 +19,14 @@ fn order_of(unit: &Unit) -> u128
     u128::from(unit.first) * 256 + u128::from(unit.stepper)
 }
 
-/// Adds units behind the others of their board, which end at a place in their order. The result is the place of the last.
+/// Adds units behind the others of their board, which end at a place in their order. The result is the place
+/// of the last.
 pub fn feed_units(feed: &mut FeedStream, order: u128, units: &[Unit]) -> Result<u128, OutOfMemory>
     requires small { All (λ u. u.last < tick_limit) units.now }
     requires due_small { All (λ u. u.due < turn_limit) units.now }
     requires in_time { All (λ u. next_turn feed.old + lead ≤ u.due) units.now }
-    ensures fed { OnOk result ((clocks : Clocks) (pushed : List StepUnit) (released : List Release) → IsFedOf feed.old clocks pushed released → IsFedOf feed.new clocks (pushed ++ units.now) released) }
+    ensures fed { OnOk result ((clocks : Clocks) (pushed : List StepUnit) (released : List Release) →
+        IsFedOf feed.old clocks pushed released → IsFedOf feed.new clocks (pushed ++ units.now) released) }
     ensures order { IfOk result (λ o. o ≡ last_order order units.now) }
     ensures next { next_turn feed.new ≡ next_turn feed.old }
     ensures first { first_turn feed.new ≡ first_turn feed.old }

@@ -48,7 +48,8 @@ impl MoveQueue {
 
     /// Takes the moves whose speeds are final.
     fn settle(&mut self) -> Result<(), OutOfMemory>
-        ensures on { OnOk result ((scv : ℕ) (moves : List Move) (parts : List TimedPart) → IsQueueOf self.old scv moves parts → IsQueueOf self.new scv moves parts) }
+        ensures on { OnOk result ((scv : ℕ) (moves : List Move) (parts : List TimedPart) →
+            IsQueueOf self.old scv moves parts → IsQueueOf self.new scv moves parts) }
         ensures open { is_taking self.new ≡ is_taking self.old }
         ensures count { count_in self.new ≡ count_in self.old }
         ensures drawn { drawn_to self.new ≡ drawn_to self.old }
@@ -69,7 +70,8 @@ impl MoveQueue {
         requires short { IsShortMove one }
         requires open { is_taking self.old ≡ true }
         requires few { count_in self.old < 2_000_000 }
-        ensures on { OnOk result ((scv : ℕ) (moves : List Move) (parts : List TimedPart) → IsQueueOf self.old scv moves parts → IsQueueOf self.new scv (moves ++ one ∷ []) parts) }
+        ensures on { OnOk result ((scv : ℕ) (moves : List Move) (parts : List TimedPart) →
+            IsQueueOf self.old scv moves parts → IsQueueOf self.new scv (moves ++ one ∷ []) parts) }
         ensures open { is_taking self.new ≡ true }
         ensures count { OnOk result (count_in self.new ≡ count_in self.old + 1) }
         ensures drawn { drawn_to self.new ≡ drawn_to self.old }
@@ -84,7 +86,8 @@ impl MoveQueue {
     /// The section ends behind the last move.
     pub fn finish(&mut self) -> Result<(), OutOfMemory>
         requires open { is_taking self.old ≡ true }
-        ensures on { OnOk result ((scv : ℕ) (moves : List Move) (parts : List TimedPart) → IsQueueOf self.old scv moves parts → IsQueueOf self.new scv moves parts) }
+        ensures on { OnOk result ((scv : ℕ) (moves : List Move) (parts : List TimedPart) →
+            IsQueueOf self.old scv moves parts → IsQueueOf self.new scv moves parts) }
         ensures open { is_taking self.new ≡ false }
         ensures count { count_in self.new ≡ count_in self.old }
         ensures drawn { drawn_to self.new ≡ drawn_to self.old }
@@ -99,7 +102,9 @@ impl MoveQueue {
     /// The next move whose speeds are final, if one waits.
     pub fn next(&mut self) -> Option<Ready>
         ensures ready { IfSome result IsReadyMove }
-        ensures some { IfSome result (λ r. (scv : ℕ) (moves : List Move) (parts : List TimedPart) → IsQueueOf self.old scv moves parts → IsQueueOf self.new scv moves (parts ++ timed r.one 0 (drawn_to self.old) r.parts)) }
+        ensures some { IfSome result (λ r. (scv : ℕ) (moves : List Move) (parts : List TimedPart) →
+            IsQueueOf self.old scv moves parts →
+            IsQueueOf self.new scv moves (parts ++ timed r.one 0 (drawn_to self.old) r.parts)) }
         ensures none { IfNone result (self.new ≡ self.old) }
         ensures open { is_taking self.new ≡ is_taking self.old }
         ensures count { count_in self.new ≡ count_in self.old }

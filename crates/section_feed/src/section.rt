@@ -102,7 +102,8 @@ fn are_done(boards: &[BoardStream]) -> bool
     true
 }
 
-/// The turn of the last step of the boards, or one before it, if all steps of the moves that they were given are packed.
+/// The turn of the last step of the boards, or one before it, if all steps of the moves that they were given
+/// are packed.
 fn last_turn(boards: &[BoardStream], first: u64) -> Option<u64>
     ensures past { IfSome result (λ t. ArePast t boards.now) }
     ensures value { IfSome result (λ t. t ≡ max first (last_of boards.now)) }
@@ -127,7 +128,8 @@ fn batch_boards(
     requires next { All (IsAtTurn turn) boards.old.items }
     requires small { turn < 2 ^ 44 }
     requires ahead { All (IsAhead turn) boards.old.items }
-    ensures boards { IfOk result (λ batches. AreChanged (HasBatch turn (λ b. slice_index_or batches.items b [])) boards.old.items boards.new.items) }
+    ensures boards { IfOk result (λ batches.
+        AreChanged (HasBatch turn (λ b. slice_index_or batches.items b [])) boards.old.items boards.new.items) }
     ensures count { IfOk result (λ batches. length batches.items ≡ length boards.old.items) }
 {
     let mut batches = Vec::new(alloc);
@@ -153,7 +155,8 @@ fn board_of(
     requires there { number < length machine.now.boards }
     requires start { MayStart lines turn }
     requires lead { 250 ≤ turn }
-    ensures empty { IfOk result (λ board. IsBoardOf board (board_kinds machine.now lines number turn homing) (lines_tick lines (turn * turn_ns)) [] []) }
+    ensures empty { IfOk result (λ board.
+        IsBoardOf board (board_kinds machine.now lines number turn homing) (lines_tick lines (turn * turn_ns)) [] []) }
     ensures time { IfOk result (λ board. time_of board ≡ turn * turn_ns) }
     ensures turn { IfOk result (λ board. turn_of board + 250 ≡ turn) }
     ensures lines { IfOk result (λ board. lines_of board ≡ lines) }
@@ -204,8 +207,8 @@ impl SectionStream {
     ghost use Rattle.section_feed.specs.Sections.{IsLeft, IsSectionOf, boards_of, next_of, queue_of, sets_of};
     ghost use Rattle.section_feed.specs.Sets.{BoardSet, start_set};
 
-    /// A section of a machine that begins with a turn, of which these moves were read so far; in a homing section no clock is
-    /// set by its units.
+    /// A section of a machine that begins with a turn, of which these moves were read so far; in a homing
+    /// section no clock is set by its units.
     pub fn new(
         alloc: Global,
         machine: &Machine,
@@ -219,11 +222,14 @@ impl SectionStream {
         requires start { (b : ℕ) (d : Clocks) → b < length clocks.now → MayStart (slice_index_or clocks.now b d) turn }
         requires lead { 250 ≤ turn }
         requires begun { drawn_to queue ≡ turn * turn_ns }
-        ensures empty { IfOk result (λ s. (scv : ℕ) (moves : List Move) → IsQueueOf queue scv moves [] → IsSectionOf s scv moves (λ b. board_kinds machine.now (clocks_at clocks.now b) b turn homing) (λ b. lines_tick (clocks_at clocks.now b) (turn * turn_ns)) (λ b. [])) }
+        ensures empty { IfOk result (λ s. (scv : ℕ) (moves : List Move) → IsQueueOf queue scv moves [] →
+            IsSectionOf s scv moves (λ b. board_kinds machine.now (clocks_at clocks.now b) b turn homing)
+            (λ b. lines_tick (clocks_at clocks.now b) (turn * turn_ns)) (λ b. [])) }
         ensures next { IfOk result (λ s. next_of s + 250 ≡ turn) }
         ensures boards { IfOk result (λ s. boards_of s ≡ length machine.now.boards) }
         ensures queue { IfOk result (λ s. queue_of s ≡ queue) }
-        ensures sets { IfOk result (λ s. (b : ℕ) (d : BoardSet) → b < length machine.now.boards → slice_index_or (sets_of s) b d ≡ start_set machine.now clocks.now turn b) }
+        ensures sets { IfOk result (λ s. (b : ℕ) (d : BoardSet) → b < length machine.now.boards →
+            slice_index_or (sets_of s) b d ≡ start_set machine.now clocks.now turn b) }
     {
         let mut boards = Vec::new(alloc);
         for (number, lines) in clocks.iter().enumerate() {
@@ -243,7 +249,9 @@ impl SectionStream {
         requires short { IsShortMove one }
         requires open { is_taking (queue_of self.old) ≡ true }
         requires few { count_in (queue_of self.old) < 2_000_000 }
-        ensures on { OnOk result ((scv : ℕ) (moves : List Move) (kinds : ℕ → ℕ → StepperKind) (base : ℕ → ℕ) (released : ℕ → List Release) → IsSectionOf self.old scv moves kinds base released → IsSectionOf self.new scv (moves ++ one ∷ []) kinds base released) }
+        ensures on { OnOk result ((scv : ℕ) (moves : List Move) (kinds : ℕ → ℕ → StepperKind) (base : ℕ → ℕ)
+            (released : ℕ → List Release) → IsSectionOf self.old scv moves kinds base released →
+            IsSectionOf self.new scv (moves ++ one ∷ []) kinds base released) }
         ensures open { is_taking (queue_of self.new) ≡ true }
         ensures count { OnOk result (count_in (queue_of self.new) ≡ count_in (queue_of self.old) + 1) }
         ensures next { next_of self.new ≡ next_of self.old }
@@ -259,7 +267,9 @@ impl SectionStream {
     /// The section ends behind the last move.
     pub fn finish(&mut self) -> Result<(), OutOfMemory>
         requires open { is_taking (queue_of self.old) ≡ true }
-        ensures on { OnOk result ((scv : ℕ) (moves : List Move) (kinds : ℕ → ℕ → StepperKind) (base : ℕ → ℕ) (released : ℕ → List Release) → IsSectionOf self.old scv moves kinds base released → IsSectionOf self.new scv moves kinds base released) }
+        ensures on { OnOk result ((scv : ℕ) (moves : List Move) (kinds : ℕ → ℕ → StepperKind) (base : ℕ → ℕ)
+            (released : ℕ → List Release) → IsSectionOf self.old scv moves kinds base released →
+            IsSectionOf self.new scv moves kinds base released) }
         ensures open { is_taking (queue_of self.new) ≡ false }
         ensures next { next_of self.new ≡ next_of self.old }
         ensures cruise { cruise_in (queue_of self.new) ≡ cruise_in (queue_of self.old) }
@@ -273,7 +283,9 @@ impl SectionStream {
 
     /// Gives the next move to the boards, if one waits whose speeds are final.
     fn draw_next(&mut self) -> Result<bool, OutOfMemory>
-        ensures on { OnOk result ((scv : ℕ) (moves : List Move) (kinds : ℕ → ℕ → StepperKind) (base : ℕ → ℕ) (released : ℕ → List Release) → IsSectionOf self.old scv moves kinds base released → IsSectionOf self.new scv moves kinds base released) }
+        ensures on { OnOk result ((scv : ℕ) (moves : List Move) (kinds : ℕ → ℕ → StepperKind) (base : ℕ → ℕ)
+            (released : ℕ → List Release) → IsSectionOf self.old scv moves kinds base released →
+            IsSectionOf self.new scv moves kinds base released) }
         ensures open { is_taking (queue_of self.new) ≡ is_taking (queue_of self.old) }
         ensures count { count_in (queue_of self.new) ≡ count_in (queue_of self.old) }
         ensures next { next_of self.new ≡ next_of self.old }
@@ -293,7 +305,9 @@ impl SectionStream {
 
     /// Tells the boards that no more moves come, where none can.
     fn end_boards(&mut self)
-        ensures on { (scv : ℕ) (moves : List Move) (kinds : ℕ → ℕ → StepperKind) (base : ℕ → ℕ) (released : ℕ → List Release) → IsSectionOf self.old scv moves kinds base released → IsSectionOf self.new scv moves kinds base released }
+        ensures on { (scv : ℕ) (moves : List Move) (kinds : ℕ → ℕ → StepperKind) (base : ℕ → ℕ)
+            (released : ℕ → List Release) → IsSectionOf self.old scv moves kinds base released →
+            IsSectionOf self.new scv moves kinds base released }
         ensures queue { queue_of self.new ≡ queue_of self.old }
         ensures next { next_of self.new ≡ next_of self.old }
         ensures boards { boards_of self.new ≡ boards_of self.old }
@@ -308,7 +322,9 @@ impl SectionStream {
 
     /// Gives the boards the moves that begin before a turn.
     fn draw(&mut self, turn: u64) -> Result<(), OutOfMemory>
-        ensures on { OnOk result ((scv : ℕ) (moves : List Move) (kinds : ℕ → ℕ → StepperKind) (base : ℕ → ℕ) (released : ℕ → List Release) → IsSectionOf self.old scv moves kinds base released → IsSectionOf self.new scv moves kinds base released) }
+        ensures on { OnOk result ((scv : ℕ) (moves : List Move) (kinds : ℕ → ℕ → StepperKind) (base : ℕ → ℕ)
+            (released : ℕ → List Release) → IsSectionOf self.old scv moves kinds base released →
+            IsSectionOf self.new scv moves kinds base released) }
         ensures open { is_taking (queue_of self.new) ≡ is_taking (queue_of self.old) }
         ensures count { count_in (queue_of self.new) ≡ count_in (queue_of self.old) }
         ensures next { next_of self.new ≡ next_of self.old }
@@ -333,7 +349,9 @@ impl SectionStream {
     fn plan(&mut self, turn: u64) -> Result<(), OutOfMemory>
         requires small { turn < 2 ^ 44 }
         requires near { turn ≤ next_of self.old + most_ahead }
-        ensures on { OnOk result ((scv : ℕ) (moves : List Move) (kinds : ℕ → ℕ → StepperKind) (base : ℕ → ℕ) (released : ℕ → List Release) → IsSectionOf self.old scv moves kinds base released → IsSectionOf self.new scv moves kinds base released) }
+        ensures on { OnOk result ((scv : ℕ) (moves : List Move) (kinds : ℕ → ℕ → StepperKind) (base : ℕ → ℕ)
+            (released : ℕ → List Release) → IsSectionOf self.old scv moves kinds base released →
+            IsSectionOf self.new scv moves kinds base released) }
         ensures queue { queue_of self.new ≡ queue_of self.old }
         ensures next { next_of self.new ≡ next_of self.old }
         ensures boards { OnOk result (boards_of self.new ≡ boards_of self.old) }
@@ -350,7 +368,9 @@ impl SectionStream {
     fn prepare(&mut self, turn: u64) -> Result<(), OutOfMemory>
         requires small { turn < 2 ^ 43 }
         requires next { turn ≡ next_of self.old }
-        ensures on { OnOk result ((scv : ℕ) (moves : List Move) (kinds : ℕ → ℕ → StepperKind) (base : ℕ → ℕ) (released : ℕ → List Release) → IsSectionOf self.old scv moves kinds base released → IsSectionOf self.new scv moves kinds base released) }
+        ensures on { OnOk result ((scv : ℕ) (moves : List Move) (kinds : ℕ → ℕ → StepperKind) (base : ℕ → ℕ)
+            (released : ℕ → List Release) → IsSectionOf self.old scv moves kinds base released →
+            IsSectionOf self.new scv moves kinds base released) }
         ensures open { is_taking (queue_of self.new) ≡ is_taking (queue_of self.old) }
         ensures count { count_in (queue_of self.new) ≡ count_in (queue_of self.old) }
         ensures next { next_of self.new ≡ next_of self.old }
@@ -370,7 +390,8 @@ impl SectionStream {
         Ok(())
     }
 
-    /// Lets a clock line hold on a board from the beginning of a turn on, which is behind those up to which steps are packed.
+    /// Lets a clock line hold on a board from the beginning of a turn on, which is behind those up to which
+    /// steps are packed.
     pub fn add_line(&mut self, board: usize, turn: u64, line: Line) -> Result<(), OutOfMemory>
         requires there { board < boards_of self.old }
         requires may { (d : BoardSet) → MayTake (slice_index_or (sets_of self.old) board d).clocks turn line }
@@ -386,7 +407,10 @@ impl SectionStream {
     /// The units of the next turn, board by board.
     pub fn batches(&mut self) -> Result<Vec<Listed<Unit>>, OutOfMemory>
         requires small { next_of self.old < 2 ^ 43 }
-        ensures on { IfOk result (λ batches. (scv : ℕ) (moves : List Move) (kinds : ℕ → ℕ → StepperKind) (base : ℕ → ℕ) (released : ℕ → List Release) → IsSectionOf self.old scv moves kinds base released → IsSectionOf self.new scv moves kinds base (λ b. released b ++ at_turn (next_of self.old) (slice_index_or batches.items b []))) }
+        ensures on { IfOk result (λ batches. (scv : ℕ) (moves : List Move) (kinds : ℕ → ℕ → StepperKind) (base : ℕ → ℕ)
+            (released : ℕ → List Release) → IsSectionOf self.old scv moves kinds base released →
+            IsSectionOf self.new scv moves kinds base
+            (λ b. released b ++ at_turn (next_of self.old) (slice_index_or batches.items b []))) }
         ensures count { IfOk result (λ batches. length batches.items ≡ boards_of self.old) }
         ensures open { is_taking (queue_of self.new) ≡ is_taking (queue_of self.old) }
         ensures moves { count_in (queue_of self.new) ≡ count_in (queue_of self.old) }
@@ -431,12 +455,13 @@ impl SectionStream {
         self.queue.reach()
     }
 
-    /// The turn in which the section ends, that of its end or that of its last step where this is later, once all its moves
-    /// have come and all its steps are packed.
+    /// The turn in which the section ends, that of its end or that of its last step where this is later, once
+    /// all its moves have come and all its steps are packed.
     pub fn end(&self) -> Option<u64>
         ensures drawn { IfSome result (λ e. IsDrawn (queue_of self.now)) }
         ensures steps { IfSome result (λ e. ArePast e self.now.boards.items) }
-        ensures value { IfSome result (λ e. e ≡ max (drawn_to (queue_of self.now) / turn_ns) (last_of self.now.boards.items)) }
+        ensures value { IfSome result
+            (λ e. e ≡ max (drawn_to (queue_of self.now) / turn_ns) (last_of self.now.boards.items)) }
         ensures none { IfNone result (IsLeft self.now) }
     {
         let drawn = self.queue.drawn();

@@ -49,7 +49,8 @@ pub fn push_all(
     requires ready { IsReadyMove ready.now }
     requires begun { lines.now.first.at ≤ begin }
     requires small { begin + duration ready.now.parts < 2 ^ 44 * turn_ns }
-    ensures { OnOk result (∥ GoOn lines.now true (begin + duration ready.now.parts) turn (timed ready.now.one 0 begin ready.now.parts) [] steppers.old.items steppers.new.items ∥₁) }
+    ensures { OnOk result (∥ GoOn lines.now true (begin + duration ready.now.parts) turn
+        (timed ready.now.one 0 begin ready.now.parts) [] steppers.old.items steppers.new.items ∥₁) }
 {
     let mut place = 0;
     while place < steppers.len() {
@@ -131,7 +132,8 @@ pub fn line_all(
     requires may { MayTake lines.now turn line }
     requires behind { packed < turn }
     requires small { time < most_ns }
-    ensures { OnOk result (∥ AreLined (added lines.now (turn * turn_ns) line) goes time packed turn steppers.old.items steppers.new.items ∥₁) }
+    ensures { OnOk result (∥ AreLined (added lines.now (turn * turn_ns) line) goes time packed turn steppers.old.items
+        steppers.new.items ∥₁) }
 {
     let mut place = 0;
     while place < steppers.len() {
@@ -144,7 +146,8 @@ pub fn line_all(
 
 /// The first tick of the unit that waits first at a stepper, if it begins by a turn.
 fn first_by(stepper: &StepperStream, due: u64) -> Option<u64>
-    ensures some { IfSome result (λ t. (u : StepUnit) × (us : List StepUnit) × (units_of stepper.now ≡ u ∷ us) × (u.due ≤ due) × (t ≡ u.first)) }
+    ensures some { IfSome result
+        (λ t. (u : StepUnit) × (us : List StepUnit) × (units_of stepper.now ≡ u ∷ us) × (u.due ≤ due) × (t ≡ u.first)) }
     ensures none { IfNone result (StartFrom (due + 1) (units_of stepper.now)) }
 {
     let unit = stepper.first()?;
@@ -185,11 +188,14 @@ fn take_first(
 ) -> Option<Unit>
     requires steppers { ∥ AreUpTo lines.now goes time turn steppers.old.items ∥₁ }
     requires lasting { IsLasting lines.now }
-    ensures some { IfSome result (λ u. ∥ GoOn lines.now goes time turn [] (u ∷ []) steppers.old.items steppers.new.items ∥₁) }
+    ensures some { IfSome result
+        (λ u. ∥ GoOn lines.now goes time turn [] (u ∷ []) steppers.old.items steppers.new.items ∥₁) }
     ensures none { IfNone result (∥ GoOn lines.now goes time turn [] [] steppers.old.items steppers.new.items ∥₁) }
     ensures own { IfSome result (λ u. u.stepper < length steppers.old.items) }
-    ensures order { IfSome result (λ u. (order : ℕ) → AreBehind order steppers.old.items → (order < order_of u) × AreBehind (order_of u) steppers.new.items) }
-    ensures taken { IfSome result (λ u. (low : ℕ) → ∥ AreDueFrom low steppers.old.items ∥₁ → IsTaken lines.now low due u) }
+    ensures order { IfSome result (λ u. (order : ℕ) → AreBehind order steppers.old.items →
+        (order < order_of u) × AreBehind (order_of u) steppers.new.items) }
+    ensures taken { IfSome result
+        (λ u. (low : ℕ) → ∥ AreDueFrom low steppers.old.items ∥₁ → IsTaken lines.now low due u) }
     ensures after { IfNone result (AreAfter due steppers.new.items) }
 {
     let place = earliest(steppers, due)?;
@@ -208,10 +214,13 @@ pub fn take_units(
 ) -> Result<Vec<Unit>, OutOfMemory>
     requires steppers { ∥ AreUpTo lines.now goes time turn steppers.old.items ∥₁ }
     requires lasting { IsLasting lines.now }
-    ensures on { IfOk result (λ units. ∥ GoOn lines.now goes time turn [] units.items steppers.old.items steppers.new.items ∥₁) }
+    ensures on { IfOk result
+        (λ units. ∥ GoOn lines.now goes time turn [] units.items steppers.old.items steppers.new.items ∥₁) }
     ensures own { IfOk result (λ units. All (λ u. u.stepper < length steppers.old.items) units.items) }
-    ensures in_order { IfOk result (λ units. (order : ℕ) → AreBehind order steppers.old.items → AreInOrder order units.items) }
-    ensures taken { IfOk result (λ units. (low : ℕ) → ∥ AreDueFrom low steppers.old.items ∥₁ → All (IsTaken lines.now low due) units.items) }
+    ensures in_order { IfOk result
+        (λ units. (order : ℕ) → AreBehind order steppers.old.items → AreInOrder order units.items) }
+    ensures taken { IfOk result
+        (λ units. (low : ℕ) → ∥ AreDueFrom low steppers.old.items ∥₁ → All (IsTaken lines.now low due) units.items) }
     ensures after { IfOk result (λ units. AreAfter due steppers.new.items) }
 {
     let mut units = Vec::new(alloc);

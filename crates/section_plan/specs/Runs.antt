@@ -38,7 +38,8 @@ pub record IsJoined (m : Move) (g h : ℕ) : Type 0 where
 pub record IsRun (cruise : ℕ) (moves : List Move) (speeds : List ℕ) (begin : ℕ) : Type 0 where
   pub moves_short : All IsShortMove moves
   pub count : length speeds ≡ length moves + 1
-  pub joined : (i : ℕ) → i < length moves → IsJoined (slice_index_or moves i no_move) (slice_index speeds i) (slice_index speeds (i + 1))
+  pub joined : (i : ℕ) → i < length moves →
+      IsJoined (slice_index_or moves i no_move) (slice_index speeds i) (slice_index speeds (i + 1))
   pub share : cruise < 1_000_000
   pub few : length moves ≤ 2_000_000
   pub begin_small : begin < 2 ^ 90
@@ -49,14 +50,15 @@ pub record HasRoom (line : Line) (moves begin : ℕ) : Type 0 where
   pub before : line.at ≤ begin
   pub room : tick line (begin + moves * move_ns) < tick_limit
 
--- A board whose lines have ticks for so many moves from a turn on: plan ticks by its first line, and its own ones, also where
--- each step is pushed on by 4 ticks since it follows too closely.
+-- A board whose lines have ticks for so many moves from a turn on: plan ticks by its first line, and its own
+-- ones, also where each step is pushed on by 4 ticks since it follows too closely.
 pub record IsReadyBoard (clocks : Clocks) (turn moves : ℕ) : Type 0 where
   pub kept : AreKept clocks
   pub before : clocks.first.at ≤ turn * turn_ns
   pub soon : last_from clocks.first.at clocks.held < 2 ^ 62 * turn_ns
   pub planned : tick clocks.first ((turn + moves * turns_of_move) * turn_ns) < tick_limit - 2 ^ 32
-  pub room : lines_tick clocks (turn * turn_ns + moves * move_ns + turn_ns) + 4 * (moves * steps_of_move) + 1 < tick_limit
+  pub room : lines_tick clocks (turn * turn_ns + moves * move_ns + turn_ns) + 4 * (moves * steps_of_move) + 1
+      < tick_limit
 
 -- the board of a number is ready for so many moves from a turn on
 pub record IsReadyAt (m : Machine) (clocks : List Clocks) (turn moves b : ℕ) : Type 0 where
@@ -83,7 +85,8 @@ pub record IsOnTime (clocks : Clocks) (turn : ℕ) (q : Planned) : Type 0 where
   pub in_turn : clocks.held ≡ [] → lines_turn clocks q.tick ≤ turn
   pub small : q.tick + 1 < tick_limit
 
--- the plan of some moves that start in a turn can be made: they are valid, short and few, and no tick of theirs is too great
+-- the plan of some moves that start in a turn can be made: they are valid, short and few, and no tick of
+-- theirs is too great
 pub record IsPlannable (m : Machine) (clocks : List Clocks) (moves : List Move) (turn : ℕ) : Type 0 where
   pub machine : IsValidMachine m
   pub boards : length clocks ≡ length m.boards

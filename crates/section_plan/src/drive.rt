@@ -39,7 +39,9 @@ impl Drive {
     fn change(&self, one: &Move) -> i64
         requires drive { self.now.number < 4 }
         requires valid { IsValidMove one.now }
-        ensures { result ≡ coordinate self.now.corexy self.now.number one.now.to -ℤ coordinate self.now.corexy self.now.number one.now.from }
+        ensures { result
+            ≡ coordinate self.now.corexy self.now.number one.now.to
+            -ℤ coordinate self.now.corexy self.now.number one.now.from }
     {
         self.coordinate(&one.to) - self.coordinate(&one.from)
     }
@@ -51,7 +53,8 @@ impl Drive {
         requires begun { self.now.line.at ≤ begin }
         requires begin_small { begin < 2 ^ 100 }
         requires small { tick self.now.line (begin + part.now.ns) < tick_limit }
-        ensures { result ≡ segment_of self.now.corexy self.now.number self.now.line (part_at one.now part.now before begin) }
+        ensures { result
+            ≡ segment_of self.now.corexy self.now.number self.now.line (part_at one.now part.now before begin) }
     {
         let start = self.line.tick(begin);
         let end = self.line.tick(begin + u128::from(part.ns));

@@ -43,7 +43,9 @@ pub fn put_move_ends(
     out: &mut Vec<u128>,
 ) -> Result<(), OutOfMemory>
     requires { IsPlannable machine.now clocks.now moves.now turn }
-    ensures { OnOk result (out.new.items ≡ out.old.items ++ move_ends machine.now.cruise moves.now (greatest_speeds moves.now machine.now.scv) (turn * turn_ns)) }
+    ensures { OnOk result (out.new.items
+        ≡ out.old.items
+        ++ move_ends machine.now.cruise moves.now (greatest_speeds moves.now machine.now.scv) (turn * turn_ns)) }
 {
     let speeds = speeds_of(alloc, machine, clocks, moves, turn)?;
     put_ends(

@@ -58,7 +58,9 @@ pub fn push_parts(
     requires begin_small { begin < 2 ^ 99 }
     requires short { duration parts.now ≤ move_ns }
     requires small { tick drive.now.line (begin + duration parts.now) < tick_limit }
-    ensures { OnOk result (made.new.items ≡ made.old.items ++ map (segment_of drive.now.corexy drive.now.number drive.now.line) (timed one.now 0 begin parts.now)) }
+    ensures { OnOk result (made.new.items
+        ≡ made.old.items
+        ++ map (segment_of drive.now.corexy drive.now.number drive.now.line) (timed one.now 0 begin parts.now)) }
 {
     let mut before = 0;
     let mut time = begin;

@@ -39,9 +39,13 @@ pub fn segments_of(
     requires drive { drive.now.number < 4 }
     requires run { IsRun cruise moves.now speeds.now begin }
     requires room { HasRoom drive.now.line (length moves.now) begin }
-    ensures value { IfOk result (λ made. made.items ≡ map (segment_of drive.now.corexy drive.now.number drive.now.line) (timed_moves cruise moves.now speeds.now begin)) }
-    ensures good { IfOk result (λ made. All (IsGoodSegment drive.now.line (tick drive.now.line (begin + length moves.now * move_ns))) made.items) }
-    ensures steps { IfOk result (λ made. (g : Gear) (f : ℕ) → IsValidGear g → length (raw_steps g f made.items) ≤ length moves.now * steps_of_move) }
+    ensures value { IfOk result (λ made. made.items
+        ≡ map (segment_of drive.now.corexy drive.now.number drive.now.line)
+        (timed_moves cruise moves.now speeds.now begin)) }
+    ensures good { IfOk result (λ made.
+        All (IsGoodSegment drive.now.line (tick drive.now.line (begin + length moves.now * move_ns))) made.items) }
+    ensures steps { IfOk result (λ made.
+        (g : Gear) (f : ℕ) → IsValidGear g → length (raw_steps g f made.items) ≤ length moves.now * steps_of_move) }
 {
     let mut made = Vec::new(alloc);
     let mut time = begin;

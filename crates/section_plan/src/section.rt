@@ -60,10 +60,14 @@ pub fn plan_moves(
     requires { IsPlannable machine.now clocks.now moves.now turn }
     ensures steps { IfOk result (λ p. p.steps ≡ section_plans machine.now clocks.now moves.now turn) }
     ensures end { IfOk result (λ p. p.end ≡ section_end machine.now clocks.now moves.now turn) }
-    ensures last { IfOk result (λ p. p.last ≡ latest (for_each_stepper machine.now (stepper_end machine.now clocks.now moves.now turn))) }
-    ensures soon { HaveOneLine machine.now clocks.now → IfOk result (λ p. p.end ≤ turn + length moves.now * turns_of_move) }
-    ensures spaced { IfOk result (λ p. (s : ℕ) → s < length machine.now.steppers → AreSpaced (base_tick machine.now clocks.now turn s) (stepper_plan machine.now clocks.now moves.now turn s)) }
-    ensures small { IfOk result (λ p. (s : ℕ) → s < length machine.now.steppers → All (λ q. q.tick + 1 < tick_limit) (stepper_plan machine.now clocks.now moves.now turn s)) }
+    ensures last { IfOk result
+        (λ p. p.last ≡ latest (for_each_stepper machine.now (stepper_end machine.now clocks.now moves.now turn))) }
+    ensures soon { HaveOneLine machine.now clocks.now →
+        IfOk result (λ p. p.end ≤ turn + length moves.now * turns_of_move) }
+    ensures spaced { IfOk result (λ p. (s : ℕ) → s < length machine.now.steppers →
+        AreSpaced (base_tick machine.now clocks.now turn s) (stepper_plan machine.now clocks.now moves.now turn s)) }
+    ensures small { IfOk result (λ p. (s : ℕ) → s < length machine.now.steppers →
+        All (λ q. q.tick + 1 < tick_limit) (stepper_plan machine.now clocks.now moves.now turn s)) }
 {
     let speeds = speeds_of(alloc, machine, clocks, moves, turn)?;
     let over = end_of(moves, &speeds, machine.cruise, u128::from(turn) * TURN_NS);

@@ -37,9 +37,14 @@ fn steps_of(
     requires run { IsRun machine.now.cruise moves.now speeds.now (turn * turn_ns) }
     requires some { 0 < length moves.now }
     requires board { IsReadyBoard lines.now turn (length moves.now) }
-    ensures value { IfOk result (λ steps. steps.items ≡ planned_steps stepper.now.gear lines.now (map (segment_of machine.now.corexy stepper.now.drive lines.now.first) (timed_moves machine.now.cruise moves.now speeds.now (turn * turn_ns))) (lines_tick lines.now (turn * turn_ns))) }
+    ensures value { IfOk result (λ steps. steps.items
+        ≡ planned_steps stepper.now.gear lines.now (map
+        (segment_of machine.now.corexy stepper.now.drive lines.now.first)
+        (timed_moves machine.now.cruise moves.now speeds.now (turn * turn_ns)))
+        (lines_tick lines.now (turn * turn_ns))) }
     ensures spaced { IfOk result (λ steps. AreSpaced (lines_tick lines.now (turn * turn_ns)) steps.items) }
-    ensures on_time { IfOk result (λ steps. All (IsOnTime lines.now (turn + length moves.now * turns_of_move)) steps.items) }
+    ensures on_time { IfOk result
+        (λ steps. All (IsOnTime lines.now (turn + length moves.now * turns_of_move)) steps.items) }
 {
     let drive = Drive {
         corexy: machine.corexy,
@@ -87,9 +92,12 @@ pub fn plan_stepper(
     requires there { place < length machine.now.steppers }
     ensures steps { IfOk result (λ p. p.steps ≡ stepper_plan machine.now clocks.now moves.now turn place) }
     ensures end { IfOk result (λ p. p.end ≡ stepper_end machine.now clocks.now moves.now turn place) }
-    ensures soon { HaveOneLine machine.now clocks.now → IfOk result (λ p. p.end ≤ turn + length moves.now * turns_of_move) }
-    ensures spaced { IfOk result (λ p. AreSpaced (base_tick machine.now clocks.now turn place) (stepper_plan machine.now clocks.now moves.now turn place)) }
-    ensures small { IfOk result (λ p. All (λ q. q.tick + 1 < tick_limit) (stepper_plan machine.now clocks.now moves.now turn place)) }
+    ensures soon { HaveOneLine machine.now clocks.now →
+        IfOk result (λ p. p.end ≤ turn + length moves.now * turns_of_move) }
+    ensures spaced { IfOk result (λ p. AreSpaced (base_tick machine.now clocks.now turn place)
+        (stepper_plan machine.now clocks.now moves.now turn place)) }
+    ensures small { IfOk result
+        (λ p. All (λ q. q.tick + 1 < tick_limit) (stepper_plan machine.now clocks.now moves.now turn place)) }
 {
     let stepper = &machine.steppers.as_slice()[place];
     let lines = &clocks[stepper.board as usize];

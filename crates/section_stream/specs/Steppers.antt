@@ -18,7 +18,8 @@ use Rattle.section_stream.specs.Packing.{IsPieceTo}
 use Rattle.section_stream.specs.Plans.{gear_of, lines_of, segments_for}
 use Rattle.section_stream.specs.Stepping.{AreCaughtUp, AreStepping, IsPackedBehind}
 
--- a stepper that was given these parts, from whose plan these steps were taken, packed in these pieces, and these units given
+-- a stepper that was given these parts, from whose plan these steps were taken, packed in these pieces, and
+-- these units given
 abbrev pub IsStepperOf : StepperStream → ℕ → List TimedPart → List Planned → List Piece → List StepUnit → Type 0
 IsStepperOf s base parts out pieces given = AreStepping s.steps s.drive s.pack s.turn base parts out pieces given
 
@@ -38,8 +39,8 @@ parts_end s = end_of_segments s.steps
 abbrev pub known_of : StepperStream → ℕ
 known_of s = known_end s.steps
 
--- What stays the same: its gear, its drive and the first line of its board, its object id, whether its direction is inverted,
--- how many ticks its steps may be early, and the tick to which its clock is set.
+-- What stays the same: its gear, its drive and the first line of its board, its object id, whether its
+-- direction is inverted, how many ticks its steps may be early, and the tick to which its clock is set.
 pub record StepperKind : Type 0 where
   pub gear : Gear
   pub drive : Drive
@@ -48,6 +49,7 @@ pub record StepperKind : Type 0 where
   pub early : ℕ
   pub reset : Option ℕ
 
+-- what stays the same of a stepper's stream
 abbrev pub kind_of : StepperStream → StepperKind
 kind_of s = record {
   gear = gear_of s.steps;
@@ -90,20 +92,26 @@ abbrev pub StartFrom : ℕ → List StepUnit → Type 0
 StartFrom low [] = Unit {0}
 StartFrom low (u ∷ us) = low ≤ u.due
 
--- All its units are due in a turn or later, those that wait, and those that it makes later: its steps are packed up to a turn that begins
--- behind that one by as many ticks as a step may be early, or the last one that is packed is not before the turn.
+-- All its units are due in a turn or later, those that wait, and those that it makes later: its steps are
+-- packed up to a turn that begins behind that one by as many ticks as a step may be early, or the last one
+-- that is packed is not before the turn.
 pub record IsDueFrom (low : ℕ) (s : StepperStream) : Type 0 where
   pub waits : StartFrom low (units_of s)
-  pub later : IsPackedBehind (clocks_of s) low (planned_turn s) s.steps (held_of s.pack) ⊎ (lines_tick (clocks_of s) (low * turn_ns) ≤ packed_to s)
+  pub later : IsPackedBehind (clocks_of s) low (planned_turn s) s.steps (held_of s.pack)
+      ⊎ (lines_tick (clocks_of s) (low * turn_ns) ≤ packed_to s)
 
 -- it knows all steps up to a turn: those that may still come are so long behind it that they change none of these
 abbrev pub KnowsTo : ℕ → StepperStream → Type 0
 KnowsTo turn s = tick (clocks_of s).first (turn * turn_ns) + cancel_reach (clocks_of s).first.freq ≤ known_of s
 
--- Its steps up to a turn are planned, as far as they were known from which tick on more may come, and packed: one more piece.
-pub record IsPlannedTo (s : StepperStream) (turn end base : ℕ) (parts : List TimedPart) (out : List Planned) (pieces : List Piece) (given : List StepUnit) : Type 0 where
+-- Its steps up to a turn are planned, as far as they were known from which tick on more may come, and packed:
+-- one more piece.
+pub record IsPlannedTo (s : StepperStream) (turn end base : ℕ) (parts : List TimedPart) (out : List Planned)
+    (pieces : List Piece) (given : List StepUnit) : Type 0 where
   pub more : List Planned
   pub piece : Piece
-  pub due : out ++ more ≡ due_steps (gear_of s.steps) (lines_of s.steps) (segments_for s.drive parts) base (tick (lines_of s.steps).first (turn * turn_ns)) end
+  pub due : out ++ more
+      ≡ due_steps (gear_of s.steps) (lines_of s.steps) (segments_for s.drive parts) base
+      (tick (lines_of s.steps).first (turn * turn_ns)) end
   pub piece_to : IsPieceTo (lines_of s.steps) turn piece (held_of s.pack)
   pub stepper : IsStepperOf s base parts (out ++ more) (pieces ++ piece ∷ []) given

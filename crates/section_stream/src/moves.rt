@@ -63,7 +63,8 @@ impl MoveStream {
         requires short { IsShortMove one }
         requires open { is_open self.old ≡ true }
         requires few { pushed_count self.old < 2_000_000 }
-        ensures ok { OnOk result ((scv : ℕ) (moves : List Move) (made : List TimedPart) → IsMovesOf self.old scv moves made → IsMovesOf self.new scv (moves ++ one ∷ []) made) }
+        ensures ok { OnOk result ((scv : ℕ) (moves : List Move) (made : List TimedPart) →
+            IsMovesOf self.old scv moves made → IsMovesOf self.new scv (moves ++ one ∷ []) made) }
         ensures count { OnOk result (pushed_count self.new ≡ pushed_count self.old + 1) }
         ensures open { is_open self.new ≡ true }
         ensures begin { begin_of self.new ≡ begin_of self.old }
@@ -79,7 +80,8 @@ impl MoveStream {
     /// The section ends behind the last move.
     pub fn finish(&mut self)
         requires open { is_open self.old ≡ true }
-        ensures ended { (scv : ℕ) (moves : List Move) (made : List TimedPart) → IsMovesOf self.old scv moves made → IsMovesOf self.new scv moves made }
+        ensures ended { (scv : ℕ) (moves : List Move) (made : List TimedPart) → IsMovesOf self.old scv moves made →
+            IsMovesOf self.new scv moves made }
         ensures open { is_open self.new ≡ false }
         ensures begin { begin_of self.new ≡ begin_of self.old }
         ensures time { time_of self.new ≡ time_of self.old }
@@ -94,9 +96,13 @@ impl MoveStream {
     /// The next move with its parts, once no later move can lower its speeds.
     pub fn next(&mut self) -> Option<Ready>
         ensures ready { IfSome result IsReadyMove }
-        ensures some { IfSome result (λ r. (scv : ℕ) (moves : List Move) (made : List TimedPart) → IsMovesOf self.old scv moves made → IsMovesOf self.new scv moves (made ++ timed r.one 0 (time_of self.old) r.parts)) }
-        ensures none { IfNone result ((scv : ℕ) (moves : List Move) (made : List TimedPart) → IsMovesOf self.old scv moves made → IsMovesOf self.new scv moves made) }
-        ensures all { IfNone result ((scv : ℕ) (moves : List Move) (made : List TimedPart) → IsMovesOf self.old scv moves made → is_open self.old ≡ false → given_count self.new ≡ length moves) }
+        ensures some { IfSome result (λ r. (scv : ℕ) (moves : List Move) (made : List TimedPart) →
+            IsMovesOf self.old scv moves made →
+            IsMovesOf self.new scv moves (made ++ timed r.one 0 (time_of self.old) r.parts)) }
+        ensures none { IfNone result ((scv : ℕ) (moves : List Move) (made : List TimedPart) →
+            IsMovesOf self.old scv moves made → IsMovesOf self.new scv moves made) }
+        ensures all { IfNone result ((scv : ℕ) (moves : List Move) (made : List TimedPart) →
+            IsMovesOf self.old scv moves made → is_open self.old ≡ false → given_count self.new ≡ length moves) }
         ensures time { IfSome result (λ r. time_of self.new ≡ time_of self.old + duration r.parts) }
         ensures same { IfNone result (time_of self.new ≡ time_of self.old) }
         ensures count { IfSome result (λ r. given_count self.new ≡ given_count self.old + 1) }

@@ -60,8 +60,8 @@ impl PackStream {
     ghost use Rattle.section_stream.specs.Rows.{AreInRow};
     ghost use Rattle.section_stream.specs.Packs.{IsPackedOf, error_of, held_of, is_inverted, last_packed, last_pushed, oid_of, reset_of, step_packed, waiting_of};
 
-    /// A packer of a stepper's steps in a section that begins at the tick `base`; the clock is set to `reset` where that is
-    /// told.
+    /// A packer of a stepper's steps in a section that begins at the tick `base`; the clock is set to `reset`
+    /// where that is told.
     pub fn new(
         alloc: Global,
         oid: u8,
@@ -95,7 +95,9 @@ impl PackStream {
     /// Adds planned steps behind the others.
     pub fn hold(&mut self, steps: &[Planned]) -> Result<(), OutOfMemory>
         requires spaced { AreSpaced (last_pushed self.old) steps.now }
-        ensures held { OnOk result ((clocks : Clocks) (base : ℕ) (pushed : List Planned) (pieces : List Piece) (given : List StepUnit) → IsPackedOf self.old clocks base pushed pieces given → IsPackedOf self.new clocks base (pushed ++ as_sent (is_inverted self.old) steps.now) pieces given) }
+        ensures held { OnOk result ((clocks : Clocks) (base : ℕ) (pushed : List Planned) (pieces : List Piece)
+            (given : List StepUnit) → IsPackedOf self.old clocks base pushed pieces given →
+            IsPackedOf self.new clocks base (pushed ++ as_sent (is_inverted self.old) steps.now) pieces given) }
         ensures items { OnOk result (held_of self.new ≡ held_of self.old ++ as_sent (is_inverted self.old) steps.now) }
         ensures last { OnOk result (last_pushed self.new ≡ last_step (last_pushed self.old) steps.now) }
         ensures refused { OnErr result (last_pushed self.new ≡ last_pushed self.old) }
@@ -115,11 +117,18 @@ impl PackStream {
         requires from { lines.now.first.clock ≤ last_packed self.old }
         requires soon { last_from lines.now.first.at lines.now.held < 2 ^ 62 * turn_ns }
         requires small { lines_tick lines.now (turn * turn_ns) < 2 ^ 64 }
-        ensures packed { OnOk result ((base : ℕ) (pushed : List Planned) (pieces : List Piece) (given : List StepUnit) → IsPackedOf self.old lines.now base pushed pieces given → (piece : Piece) × IsPieceTo lines.now turn piece (held_of self.new) × IsPackedOf self.new lines.now base pushed (pieces ++ piece ∷ []) given) }
+        ensures packed { OnOk result ((base : ℕ) (pushed : List Planned) (pieces : List Piece) (given : List StepUnit) →
+            IsPackedOf self.old lines.now base pushed pieces given →
+            (piece : Piece) × IsPieceTo lines.now turn piece (held_of self.new)
+            × IsPackedOf self.new lines.now base pushed (pieces ++ piece ∷ []) given) }
         ensures behind { OnOk result (All (λ s. lines_tick lines.now (turn * turn_ns) ≤ s.tick) (held_of self.new)) }
-        ensures added { OnOk result ((added : List StepUnit) × (waiting_of self.new ≡ waiting_of self.old ++ added) × AreInRow lines.now (last_packed self.old) (last_packed self.new) added × ((t : ℕ) → All (λ s. t + error_of self.old ≤ s.tick) (held_of self.old) → All (λ u. t ≤ u.first) added)) }
-        ensures early { All (λ u. u.first < lines_tick lines.now (turn * turn_ns)) (waiting_of self.old) → All (λ u. u.first < lines_tick lines.now (turn * turn_ns)) (waiting_of self.new) }
-        ensures row { AreInRow lines.now 0 (last_packed self.old) (waiting_of self.old) → AreInRow lines.now 0 (last_packed self.new) (waiting_of self.new) }
+        ensures added { OnOk result ((added : List StepUnit) × (waiting_of self.new ≡ waiting_of self.old ++ added)
+            × AreInRow lines.now (last_packed self.old) (last_packed self.new) added
+            × ((t : ℕ) → All (λ s. t + error_of self.old ≤ s.tick) (held_of self.old) → All (λ u. t ≤ u.first) added)) }
+        ensures early { All (λ u. u.first < lines_tick lines.now (turn * turn_ns)) (waiting_of self.old) →
+            All (λ u. u.first < lines_tick lines.now (turn * turn_ns)) (waiting_of self.new) }
+        ensures row { AreInRow lines.now 0 (last_packed self.old) (waiting_of self.old) →
+            AreInRow lines.now 0 (last_packed self.new) (waiting_of self.new) }
         ensures last { last_packed self.old ≤ last_packed self.new }
         ensures pushed { last_pushed self.new ≡ last_pushed self.old }
         ensures oid { oid_of self.new ≡ oid_of self.old }
@@ -159,11 +168,15 @@ impl PackStream {
 
     /// Takes the unit out that is given next, if any waits.
     pub fn pop(&mut self) -> Option<Unit>
-        ensures some { IfSome result (λ u. (clocks : Clocks) (base : ℕ) (pushed : List Planned) (pieces : List Piece) (given : List StepUnit) → IsPackedOf self.old clocks base pushed pieces given → IsPackedOf self.new clocks base pushed pieces (given ++ u ∷ [])) }
+        ensures some { IfSome result (λ u. (clocks : Clocks) (base : ℕ) (pushed : List Planned) (pieces : List Piece)
+            (given : List StepUnit) → IsPackedOf self.old clocks base pushed pieces given →
+            IsPackedOf self.new clocks base pushed pieces (given ++ u ∷ [])) }
         ensures first { IfSome result (λ u. waiting_of self.old ≡ u ∷ waiting_of self.new) }
         ensures number { IfSome result (λ u. u.stepper ≡ oid_of self.old) }
         ensures none { IfNone result (waiting_of self.old ≡ []) }
-        ensures kept { IfNone result ((clocks : Clocks) (base : ℕ) (pushed : List Planned) (pieces : List Piece) (given : List StepUnit) → IsPackedOf self.old clocks base pushed pieces given → IsPackedOf self.new clocks base pushed pieces given) }
+        ensures kept { IfNone result ((clocks : Clocks) (base : ℕ) (pushed : List Planned) (pieces : List Piece)
+            (given : List StepUnit) → IsPackedOf self.old clocks base pushed pieces given →
+            IsPackedOf self.new clocks base pushed pieces given) }
         ensures rest { IfNone result (waiting_of self.new ≡ waiting_of self.old) }
         ensures held { held_of self.new ≡ held_of self.old }
         ensures last { last_packed self.new ≡ last_packed self.old }

@@ -86,7 +86,8 @@ impl StepperStream {
         ensures turn { IfOk result (λ s. planned_turn s ≡ turn) }
         ensures end { IfOk result (λ s. known_of s ≡ tick lines.now.first (turn * turn_ns)) }
         ensures caught_up { IfOk result (IsCaughtUp turn) }
-        ensures kind { IfOk result (λ s. kind_of s ≡ kind_from corexy stepper.now lines.now.first (set_to homing (lines_tick lines.now (turn * turn_ns)))) }
+        ensures kind { IfOk result (λ s. kind_of s
+            ≡ kind_from corexy stepper.now lines.now.first (set_to homing (lines_tick lines.now (turn * turn_ns)))) }
         ensures none { IfOk result (λ s. units_of s ≡ []) }
         ensures packed { IfOk result (λ s. packed_to s ≡ lines_tick lines.now (turn * turn_ns)) }
     {
@@ -125,10 +126,15 @@ impl StepperStream {
         requires begin_small { begin < 2 ^ 99 }
         requires order { known_of self.old ≤ tick (clocks_of self.old).first begin }
         requires room { tick (clocks_of self.old).first (begin + duration ready.now.parts) < tick_limit }
-        requires on_board { lines_board (clocks_of self.old) (tick (clocks_of self.old).first (begin + duration ready.now.parts)) < tick_limit }
-        ensures pushed { OnOk result ((base : ℕ) (parts : List TimedPart) (out : List Planned) (pieces : List Piece) (given : List StepUnit) → IsStepperOf self.old base parts out pieces given → IsStepperOf self.new base (parts ++ timed ready.now.one 0 begin ready.now.parts) out pieces given) }
-        ensures end { OnOk result (known_of self.new ≤ tick (clocks_of self.old).first (begin + duration ready.now.parts)) }
-        ensures reaches { OnOk result (tick (clocks_of self.old).first begin ≤ known_of self.old → tick (clocks_of self.old).first (begin + duration ready.now.parts) ≤ known_of self.new) }
+        requires on_board { lines_board (clocks_of self.old)
+            (tick (clocks_of self.old).first (begin + duration ready.now.parts)) < tick_limit }
+        ensures pushed { OnOk result ((base : ℕ) (parts : List TimedPart) (out : List Planned) (pieces : List Piece)
+            (given : List StepUnit) → IsStepperOf self.old base parts out pieces given →
+            IsStepperOf self.new base (parts ++ timed ready.now.one 0 begin ready.now.parts) out pieces given) }
+        ensures end { OnOk result
+            (known_of self.new ≤ tick (clocks_of self.old).first (begin + duration ready.now.parts)) }
+        ensures reaches { OnOk result (tick (clocks_of self.old).first begin ≤ known_of self.old →
+            tick (clocks_of self.old).first (begin + duration ready.now.parts) ≤ known_of self.new) }
         ensures caught_up { OnOk result ((turn : ℕ) → IsCaughtUp turn self.old → IsCaughtUp turn self.new) }
         ensures lines { clocks_of self.new ≡ clocks_of self.old }
         ensures turn { planned_turn self.new ≡ planned_turn self.old }
@@ -148,9 +154,12 @@ impl StepperStream {
         requires soon { last_from lines.now.first.at lines.now.held < 2 ^ 62 * turn_ns }
         requires until_small { tick lines.now.first (turn * turn_ns) < 2 ^ 64 }
         requires small { lines_tick lines.now (turn * turn_ns) < 2 ^ 64 }
-        ensures planned { OnOk result ((base : ℕ) (parts : List TimedPart) (out : List Planned) (pieces : List Piece) (given : List StepUnit) → IsStepperOf self.old base parts out pieces given → IsPlannedTo self.new turn (known_of self.old) base parts out pieces given) }
+        ensures planned { OnOk result ((base : ℕ) (parts : List TimedPart) (out : List Planned) (pieces : List Piece)
+            (given : List StepUnit) → IsStepperOf self.old base parts out pieces given →
+            IsPlannedTo self.new turn (known_of self.old) base parts out pieces given) }
         ensures caught_up { OnOk result (KnowsTo turn self.old → IsCaughtUp turn self.new) }
-        ensures due { OnOk result ((low : ℕ) → KnowsTo turn self.old → AreKept lines.now → IsDueFrom low self.old → IsDueFrom low self.new) }
+        ensures due { OnOk result
+            ((low : ℕ) → KnowsTo turn self.old → AreKept lines.now → IsDueFrom low self.old → IsDueFrom low self.new) }
         ensures turn { planned_turn self.new ≡ turn }
         ensures end { known_of self.new ≡ known_of self.old }
         ensures lines { clocks_of self.new ≡ clocks_of self.old }
@@ -164,7 +173,8 @@ impl StepperStream {
         Ok(())
     }
 
-    /// Lets a clock line hold from a time on, which is not before the turn up to which the steps are planned and packed.
+    /// Lets a clock line hold from a time on, which is not before the turn up to which the steps are planned
+    /// and packed.
     pub fn add_line(&mut self, from: u128, line: Line) -> Result<(), OutOfMemory>
         requires after { last_from 0 (clocks_of self.old).held < from }
         requires fit { IsFit (clocks_of self.old).first line from }
@@ -173,11 +183,15 @@ impl StepperStream {
         requires plan_small { tick (clocks_of self.old).first from < 2 ^ 64 }
         requires on_board { lines_board (added (clocks_of self.old) from line) (parts_end self.old) < tick_limit }
         requires order { planned_turn self.old * turn_ns ≤ from }
-        ensures added { OnOk result ((base : ℕ) (parts : List TimedPart) (out : List Planned) (pieces : List Piece) (given : List StepUnit) → IsStepperOf self.old base parts out pieces given → IsStepperOf self.new base parts out pieces given) }
+        ensures added { OnOk result ((base : ℕ) (parts : List TimedPart) (out : List Planned) (pieces : List Piece)
+            (given : List StepUnit) → IsStepperOf self.old base parts out pieces given →
+            IsStepperOf self.new base parts out pieces given) }
         ensures lines { OnOk result (clocks_of self.new ≡ added (clocks_of self.old) from line) }
         ensures unchanged { OnErr result (self.new ≡ self.old) }
-        ensures caught_up { OnOk result ((turn : ℕ) → turn * turn_ns < from → IsCaughtUp turn self.old → IsCaughtUp turn self.new) }
-        ensures due { OnOk result ((low : ℕ) → planned_turn self.old * turn_ns < from → low * turn_ns < from → IsDueFrom low self.old → IsDueFrom low self.new) }
+        ensures caught_up { OnOk result
+            ((turn : ℕ) → turn * turn_ns < from → IsCaughtUp turn self.old → IsCaughtUp turn self.new) }
+        ensures due { OnOk result ((low : ℕ) → planned_turn self.old * turn_ns < from → low * turn_ns < from →
+            IsDueFrom low self.old → IsDueFrom low self.new) }
         ensures turn { planned_turn self.new ≡ planned_turn self.old }
         ensures end { known_of self.new ≡ known_of self.old }
         ensures units { units_of self.new ≡ units_of self.old }
@@ -191,7 +205,9 @@ impl StepperStream {
     /// No more moves come, and no steps are asked for behind a plan tick.
     pub fn finish(&mut self, end: u64)
         requires order { known_of self.old ≤ end }
-        ensures ended { (base : ℕ) (parts : List TimedPart) (out : List Planned) (pieces : List Piece) (given : List StepUnit) → IsStepperOf self.old base parts out pieces given → IsStepperOf self.new base parts out pieces given }
+        ensures ended { (base : ℕ) (parts : List TimedPart) (out : List Planned) (pieces : List Piece)
+            (given : List StepUnit) → IsStepperOf self.old base parts out pieces given →
+            IsStepperOf self.new base parts out pieces given }
         ensures end { known_of self.new ≡ end }
         ensures caught_up { (turn : ℕ) → IsCaughtUp turn self.old → IsCaughtUp turn self.new }
         ensures turn { planned_turn self.new ≡ planned_turn self.old }
@@ -213,10 +229,14 @@ impl StepperStream {
 
     /// Takes the unit out that is given next, if any waits.
     pub fn pop(&mut self) -> Option<Unit>
-        ensures some { IfSome result (λ u. (base : ℕ) (parts : List TimedPart) (out : List Planned) (pieces : List Piece) (given : List StepUnit) → IsStepperOf self.old base parts out pieces given → IsStepperOf self.new base parts out pieces (given ++ u ∷ [])) }
+        ensures some { IfSome result (λ u. (base : ℕ) (parts : List TimedPart) (out : List Planned)
+            (pieces : List Piece) (given : List StepUnit) → IsStepperOf self.old base parts out pieces given →
+            IsStepperOf self.new base parts out pieces (given ++ u ∷ [])) }
         ensures first { IfSome result (λ u. units_of self.old ≡ u ∷ units_of self.new) }
         ensures none { IfNone result (units_of self.old ≡ []) }
-        ensures kept { IfNone result ((base : ℕ) (parts : List TimedPart) (out : List Planned) (pieces : List Piece) (given : List StepUnit) → IsStepperOf self.old base parts out pieces given → IsStepperOf self.new base parts out pieces given) }
+        ensures kept { IfNone result ((base : ℕ) (parts : List TimedPart) (out : List Planned) (pieces : List Piece)
+            (given : List StepUnit) → IsStepperOf self.old base parts out pieces given →
+            IsStepperOf self.new base parts out pieces given) }
         ensures rest { IfNone result (units_of self.new ≡ units_of self.old) }
         ensures caught_up { (turn : ℕ) → IsCaughtUp turn self.old → IsCaughtUp turn self.new }
         ensures turn { planned_turn self.new ≡ planned_turn self.old }
@@ -231,7 +251,9 @@ impl StepperStream {
 
     /// Whether all steps of the parts that it was given are planned and packed.
     pub fn is_whole(&self) -> bool
-        ensures whole { IsTrue result → (base : ℕ) (parts : List TimedPart) (out : List Planned) (pieces : List Piece) (given : List StepUnit) → IsStepperOf self.now base parts out pieces given → (out ≡ plan_of self.now base parts) × (steps_in pieces ≡ as_sent (kind_of self.now).inverted out) }
+        ensures whole { IsTrue result → (base : ℕ) (parts : List TimedPart) (out : List Planned) (pieces : List Piece)
+            (given : List StepUnit) → IsStepperOf self.now base parts out pieces given →
+            (out ≡ plan_of self.now base parts) × (steps_in pieces ≡ as_sent (kind_of self.now).inverted out) }
         ensures left { result ≡ false → HasStepsLeft self.now }
     {
         self.steps.is_given() && self.pack.is_packed()
@@ -239,7 +261,11 @@ impl StepperStream {
 
     /// Whether all steps of the parts that it was given are planned and packed, and all their units given.
     pub fn is_done(&self) -> bool
-        ensures { IsTrue result → (homing : Bool) (freq base : ℕ) (parts : List TimedPart) (out : List Planned) (pieces : List Piece) (given : List StepUnit) → (kind_of self.now).reset ≡ set_to homing base → (kind_of self.now).early ≡ max_error freq → IsStepperOf self.now base parts out pieces given → ArePackedBy homing (clocks_of self.now) freq (kind_of self.now).oid base (as_sent (kind_of self.now).inverted (plan_of self.now base parts)) given }
+        ensures { IsTrue result → (homing : Bool) (freq base : ℕ) (parts : List TimedPart) (out : List Planned)
+            (pieces : List Piece) (given : List StepUnit) → (kind_of self.now).reset ≡ set_to homing base →
+            (kind_of self.now).early ≡ max_error freq → IsStepperOf self.now base parts out pieces given →
+            ArePackedBy homing (clocks_of self.now) freq (kind_of self.now).oid base
+            (as_sent (kind_of self.now).inverted (plan_of self.now base parts)) given }
     {
         self.is_whole() && self.pack.is_given()
     }
@@ -248,7 +274,9 @@ impl StepperStream {
     pub fn last(&self) -> Option<u64>
         ensures is { result ≡ packed_step self.now }
         ensures last { IfSome result (λ t. t ≡ packed_to self.now) }
-        ensures all { (base : ℕ) (parts : List TimedPart) (out : List Planned) (pieces : List Piece) (given : List StepUnit) → IsStepperOf self.now base parts out pieces given → IsLastOf result base (steps_in pieces) }
+        ensures all { (base : ℕ) (parts : List TimedPart) (out : List Planned) (pieces : List Piece)
+            (given : List StepUnit) → IsStepperOf self.now base parts out pieces given →
+            IsLastOf result base (steps_in pieces) }
     {
         self.pack.last()
     }

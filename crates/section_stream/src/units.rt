@@ -61,11 +61,14 @@ pub fn add_units(
     requires spaced { AreSpaced last steps.now }
     requires from { lines.now.first.clock ≤ last }
     requires soon { last_from lines.now.first.at lines.now.held < 2 ^ 62 * turn_ns }
-    ensures units { OnOk result (units.new.items ≡ units.old.items ++ units_on lines.now oid reset up steps.now placed.now) }
+    ensures units { OnOk result
+        (units.new.items ≡ units.old.items ++ units_on lines.now oid reset up steps.now placed.now) }
     ensures up { IfOk result (λ u. u ≡ up_after up steps.now placed.now) }
     ensures own { All (λ u. u.stepper ≡ oid) units.old.items → All (λ u. u.stepper ≡ oid) units.new.items }
-    ensures early { (t : ℕ) → All (λ s. s.tick < t) steps.now → All (λ u. u.first < t) units.old.items → All (λ u. u.first < t) units.new.items }
-    ensures row { AreInRow lines.now 0 last units.old.items → AreInRow lines.now 0 (last_step last steps.now) units.new.items }
+    ensures early { (t : ℕ) → All (λ s. s.tick < t) steps.now → All (λ u. u.first < t) units.old.items →
+        All (λ u. u.first < t) units.new.items }
+    ensures row { AreInRow lines.now 0 last units.old.items →
+        AreInRow lines.now 0 (last_step last steps.now) units.new.items }
 {
     let mut up = up;
     let mut next = 0;

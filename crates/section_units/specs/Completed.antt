@@ -14,22 +14,28 @@ use Rattle.section_units.specs.Sections.{AreBegunBy, IsWholeBy, of_stepper, step
 abbrev pub pushed_of : ℕ → List Release → List StepUnit → List StepUnit
 pushed_of oid rs waiting = of_stepper oid (units_of rs ++ waiting)
 
--- Of a section, which homes or not, these units were released before a turn, and these wait, of which there was no room for the first; together they
--- are the first ones of the plan, and the other steps are due 250 turns behind that turn or later.
-pub record IsOpenFrontBy (homing : Bool) (clocks : Clocks) (freq slots start end next count : ℕ) (plan : ℕ → List Planned) (rs : List Release) (waiting : List StepUnit) : Type 0 where
+-- Of a section, which homes or not, these units were released before a turn, and these wait, of which there
+-- was no room for the first; together they are the first ones of the plan, and the other steps are due 250
+-- turns behind that turn or later.
+pub record IsOpenFrontBy (homing : Bool) (clocks : Clocks) (freq slots start end next count : ℕ)
+    (plan : ℕ → List Planned) (rs : List Release) (waiting : List StepUnit) : Type 0 where
   pub slots_some : 1 ≤ slots
   pub none : (oid : ℕ) → count ≤ oid → plan oid ≡ []
   pub spaced : (oid : ℕ) → AreSpaced (lines_tick clocks (start * turn_ns)) (plan oid)
   pub within : (oid : ℕ) → All (λ p. p.tick < lines_tick clocks ((end + 1) * turn_ns)) (plan oid)
   pub begun : (oid : ℕ) → AreBegunBy homing clocks (lines_tick clocks (start * turn_ns)) (pushed_of oid rs waiting)
-  pub fits : (oid : ℕ) → Fits freq (lines_tick clocks (start * turn_ns)) (steps_said oid false (pushed_of oid rs waiting)) (plan oid)
-  pub later : (oid : ℕ) → All (λ s. next + lead ≤ lines_turn clocks s.tick) (drop (length (steps_said oid false (pushed_of oid rs waiting))) (plan oid))
+  pub fits : (oid : ℕ) →
+      Fits freq (lines_tick clocks (start * turn_ns)) (steps_said oid false (pushed_of oid rs waiting)) (plan oid)
+  pub later : (oid : ℕ) →
+      All (λ s. next + lead ≤ lines_turn clocks s.tick)
+      (drop (length (steps_said oid false (pushed_of oid rs waiting))) (plan oid))
   pub from : ℕ
   pub exact : from + 250 ≡ start
   pub paced : ArePaced clocks slots from [] rs
   pub no_room : IsNoSooner clocks slots next (last_turn from rs) (behind [] rs) waiting
 
 -- with these releases a section is whole, and none of them is before a turn
-pub record IsCompletionBy (homing : Bool) (clocks : Clocks) (freq slots start end next : ℕ) (plan : ℕ → List Planned) (rs more : List Release) : Type 0 where
+pub record IsCompletionBy (homing : Bool) (clocks : Clocks) (freq slots start end next : ℕ) (plan : ℕ → List Planned)
+    (rs more : List Release) : Type 0 where
   pub whole : IsWholeBy homing clocks freq slots (section_from start end plan (rs ++ more))
   pub later : All (λ r. next ≤ r.turn) more

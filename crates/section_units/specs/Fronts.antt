@@ -7,13 +7,15 @@ use Rattle.step_feed.specs.Units.{StepUnit}
 use Rattle.step_feed.specs.Pacing.{ArePaced, Release, units_of}
 use Rattle.section_units.specs.Sections.{AreBegunBy, BoardSection, base_of, of_stepper, section_steps, steps_said}
 
--- the first units of a stepper in a section, which homes or not: each step that they mean fits the step of the plan at its place
-pub record AreFirstOfBy (homing : Bool) (clocks : Clocks) (freq oid base : ℕ) (plan : List Planned) (us : List StepUnit) : Type 0 where
+-- the first units of a stepper in a section, which homes or not: each step that they mean fits the step of
+-- the plan at its place
+pub record AreFirstOfBy (homing : Bool) (clocks : Clocks) (freq oid base : ℕ) (plan : List Planned)
+    (us : List StepUnit) : Type 0 where
   pub begun : AreBegunBy homing clocks base us
   pub fits : Fits freq base (steps_said oid false us) plan
 
--- A section, which homes or not, of which these units were released so far: those of each stepper are the first ones of its plan, and they
--- are paced from 250 turns before its start on.
+-- A section, which homes or not, of which these units were released so far: those of each stepper are the
+-- first ones of its plan, and they are paced from 250 turns before its start on.
 pub record IsFrontBy (homing : Bool) (clocks : Clocks) (freq slots : ℕ) (s : BoardSection) : Type 0 where
   pub spaced : (oid : ℕ) → AreSpaced (base_of clocks s) (s.plan oid)
   pub begun : (oid : ℕ) → AreBegunBy homing clocks (base_of clocks s) (of_stepper oid (units_of s.releases))

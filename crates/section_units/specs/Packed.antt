@@ -37,7 +37,8 @@ abbrev pub units_next : Bool → Clocks → ℕ → ℕ → List StepUnit → Li
 units_next homing clocks oid base us steps placed = units_on clocks oid (set_to homing base) (dir_told us) steps placed
 
 -- the units of a stepper in a section, which homes or not, are those of a plan so far
-pub record ArePackedBy (homing : Bool) (clocks : Clocks) (freq oid base : ℕ) (plan : List Planned) (us : List StepUnit) : Type 0 where
+pub record ArePackedBy (homing : Bool) (clocks : Clocks) (freq oid base : ℕ) (plan : List Planned)
+    (us : List StepUnit) : Type 0 where
   pub begun : AreBegunBy homing clocks base us
   pub fits : Fits freq base (steps_said oid false us) plan
   pub whole : length (steps_said oid false us) ≡ length plan

@@ -49,7 +49,8 @@ steps_said oid up [] = []
 steps_said oid up (u ∷ us) =
     map (pulse_of oid) (steps_of (dir_after up u.up) (ticks_meant u)) ++ steps_said oid (dir_after up u.up) us
 
--- a unit behind a tick: its ticks are an expansion of its triple and rise, and its first and last tick and its turn are told
+-- a unit behind a tick: its ticks are an expansion of its triple and rise, and its first and last tick and
+-- its turn are told
 pub record IsUnit (clocks : Clocks) (behind : ℕ) (u : StepUnit) : Type 0 where
   pub expands : IsExpansion behind u.triple (ticks_meant u)
   pub rise : TicksRise (ticks_meant u)
@@ -67,11 +68,12 @@ AreChained clocks behind (u ∷ us) = (u.reset ≡ None) × IsUnit clocks behind
 abbrev pub set_to : Bool → ℕ → Option ℕ
 set_to homing base = if homing then None else Some base
 
--- Units of one stepper in a section, which homes or not: the first one tells the direction, and sets the clock to the section's first
--- tick, or does not set it.
+-- Units of one stepper in a section, which homes or not: the first one tells the direction, and sets the
+-- clock to the section's first tick, or does not set it.
 abbrev pub AreBegunBy : Bool → Clocks → ℕ → List StepUnit → Type 0
 AreBegunBy homing clocks base [] = Unit {0}
-AreBegunBy homing clocks base (u ∷ us) = (u.reset ≡ set_to homing base) × (u.up ≢ None) × IsUnit clocks base u × AreChained clocks u.last us
+AreBegunBy homing clocks base (u ∷ us) =
+    (u.reset ≡ set_to homing base) × (u.up ≢ None) × IsUnit clocks base u × AreChained clocks u.last us
 
 -- and those in a section that does not home
 abbrev pub AreBegun : Clocks → ℕ → List StepUnit → Type 0

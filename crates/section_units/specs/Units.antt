@@ -44,12 +44,13 @@ abbrev pub first_up : List Planned → Bool
 first_up [] = false
 first_up (s ∷ steps) = s.up
 
--- The units of triples that cover these steps, behind a direction where one was told; without one the first of them sets the
--- clock, where it is to be set.
+-- The units of triples that cover these steps, behind a direction where one was told; without one the first
+-- of them sets the clock, where it is to be set.
 abbrev pub units_on : Clocks → ℕ → Option ℕ → Option Bool → List Planned → List Placed → List StepUnit
 units_on clocks oid reset up steps [] = []
 units_on clocks oid reset up steps (p ∷ placed) =
-    unit_of clocks oid p (told up (first_up steps)) (set_in up reset) ∷ units_on clocks oid reset (Some (first_up steps)) (drop p.triple.count steps) placed
+    unit_of clocks oid p (told up (first_up steps)) (set_in up reset)
+    ∷ units_on clocks oid reset (Some (first_up steps)) (drop p.triple.count steps) placed
 
 -- the direction behind them
 abbrev pub up_after : Option Bool → List Planned → List Placed → Option Bool

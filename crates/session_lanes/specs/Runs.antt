@@ -36,7 +36,14 @@ module _ {A O : Type 0} where
   -- what a run tells, with what its reactor reached outside
   abbrev pub ran_at : Told A → O → Ran A O
   ran_at t o =
-      record { links = t.links; words = t.words; notes = t.notes; pieces = t.pieces; head = record { machine = t.machine; outside = o; stopped = t.stopped }; cause = t.cause }
+      record {
+        links = t.links;
+        words = t.words;
+        notes = t.notes;
+        pieces = t.pieces;
+        head = record { machine = t.machine; outside = o; stopped = t.stopped };
+        cause = t.cause;
+      }
 
 -- these messages were put and these taken, and what was taken is the beginning of what was put
 abbrev pub Carried : {T : Type 0} → List T × List T → List T → List T → Type 0
@@ -45,12 +52,13 @@ Carried s put taken = (s.0 ≡ put) × (s.1 ≡ taken) × IsPrefix s.1 s.0
 module _ {M L A O : Type 0} (m : Motion M) (l : Link L) (a : Reactor A) (o : Out O) where
   -- the turns of the motion worker, those of the reactor before its last one, this one, and how many turns it was ahead
   module _ (ts : List MotionTurn) (rs : List ReactorTurn) (end : ReactorTurn) (n : ℕ) where
-    -- The lanes of board j carried what the reactor and the motion worker put and took in these turns, and the link made
-    -- turns of its own with what it took of it. The last control may be one that ends the run.
+    -- The lanes of board j carried what the reactor and the motion worker put and took in these turns, and
+    -- the link made turns of its own with what it took of it. The last control may be one that ends the run.
     abbrev pub IsLog : ℕ → L → LinkLog → Type 0
     IsLog j s x =
         (us : List LinkTurn) × (last : List Control) × ((e : L × Bool) × Goes (LinkStep l.turns) 0 (s, false) us e)
-        × Carried x.controls (gather (λ t. item j t.controls) rs ++ last_controls (length rs) n) (gather (λ u. u.control ∷ []) us ++ last)
+        × Carried x.controls (gather (λ t. item j t.controls) rs ++ last_controls (length rs) n)
+        (gather (λ u. u.control ∷ []) us ++ last)
         × Carried x.batches (gather (λ t. item j t.batches) ts) (gather (λ u. u.batch ∷ []) us)
         × Carried x.states (gather (λ u. u.state ∷ []) us) (gather (λ t. item j t.states) (rs ++ end ∷ []))
 
@@ -61,7 +69,8 @@ module _ {M L A O : Type 0} (m : Motion M) (l : Link L) (a : Reactor A) (o : Out
     AreLogs j (s ∷ ss) [] = ⊥
     AreLogs j (s ∷ ss) (x ∷ xs) = IsLog j s x × AreLogs (j + 1) ss xs
 
-    -- the motion worker made the one turns and the reactor the others, of n boards, and their lanes carried what they put and took
+    -- the motion worker made the one turns and the reactor the others, of n boards, and their lanes carried
+    -- what they put and took
     abbrev pub Met : ℕ → M → Head A O → Ran A O → Type 0
     Met boards s h r =
         ((e : Seat M) × Goes (MotionStep m boards) 0 (seated m s) ts e)
@@ -74,9 +83,16 @@ module _ {M L A O : Type 0} (m : Motion M) (l : Link L) (a : Reactor A) (o : Out
     -- the passes of the boards below j show what was put and taken
     abbrev pub Unsettled : ℕ → List (Lane Control) → List (Lane Batch) → List (Lane State) → Near A O → Type 0
     Unsettled j cs bs ss x =
-        (length x.control_sends.items ≡ j) × ((i : ℕ) (l : Lane Control) (p : SendPass Control) → i < length x.control_sends.items → HasPut (gather (λ t. item i t.controls) rs ++ last_controls (length rs) n) (get_or cs i l) (get_or x.control_sends.items i p))
-        × (length x.batch_sends.items ≡ j) × ((i : ℕ) (l : Lane Batch) (p : SendPass Batch) → i < length x.batch_sends.items → HasPut (gather (λ t. item i t.batches) ts) (get_or bs i l) (get_or x.batch_sends.items i p))
-        × (length x.state_takes.items ≡ j) × ((i : ℕ) (l : Lane State) (p : TakePass State) → i < length x.state_takes.items → HasTaken (gather (λ t. item i t.states) (rs ++ end ∷ [])) (get_or ss i l) (get_or x.state_takes.items i p))
+        (length x.control_sends.items ≡ j)
+        × ((i : ℕ) (l : Lane Control) (p : SendPass Control) → i < length x.control_sends.items →
+        HasPut (gather (λ t. item i t.controls) rs ++ last_controls (length rs) n) (get_or cs i l)
+        (get_or x.control_sends.items i p))
+        × (length x.batch_sends.items ≡ j)
+        × ((i : ℕ) (l : Lane Batch) (p : SendPass Batch) → i < length x.batch_sends.items →
+        HasPut (gather (λ t. item i t.batches) ts) (get_or bs i l) (get_or x.batch_sends.items i p))
+        × (length x.state_takes.items ≡ j)
+        × ((i : ℕ) (l : Lane State) (p : TakePass State) → i < length x.state_takes.items →
+        HasTaken (gather (λ t. item i t.states) (rs ++ end ∷ [])) (get_or ss i l) (get_or x.state_takes.items i p))
         × (vec_len x.ran.links + j ≤ vec_capacity x.ran.links)
 
   -- A run from these machines: of turns of the motion worker and of the reactor.
@@ -86,7 +102,9 @@ module _ {M L A O : Type 0} (m : Motion M) (l : Link L) (a : Reactor A) (o : Out
       × Met ts rs end n (length ls) s h r × AreLogs ts rs end n 0 ls r.links.items
 
   -- the boards from j on are settled, of so many
-  abbrev pub IsNear : ℕ → ℕ → List (Lane Control) → List (Lane Batch) → List (Lane State) → M → List L → Head A O → Near A O → Type 0
+  abbrev pub IsNear : ℕ → ℕ → List (Lane Control) → List (Lane Batch) → List (Lane State) → M → List L → Head A O →
+      Near A O → Type 0
   IsNear boards j cs bs ss s ls h x =
       (ts : List MotionTurn) × (rs : List ReactorTurn) × (end : ReactorTurn) × (n : ℕ)
-      × Met ts rs end n boards s h x.ran × AreLogs ts rs end n j ls x.ran.links.items × Unsettled ts rs end n j cs bs ss x
+      × Met ts rs end n boards s h x.ran × AreLogs ts rs end n j ls x.ran.links.items
+      × Unsettled ts rs end n j cs bs ss x

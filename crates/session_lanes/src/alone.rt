@@ -44,11 +44,15 @@ fn feed_here<R: Wait, M: MotionMachine, A: ReactorMachine, O: Outside>(
     motion: &mut MotionDone<M>,
     hand: &mut ReactorDone<A, O>,
 )
-    requires motion { IsHeard M.MotionMachine words.now notes.now asks.now pieces.now batches.now n start.now.value motion.old }
-    requires reactor { OwesServing A.ReactorMachine O.Outside words.now notes.now asks.now pieces.now controls.now states.now k first.now.value owed.now hand.old }
-    ensures motion { IsFed M.MotionMachine words.now notes.now asks.now pieces.now batches.now n start.now.value motion.new }
+    requires motion { IsHeard M.MotionMachine words.now notes.now asks.now pieces.now batches.now n start.now.value
+        motion.old }
+    requires reactor { OwesServing A.ReactorMachine O.Outside words.now notes.now asks.now pieces.now controls.now
+        states.now k first.now.value owed.now hand.old }
+    ensures motion { IsFed M.MotionMachine words.now notes.now asks.now pieces.now batches.now n start.now.value
+        motion.new }
     ensures late { motion.new.late ≡ motion.old.late }
-    ensures reactor { OwesServing A.ReactorMachine O.Outside words.now notes.now asks.now pieces.now controls.now states.now k first.now.value owed.now hand.new }
+    ensures reactor { OwesServing A.ReactorMachine O.Outside words.now notes.now asks.now pieces.now controls.now
+        states.now k first.now.value owed.now hand.new }
 {
     for _ in rt.forever() {
         if !motion.seat.hungers(n) {
@@ -87,14 +91,18 @@ fn plan_turn<R: Wait, G: Gate, M: MotionMachine, A: ReactorMachine, O: Outside>(
     hand: &mut ReactorDone<A, O>,
 )
     requires limit { n + 1 < 2 ^ 64 }
-    requires motion { IsHearing M.MotionMachine words.now notes.now asks.now pieces.now batches.now n start.now.value motion.old }
+    requires motion { IsHearing M.MotionMachine words.now notes.now asks.now pieces.now batches.now n start.now.value
+        motion.old }
     requires late { AreLate (length batches.now) k motion.old.late.items × (n ≡ k + length motion.old.late.items) }
     requires room { (deque_len motion.old.late < most_late) × (most_late ≤ deque_capacity motion.old.late) }
-    requires reactor { OwesServing A.ReactorMachine O.Outside words.now notes.now asks.now pieces.now controls.now states.now k first.now.value owed.now hand.old }
-    ensures motion { IsMotionAt M.MotionMachine words.now notes.now asks.now pieces.now batches.now (n + 1) start.now.value motion.new }
+    requires reactor { OwesServing A.ReactorMachine O.Outside words.now notes.now asks.now pieces.now controls.now
+        states.now k first.now.value owed.now hand.old }
+    ensures motion { IsMotionAt M.MotionMachine words.now notes.now asks.now pieces.now batches.now (n + 1)
+        start.now.value motion.new }
     ensures late { AreLate (length batches.now) k motion.new.late.items × (n + 1 ≡ k + length motion.new.late.items) }
     ensures room { most_late ≤ deque_capacity motion.new.late }
-    ensures reactor { OwesServing A.ReactorMachine O.Outside words.now notes.now asks.now pieces.now controls.now states.now k first.now.value owed.now hand.new }
+    ensures reactor { OwesServing A.ReactorMachine O.Outside words.now notes.now asks.now pieces.now controls.now
+        states.now k first.now.value owed.now hand.new }
 {
     gate.pass(Who::Motion, n);
     hear(rt, n, start, words, notes, asks, pieces, batches, motion);
@@ -107,7 +115,8 @@ fn plan_turn<R: Wait, G: Gate, M: MotionMachine, A: ReactorMachine, O: Outside>(
     );
 }
 
-// Hands word k to the planner, where it takes it next for its turn n and may make that turn, or puts it. Whether it was handed.
+// Hands word k to the planner, where it takes it next for its turn n and may make that turn, or puts it.
+// Whether it was handed.
 fn say_here<R: Wait, M: MotionMachine, A: ReactorMachine, O: Outside>(
     rt: &R,
     k: u64,
@@ -128,12 +137,18 @@ fn say_here<R: Wait, M: MotionMachine, A: ReactorMachine, O: Outside>(
     hand: &mut ReactorDone<A, O>,
 ) -> bool
     requires limit { k + 1 < 2 ^ 64 }
-    requires motion { IsMotionAt M.MotionMachine words.now notes.now asks.now pieces.now batches.now n start.now.value motion.old }
-    requires reactor { OwesWord A.ReactorMachine O.Outside words.now notes.now asks.now pieces.now controls.now states.now k first.now.value owed.now word hand.old }
-    ensures heard { result ≡ true → (may ≡ true) × IsHearing M.MotionMachine words.now notes.now asks.now pieces.now batches.now n start.now.value motion.new }
-    ensures at { result ≡ false → IsMotionAt M.MotionMachine words.now notes.now asks.now pieces.now batches.now n start.now.value motion.new }
+    requires motion { IsMotionAt M.MotionMachine words.now notes.now asks.now pieces.now batches.now n start.now.value
+        motion.old }
+    requires reactor { OwesWord A.ReactorMachine O.Outside words.now notes.now asks.now pieces.now controls.now
+        states.now k first.now.value owed.now word hand.old }
+    ensures heard { result ≡ true →
+        (may ≡ true)
+        × IsHearing M.MotionMachine words.now notes.now asks.now pieces.now batches.now n start.now.value motion.new }
+    ensures at { result ≡ false →
+        IsMotionAt M.MotionMachine words.now notes.now asks.now pieces.now batches.now n start.now.value motion.new }
     ensures late { motion.new.late ≡ motion.old.late }
-    ensures reactor { OwesServing A.ReactorMachine O.Outside words.now notes.now asks.now pieces.now controls.now states.now k first.now.value owed.now hand.new }
+    ensures reactor { OwesServing A.ReactorMachine O.Outside words.now notes.now asks.now pieces.now controls.now
+        states.now k first.now.value owed.now hand.new }
 {
     if may && motion.seat.heard == k && motion.seat.is_free(n, k) && motion.seat.needs(n) {
         words.hand(&mut hand.word_pass, &mut motion.word_pass, &word);
@@ -166,14 +181,18 @@ fn begin_here<R: Wait, G: Gate, M: MotionMachine, A: ReactorMachine, O: Outside>
     hand: &mut ReactorDone<A, O>,
 ) -> u64
     requires limit { k + 1 < 2 ^ 64 }
-    requires motion { IsMotionAt M.MotionMachine words.now notes.now asks.now pieces.now batches.now from start.now.value motion.old }
+    requires motion { IsMotionAt M.MotionMachine words.now notes.now asks.now pieces.now batches.now from
+        start.now.value motion.old }
     requires late { AreLate (length batches.now) k motion.old.late.items × (from ≡ k + length motion.old.late.items) }
     requires room { most_late ≤ deque_capacity motion.old.late }
-    requires reactor { OwesWord A.ReactorMachine O.Outside words.now notes.now asks.now pieces.now controls.now states.now k first.now.value owed.now word hand.old }
-    ensures motion { IsMotionAt M.MotionMachine words.now notes.now asks.now pieces.now batches.now result start.now.value motion.new }
+    requires reactor { OwesWord A.ReactorMachine O.Outside words.now notes.now asks.now pieces.now controls.now
+        states.now k first.now.value owed.now word hand.old }
+    ensures motion { IsMotionAt M.MotionMachine words.now notes.now asks.now pieces.now batches.now result
+        start.now.value motion.new }
     ensures late { AreLate (length batches.now) k motion.new.late.items × (result ≡ k + length motion.new.late.items) }
     ensures room { most_late ≤ deque_capacity motion.new.late }
-    ensures reactor { OwesServing A.ReactorMachine O.Outside words.now notes.now asks.now pieces.now controls.now states.now k first.now.value owed.now hand.new }
+    ensures reactor { OwesServing A.ReactorMachine O.Outside words.now notes.now asks.now pieces.now controls.now
+        states.now k first.now.value owed.now hand.new }
 {
     let may = from < u64::MAX && motion.late.len() < LATE;
     let said = say_here(
@@ -190,7 +209,8 @@ fn begin_here<R: Wait, G: Gate, M: MotionMachine, A: ReactorMachine, O: Outside>
     from + 1
 }
 
-// Says word k, and makes the planner's turns, the next one and those behind it, that need no word behind it; then the next one.
+// Says word k, and makes the planner's turns, the next one and those behind it, that need no word behind it;
+// then the next one.
 fn plan_here<R: Wait, G: Gate, M: MotionMachine, A: ReactorMachine, O: Outside>(
     rt: &R,
     gate: &G,
@@ -212,14 +232,18 @@ fn plan_here<R: Wait, G: Gate, M: MotionMachine, A: ReactorMachine, O: Outside>(
     hand: &mut ReactorDone<A, O>,
 ) -> u64
     requires limit { k + 1 < 2 ^ 64 }
-    requires motion { IsMotionAt M.MotionMachine words.now notes.now asks.now pieces.now batches.now from start.now.value motion.old }
+    requires motion { IsMotionAt M.MotionMachine words.now notes.now asks.now pieces.now batches.now from
+        start.now.value motion.old }
     requires late { AreLate (length batches.now) k motion.old.late.items × (from ≡ k + length motion.old.late.items) }
     requires room { most_late ≤ deque_capacity motion.old.late }
-    requires reactor { OwesWord A.ReactorMachine O.Outside words.now notes.now asks.now pieces.now controls.now states.now k first.now.value owed.now word hand.old }
-    ensures motion { IsMotionAt M.MotionMachine words.now notes.now asks.now pieces.now batches.now result start.now.value motion.new }
+    requires reactor { OwesWord A.ReactorMachine O.Outside words.now notes.now asks.now pieces.now controls.now
+        states.now k first.now.value owed.now word hand.old }
+    ensures motion { IsMotionAt M.MotionMachine words.now notes.now asks.now pieces.now batches.now result
+        start.now.value motion.new }
     ensures late { AreLate (length batches.now) k motion.new.late.items × (result ≡ k + length motion.new.late.items) }
     ensures room { most_late ≤ deque_capacity motion.new.late }
-    ensures reactor { OwesTurn A.ReactorMachine O.Outside words.now notes.now asks.now pieces.now controls.now states.now k first.now.value owed.now hand.new }
+    ensures reactor { OwesTurn A.ReactorMachine O.Outside words.now notes.now asks.now pieces.now controls.now
+        states.now k first.now.value owed.now hand.new }
 {
     let next = begin_here(
         rt, gate, alloc, k, from, start, first, words, notes, asks, pieces, controls, batches,
@@ -248,10 +272,17 @@ fn settle_hands<M: MotionMachine, L: LinkMachine, A: ReactorMachine, O: Outside>
     hands: Vec<Hand<L>>,
     near: Near<A, O>,
 ) -> Near<A, O>
-    requires boards { (length controls.now ≡ length batches.now) × (length states.now ≡ length batches.now) × (vec_len hands ≤ length batches.now) }
+    requires boards { (length controls.now ≡ length batches.now) × (length states.now ≡ length batches.now)
+        × (vec_len hands ≤ length batches.now) }
     requires hands { AreHands L.LinkMachine k controls.now batches.now states.now hands.items }
-    requires near { (ls : List L) × IsNear M.MotionMachine L.LinkMachine A.ReactorMachine O.Outside (length batches.now) (vec_len hands) controls.now batches.now states.now motion.now.value ls head.now.value near }
-    ensures { (ls : List L) → IsNear M.MotionMachine L.LinkMachine A.ReactorMachine O.Outside (length batches.now) (vec_len hands) controls.now batches.now states.now motion.now.value ls head.now.value near → IsNear M.MotionMachine L.LinkMachine A.ReactorMachine O.Outside (length batches.now) 0 controls.now batches.now states.now motion.now.value (map (λ h. h.start.value) hands.items ++ ls) head.now.value result }
+    requires near { (ls : List L)
+        × IsNear M.MotionMachine L.LinkMachine A.ReactorMachine O.Outside (length batches.now) (vec_len hands)
+        controls.now batches.now states.now motion.now.value ls head.now.value near }
+    ensures { (ls : List L) →
+        IsNear M.MotionMachine L.LinkMachine A.ReactorMachine O.Outside (length batches.now) (vec_len hands)
+        controls.now batches.now states.now motion.now.value ls head.now.value near →
+        IsNear M.MotionMachine L.LinkMachine A.ReactorMachine O.Outside (length batches.now) 0 controls.now batches.now
+        states.now motion.now.value (map (λ h. h.start.value) hands.items ++ ls) head.now.value result }
 {
     let mut hands = hands;
     let Some(hand) = hands.pop() else {
@@ -286,13 +317,17 @@ fn end_here<R: Wait, M: MotionMachine, L: LinkMachine, A: ReactorMachine, O: Out
     cause: Cause,
     logs: Vec<LinkLog>,
 ) -> Near<A, O>
-    requires boards { (length controls.now ≡ length batches.now) × (length states.now ≡ length batches.now) × (vec_len hands ≡ length batches.now) }
+    requires boards { (length controls.now ≡ length batches.now) × (length states.now ≡ length batches.now)
+        × (vec_len hands ≡ length batches.now) }
     requires hands { AreHands L.LinkMachine k controls.now batches.now states.now hands.items }
-    requires motion { IsMotionAt M.MotionMachine words.now notes.now asks.now pieces.now batches.now next start.now.value motion }
+    requires motion { IsMotionAt M.MotionMachine words.now notes.now asks.now pieces.now batches.now next
+        start.now.value motion }
     requires late { AreLate (length batches.now) k motion.late.items × (next ≡ k + length motion.late.items) }
-    requires reactor { IsReactorDone A.ReactorMachine O.Outside words.now notes.now asks.now pieces.now controls.now states.now cause first.now.value hand }
+    requires reactor { IsReactorDone A.ReactorMachine O.Outside words.now notes.now asks.now pieces.now controls.now
+        states.now cause first.now.value hand }
     requires logs { (logs.items ≡ []) × (vec_len logs ≡ 0) × (length batches.now ≤ vec_capacity logs) }
-    ensures { IsNear M.MotionMachine L.LinkMachine A.ReactorMachine O.Outside (length batches.now) 0 controls.now batches.now states.now start.now.value (map (λ h. h.start.value) hands.items) first.now.value result }
+    ensures { IsNear M.MotionMachine L.LinkMachine A.ReactorMachine O.Outside (length batches.now) 0 controls.now
+        batches.now states.now start.now.value (map (λ h. h.start.value) hands.items) first.now.value result }
 {
     let mut motion = motion;
     flush(
@@ -315,9 +350,9 @@ fn end_here<R: Wait, M: MotionMachine, L: LinkMachine, A: ReactorMachine, O: Out
     settle_hands(start, first, k, controls, batches, states, hands, near)
 }
 
-/// Runs all machines by turns, on the calling thread, to the reactor's end. Behind each turn of the reactor the planner makes
-/// those that its words allow, and so is past the turn that the links make then. What it made waits beside the lanes: through
-/// these goes only what is not taken at once.
+/// Runs all machines by turns, on the calling thread, to the reactor's end. Behind each turn of the reactor
+/// the planner makes those that its words allow, and so is past the turn that the links make then. What it
+/// made waits beside the lanes: through these goes only what is not taken at once.
 pub fn alone<R: Wait, G: Gate, M: MotionMachine, L: LinkMachine, A: ReactorMachine, O: Outside>(
     rt: &R,
     gate: &G,
@@ -332,10 +367,13 @@ pub fn alone<R: Wait, G: Gate, M: MotionMachine, L: LinkMachine, A: ReactorMachi
     hands: Vec<Hand<L>>,
     far: Far<M, L, A, O>,
 ) -> Near<A, O>
-    requires boards { (length controls.now ≡ length batches.now) × (length states.now ≡ length batches.now) × (vec_len hands ≡ length batches.now) }
+    requires boards { (length controls.now ≡ length batches.now) × (length states.now ≡ length batches.now)
+        × (vec_len hands ≡ length batches.now) }
     requires hands { AreHands L.LinkMachine 0 controls.now batches.now states.now hands.items }
-    requires far { IsFar M.MotionMachine A.ReactorMachine O.Outside words.now notes.now asks.now pieces.now controls.now batches.now states.now far }
-    ensures { IsNear M.MotionMachine L.LinkMachine A.ReactorMachine O.Outside (length batches.now) 0 controls.now batches.now states.now far.motion.seat.machine (map (λ h. h.start.value) hands.items) far.hand.head result }
+    requires far { IsFar M.MotionMachine A.ReactorMachine O.Outside words.now notes.now asks.now pieces.now controls.now
+        batches.now states.now far }
+    ensures { IsNear M.MotionMachine L.LinkMachine A.ReactorMachine O.Outside (length batches.now) 0 controls.now
+        batches.now states.now far.motion.seat.machine (map (λ h. h.start.value) hands.items) far.hand.head result }
 {
     let Far {
         motion,

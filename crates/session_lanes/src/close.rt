@@ -30,10 +30,13 @@ pub fn close<M: MotionMachine, L: LinkMachine, A: ReactorMachine, O: Outside>(
     logs: Vec<LinkLog>,
 ) -> Near<A, O>
     requires boards { (length controls.now ≡ length batches.now) × (length states.now ≡ length batches.now) }
-    requires motion { IsMotionDone M.MotionMachine words.now notes.now asks.now pieces.now batches.now start.now.value motion }
-    requires reactor { IsReactorDone A.ReactorMachine O.Outside words.now notes.now asks.now pieces.now controls.now states.now cause first.now.value hand }
+    requires motion { IsMotionDone M.MotionMachine words.now notes.now asks.now pieces.now batches.now start.now.value
+        motion }
+    requires reactor { IsReactorDone A.ReactorMachine O.Outside words.now notes.now asks.now pieces.now controls.now
+        states.now cause first.now.value hand }
     requires logs { (logs.items ≡ []) × (vec_len logs ≡ 0) × (length batches.now ≤ vec_capacity logs) }
-    ensures { IsNear M.MotionMachine L.LinkMachine A.ReactorMachine O.Outside (length batches.now) (length batches.now) controls.now batches.now states.now start.now.value [] first.now.value result }
+    ensures { IsNear M.MotionMachine L.LinkMachine A.ReactorMachine O.Outside (length batches.now) (length batches.now)
+        controls.now batches.now states.now start.now.value [] first.now.value result }
 {
     let ran = Ran {
         links: logs,

@@ -94,7 +94,9 @@ pub struct Ones {
 }
 
 fn make_ones(alloc: Global) -> Result<Ones, AllocError>
-    ensures { IfOk result (λ x. IsNewOne x.words.lane x.words.send x.words.take × IsNewOne x.notes.lane x.notes.send x.notes.take × IsNewOne x.asks.lane x.asks.send x.asks.take × IsNewOne x.pieces.lane x.pieces.send x.pieces.take) }
+    ensures { IfOk result (λ x. IsNewOne x.words.lane x.words.send x.words.take
+        × IsNewOne x.notes.lane x.notes.send x.notes.take × IsNewOne x.asks.lane x.asks.send x.asks.take
+        × IsNewOne x.pieces.lane x.pieces.send x.pieces.take) }
 {
     let told = make_two::<WordMsg, Note>(alloc)?;
     let (asks, pieces) = make_two::<Ask, Piece>(alloc)?;
@@ -116,7 +118,9 @@ pub struct Rows {
 }
 
 fn make_rows(alloc: Global, boards: usize) -> Result<Rows, AllocError>
-    ensures { IfOk result (λ x. IsNewRow boards x.controls.lanes.items x.controls.sends.items x.controls.takes.items × IsNewRow boards x.batches.lanes.items x.batches.sends.items x.batches.takes.items × IsNewRow boards x.states.lanes.items x.states.sends.items x.states.takes.items) }
+    ensures { IfOk result (λ x. IsNewRow boards x.controls.lanes.items x.controls.sends.items x.controls.takes.items
+        × IsNewRow boards x.batches.lanes.items x.batches.sends.items x.batches.takes.items
+        × IsNewRow boards x.states.lanes.items x.states.sends.items x.states.takes.items) }
 {
     let controls = make_row::<Control>(alloc, boards)?;
     let batches = make_row::<Batch>(alloc, boards)?;
@@ -133,7 +137,10 @@ fn make_room<L: LinkMachine>(
     alloc: Global,
     boards: usize,
 ) -> Result<(VecDeque<LinkDone<L>>, Vec<LinkLog>, Vec<L>, VecDeque<Late>), AllocError>
-    ensures { IfOk result (λ x. ((x.0.items ≡ []) × (deque_len x.0 ≡ 0) × (boards ≤ deque_capacity x.0)) × ((x.1.items ≡ []) × (vec_len x.1 ≡ 0) × (boards ≤ vec_capacity x.1)) × ((x.2.items ≡ []) × (vec_len x.2 ≡ 0) × (boards ≤ vec_capacity x.2)) × ((x.3.items ≡ []) × (most_late ≤ deque_capacity x.3))) }
+    ensures { IfOk result (λ x. ((x.0.items ≡ []) × (deque_len x.0 ≡ 0) × (boards ≤ deque_capacity x.0))
+        × ((x.1.items ≡ []) × (vec_len x.1 ≡ 0) × (boards ≤ vec_capacity x.1))
+        × ((x.2.items ≡ []) × (vec_len x.2 ≡ 0) × (boards ≤ vec_capacity x.2))
+        × ((x.3.items ≡ []) × (most_late ≤ deque_capacity x.3))) }
 {
     let room = VecDeque::with_capacity(alloc, boards)?;
     let logs = Vec::with_capacity(alloc, boards)?;
@@ -190,8 +197,10 @@ fn set_links<L: LinkMachine>(
     links: Vec<L>,
     set: VecDeque<LinkDone<L>>,
 ) -> VecDeque<LinkDone<L>>
-    requires counts { (vec_len controls ≡ vec_len links) × (vec_len batches ≡ vec_len links) × (vec_len states ≡ vec_len links) }
-    requires new { AreNewTakes control_lanes.now controls.items × AreNewTakes batch_lanes.now batches.items × AreNewSends state_lanes.now states.items }
+    requires counts { (vec_len controls ≡ vec_len links) × (vec_len batches ≡ vec_len links)
+        × (vec_len states ≡ vec_len links) }
+    requires new { AreNewTakes control_lanes.now controls.items × AreNewTakes batch_lanes.now batches.items
+        × AreNewSends state_lanes.now states.items }
     requires set { AreLinks L.LinkMachine (vec_len links) control_lanes.now batch_lanes.now state_lanes.now set.items }
     requires room { deque_len set + vec_len links ≤ deque_capacity set }
     ensures set { AreLinks L.LinkMachine 0 control_lanes.now batch_lanes.now state_lanes.now result.items }

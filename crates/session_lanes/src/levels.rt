@@ -44,11 +44,13 @@ fn stop<R: Wait, A: ReactorMachine, O: Outside>(
     hand: ReactorDone<A, O>,
 ) -> Stopped<A, O>
     requires word { IsSendOf words.now hand.word_pass × (next_put hand.word_pass ≡ 0) }
-    requires controls { (vec_len hand.control_passes ≡ length controls.now) × CanPut 0 controls.now hand.control_passes.items }
+    requires controls { (vec_len hand.control_passes ≡ length controls.now)
+        × CanPut 0 controls.now hand.control_passes.items }
     ensures head { result.head ≡ hand.head }
     ensures lane { IsSendOf words.now result.word_pass }
     ensures word { put result.word_pass ≡ put hand.word_pass ++ bare_word 0 true ∷ [] }
-    ensures controls { RowPut controls.now hand.control_passes.items result.control_passes.items (copies (length controls.now) (bare_control 0 true)) }
+    ensures controls { RowPut controls.now hand.control_passes.items result.control_passes.items
+        (copies (length controls.now) (bare_control 0 true)) }
 {
     let ReactorDone {
         head,
@@ -75,7 +77,13 @@ fn planner_home<M: MotionMachine, L: LinkMachine, A: ReactorMachine, O: Outside>
     requires put { IsSendOf words.now stopped.word_pass }
     requires take { IsTakeOf words.now motion.word_pass }
     ensures words { IsPrefix (taken motion.word_pass) (put stopped.word_pass) }
-    ensures home { result ≡ record { motion = motion.seat.machine; links = links; head = stopped.head; control_sends = stopped.control_passes } }
+    ensures home { result
+        ≡ record {
+          motion = motion.seat.machine;
+          links = links;
+          head = stopped.head;
+          control_sends = stopped.control_passes;
+        } }
 {
     let Stopped {
         head,
@@ -116,8 +124,10 @@ fn core<
     far: Far<M, L, A, O>,
 ) -> Reached<M, L, A, O>
     requires boards { (length controls.now ≡ length batches.now) × (length states.now ≡ length batches.now) }
-    requires far { IsFar M.MotionMachine A.ReactorMachine O.Outside words.now notes.now asks.now pieces.now controls.now batches.now states.now far }
-    ensures { IsReached M.MotionMachine L.LinkMachine A.ReactorMachine O.Outside (length batches.now) (length batches.now) controls.now batches.now states.now far.motion.seat.machine [] far.hand.head result }
+    requires far { IsFar M.MotionMachine A.ReactorMachine O.Outside words.now notes.now asks.now pieces.now controls.now
+        batches.now states.now far }
+    ensures { IsReached M.MotionMachine L.LinkMachine A.ReactorMachine O.Outside (length batches.now)
+        (length batches.now) controls.now batches.now states.now far.motion.seat.machine [] far.hand.head result }
 {
     let Far {
         motion,
@@ -139,8 +149,11 @@ fn core<
     let started = scope.spawn_with(
         promise,
         move || -> MotionDone<M>
-            requires { IsMotionAt M.MotionMachine words.now notes.now asks.now pieces.now batches.now 0 begun.value motion × (motion.late.items ≡ []) }
-            ensures { IsMotionDone M.MotionMachine words.entry.now notes.entry.now asks.entry.now pieces.entry.now batches.entry.now begun.value result }
+            requires { IsMotionAt M.MotionMachine words.now notes.now asks.now pieces.now batches.now 0 begun.value
+                motion
+                × (motion.late.items ≡ []) }
+            ensures { IsMotionDone M.MotionMachine words.entry.now notes.entry.now asks.entry.now pieces.entry.now
+                batches.entry.now begun.value result }
         {
             motion_worker(
                 rt, gate, alloc, begun, words, notes, asks, pieces, batches, motion,
@@ -192,10 +205,13 @@ pub fn level<
     links: VecDeque<LinkDone<L>>,
     far: Far<M, L, A, O>,
 ) -> Reached<M, L, A, O>
-    requires boards { (length controls.now ≡ length batches.now) × (length states.now ≡ length batches.now) × (at + deque_len links ≡ length batches.now) }
+    requires boards { (length controls.now ≡ length batches.now) × (length states.now ≡ length batches.now)
+        × (at + deque_len links ≡ length batches.now) }
     requires links { AreLinks L.LinkMachine at controls.now batches.now states.now links.items }
-    requires far { IsFar M.MotionMachine A.ReactorMachine O.Outside words.now notes.now asks.now pieces.now controls.now batches.now states.now far }
-    ensures { IsReached M.MotionMachine L.LinkMachine A.ReactorMachine O.Outside (length batches.now) at controls.now batches.now states.now far.motion.seat.machine (map (λ d. d.machine) links.items) far.hand.head result }
+    requires far { IsFar M.MotionMachine A.ReactorMachine O.Outside words.now notes.now asks.now pieces.now controls.now
+        batches.now states.now far }
+    ensures { IsReached M.MotionMachine L.LinkMachine A.ReactorMachine O.Outside (length batches.now) at controls.now
+        batches.now states.now far.motion.seat.machine (map (λ d. d.machine) links.items) far.hand.head result }
 {
     let mut links = links;
     let Some(link) = links.pop_front() else {
@@ -221,7 +237,8 @@ pub fn level<
         promise,
         move || -> LinkDone<L>
             requires { IsLinkAt L.turns 0 control_lane.now batch_lane.now state_lane.now begun.value link }
-            ensures { IsLinkDone L.turns control_lane.entry.now batch_lane.entry.now state_lane.entry.now begun.value result }
+            ensures { IsLinkDone L.turns control_lane.entry.now batch_lane.entry.now state_lane.entry.now begun.value
+                result }
         {
             link_worker(
                 rt,
@@ -286,9 +303,12 @@ fn turn_home<R: Wait, M: MotionMachine, L: LinkMachine, A: ReactorMachine, O: Ou
     links: VecDeque<LinkDone<L>>,
     far: Far<M, L, A, O>,
 ) -> Home<M, L, A, O>
-    requires boards { (length controls.now ≡ length batches.now) × (length states.now ≡ length batches.now) × (at + 1 + deque_len links ≡ length batches.now) }
-    requires far { IsFar M.MotionMachine A.ReactorMachine O.Outside words.now notes.now asks.now pieces.now controls.now batches.now states.now far }
-    ensures { IsHome (length batches.now) (at + 1) controls.now far.motion.seat.machine (map (λ d. d.machine) links.items) far.hand.head result }
+    requires boards { (length controls.now ≡ length batches.now) × (length states.now ≡ length batches.now)
+        × (at + 1 + deque_len links ≡ length batches.now) }
+    requires far { IsFar M.MotionMachine A.ReactorMachine O.Outside words.now notes.now asks.now pieces.now controls.now
+        batches.now states.now far }
+    ensures { IsHome (length batches.now) (at + 1) controls.now far.motion.seat.machine
+        (map (λ d. d.machine) links.items) far.hand.head result }
 {
     let Far {
         motion,

@@ -36,5 +36,6 @@ pub struct MotionOf<'a, M> {
 impl<'a, M: MotionMachine> Promise<MotionDone<M>> for MotionOf<'a, M> {
     ghost use Rattle.session_work.specs.Motions.{IsMotionDone};
 
-    ghost kept_by = { λ p r. IsMotionDone M.MotionMachine p.words.now p.notes.now p.asks.now p.pieces.now p.batches.now p.start.value r };
+    ghost kept_by = { λ p r.
+        IsMotionDone M.MotionMachine p.words.now p.notes.now p.asks.now p.pieces.now p.batches.now p.start.value r };
 }

@@ -44,17 +44,26 @@ fn in_scope<
     links: VecDeque<LinkDone<L>>,
     far: Far<M, L, A, O>,
 ) -> Reached<M, L, A, O>
-    requires boards { (length controls.now ≡ length batches.now) × (length states.now ≡ length batches.now) × (deque_len links ≡ length batches.now) }
+    requires boards { (length controls.now ≡ length batches.now) × (length states.now ≡ length batches.now)
+        × (deque_len links ≡ length batches.now) }
     requires links { AreLinks L.LinkMachine 0 controls.now batches.now states.now links.items }
-    requires far { IsFar M.MotionMachine A.ReactorMachine O.Outside words.now notes.now asks.now pieces.now controls.now batches.now states.now far }
-    ensures { IsReached M.MotionMachine L.LinkMachine A.ReactorMachine O.Outside (length batches.now) 0 controls.now batches.now states.now far.motion.seat.machine (map (λ d. d.machine) links.items) far.hand.head result }
+    requires far { IsFar M.MotionMachine A.ReactorMachine O.Outside words.now notes.now asks.now pieces.now controls.now
+        batches.now states.now far }
+    ensures { IsReached M.MotionMachine L.LinkMachine A.ReactorMachine O.Outside (length batches.now) 0 controls.now
+        batches.now states.now far.motion.seat.machine (map (λ d. d.machine) links.items) far.hand.head result }
 {
     thread::scope(
         thread::scope_env(),
         rt,
         move |scope| -> Reached<M, L, A, O>
-            requires { (length controls.now ≡ length batches.now) × (length states.now ≡ length batches.now) × (deque_len links ≡ length batches.now) × AreLinks L.LinkMachine 0 controls.now batches.now states.now links.items × IsFar M.MotionMachine A.ReactorMachine O.Outside words.now notes.now asks.now pieces.now controls.now batches.now states.now far }
-            ensures { IsReached M.MotionMachine L.LinkMachine A.ReactorMachine O.Outside (length batches.entry.now) 0 controls.entry.now batches.entry.now states.entry.now far.motion.seat.machine (map (λ d. d.machine) links.items) far.hand.head result }
+            requires { (length controls.now ≡ length batches.now) × (length states.now ≡ length batches.now)
+                × (deque_len links ≡ length batches.now)
+                × AreLinks L.LinkMachine 0 controls.now batches.now states.now links.items
+                × IsFar M.MotionMachine A.ReactorMachine O.Outside words.now notes.now asks.now pieces.now controls.now
+                batches.now states.now far }
+            ensures { IsReached M.MotionMachine L.LinkMachine A.ReactorMachine O.Outside (length batches.entry.now) 0
+                controls.entry.now batches.entry.now states.entry.now far.motion.seat.machine
+                (map (λ d. d.machine) links.items) far.hand.head result }
         {
             level(
                 rt, gate, scope, alloc, words, notes, asks, pieces, controls, batches, states, 0,
@@ -103,7 +112,8 @@ pub fn run_alone<R: Wait, G: Gate, M: MotionMachine, L: LinkMachine, A: ReactorM
 ) -> Result<Ran<A, O>, Head<A, O>>
     requires boards { (M.boards motion ≡ vec_len links) × (A.boards head.machine ≡ vec_len links) }
     requires wants { M.wants motion 0 ≡ Some 0 }
-    ensures ran { IfOk result (λ r. IsRun M.MotionMachine L.LinkMachine A.ReactorMachine O.Outside motion links.items head r) }
+    ensures ran { IfOk result
+        (λ r. IsRun M.MotionMachine L.LinkMachine A.ReactorMachine O.Outside motion links.items head r) }
     ensures back { IfErr result (λ h. h ≡ head) }
 {
     let Ok(places) = make_places::<L>(alloc, links.len()) else {
@@ -150,7 +160,8 @@ pub fn run<
 ) -> Result<Ran<A, O>, Head<A, O>>
     requires boards { (M.boards motion ≡ vec_len links) × (A.boards head.machine ≡ vec_len links) }
     requires wants { M.wants motion 0 ≡ Some 0 }
-    ensures ran { IfOk result (λ r. IsRun M.MotionMachine L.LinkMachine A.ReactorMachine O.Outside motion links.items head r) }
+    ensures ran { IfOk result
+        (λ r. IsRun M.MotionMachine L.LinkMachine A.ReactorMachine O.Outside motion links.items head r) }
     ensures back { IfErr result (λ h. h ≡ head) }
 {
     let Ok(places) = make_places::<L>(alloc, links.len()) else {
@@ -199,7 +210,8 @@ pub fn run_back<
 ) -> O
     requires boards { (M.boards motion ≡ vec_len links) × (A.boards machine ≡ vec_len links) }
     requires wants { M.wants motion 0 ≡ Some 0 }
-    ensures ran { IfSome told.new (λ t. IsRun M.MotionMachine L.LinkMachine A.ReactorMachine O.Outside motion links.items (head_at machine outside) (ran_at t result)) }
+    ensures ran { IfSome told.new (λ t. IsRun M.MotionMachine L.LinkMachine A.ReactorMachine O.Outside motion
+        links.items (head_at machine outside) (ran_at t result)) }
     ensures back { IfNone told.new (result ≡ outside) }
 {
     let head = Head {

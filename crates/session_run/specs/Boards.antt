@@ -28,4 +28,5 @@ pub record IsReactorTurn (m : Machine) (switches : List Switch) (before : List C
 -- turns of the reactor, each behind those before
 abbrev pub AreReactorTurns : Machine → List Switch → List Came → List ReactorTurn → Type 0
 AreReactorTurns m switches before [] = Unit {0}
-AreReactorTurns m switches before (t ∷ ts) = IsReactorTurn m switches before t × AreReactorTurns m switches (came_in t ∷ before) ts
+AreReactorTurns m switches before (t ∷ ts) =
+    IsReactorTurn m switches before t × AreReactorTurns m switches (came_in t ∷ before) ts

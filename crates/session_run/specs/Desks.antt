@@ -26,20 +26,23 @@ use Rattle.session_run.specs.Tells.{Tells}
 -- the references are the same, and the machine and the file's name
 abbrev pub SameDesk : {F S : Type 0} → Desk F S → Desk F S → Type 0
 SameDesk x y =
-    (y.files.ghost_name ≡ x.files.ghost_name) × (y.out.ghost_name ≡ x.out.ghost_name) × (y.kept.ghost_name ≡ x.kept.ghost_name)
-    × (y.machine.now ≡ x.machine.now) × (y.name.now ≡ x.name.now)
+    (y.files.ghost_name ≡ x.files.ghost_name) × (y.out.ghost_name ≡ x.out.ghost_name)
+    × (y.kept.ghost_name ≡ x.kept.ghost_name) × (y.machine.now ≡ x.machine.now) × (y.name.now ≡ x.name.now)
 
--- What happened to what lies outside while these lines were told: the files tell what they told, reads are counted, and the
--- lines are kept, or counted, and written.
-pub record Happened {F S : Type 0} (f : Files F) (s : Sink S) (m : Machine) (lines : List ReportLine) (files : F) (out : S) (kept : Kept) (files' : F) (out' : S) (kept' : Kept) : Type 0 where
+-- What happened to what lies outside while these lines were told: the files tell what they told, reads are
+-- counted, and the lines are kept, or counted, and written.
+pub record Happened {F S : Type 0} (f : Files F) (s : Sink S) (m : Machine) (lines : List ReportLine) (files : F)
+    (out : S) (kept : Kept) (files' : F) (out' : S) (kept' : Kept) : Type 0 where
   pub told : (name : List ℕ) → f.told files' name ≡ f.told files name
   pub never_fall : f.faults files ≤ f.faults files'
   pub reads : CountsReads kept.unread (f.faults files) kept'.unread (f.faults files')
-  pub tells : Tells m lines kept.unwritten (s.written out) (s.faults out) kept.lines kept.counts.items kept'.unwritten (s.written out') (s.faults out') kept'.lines kept'.counts.items
+  pub tells : Tells m lines kept.unwritten (s.written out) (s.faults out) kept.lines kept.counts.items kept'.unwritten
+      (s.written out') (s.faults out') kept'.lines kept'.counts.items
 
 -- from one desk to another
 abbrev pub Desked : {F S : Type 0} → Files F → Sink S → Desk F S → List ReportLine → Desk F S → Type 0
-Desked f s x lines y = SameDesk x y × Happened f s x.machine.now lines x.files.now x.out.now x.kept.now y.files.now y.out.now y.kept.now
+Desked f s x lines y =
+    SameDesk x y × Happened f s x.machine.now lines x.files.now x.out.now x.kept.now y.files.now y.out.now y.kept.now
 
 -- the cause that ends a run whose text can't be read
 abbrev pub cause_of : ReadStop → Cause
@@ -48,12 +51,16 @@ cause_of stop.Failed = cause.ReadFault
 
 -- a piece that a desk gives, or why there is none
 abbrev pub Serves : {F S : Type 0} → Files F → Desk F S → Result Piece Cause → Desk F S → Type 0
-Serves f x (Ok p) y = IsNext f x.name.now x.files.now x.kept.now.at p y.kept.now.at × (y.kept.now.unread ≡ x.kept.now.unread) × (p.stop ≡ false)
-Serves f x (Err c) y = (s : ReadStop) × (y.kept.now.unread ≡ Some s) × (c ≡ cause_of s) × (y.kept.now.at ≡ x.kept.now.at)
+Serves f x (Ok p) y =
+    IsNext f x.name.now x.files.now x.kept.now.at p y.kept.now.at × (y.kept.now.unread ≡ x.kept.now.unread)
+    × (p.stop ≡ false)
+Serves f x (Err c) y =
+    (s : ReadStop) × (y.kept.now.unread ≡ Some s) × (c ≡ cause_of s) × (y.kept.now.at ≡ x.kept.now.at)
 
 -- a write moves no place in the text and reads nothing, and says whether the writing goes on
 abbrev pub Writes : {F S : Type 0} → Desk F S → Desk F S → Bool → Type 0
-Writes x y ok = (y.kept.now.at ≡ x.kept.now.at) × (y.kept.now.unread ≡ x.kept.now.unread) × (ok ≡ is_none y.kept.now.unwritten)
+Writes x y ok =
+    (y.kept.now.at ≡ x.kept.now.at) × (y.kept.now.unread ≡ x.kept.now.unread) × (ok ≡ is_none y.kept.now.unwritten)
 
 -- the outside that a desk is
 abbrev pub desk_out : {F S : Type 0} → Files F → Sink S → Out (Desk F S)
@@ -71,8 +78,8 @@ abbrev pub lines_of : List ReactorTurn → List ReportLine
 lines_of ts = gather (λ t. t.lines) ts
 
 module _ {M L A F S : Type 0} (m : Motion M) (l : Link L) (a : Reactor A) (f : Files F) (s : Sink S) where
-  -- A run of these machines, of turns of the motion worker and of the reactor, over the file of a name and an output: what there
-  -- was of these and of what is kept before it, and behind it.
+  -- A run of these machines, of turns of the motion worker and of the reactor, over the file of a name and an
+  -- output: what there was of these and of what is kept before it, and behind it.
   abbrev pub IsToldRun : Machine → List ℕ → M → List L → A → F → S → Kept → Told A → F → S → Kept → Type 0
   IsToldRun names name start links machine files out kept t files' out' kept' =
       (ts : List MotionTurn) × (rs : List ReactorTurn) × (end : ReactorTurn) × (n : ℕ) × (x : Desk F S) × (y : Desk F S)

@@ -16,17 +16,18 @@ use Rattle.link_work.specs.Turn.{IsTurn, LinkState}
 abbrev pub Can : Seen → ℕ → Type 0
 Can x k = IsKnown x × CanTurn x k
 
--- A turn of a link, for every state of its board and lines that it stands for: what is queued in it is the control and the batch,
--- and what is told is the state.
+-- A turn of a link, for every state of its board and lines that it stands for: what is queued in it is the
+-- control and the batch, and what is told is the state.
 pub record Turns (x : Seen) (k : ℕ) (c : Control) (b : Batch) (s : State) (y : Seen) : Type 0 where
   pub turned : (l : LinkState) → StandsFor x l →
       (m : LinkState) × (t : IsTurn x.clock k (orders c b) l m) × StandsFor y m
       × IsTold x.clock k (orders c b) l t.resent m.core s × GoesOn x.spoiled y.spoiled k m
   pub late : (state : BoardState) → IsShutNews state s.shut → HasCause x k (orders c b) state
-  -- what is held of units in the busy stretch, and what is told of a board that shut down: the spoiled turns and the spill of the first unit that may
-  -- have come too late; and this is its cause
+  -- what is held of units in the busy stretch, and what is told of a board that shut down: the spoiled turns
+  -- and the spill of the first unit that may have come too late; and this is its cause
   pub held : y.held ≡ (if s.idle then [] else hold x.held k b.units)
-  pub counted : IsCounted (lead_of x.clock.drift) (spoiled_with x.spoiled k (is_quiet_line y.down k && is_quiet_line y.up k)) (hold x.held k b.units) s.shut
+  pub counted : IsCounted (lead_of x.clock.drift)
+      (spoiled_with x.spoiled k (is_quiet_line y.down k && is_quiet_line y.up k)) (hold x.held k b.units) s.shut
   pub cause : TellsCause x k (orders c b) s.shut
   -- what the board hasn't taken is younger than the stretch's spoiled turns are many
   pub in_time : TakesInTime x k (orders c b) y.spoiled

@@ -19,22 +19,25 @@ abbrev pub reacted : Run → ℕ → List State → Option Note → Reacted
 reacted x k states note = reacts x.machine x.switches x.known k states note
 
 -- a turn of a reactor: what it orders is what its function gives for the states and the note
-pub record Turns (x : Run) (k : ℕ) (states : List State) (note : Option Note) (controls : List Control) (word : WordMsg) (lines : List ReportLine) (end : Option Cause) (y : Run) : Type 0 where
+pub record Turns (x : Run) (k : ℕ) (states : List State) (note : Option Note) (controls : List Control) (word : WordMsg)
+    (lines : List ReportLine) (end : Option Cause) (y : Run) : Type 0 where
   pub controls_are : controls ≡ (reacted x k states note).ordered.controls
   pub word_is : word ≡ (reacted x k states note).ordered.word
   pub lines_are : lines ≡ (reacted x k states note).ordered.lines
   pub end_is : end ≡ (reacted x k states note).ordered.end
-  pub becomes : y ≡ record { machine = x.machine; switches = x.switches; known = (reacted x k states note).known; next = k + 1 }
+  pub becomes : y
+      ≡ record { machine = x.machine; switches = x.switches; known = (reacted x k states note).known; next = k + 1 }
 
 -- a reactor is to end the run for a cause
 abbrev pub Stops : Run → Cause → Run → Type 0
 Stops x cause y = y ≡ record x { known = stopped_by cause x.known }
 
--- a reactor has nothing to order in so many turns from this one on, its next, unless the run ends: no asking is out or falls due,
--- no homing section gets its first controls, and no note begins or ends a section
+-- a reactor has nothing to order in so many turns from this one on, its next, unless the run ends: no asking
+-- is out or falls due, no homing section gets its first controls, and no note begins or ends a section
 abbrev pub IsFree : Run → ℕ → ℕ → Type 0
 IsFree x k n = (n ≡ 0) ⊎ ((k ≡ x.next) × (n ≤ free_turns x.machine x.known k))
 
 -- a reactor is free for so many turns from its next one on, and rests in each of them
 abbrev pub IsFreeFor : Run → ℕ → Type 0
-IsFreeFor x n = (n ≡ free_turns x.machine x.known x.next) × ((i : ℕ) → i + 1 ≤ n → IsAtRest x.machine x.known x.next (i + 1))
+IsFreeFor x n =
+    (n ≡ free_turns x.machine x.known x.next) × ((i : ℕ) → i + 1 ≤ n → IsAtRest x.machine x.known x.next (i + 1))

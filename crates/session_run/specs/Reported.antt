@@ -45,8 +45,8 @@ own_of None c = c
 own_of (Some stop.Memory) c = cause.Memory
 own_of (Some stop.Failed) c = with_failure c
 
--- What a run whose report ends with the line of a cause answers behind the writing of that line: this cause; or want of memory; or
--- that a write failed.
+-- What a run whose report ends with the line of a cause answers behind the writing of that line: this cause;
+-- or want of memory; or that a write failed.
 abbrev pub GivenFor : Cause → Cause → Type 0
 GivenFor own given = (given ≡ own) ⊎ ((given ≡ cause.Memory) ⊎ (given ≡ with_failure own))
 
@@ -58,19 +58,24 @@ IsOfRun (cause.Scene line kind) = ⊥
 IsOfRun _ = Unit {0}
 
 -- the lines of the reactor in a run
-abbrev pub run_lines : {F S : Type 0} → (f : Files F) → (o : Sink S) → (m : Machine) → (s : Scene) → (name : List ℕ) → (files : F) → (out : S) → (kept : Kept) → (t : Told Run) → (files' : F) → (out' : S) → (kept' : Kept) → RunsOver f o m s name files out kept t files' out' kept' → List ReportLine
+abbrev pub run_lines : {F S : Type 0} → (f : Files F) → (o : Sink S) → (m : Machine) → (s : Scene) → (name : List ℕ) →
+    (files : F) → (out : S) → (kept : Kept) → (t : Told Run) → (files' : F) → (out' : S) → (kept' : Kept) →
+    RunsOver f o m s name files out kept t files' out' kept' → List ReportLine
 run_lines f o m s name files out kept t files' out' kept' r = lines_of (r.runs.1 ++ r.runs.2 ∷ [])
 
--- The text of a report's lines is written: a front of it, and the whole where the run ends neither for want of memory nor for a
--- write that failed.
+-- The text of a report's lines is written: a front of it, and the whole where the run ends neither for want
+-- of memory nor for a write that failed.
 pub record IsWritten (m : Machine) (old new : Option (List ℕ)) (c : Cause) (lines : List ReportLine) : Type 0 where
   pub front : WritesFront old new (report_text m lines)
   pub all : c ≢ cause.Memory → c ≢ cause.WriteFault → WritesAll old new (report_text m lines)
 
--- The report of a run: it shows the reactor's lines, up to one that could not be written where one couldn't, and the end; but for
--- those of pulses they are kept, these are counted for each stepper, and what the lanes of each board carried is told. The end line
--- is of the cause for which the run ended, or of a want of memory or a failed write that its report met, and so is what it answers.
-pub record IsReported {F S : Type 0} (f : Files F) (o : Sink S) (m : Machine) (s : Scene) (name : List ℕ) (files files' : F) (out out' : S) (c : Cause) (lines : List ReportLine) (counts : List ℕ) (links : List LinkLog) : Type 0 where
+-- The report of a run: it shows the reactor's lines, up to one that could not be written where one couldn't,
+-- and the end; but for those of pulses they are kept, these are counted for each stepper, and what the lanes
+-- of each board carried is told. The end line is of the cause for which the run ended, or of a want of memory
+-- or a failed write that its report met, and so is what it answers.
+pub record IsReported {F S : Type 0} (f : Files F) (o : Sink S) (m : Machine) (s : Scene) (name : List ℕ)
+    (files files' : F) (out out' : S) (c : Cause) (lines : List ReportLine) (counts : List ℕ) (links : List LinkLog)
+    : Type 0 where
   pub told : Told Run
   pub kept : Kept
   pub fresh : IsFresh (length m.steppers) kept
@@ -90,7 +95,8 @@ pub record IsReported {F S : Type 0} (f : Files F) (o : Sink S) (m : Machine) (s
   pub cause_is : c ≢ cause.Memory → c ≢ cause.WriteFault → (rest ≡ []) × (own ≡ told.cause) × (c ≡ told.cause)
 
 -- No run was begun, for want of memory: an end line alone, or nothing. It tells neither of pulses nor of links.
-pub record IsNotBegun {F S : Type 0} (f : Files F) (o : Sink S) (m : Machine) (files files' : F) (out out' : S) (c : Cause) (r : Report) : Type 0 where
+pub record IsNotBegun {F S : Type 0} (f : Files F) (o : Sink S) (m : Machine) (files files' : F) (out out' : S)
+    (c : Cause) (r : Report) : Type 0 where
   pub memory : c ≡ cause.Memory
   pub same : files' ≡ files
   pub lines_are : (r.lines ≡ report.End cause.Memory ∷ []) ⊎ (r.lines ≡ [])
@@ -103,8 +109,10 @@ EndsOver f o m s name files files' out out' e =
     IsReported f o m s name files files' out out' e.cause e.report.lines e.report.counts e.report.links.items
     ⊎ IsNotBegun f o m files files' out out' e.cause e.report
 
--- How a run ended, by what is shown of it: of its lines, it is one over the output; of counts alone, one over an output that keeps nothing.
-module _ {F S O : Type 0} (f : Files F) (o : Sink S) (none : Sink O) (m : Machine) (s : Scene) (name : List ℕ) (files files' : F) (out out' : S) (e : Ended) where
+-- How a run ended, by what is shown of it: of its lines, it is one over the output; of counts alone, one over
+-- an output that keeps nothing.
+module _ {F S O : Type 0} (f : Files F) (o : Sink S) (none : Sink O) (m : Machine) (s : Scene) (name : List ℕ)
+    (files files' : F) (out out' : S) (e : Ended) where
   abbrev pub EndsShowing : Show → Type 0
   EndsShowing show.Lines = EndsOver f o m s name files files' out out' e
   EndsShowing show.Counts = (at : O) × (at' : O) × EndsOver f none m s name files files' at at' e

@@ -33,12 +33,14 @@ AreFirstLinks s i [] (l ∷ links) = ⊥
 AreFirstLinks s i (b ∷ boards) [] = ⊥
 AreFirstLinks s i (b ∷ boards) (l ∷ links) = IsFirstLink s i b l × AreFirstLinks s (i + 1) boards links
 
--- The planner, the links and the reactor of this machine in this scene made a run, over the file of a name and an output: what
--- there was of these and of what is kept before it, and behind it.
-pub record RunsOver {F S : Type 0} (f : Files F) (o : Sink S) (m : Machine) (s : Scene) (name : List ℕ) (files : F) (out : S) (kept : Kept) (t : Told Run) (files' : F) (out' : S) (kept' : Kept) : Type 0 where
+-- The planner, the links and the reactor of this machine in this scene made a run, over the file of a name
+-- and an output: what there was of these and of what is kept before it, and behind it.
+pub record RunsOver {F S : Type 0} (f : Files F) (o : Sink S) (m : Machine) (s : Scene) (name : List ℕ) (files : F)
+    (out : S) (kept : Kept) (t : Told Run) (files' : F) (out' : S) (kept' : Kept) : Type 0 where
   pub planning : Planning
   pub fresh : IsPlannerOf planning.motion nothing_seen
   pub printer : planning.motion.machine ≡ m
   pub links : List Seen
   pub first : AreFirstLinks s 0 m.boards links
-  pub runs : IsToldRun planner link reactor f o m name planning links (first_run m s.switches) files out kept t files' out' kept'
+  pub runs : IsToldRun planner link reactor f o m name planning links (first_run m s.switches) files out kept t files'
+      out' kept'

@@ -30,9 +30,11 @@ abbrev pub StopsWriting : WriteStop → ℕ → ℕ → Type 0
 StopsWriting stop.Failed before after = Rose before after
 StopsWriting stop.Memory before after = after ≡ before
 
--- Lines were told, the first ones of some, which are all of them where nothing stopped the writing: they are kept but for those of
--- pulses, which are counted, and their text was written, or its front where that was stopped.
-pub record Said (m : Machine) (lines : List ReportLine) (old new : Option (List ℕ)) (kept : List ReportLine) (counts : List ℕ) (after : List ReportLine) (counts' : List ℕ) : Type 0 where
+-- Lines were told, the first ones of some, which are all of them where nothing stopped the writing: they are
+-- kept but for those of pulses, which are counted, and their text was written, or its front where that was
+-- stopped.
+pub record Said (m : Machine) (lines : List ReportLine) (old new : Option (List ℕ)) (kept : List ReportLine)
+    (counts : List ℕ) (after : List ReportLine) (counts' : List ℕ) : Type 0 where
   pub said : List ReportLine
   pub rest : List ReportLine
   pub are : lines ≡ said ++ rest
@@ -41,8 +43,12 @@ pub record Said (m : Machine) (lines : List ReportLine) (old new : Option (List 
   pub writes : WritesFront old new (report_text m said)
 
 -- From what was written, kept and counted before to what is now: by whether the writing was stopped before, or is now.
-abbrev pub Tells : Machine → List ReportLine → Option WriteStop → Option (List ℕ) → ℕ → List ReportLine → List ℕ → Option WriteStop → Option (List ℕ) → ℕ → List ReportLine → List ℕ → Type 0
-Tells m lines (Some s) old before kept counts now new after kept' counts' = (now ≡ Some s) × (new ≡ old) × (after ≡ before) × (kept' ≡ kept) × (counts' ≡ counts)
+abbrev pub Tells : Machine → List ReportLine → Option WriteStop → Option (List ℕ) → ℕ → List ReportLine → List ℕ →
+    Option WriteStop → Option (List ℕ) → ℕ → List ReportLine → List ℕ → Type 0
+Tells m lines (Some s) old before kept counts now new after kept' counts' =
+    (now ≡ Some s) × (new ≡ old) × (after ≡ before) × (kept' ≡ kept) × (counts' ≡ counts)
 Tells m lines None old before kept counts None new after kept' counts' =
-    WritesAll old new (report_text m lines) × (after ≡ before) × (kept' ≡ kept ++ without_pulses lines) × (counts' ≡ with_pulses lines counts)
-Tells m lines None old before kept counts (Some s) new after kept' counts' = Said m lines old new kept counts kept' counts' × StopsWriting s before after
+    WritesAll old new (report_text m lines) × (after ≡ before) × (kept' ≡ kept ++ without_pulses lines)
+    × (counts' ≡ with_pulses lines counts)
+Tells m lines None old before kept counts (Some s) new after kept' counts' =
+    Said m lines old new kept counts kept' counts' × StopsWriting s before after

@@ -14,8 +14,8 @@ use std::alloc::Global;
 use std::sync::Wait;
 use std::thread::Threads;
 
-/// Borrowed files and a borrowed output, and what is kept of the run. All that the caller wants to know of afterwards is
-/// behind a reference.
+/// Borrowed files and a borrowed output, and what is kept of the run. All that the caller wants to know of
+/// afterwards is behind a reference.
 pub struct Desk<'a, 'm, F, S> {
     pub files: &'a mut F,
     pub out: &'a mut S,
@@ -92,7 +92,8 @@ impl<'a, 'm, F: Files, S: Sink> Outside for Desk<'a, 'm, F, S> {
 
     ghost writes = { λ x lines y ok. Desked F.Files S.Sink x lines y × Writes x y ok };
 
-    ghost serves = { λ x number r y. Desked F.Files S.Sink x [] y × Serves F.Files x r y × (y.kept.now.unwritten ≡ x.kept.now.unwritten) };
+    ghost serves = { λ x number r y.
+        Desked F.Files S.Sink x [] y × Serves F.Files x r y × (y.kept.now.unwritten ≡ x.kept.now.unwritten) };
 
     fn write(&mut self, lines: Listed<ReportLine>) -> bool {
         tell_lines(self.kept, self.machine, lines.as_slice(), self.out);
@@ -107,8 +108,8 @@ impl<'a, 'm, F: Files, S: Sink> Outside for Desk<'a, 'm, F, S> {
     }
 }
 
-/// Runs machines over a borrowed file and a borrowed output, in threads or, where one can't be started, on the calling one:
-/// what there is to tell of it, nothing where memory was wanted before the first turn.
+/// Runs machines over a borrowed file and a borrowed output, in threads or, where one can't be started, on
+/// the calling one: what there is to tell of it, nothing where memory was wanted before the first turn.
 pub fn run_with<
     R: Threads + Wait + Sync,
     G: Gate + Sync,
@@ -132,7 +133,8 @@ pub fn run_with<
 ) -> Option<Told<A>>
     requires boards { (M.boards motion ≡ vec_len links) × (A.boards reactor ≡ vec_len links) }
     requires wants { M.wants motion 0 ≡ Some 0 }
-    ensures ran { IfSome result (λ t. IsToldRun M.MotionMachine L.LinkMachine A.ReactorMachine F.Files S.Sink machine.now name.now motion links.items reactor files.old out.old kept.old t files.new out.new kept.new) }
+    ensures ran { IfSome result (λ t. IsToldRun M.MotionMachine L.LinkMachine A.ReactorMachine F.Files S.Sink
+        machine.now name.now motion links.items reactor files.old out.old kept.old t files.new out.new kept.new) }
     ensures none { IfNone result ((files.new ≡ files.old) × (out.new ≡ out.old) × (kept.new ≡ kept.old)) }
 {
     let Ok(printer) = LinePrinter::new(alloc, machine) else {

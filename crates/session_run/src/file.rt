@@ -29,7 +29,8 @@ fn add_links(
     requires few { index + length boards.now ≤ 8 }
     requires numbers { NumbersRise scene.now.entries }
     requires ticks { SwitchesRise scene.now.switches }
-    ensures { OnOk result ((more : List Seen) × (links.new.items ≡ links.old.items ++ more) × AreFirstLinks scene.now index boards.now more) }
+    ensures { OnOk result ((more : List Seen) × (links.new.items ≡ links.old.items ++ more)
+        × AreFirstLinks scene.now index boards.now more) }
 {
     match boards {
         [] => Ok(()),
@@ -56,9 +57,9 @@ fn first_links(
     Ok(links)
 }
 
-/// Runs a file of G-code on a machine in a scene, over borrowed files and a borrowed output: the planner and each link in a
-/// thread of its own beside the reactor, or all on the calling thread where one can't be started. What there is to tell of
-/// it, nothing where memory was wanted before the first turn.
+/// Runs a file of G-code on a machine in a scene, over borrowed files and a borrowed output: the planner and
+/// each link in a thread of its own beside the reactor, or all on the calling thread where one can't be
+/// started. What there is to tell of it, nothing where memory was wanted before the first turn.
 pub fn run_file<'a, R: Threads + Wait + Sync, G: Gate + Sync, F: Files, S: Sink>(
     rt: &R,
     gate: &G,
@@ -72,7 +73,8 @@ pub fn run_file<'a, R: Threads + Wait + Sync, G: Gate + Sync, F: Files, S: Sink>
 ) -> Option<Told<Host<'a>>>
     requires machine { IsValidMachine machine.now }
     requires scene { IsValidScene machine.now scene.now }
-    ensures ran { IfSome result (λ t. RunsOver F.Files S.Sink machine.now scene.now name.now files.old out.old kept.old t files.new out.new kept.new) }
+    ensures ran { IfSome result (λ t. RunsOver F.Files S.Sink machine.now scene.now name.now files.old out.old kept.old
+        t files.new out.new kept.new) }
     ensures none { IfNone result ((files.new ≡ files.old) × (out.new ≡ out.old) × (kept.new ≡ kept.old)) }
 {
     let Ok(links) = first_links(alloc, machine.boards.as_slice(), scene) else {

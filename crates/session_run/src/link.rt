@@ -38,7 +38,8 @@ impl BoardLink {
     pub fn new(alloc: Global, b: &BoardDef, s: &Scene, index: u8) -> Result<BoardLink, AllocError>
         requires numbers { NumbersRise s.now.entries }
         requires ticks { SwitchesRise s.now.switches }
-        ensures stands { IfOk result (λ l. StandsFor l (first_state b.now (pins_of b.now index s.now.switches) index s.now.entries)) }
+        ensures stands { IfOk result
+            (λ l. StandsFor l (first_state b.now (pins_of b.now index s.now.switches) index s.now.entries)) }
         ensures clock { IfOk result (λ l. l.clock ≡ clock_of b.now) }
         ensures turn { IfOk result (λ l. l.turn ≡ 0) }
         ensures spoiled { IfOk result (λ l. l.spoiled ≡ spoiled_turns []) }

@@ -33,7 +33,8 @@ impl<'a> Model for Host<'a> {
 
     ghost view = { λ h. h.reactor };
 
-    ghost invariant = { λ h. (h.live ≡ true → IsWhole h.reactor.machine h.reactor.known) × IfSome h.free (λ n. IsFreeFor h.reactor n) };
+    ghost invariant = { λ h.
+        (h.live ≡ true → IsWhole h.reactor.machine h.reactor.known) × IfSome h.free (λ n. IsFreeFor h.reactor n) };
 }
 
 impl<'a> Host<'a> {

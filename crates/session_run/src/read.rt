@@ -27,8 +27,11 @@ pub enum ReadStop {
 fn fill<F: Files>(files: &mut F, name: &str, at: u64, bytes: &mut Vec<u8>) -> Result<bool, ReadStop>
     requires at { at < 2 ^ 62 }
     requires room { length bytes.old.items < 4_096 }
-    ensures more { IfOk result (λ more. (text : List ℕ) → F.told files.old name.now ≡ Some text → bytes.old.items ≡ take (length bytes.old.items) (drop at text) → bytes.new.items ≡ take (length bytes.new.items) (drop at text)) }
-    ensures end { IfOk result (λ more. more ≡ false → (text : List ℕ) → F.told files.old name.now ≡ Some text → length (drop at text) ≤ length bytes.new.items) }
+    ensures more { IfOk result (λ more. (text : List ℕ) → F.told files.old name.now ≡ Some text →
+        bytes.old.items ≡ take (length bytes.old.items) (drop at text) →
+        bytes.new.items ≡ take (length bytes.new.items) (drop at text)) }
+    ensures end { IfOk result (λ more. more ≡ false → (text : List ℕ) → F.told files.old name.now ≡ Some text →
+        length (drop at text) ≤ length bytes.new.items) }
     ensures same { IfOk result (λ more. more ≡ false → bytes.new.items ≡ bytes.old.items) }
     ensures grows { IfOk result (λ more. more ≡ true → length bytes.old.items < length bytes.new.items) }
     ensures size { OnOk result (length bytes.new.items ≤ 4_096) }

@@ -69,14 +69,20 @@ fn own_of(unwritten: Option<WriteStop>, cause: Cause) -> Cause
 
 /// Ends a report: its last line is kept and, unless the writing stopped before, written. Answers how the run ended.
 fn end_report<S: Sink>(machine: &Machine, cause: Cause, kept: &mut Kept, out: &mut S) -> Cause
-    ensures lines { (kept.new.lines ≡ kept.old.lines ++ ReportLine.End (own_of kept.old.unwritten cause) ∷ []) ⊎ ((kept.new.lines ≡ kept.old.lines) × (result ≡ Cause.Memory)) }
+    ensures lines { (kept.new.lines ≡ kept.old.lines ++ ReportLine.End (own_of kept.old.unwritten cause) ∷ [])
+        ⊎ ((kept.new.lines ≡ kept.old.lines) × (result ≡ Cause.Memory)) }
     ensures counted { kept.new.counts ≡ kept.old.counts }
     ensures cause { GivenFor (own_of kept.old.unwritten cause) result }
-    ensures front { kept.old.unwritten ≡ None → WritesFront (S.written out.old) (S.written out.new) (line_text machine.now (ReportLine.End cause)) }
-    ensures all { kept.old.unwritten ≡ None → result ≢ Cause.Memory → result ≢ Cause.WriteFault → WritesAll (S.written out.old) (S.written out.new) (line_text machine.now (ReportLine.End cause)) }
-    ensures stopped { (stop : WriteStop) → kept.old.unwritten ≡ Some stop → (out.new ≡ out.old) × ((result ≡ own_of (Some stop) cause) ⊎ (result ≡ Cause.Memory)) }
-    ensures failed { kept.old.unwritten ≡ None → cause ≢ Cause.WriteFault → result ≡ Cause.WriteFault → Rose (S.faults out.old) (S.faults out.new) }
-    ensures steady { kept.old.unwritten ≡ None → result ≢ Cause.Memory → result ≢ Cause.WriteFault → S.faults out.new ≡ S.faults out.old }
+    ensures front { kept.old.unwritten ≡ None →
+        WritesFront (S.written out.old) (S.written out.new) (line_text machine.now (ReportLine.End cause)) }
+    ensures all { kept.old.unwritten ≡ None → result ≢ Cause.Memory → result ≢ Cause.WriteFault →
+        WritesAll (S.written out.old) (S.written out.new) (line_text machine.now (ReportLine.End cause)) }
+    ensures stopped { (stop : WriteStop) → kept.old.unwritten ≡ Some stop →
+        (out.new ≡ out.old) × ((result ≡ own_of (Some stop) cause) ⊎ (result ≡ Cause.Memory)) }
+    ensures failed { kept.old.unwritten ≡ None → cause ≢ Cause.WriteFault → result ≡ Cause.WriteFault →
+        Rose (S.faults out.old) (S.faults out.new) }
+    ensures steady { kept.old.unwritten ≡ None → result ≢ Cause.Memory → result ≢ Cause.WriteFault →
+        S.faults out.new ≡ S.faults out.old }
 {
     let own = own_of(kept.unwritten, cause);
     if kept.lines.push(ReportLine::End(own)).is_err() {

@@ -82,7 +82,8 @@ fn gather(
     ensures text { OnOk result (buffer.new.items ≡ buffer.old.items ++ report_text machine.now lines.now) }
     ensures kept { OnOk result (kept.new ≡ kept.old ++ without_pulses lines.now) }
     ensures counted { OnOk result (counts.new.items ≡ with_pulses lines.now counts.old.items) }
-    ensures said { (written : Option (List ℕ)) → Said machine.now lines.now written written kept.old counts.old.items kept.new counts.new.items }
+    ensures said { (written : Option (List ℕ)) →
+        Said machine.now lines.now written written kept.old counts.old.items kept.new counts.new.items }
     ensures memory { IfErr result (λ stop. stop ≡ WriteStop.Memory) }
 {
     for line in lines {
@@ -107,7 +108,8 @@ fn say<S: Sink>(
     ensures steady { OnOk result (S.faults out.new ≡ S.faults out.old) }
     ensures kept { OnOk result (kept.new ≡ kept.old ++ without_pulses lines.now) }
     ensures counted { OnOk result (counts.new.items ≡ with_pulses lines.now counts.old.items) }
-    ensures said { Said machine.now lines.now (S.written out.old) (S.written out.new) kept.old counts.old.items kept.new counts.new.items }
+    ensures said { Said machine.now lines.now (S.written out.old) (S.written out.new) kept.old counts.old.items kept.new
+        counts.new.items }
     ensures stopped { IfErr result (λ stop. StopsWriting stop (S.faults out.old) (S.faults out.new)) }
 {
     buffer.clear();
@@ -118,14 +120,17 @@ fn say<S: Sink>(
     Ok(())
 }
 
-/// Tells lines: keeps them, but for those of pulses, which it counts, and writes them, unless the writing was stopped before.
+/// Tells lines: keeps them, but for those of pulses, which it counts, and writes them, unless the writing was
+/// stopped before.
 pub fn tell_lines<S: Sink>(
     kept: &mut Kept,
     machine: &LinePrinter<'_>,
     lines: &[ReportLine],
     out: &mut S,
 )
-    ensures told { Tells machine.now lines.now kept.old.unwritten (S.written out.old) (S.faults out.old) kept.old.lines kept.old.counts.items kept.new.unwritten (S.written out.new) (S.faults out.new) kept.new.lines kept.new.counts.items }
+    ensures told { Tells machine.now lines.now kept.old.unwritten (S.written out.old) (S.faults out.old) kept.old.lines
+        kept.old.counts.items kept.new.unwritten (S.written out.new) (S.faults out.new) kept.new.lines
+        kept.new.counts.items }
     ensures at { kept.new.at ≡ kept.old.at }
     ensures unread { kept.new.unread ≡ kept.old.unread }
 {

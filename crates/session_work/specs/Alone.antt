@@ -30,7 +30,9 @@ use Rattle.session_work.specs.Links.{IsLinkAt}
 module _ {L : Type 0} (l : Link L) where
   -- the link of board j made k turns from its machine
   abbrev pub IsHandAt : ℕ → List (Lane Control) → List (Lane Batch) → List (Lane State) → ℕ → Hand L → Type 0
-  IsHandAt k cs bs ss j h = (c : Lane Control) (b : Lane Batch) (s : Lane State) → IsLinkAt l.turns k (get_or cs j c) (get_or bs j b) (get_or ss j s) h.start.value h.done
+  IsHandAt k cs bs ss j h =
+      (c : Lane Control) (b : Lane Batch) (s : Lane State) →
+      IsLinkAt l.turns k (get_or cs j c) (get_or bs j b) (get_or ss j s) h.start.value h.done
 
   abbrev pub AreHands : ℕ → List (Lane Control) → List (Lane Batch) → List (Lane State) → List (Hand L) → Type 0
   AreHands k cs bs ss hs = (j : ℕ) (h : Hand L) → j < length hs → IsHandAt k cs bs ss j (get_or hs j h)
@@ -38,53 +40,112 @@ module _ {L : Type 0} (l : Link L) where
 module _ {M : Type 0} where
   -- the motion worker with these passes for its batches and notes, and these turns that wait
   abbrev pub with_puts : MotionDone M → Vec (SendPass Batch) → SendPass Note → VecDeque Late Global → MotionDone M
-  with_puts d bps np late = record { seat = d.seat; asks = d.asks; closed = d.closed; sated = d.sated; word_pass = d.word_pass; note_pass = np; ask_pass = d.ask_pass; piece_pass = d.piece_pass; batch_passes = bps; late = late }
+  with_puts d bps np late =
+      record {
+        seat = d.seat;
+        asks = d.asks;
+        closed = d.closed;
+        sated = d.sated;
+        word_pass = d.word_pass;
+        note_pass = np;
+        ask_pass = d.ask_pass;
+        piece_pass = d.piece_pass;
+        batch_passes = bps;
+        late = late;
+      }
 
 module _ {A O : Type 0} where
   -- the reactor with these passes for what it takes
   abbrev pub with_takes : ReactorDone A O → TakePass Note → Vec (TakePass State) → ReactorDone A O
-  with_takes d np sps = record { head = d.head; served = d.served; next = d.next; closed = d.closed; sated = d.sated; word_pass = d.word_pass; note_pass = np; ask_pass = d.ask_pass; piece_pass = d.piece_pass; control_passes = d.control_passes; state_passes = sps }
+  with_takes d np sps =
+      record {
+        head = d.head;
+        served = d.served;
+        next = d.next;
+        closed = d.closed;
+        sated = d.sated;
+        word_pass = d.word_pass;
+        note_pass = np;
+        ask_pass = d.ask_pass;
+        piece_pass = d.piece_pass;
+        control_passes = d.control_passes;
+        state_passes = sps;
+      }
 
   -- the reactor with these passes for its controls
   abbrev pub with_controls : ReactorDone A O → Vec (SendPass Control) → ReactorDone A O
-  with_controls d cps = record { head = d.head; served = d.served; next = d.next; closed = d.closed; sated = d.sated; word_pass = d.word_pass; note_pass = d.note_pass; ask_pass = d.ask_pass; piece_pass = d.piece_pass; control_passes = cps; state_passes = d.state_passes }
+  with_controls d cps =
+      record {
+        head = d.head;
+        served = d.served;
+        next = d.next;
+        closed = d.closed;
+        sated = d.sated;
+        word_pass = d.word_pass;
+        note_pass = d.note_pass;
+        ask_pass = d.ask_pass;
+        piece_pass = d.piece_pass;
+        control_passes = cps;
+        state_passes = d.state_passes;
+      }
 
   -- the reactor with this pass for its words
   abbrev pub with_words : ReactorDone A O → SendPass WordMsg → ReactorDone A O
-  with_words d wp = record { head = d.head; served = d.served; next = d.next; closed = d.closed; sated = d.sated; word_pass = wp; note_pass = d.note_pass; ask_pass = d.ask_pass; piece_pass = d.piece_pass; control_passes = d.control_passes; state_passes = d.state_passes }
+  with_words d wp =
+      record {
+        head = d.head;
+        served = d.served;
+        next = d.next;
+        closed = d.closed;
+        sated = d.sated;
+        word_pass = wp;
+        note_pass = d.note_pass;
+        ask_pass = d.ask_pass;
+        piece_pass = d.piece_pass;
+        control_passes = d.control_passes;
+        state_passes = d.state_passes;
+      }
 
-  module _ (a : Reactor A) (o : Out O) (words : Lane WordMsg) (notes : Lane Note) (asks : Lane Ask) (pieces : Lane Piece) (controls : List (Lane Control)) (states : List (Lane State)) where
+  module _ (a : Reactor A) (o : Out O) (words : Lane WordMsg) (notes : Lane Note) (asks : Lane Ask)
+      (pieces : Lane Piece) (controls : List (Lane Control)) (states : List (Lane State)) where
     -- what is taken next of the states and notes is that of turn k
     abbrev pub IsTaking : ℕ → ReactorDone A O → Type 0
-    IsTaking k d = CanTake k states d.state_passes.items × (length d.state_passes.items ≡ length states) × IsTakeOf notes d.note_pass × (next_take d.note_pass ≡ k)
+    IsTaking k d =
+        CanTake k states d.state_passes.items × (length d.state_passes.items ≡ length states)
+        × IsTakeOf notes d.note_pass × (next_take d.note_pass ≡ k)
 
     -- the states and the note of the turn before were taken, which turn k begins with
     abbrev pub IsFound : ℕ → Head A O → Found → ReactorDone A O → Type 0
     IsFound k s f d =
-        (np : TakePass Note) × (sps : Vec (TakePass State)) × IsReactorAt a o words notes asks pieces controls states k s (with_takes d np sps)
-        × RowTaken states sps.items d.state_passes.items f.states.items × TookMore (option_items f.note) notes np d.note_pass
-        × IsRow (length states) k f.states.items f.note × AreOf (λ x. x.turn + 1) k f.states.items × IfSome f.note (λ x. x.turn + 1 ≡ k)
-        × (d.next ≡ k) × IsTaking k d
+        (np : TakePass Note) × (sps : Vec (TakePass State))
+        × IsReactorAt a o words notes asks pieces controls states k s (with_takes d np sps)
+        × RowTaken states sps.items d.state_passes.items f.states.items
+        × TookMore (option_items f.note) notes np d.note_pass × IsRow (length states) k f.states.items f.note
+        × AreOf (λ x. x.turn + 1) k f.states.items × IfSome f.note (λ x. x.turn + 1 ≡ k) × (d.next ≡ k) × IsTaking k d
 
     -- P will hold of the reactor once these controls of turn k are put
     pub record Owes (P : ReactorDone A O → Type 0) (k : ℕ) (made : List Control) (d : ReactorDone A O) : Type 0 where
-      pub many : (length made ≡ length controls) × (length d.control_passes.items ≡ length controls) × (length states ≡ length controls)
+      pub many : (length made ≡ length controls) × (length d.control_passes.items ≡ length controls)
+          × (length states ≡ length controls)
       pub numbers : AreOf (λ c. c.turn) k made
       pub puts : CanPut k controls d.control_passes.items
       pub takes : IsTaking k d
       pub piece : IsSendOf pieces d.piece_pass × (next_put d.piece_pass ≡ d.served)
       pub next : d.next ≡ k + 1
-      pub behind : (cps : Vec (SendPass Control)) → RowPut controls d.control_passes.items cps.items made → P (with_controls d cps)
+      pub behind : (cps : Vec (SendPass Control)) → RowPut controls d.control_passes.items cps.items made →
+          P (with_controls d cps)
 
     -- turn k orders no end, but its controls are still to be put
     abbrev pub OwesServing : ℕ → Head A O → List Control → ReactorDone A O → Type 0
     OwesServing k s made d = Owes (IsServing a o words notes asks pieces controls states k s) k made d
 
     -- and its word too
-    pub record OwesWord (k : ℕ) (s : Head A O) (made : List Control) (word : WordMsg) (d : ReactorDone A O) : Type 0 where
+    pub record OwesWord (k : ℕ) (s : Head A O) (made : List Control) (word : WordMsg) (d : ReactorDone A O)
+        : Type 0 where
       pub number : word.turn ≡ k
       pub can : IsSendOf words d.word_pass × (next_put d.word_pass ≡ k)
-      pub behind : (wp : SendPass WordMsg) → PutMore (word ∷ []) words d.word_pass wp → OwesServing k s made (with_words d wp)
+      pub behind : (wp : SendPass WordMsg) → PutMore (word ∷ []) words d.word_pass wp →
+          OwesServing k s made (with_words d wp)
 
     -- turn k is made, but its controls are still to be put
     abbrev pub OwesTurn : ℕ → Head A O → List Control → ReactorDone A O → Type 0

@@ -23,24 +23,33 @@ IsRow n k states note =
 
 module _ {A O : Type 0} where
   -- the lines went out, or the machine was told that they didn't
-  abbrev pub Wrote : (A → Cause → A → Type 0) → (O → List ReportLine → O → Bool → Type 0) → Head A O → List ReportLine → Head A O → Type 0
+  abbrev pub Wrote : (A → Cause → A → Type 0) → (O → List ReportLine → O → Bool → Type 0) → Head A O → List ReportLine →
+      Head A O → Type 0
   Wrote stops writes x lines y =
       (y.stopped ≡ x.stopped)
-      × ((writes x.outside lines y.outside true × (y.machine ≡ x.machine)) ⊎ (writes x.outside lines y.outside false × stops x.machine cause.WriteFault y.machine))
+      × ((writes x.outside lines y.outside true × (y.machine ≡ x.machine))
+      ⊎ (writes x.outside lines y.outside false × stops x.machine cause.WriteFault y.machine))
 
   -- in turn k a piece of the file, or the machine was told why there is none
-  abbrev pub ServeStep : (A → Cause → A → Type 0) → (O → ℕ → Result Piece Cause → O → Type 0) → ℕ → Head A O → Piece → Head A O → Type 0
+  abbrev pub ServeStep : (A → Cause → A → Type 0) → (O → ℕ → Result Piece Cause → O → Type 0) → ℕ → Head A O → Piece →
+      Head A O → Type 0
   ServeStep stops serves k x p y =
       (serves x.outside p.number (Ok p) y.outside × (p.turn ≡ k) × (y.machine ≡ x.machine) × (y.stopped ≡ x.stopped))
-      ⊎ ((c : Cause) × serves x.outside p.number (Err c) y.outside × stops x.machine c y.machine × (y.stopped ≡ true) × (p ≡ stop_piece k p.number))
+      ⊎ ((c : Cause) × serves x.outside p.number (Err c) y.outside × stops x.machine c y.machine × (y.stopped ≡ true)
+      × (p ≡ stop_piece k p.number))
 
   module _ (a : Reactor A) (o : Out O) where
-    -- What is put and written in turn k for n boards: what the machine orders, or, where memory was wanted, the end alone.
+    -- What is put and written in turn k for n boards: what the machine orders, or, where memory was wanted,
+    -- the end alone.
     abbrev pub Ordering : ℕ → ℕ → Head A O → ReactorTurn → Head A O → Type 0
     Ordering n k x t y =
         (length t.controls ≡ n)
-        × ((IsRow n k t.states t.note × ((m : A) × a.turns x.machine k t.states t.note t.controls t.word t.lines t.end m × Wrote a.stops o.writes (record { machine = m; outside = x.outside; stopped = x.stopped }) t.lines y × (t.end ≡ Some cause.Memory → ⊥)))
-        ⊎ ((t.controls ≡ copies n (bare_control k true)) × (t.word ≡ bare_word k true) × (t.lines ≡ []) × (t.end ≡ Some cause.Memory) × (y.outside ≡ x.outside) × (y.stopped ≡ x.stopped)))
+        × ((IsRow n k t.states t.note
+        × ((m : A) × a.turns x.machine k t.states t.note t.controls t.word t.lines t.end m
+        × Wrote a.stops o.writes (record { machine = m; outside = x.outside; stopped = x.stopped }) t.lines y
+        × (t.end ≡ Some cause.Memory → ⊥)))
+        ⊎ ((t.controls ≡ copies n (bare_control k true)) × (t.word ≡ bare_word k true) × (t.lines ≡ [])
+        × (t.end ≡ Some cause.Memory) × (y.outside ≡ x.outside) × (y.stopped ≡ x.stopped)))
 
     -- the pieces read behind word k; behind the last one a piece that says that nothing comes
     abbrev pub Served : ℕ → Head A O → Option Cause → List Piece → Head A O → Type 0

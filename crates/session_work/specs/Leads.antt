@@ -31,15 +31,21 @@ last_words k n = each_turn still_word k n ++ bare_word (k + n) true ∷ []
 
 -- these messages more were put, all of them on each lane
 abbrev pub RowsPut : {T : Type 0} → List (Lane T) → List (SendPass T) → List (SendPass T) → List T → Type 0
-RowsPut {T} ls old new xs = (length new ≡ length old) × ((j : ℕ) (l : Lane T) (p q : SendPass T) → j < length new → PutMore xs (get_or ls j l) (get_or old j p) (get_or new j q))
+RowsPut {T} ls old new xs =
+    (length new ≡ length old)
+    × ((j : ℕ) (l : Lane T) (p q : SendPass T) → j < length new →
+    PutMore xs (get_or ls j l) (get_or old j p) (get_or new j q))
 
 module _ (words : Lane WordMsg) (controls : List (Lane Control)) where
   -- bare controls and words were put for n turns from turn k on
-  abbrev pub HasLed : ℕ → ℕ → SendPass WordMsg → SendPass WordMsg → List (SendPass Control) → List (SendPass Control) → Type 0
-  HasLed k n wp wq cps cqs = RowsPut controls cps cqs (each_turn still_control k n) × PutMore (each_turn still_word k n) words wp wq
+  abbrev pub HasLed : ℕ → ℕ → SendPass WordMsg → SendPass WordMsg → List (SendPass Control) → List (SendPass Control) →
+      Type 0
+  HasLed k n wp wq cps cqs =
+      RowsPut controls cps cqs (each_turn still_control k n) × PutMore (each_turn still_word k n) words wp wq
 
   -- the controls and the word of turn k were put, or they were put before
-  abbrev pub HasSaid : ℕ → WordMsg → List Control → ℕ → ℕ → SendPass WordMsg → SendPass WordMsg → List (SendPass Control) → List (SendPass Control) → Type 0
+  abbrev pub HasSaid : ℕ → WordMsg → List Control → ℕ → ℕ → SendPass WordMsg → SendPass WordMsg →
+      List (SendPass Control) → List (SendPass Control) → Type 0
   HasSaid k word made next after wp wq cps cqs =
       ((next ≡ k) × (after ≡ k + 1) × RowPut controls cps cqs made × PutMore (word ∷ []) words wp wq)
       ⊎ ((k < next) × (after ≡ next) × (wp ≡ wq) × (cps ≡ cqs))

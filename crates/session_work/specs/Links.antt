@@ -11,12 +11,13 @@ use Rattle.session_work.specs.Bares.{bare_state}
 use Rattle.session_work.specs.Rows.{gather, HasPut, HasTaken}
 use Rattle.session_work.specs.Turns.{Goes}
 
+-- what a link worker took and put in a turn: a control, a batch and a state
 abbrev pub link_turn_of : Control → Batch → State → LinkTurn
 link_turn_of c b s = record { control = c; batch = b; state = s }
 
 module _ {L : Type 0} (turns : L → ℕ → Control → Batch → State → L → Type 0) where
-  -- A turn of a link, and whether it wanted memory before and wants it now. A link that wants memory says so, and goes on
-  -- saying so.
+  -- A turn of a link, and whether it wanted memory before and wants it now. A link that wants memory says so,
+  -- and goes on saying so.
   abbrev pub LinkStep : ℕ → L × Bool → LinkTurn → L × Bool → Type 0
   LinkStep k x t y =
       (t.control.end ≡ false)
@@ -41,4 +42,5 @@ module _ {L : Type 0} (turns : L → ℕ → Control → Batch → State → L �
 
   -- the last control that was taken ends the run, and no other
   abbrev pub IsLinkEnded : Lane Control → Lane Batch → Lane State → L → LinkDone L → Type 0
-  IsLinkEnded cs bs ss l d = (ts : List LinkTurn) × (last : Control) × (last.end ≡ true) × LinkWent ts (last ∷ []) cs bs ss l d
+  IsLinkEnded cs bs ss l d =
+      (ts : List LinkTurn) × (last : Control) × (last.end ≡ true) × LinkWent ts (last ∷ []) cs bs ss l d

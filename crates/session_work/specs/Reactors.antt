@@ -25,12 +25,23 @@ ends ts = gather (λ t. option_items t.end) ts
 
 -- a turn behind whose word these pieces were read so far
 abbrev pub with_pieces : ReactorTurn → List Piece → ReactorTurn
-with_pieces t ps = record { states = t.states; note = t.note; controls = t.controls; word = t.word; lines = t.lines; end = t.end; pieces = ps }
+with_pieces t ps =
+    record {
+      states = t.states;
+      note = t.note;
+      controls = t.controls;
+      word = t.word;
+      lines = t.lines;
+      end = t.end;
+      pieces = ps;
+    }
 
 module _ {A O : Type 0} (a : Reactor A) (o : Out O) where
-  module _ (words : Lane WordMsg) (notes : Lane Note) (asks : Lane Ask) (pieces : Lane Piece) (controls : List (Lane Control)) (states : List (Lane State)) where
+  module _ (words : Lane WordMsg) (notes : Lane Note) (asks : Lane Ask) (pieces : Lane Piece)
+      (controls : List (Lane Control)) (states : List (Lane State)) where
     -- These turns were made. The controls and words of those were put, and behind them these for all boards.
-    abbrev pub ReactorWent : List ReactorTurn → List ReactorTurn → List Control → List WordMsg → ReactorDone A O → Type 0
+    abbrev pub ReactorWent : List ReactorTurn → List ReactorTurn → List Control → List WordMsg → ReactorDone A O →
+        Type 0
     ReactorWent ts said cs ws d =
         HavePut (λ j. gather (λ t. item j t.controls) said ++ cs) controls d.control_passes.items
         × HaveTaken (λ j. gather (λ t. item j t.states) ts) states d.state_passes.items
@@ -45,12 +56,14 @@ module _ {A O : Type 0} (a : Reactor A) (o : Out O) where
     -- From turn k on bare controls and words were put for n turns, in which the machine says nothing.
     abbrev pub Ahead : ℕ → List ReactorTurn → ReactorDone A O → Type 0
     Ahead k ts d =
-        (n : ℕ) × (d.next ≡ k + n) × ((n ≡ 0) ⊎ a.free d.head.machine k n) × ReactorWent ts ts (each_turn still_control k n) (each_turn still_word k n) d
+        (n : ℕ) × (d.next ≡ k + n) × ((n ≡ 0) ⊎ a.free d.head.machine k n)
+        × ReactorWent ts ts (each_turn still_control k n) (each_turn still_word k n) d
 
     -- so many turns were made, and none of them ended the run
     abbrev pub IsReactorAt : ℕ → Head A O → ReactorDone A O → Type 0
     IsReactorAt k s d =
-        (ts : List ReactorTurn) × (length ts ≡ k) × (ends ts ≡ []) × Goes (ReactorStep a o (length controls)) 0 s ts d.head × Ahead k ts d
+        (ts : List ReactorTurn) × (length ts ≡ k) × (ends ts ≡ [])
+        × Goes (ReactorStep a o (length controls)) 0 s ts d.head × Ahead k ts d
 
     -- turn k orders no end, and these pieces were read behind it so far
     abbrev pub IsServing : ℕ → Head A O → ReactorDone A O → Type 0

@@ -66,18 +66,26 @@ module _ {T : Type 0} where
   PutMore xs l old new = IsSendOf l new × (put_first new ≡ put_first old) × (put new ≡ put old ++ xs)
 
   abbrev pub RowPut : List (Lane T) → List (SendPass T) → List (SendPass T) → List T → Type 0
-  RowPut ls old new xs = (length new ≡ length old) × ((j : ℕ) (l : Lane T) (p q : SendPass T) → j < length new → PutMore (item j xs) (get_or ls j l) (get_or old j p) (get_or new j q))
+  RowPut ls old new xs =
+      (length new ≡ length old)
+      × ((j : ℕ) (l : Lane T) (p q : SendPass T) → j < length new →
+      PutMore (item j xs) (get_or ls j l) (get_or old j p) (get_or new j q))
 
   -- these messages more were taken, one from each lane
   abbrev pub TookMore : List T → Lane T → TakePass T → TakePass T → Type 0
   TookMore xs l old new = IsTakeOf l new × (take_first new ≡ take_first old) × (taken new ≡ taken old ++ xs)
 
   abbrev pub RowTaken : List (Lane T) → List (TakePass T) → List (TakePass T) → List T → Type 0
-  RowTaken ls old new xs = (length new ≡ length old) × ((j : ℕ) (l : Lane T) (p q : TakePass T) → j < length new → TookMore (item j xs) (get_or ls j l) (get_or old j p) (get_or new j q))
+  RowTaken ls old new xs =
+      (length new ≡ length old)
+      × ((j : ℕ) (l : Lane T) (p q : TakePass T) → j < length new →
+      TookMore (item j xs) (get_or ls j l) (get_or old j p) (get_or new j q))
 
   -- on the lane of each board its column was put
   abbrev pub HavePut : (ℕ → List T) → List (Lane T) → List (SendPass T) → Type 0
-  HavePut column ls ps = (length ps ≡ length ls) × ((j : ℕ) (l : Lane T) (p : SendPass T) → j < length ps → HasPut (column j) (get_or ls j l) (get_or ps j p))
+  HavePut column ls ps =
+      (length ps ≡ length ls)
+      × ((j : ℕ) (l : Lane T) (p : SendPass T) → j < length ps → HasPut (column j) (get_or ls j l) (get_or ps j p))
 
   -- the pass puts into the lane, from message 0 on; it has put the first of these, and the late ones wait
   abbrev pub HasPutBut : List T → List T → Lane T → SendPass T → Type 0
@@ -85,8 +93,13 @@ module _ {T : Type 0} where
 
   -- on the lane of each board its column was put, but for what waits
   abbrev pub HavePutBut : (ℕ → List T) → (ℕ → List T) → List (Lane T) → List (SendPass T) → Type 0
-  HavePutBut late column ls ps = (length ps ≡ length ls) × ((j : ℕ) (l : Lane T) (p : SendPass T) → j < length ps → HasPutBut (late j) (column j) (get_or ls j l) (get_or ps j p))
+  HavePutBut late column ls ps =
+      (length ps ≡ length ls)
+      × ((j : ℕ) (l : Lane T) (p : SendPass T) → j < length ps →
+      HasPutBut (late j) (column j) (get_or ls j l) (get_or ps j p))
 
   -- from the lane of each board its column was taken
   abbrev pub HaveTaken : (ℕ → List T) → List (Lane T) → List (TakePass T) → Type 0
-  HaveTaken column ls ps = (length ps ≡ length ls) × ((j : ℕ) (l : Lane T) (p : TakePass T) → j < length ps → HasTaken (column j) (get_or ls j l) (get_or ps j p))
+  HaveTaken column ls ps =
+      (length ps ≡ length ls)
+      × ((j : ℕ) (l : Lane T) (p : TakePass T) → j < length ps → HasTaken (column j) (get_or ls j l) (get_or ps j p))

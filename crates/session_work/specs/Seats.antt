@@ -20,7 +20,8 @@ module _ {M : Type 0} where
   abbrev pub Same : Seat M → Seat M → Type 0
   Same x y = (y.machine ≡ x.machine) × (y.quiet ≡ x.quiet) × (y.out ≡ x.out)
 
-  -- Whether the next word must be taken before batch k: never behind the end; a quiet worker is 64 turns ahead of its words.
+  -- Whether the next word must be taken before batch k: never behind the end; a quiet worker is 64 turns
+  -- ahead of its words.
   abbrev pub needs : (M → ℕ → Option ℕ) → ℕ → Seat M → Bool
   needs wants k s = cond s.halted false (cond s.quiet (nat_lt (s.heard + 63) k) (is_wanted (wants s.machine k) s.heard))
 
@@ -55,6 +56,7 @@ module _ {M : Type 0} where
   abbrev pub MakeStep : ℕ → (M → ℕ → List Batch → Note → M → Type 0) → ℕ → Seat M → List Batch → Note → Seat M → Type 0
   MakeStep n turns k x bs note y =
       (y.heard ≡ x.heard) × (y.halted ≡ x.halted) × (length bs ≡ n)
-      × (((x.halted ≡ false) × (x.quiet ≡ false) × (y.quiet ≡ false) × (y.out ≡ x.out) × (note.out ≡ false) × turns x.machine k bs note y.machine)
+      × (((x.halted ≡ false) × (x.quiet ≡ false) × (y.quiet ≡ false) × (y.out ≡ x.out) × (note.out ≡ false)
+      × turns x.machine k bs note y.machine)
       ⊎ ((bs ≡ copies n (bare_batch k x.halted)) × (note ≡ bare_note k y.out)
       × ((((x.halted ≡ true) ⊎ (x.quiet ≡ true)) × Same x y) ⊎ ((x.halted ≡ false) × WantsMemory x y))))

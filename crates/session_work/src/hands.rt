@@ -77,8 +77,8 @@ fn hand_turn<R: Wait, G: Gate, L: LinkMachine>(
     state
 }
 
-/// Turn k of all links: these controls and batches are handed to them, and their states to the reactor, into a list that has
-/// room for them.
+/// Turn k of all links: these controls and batches are handed to them, and their states to the reactor, into
+/// a list that has room for them.
 pub fn hands_turn<R: Wait, G: Gate, L: LinkMachine>(
     rt: &R,
     gate: &G,
@@ -95,10 +95,12 @@ pub fn hands_turn<R: Wait, G: Gate, L: LinkMachine>(
     hands: &mut Vec<Hand<L>>,
     room: Vec<State>,
 ) -> Vec<State>
-    requires boards { (length controls.now ≡ length batches.now) × (length states.now ≡ length batches.now) × (vec_len hands.old ≡ length batches.now) }
+    requires boards { (length controls.now ≡ length batches.now) × (length states.now ≡ length batches.now)
+        × (vec_len hands.old ≡ length batches.now) }
     requires at { AreHands L.LinkMachine k controls.now batches.now states.now hands.old.items }
     requires made { (vec_len made ≡ length controls.now) × AreOf (λ c. c.turn) k made.items }
-    requires row { (length (batches_of (length batches.now) k row) ≡ length batches.now) × AreOf (λ b. b.turn) k (batches_of (length batches.now) k row) }
+    requires row { (length (batches_of (length batches.now) k row) ≡ length batches.now)
+        × AreOf (λ b. b.turn) k (batches_of (length batches.now) k row) }
     requires sends { (vec_len sends.old ≡ length controls.now) × CanPut k controls.now sends.old.items }
     requires batch_sends { (vec_len batch_sends.old ≡ length batches.now) × CanPut k batches.now batch_sends.old.items }
     requires takes { (vec_len takes.old ≡ length states.now) × CanTake k states.now takes.old.items }
@@ -107,7 +109,8 @@ pub fn hands_turn<R: Wait, G: Gate, L: LinkMachine>(
     ensures count { vec_len hands.new ≡ vec_len hands.old }
     ensures starts { map (λ h. h.start.value) hands.new.items ≡ map (λ h. h.start.value) hands.old.items }
     ensures put { RowPut controls.now sends.old.items sends.new.items made.items }
-    ensures batches { RowPut batches.now batch_sends.old.items batch_sends.new.items (batches_of (length batches.now) k row) }
+    ensures batches { RowPut batches.now batch_sends.old.items batch_sends.new.items
+        (batches_of (length batches.now) k row) }
     ensures taken { RowTaken states.now takes.old.items takes.new.items result.items }
     ensures numbers { AreOf (λ s. s.turn) k result.items }
     ensures states { vec_len result ≡ length states.now }

@@ -38,17 +38,21 @@ fn wants_memory(end: &Option<Cause>) -> bool
 }
 
 impl<A: ReactorMachine, O: Outside> Head<A, O> {
-    /// What the machine orders in turn k. None where memory was wanted, by the machine or by who found the row: then nothing of it is
-    /// written.
+    /// What the machine orders in turn k. None where memory was wanted, by the machine or by who found the
+    /// row: then nothing of it is written.
     pub fn turn<R: Wait>(&mut self, rt: &R, k: u64, found: Found) -> Option<Ordered>
         requires found { IsRow (A.boards self.old.machine) k found.states.items found.note }
         requires states { AreOf (λ s. s.turn + 1) k found.states.items }
         requires note { IfSome found.note (λ n. n.turn + 1 ≡ k) }
-        ensures asked { IfSome result (λ o. A.turns self.old.machine k found.states.items found.note o.controls.items o.word o.lines o.end self.new.machine) }
-        ensures controls { IfSome result (λ o. (vec_len o.controls ≡ A.boards self.old.machine) × AreOf (λ c. c.turn) k o.controls.items) }
+        ensures asked { IfSome result (λ o. A.turns self.old.machine k found.states.items found.note o.controls.items
+            o.word o.lines o.end self.new.machine) }
+        ensures controls { IfSome result
+            (λ o. (vec_len o.controls ≡ A.boards self.old.machine) × AreOf (λ c. c.turn) k o.controls.items) }
         ensures word { IfSome result (λ o. o.word.turn ≡ k) }
         ensures memory { IfSome result (λ o. o.end ≢ Some Cause.Memory) }
-        ensures free { IfSome result (λ o. (n : ℕ) → A.free self.old.machine k (n + 1) → o.end ≡ None → (o.controls.items ≡ copies (A.boards self.old.machine) (bare_control k false)) × (o.word ≡ bare_word k false) × A.free self.new.machine (k + 1) n) }
+        ensures free { IfSome result (λ o. (n : ℕ) → A.free self.old.machine k (n + 1) → o.end ≡ None →
+            (o.controls.items ≡ copies (A.boards self.old.machine) (bare_control k false))
+            × (o.word ≡ bare_word k false) × A.free self.new.machine (k + 1) n) }
         ensures boards { A.boards self.new.machine ≡ A.boards self.old.machine }
         ensures outside { self.new.outside ≡ self.old.outside }
         ensures stopped { self.new.stopped ≡ self.old.stopped }

@@ -25,7 +25,8 @@ pub struct Late {
 // What waits of a turn that was made, or where the machine is asked no more.
 pub fn late_of(alloc: Global, k: u64, made: Option<Made>, halted: bool, out: bool) -> Late
     ensures made { IfSome made (λ m. (result.note ≡ m.note) × ((n : ℕ) → late_row n result ≡ m.batches.items)) }
-    ensures none { IfNone made ((result.note ≡ bare_note k out) × ((n : ℕ) → late_row n result ≡ copies n (bare_batch k halted))) }
+    ensures none { IfNone made
+        ((result.note ≡ bare_note k out) × ((n : ℕ) → late_row n result ≡ copies n (bare_batch k halted))) }
 {
     match made {
         Some(Made { batches, note }) => Late {
@@ -42,7 +43,8 @@ pub fn late_of(alloc: Global, k: u64, made: Option<Made>, halted: bool, out: boo
 // Takes the batch of turn k of the first board of those that are left.
 pub fn next_batch(alloc: Global, k: u64, row: &mut Row) -> Batch
     requires some { (n : ℕ) × (length (batches_of (n + 1) k row.old) ≡ n + 1) }
-    ensures { (n : ℕ) → length (batches_of (n + 1) k row.old) ≡ n + 1 → batches_of (n + 1) k row.old ≡ result ∷ batches_of n k row.new }
+    ensures { (n : ℕ) → length (batches_of (n + 1) k row.old) ≡ n + 1 →
+        batches_of (n + 1) k row.old ≡ result ∷ batches_of n k row.new }
 {
     match row {
         Row::Made(batches) => batches.remove(0),

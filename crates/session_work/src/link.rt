@@ -34,7 +34,8 @@ pub fn state_of<R: Wait, L: LinkMachine>(
 ) -> State
     requires turn { (control.turn ≡ k) × (batch.turn ≡ k) }
     requires on { control.end ≡ false }
-    ensures step { LinkStep L.turns k (machine.old, out.old) (link_turn_of control batch result) (machine.new, out.new) }
+    ensures step { LinkStep L.turns k (machine.old, out.old) (link_turn_of control batch result)
+        (machine.new, out.new) }
     ensures number { result.turn ≡ k }
 {
     if *out {

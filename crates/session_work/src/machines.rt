@@ -86,7 +86,8 @@ pub trait MotionMachine: Drop {
         requires fed { hungry self.old k ≡ false }
         ensures made { IfOk result (λ m. turns self.old k m.batches.items m.note self.new) }
         ensures note { IfOk result (λ m. (m.note.turn ≡ k) × (m.note.out ≡ false)) }
-        ensures batches { IfOk result (λ m. (vec_len m.batches ≡ boards self.old) × AreOf (λ b. b.turn) k m.batches.items) }
+        ensures batches { IfOk result
+            (λ m. (vec_len m.batches ≡ boards self.old) × AreOf (λ b. b.turn) k m.batches.items) }
         ensures boards { boards self.new ≡ boards self.old };
 }
 
@@ -113,7 +114,8 @@ pub trait ReactorMachine: Drop {
 
     ghost can: { Self → ℕ → Type 0 };
 
-    ghost turns: { Self → ℕ → List State → Option Note → List Control → WordMsg → List ReportLine → Option Cause → Self → Type 0 };
+    ghost turns: { Self → ℕ → List State → Option Note → List Control → WordMsg → List ReportLine → Option Cause →
+        Self → Type 0 };
 
     ghost stops: { Self → Cause → Self → Type 0 };
 
@@ -140,11 +142,15 @@ pub trait ReactorMachine: Drop {
         requires note { IfSome note (λ n. n.turn + 1 ≡ k) }
         requires first { IfNone note ((k ≡ 0) × (vec_len states ≡ 0)) }
         requires later { 0 < k → vec_len states ≡ boards self.old }
-        ensures ordered { IfOk result (λ o. turns self.old k states.items note o.controls.items o.word o.lines o.end self.new) }
-        ensures controls { IfOk result (λ o. (vec_len o.controls ≡ boards self.old) × AreOf (λ c. c.turn) k o.controls.items) }
+        ensures ordered { IfOk result
+            (λ o. turns self.old k states.items note o.controls.items o.word o.lines o.end self.new) }
+        ensures controls { IfOk result
+            (λ o. (vec_len o.controls ≡ boards self.old) × AreOf (λ c. c.turn) k o.controls.items) }
         ensures word { IfOk result (λ o. o.word.turn ≡ k) }
         ensures last { IfOk result (λ o. (o.word.end ≡ is_some o.end) × AllEnd (is_some o.end) o.controls.items) }
-        ensures free { IfOk result (λ o. (n : ℕ) → free self.old k (n + 1) → o.end ≡ None → (o.controls.items ≡ copies (boards self.old) (bare_control k false)) × (o.word ≡ bare_word k false) × free self.new (k + 1) n) }
+        ensures free { IfOk result (λ o. (n : ℕ) → free self.old k (n + 1) → o.end ≡ None →
+            (o.controls.items ≡ copies (boards self.old) (bare_control k false)) × (o.word ≡ bare_word k false)
+            × free self.new (k + 1) n) }
         ensures boards { boards self.new ≡ boards self.old };
 
     /// The next turn answers this end, unless an earlier cause holds.

@@ -86,8 +86,8 @@ fn no_more<R: Wait>(
     }
 }
 
-// Takes the words that must be taken before the batches of turn k, all or those that are left. Before each it says that no
-// piece is asked for behind the word before.
+// Takes the words that must be taken before the batches of turn k, all or those that are left. Before each it
+// says that no piece is asked for behind the word before.
 pub fn hear<R: Wait, M: MotionMachine>(
     rt: &R,
     k: u64,
@@ -100,8 +100,10 @@ pub fn hear<R: Wait, M: MotionMachine>(
     motion: &mut MotionDone<M>,
 )
     requires limit { k + 1 < 2 ^ 64 }
-    requires at { IsHearing M.MotionMachine words.now notes.now asks.now pieces.now batches.now k start.now.value motion.old }
-    ensures heard { IsHeard M.MotionMachine words.now notes.now asks.now pieces.now batches.now k start.now.value motion.new }
+    requires at { IsHearing M.MotionMachine words.now notes.now asks.now pieces.now batches.now k start.now.value
+        motion.old }
+    ensures heard { IsHeard M.MotionMachine words.now notes.now asks.now pieces.now batches.now k start.now.value
+        motion.new }
     ensures late { motion.new.late ≡ motion.old.late }
 {
     for _ in rt.forever() {
@@ -136,8 +138,10 @@ fn feed<R: Wait, M: MotionMachine>(
     batches: &[Lane<Batch>],
     motion: &mut MotionDone<M>,
 )
-    requires { IsHeard M.MotionMachine words.now notes.now asks.now pieces.now batches.now k start.now.value motion.old }
-    ensures fed { IsFed M.MotionMachine words.now notes.now asks.now pieces.now batches.now k start.now.value motion.new }
+    requires { IsHeard M.MotionMachine words.now notes.now asks.now pieces.now batches.now k start.now.value
+        motion.old }
+    ensures fed { IsFed M.MotionMachine words.now notes.now asks.now pieces.now batches.now k start.now.value
+        motion.new }
     ensures late { motion.new.late ≡ motion.old.late }
 {
     for _ in rt.forever() {
@@ -164,9 +168,11 @@ fn make<R: Wait, M: MotionMachine>(
     batches: &[Lane<Batch>],
     motion: &mut MotionDone<M>,
 )
-    requires fed { IsFed M.MotionMachine words.now notes.now asks.now pieces.now batches.now k start.now.value motion.old }
+    requires fed { IsFed M.MotionMachine words.now notes.now asks.now pieces.now batches.now k start.now.value
+        motion.old }
     requires late { motion.old.late.items ≡ [] }
-    ensures at { IsMotionAt M.MotionMachine words.now notes.now asks.now pieces.now batches.now (k + 1) start.now.value motion.new }
+    ensures at { IsMotionAt M.MotionMachine words.now notes.now asks.now pieces.now batches.now (k + 1) start.now.value
+        motion.new }
     ensures late { motion.new.late.items ≡ [] }
 {
     if let Some(made) = motion.seat.turn(rt, k) {
@@ -203,10 +209,13 @@ pub fn keep<R: Wait, M: MotionMachine>(
     batches: &[Lane<Batch>],
     motion: &mut MotionDone<M>,
 )
-    requires fed { IsFed M.MotionMachine words.now notes.now asks.now pieces.now batches.now k start.now.value motion.old }
+    requires fed { IsFed M.MotionMachine words.now notes.now asks.now pieces.now batches.now k start.now.value
+        motion.old }
     requires room { deque_len motion.old.late + 1 ≤ deque_capacity motion.old.late }
-    ensures at { IsMotionAt M.MotionMachine words.now notes.now asks.now pieces.now batches.now (k + 1) start.now.value motion.new }
-    ensures late { (x : Late) × (motion.new.late.items ≡ motion.old.late.items ++ x ∷ []) × IsLate (length batches.now) k x }
+    ensures at { IsMotionAt M.MotionMachine words.now notes.now asks.now pieces.now batches.now (k + 1) start.now.value
+        motion.new }
+    ensures late { (x : Late) × (motion.new.late.items ≡ motion.old.late.items ++ x ∷ [])
+        × IsLate (length batches.now) k x }
     ensures count { deque_len motion.new.late ≡ deque_len motion.old.late + 1 }
     ensures room { deque_capacity motion.old.late ≤ deque_capacity motion.new.late }
 {
@@ -227,7 +236,8 @@ fn put_row<R: Wait>(
     passes: &mut Vec<SendPass<Batch>>,
     row: Row,
 )
-    requires boards { (vec_len passes.old ≡ length batches.now) × (length (batches_of (length batches.now) k row) ≡ length batches.now) }
+    requires boards { (vec_len passes.old ≡ length batches.now)
+        × (length (batches_of (length batches.now) k row) ≡ length batches.now) }
     requires passes { CanPut k batches.now passes.old.items }
     requires numbers { AreOf (λ b. b.turn) k (batches_of (length batches.now) k row) }
     ensures { RowPut batches.now passes.old.items passes.new.items (batches_of (length batches.now) k row) }
@@ -252,9 +262,11 @@ pub fn flush<R: Wait, M: MotionMachine>(
     batches: &[Lane<Batch>],
     motion: &mut MotionDone<M>,
 )
-    requires at { IsMotionAt M.MotionMachine words.now notes.now asks.now pieces.now batches.now n start.now.value motion.old }
+    requires at { IsMotionAt M.MotionMachine words.now notes.now asks.now pieces.now batches.now n start.now.value
+        motion.old }
     requires late { AreLate (length batches.now) k motion.old.late.items × (n ≡ k + length motion.old.late.items) }
-    ensures { IsMotionDone M.MotionMachine words.now notes.now asks.now pieces.now batches.now start.now.value motion.new }
+    ensures { IsMotionDone M.MotionMachine words.now notes.now asks.now pieces.now batches.now start.now.value
+        motion.new }
 {
     for i in k..n {
         let Some(late) = motion.late.pop_front() else {
@@ -282,9 +294,11 @@ pub fn motion_turn<R: Wait, G: Gate, M: MotionMachine>(
     motion: &mut MotionDone<M>,
 ) -> bool
     requires limit { k + 1 < 2 ^ 64 }
-    requires at { IsMotionAt M.MotionMachine words.now notes.now asks.now pieces.now batches.now k start.now.value motion.old }
+    requires at { IsMotionAt M.MotionMachine words.now notes.now asks.now pieces.now batches.now k start.now.value
+        motion.old }
     requires late { motion.old.late.items ≡ [] }
-    ensures at { IsMotionAt M.MotionMachine words.now notes.now asks.now pieces.now batches.now (k + 1) start.now.value motion.new }
+    ensures at { IsMotionAt M.MotionMachine words.now notes.now asks.now pieces.now batches.now (k + 1) start.now.value
+        motion.new }
     ensures late { motion.new.late.items ≡ [] }
     ensures end { result ≡ false → motion.new.seat.halted ≡ true }
 {
@@ -313,7 +327,8 @@ pub fn motion_worker<R: Wait, G: Gate, M: MotionMachine>(
 ) -> MotionDone<M>
     requires at { IsMotionAt M.MotionMachine words.now notes.now asks.now pieces.now batches.now 0 start.value motion }
     requires late { motion.late.items ≡ [] }
-    ensures done { IsMotionDone M.MotionMachine words.entry.now notes.entry.now asks.entry.now pieces.entry.now batches.entry.now start.value result }
+    ensures done { IsMotionDone M.MotionMachine words.entry.now notes.entry.now asks.entry.now pieces.entry.now
+        batches.entry.now start.value result }
     ensures end { result.seat.halted ≡ true }
 {
     let mut motion = motion;

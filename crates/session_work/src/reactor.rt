@@ -55,8 +55,11 @@ fn find<R: Wait>(
     requires takes { Each IsTakeOf states.now state_passes.old.items }
     requires states { 0 < k → (j : ℕ) → j + 1 ≡ k → CanTake j states.now state_passes.old.items }
     ensures row { IfSome result (λ f. IsRow (length states.now) k f.states.items f.note) }
-    ensures states { IfSome result (λ f. AreOf (λ s. s.turn + 1) k f.states.items × RowTaken states.now state_passes.old.items state_passes.new.items f.states.items) }
-    ensures note { IfSome result (λ f. IfSome f.note (λ n. n.turn + 1 ≡ k) × IsTakeOf notes.now note_pass.new × (take_first note_pass.new ≡ take_first note_pass.old) × (taken note_pass.new ≡ taken note_pass.old ++ option_items f.note)) }
+    ensures states { IfSome result (λ f. AreOf (λ s. s.turn + 1) k f.states.items
+        × RowTaken states.now state_passes.old.items state_passes.new.items f.states.items) }
+    ensures note { IfSome result (λ f. IfSome f.note (λ n. n.turn + 1 ≡ k) × IsTakeOf notes.now note_pass.new
+        × (take_first note_pass.new ≡ take_first note_pass.old)
+        × (taken note_pass.new ≡ taken note_pass.old ++ option_items f.note)) }
     ensures none { IfNone result ((state_passes.new ≡ state_passes.old) × (note_pass.new ≡ note_pass.old)) }
 {
     if k == 0 {
@@ -92,9 +95,12 @@ fn put_end<R: Wait>(
     requires controls { CanPut next controls.now control_passes.old.items }
     requires word { IsSendOf words.now word_pass.old × (next_put word_pass.old ≡ next) }
     requires piece { IsSendOf pieces.now piece_pass.old × (next_put piece_pass.old ≡ served.old) }
-    ensures controls { RowPut controls.now control_passes.old.items control_passes.new.items (copies (length controls.now) (bare_control next true)) }
-    ensures word { IsSendOf words.now word_pass.new × (put_first word_pass.new ≡ put_first word_pass.old) × (put word_pass.new ≡ put word_pass.old ++ bare_word next true ∷ []) }
-    ensures piece { IsSendOf pieces.now piece_pass.new × (put_first piece_pass.new ≡ put_first piece_pass.old) × (put piece_pass.new ≡ put piece_pass.old ++ stop_piece k served.old ∷ []) }
+    ensures controls { RowPut controls.now control_passes.old.items control_passes.new.items
+        (copies (length controls.now) (bare_control next true)) }
+    ensures word { IsSendOf words.now word_pass.new × (put_first word_pass.new ≡ put_first word_pass.old)
+        × (put word_pass.new ≡ put word_pass.old ++ bare_word next true ∷ []) }
+    ensures piece { IsSendOf pieces.now piece_pass.new × (put_first piece_pass.new ≡ put_first piece_pass.old)
+        × (put piece_pass.new ≡ put piece_pass.old ++ stop_piece k served.old ∷ []) }
     ensures served { next_put piece_pass.new ≡ served.new }
 {
     put_bare(rt, alloc, next, true, controls, control_passes);
@@ -127,7 +133,8 @@ fn say<R: Wait>(
     requires numbers { AreOf (λ c. c.turn) k made.items × (word.turn ≡ k) }
     requires controls { CanPut next.old controls.now control_passes.old.items }
     requires word { IsSendOf words.now word_pass.old × (next_put word_pass.old ≡ next.old) }
-    ensures said { HasSaid words.now controls.now k word made.items next.old next.new word_pass.old word_pass.new control_passes.old.items control_passes.new.items }
+    ensures said { HasSaid words.now controls.now k word made.items next.old next.new word_pass.old word_pass.new
+        control_passes.old.items control_passes.new.items }
 {
     if *next <= k {
         put_each(rt, k, controls, control_passes, made);
@@ -150,7 +157,9 @@ fn lead<R: Wait>(
     requires boards { vec_len control_passes.old ≡ length controls.now }
     requires controls { CanPut next.old controls.now control_passes.old.items }
     requires word { IsSendOf words.now word_pass.old × (next_put word_pass.old ≡ next.old) }
-    ensures led { (n : ℕ) × (next.new ≡ next.old + n) × HasLed words.now controls.now next.old n word_pass.old word_pass.new control_passes.old.items control_passes.new.items }
+    ensures led { (n : ℕ) × (next.new ≡ next.old + n)
+        × HasLed words.now controls.now next.old n word_pass.old word_pass.new control_passes.old.items
+        control_passes.new.items }
     ensures to { ((next.new ≡ next.old) × (to ≤ next.old)) ⊎ (next.new ≡ to) }
 {
     let from = *next;
@@ -179,8 +188,8 @@ fn ahead(k: u64, next: u64, most: u64) -> u64
     most.min(u64::MAX - (k + 1))
 }
 
-// Takes what there is from the turn before, and puts what the machine orders in turn k, and what it will order in so many
-// turns more. The end, where there is one.
+// Takes what there is from the turn before, and puts what the machine orders in turn k, and what it will
+// order in so many turns more. The end, where there is one.
 fn order<R: Wait, A: ReactorMachine, O: Outside>(
     rt: &R,
     alloc: Global,
@@ -196,9 +205,12 @@ fn order<R: Wait, A: ReactorMachine, O: Outside>(
     hand: &mut ReactorDone<A, O>,
 ) -> Option<Cause>
     requires limit { k + 1 < 2 ^ 64 }
-    requires at { IsReactorAt A.ReactorMachine O.Outside words.now notes.now asks.now pieces.now controls.now states.now k start.now.value hand.old }
-    ensures on { IfNone result (IsServing A.ReactorMachine O.Outside words.now notes.now asks.now pieces.now controls.now states.now k start.now.value hand.new) }
-    ensures end { IfSome result (λ c. IsReactorDone A.ReactorMachine O.Outside words.now notes.now asks.now pieces.now controls.now states.now c start.now.value hand.new) }
+    requires at { IsReactorAt A.ReactorMachine O.Outside words.now notes.now asks.now pieces.now controls.now states.now
+        k start.now.value hand.old }
+    ensures on { IfNone result (IsServing A.ReactorMachine O.Outside words.now notes.now asks.now pieces.now
+        controls.now states.now k start.now.value hand.new) }
+    ensures end { IfSome result (λ c. IsReactorDone A.ReactorMachine O.Outside words.now notes.now asks.now pieces.now
+        controls.now states.now c start.now.value hand.new) }
 {
     let found = find(
         rt,
@@ -302,8 +314,10 @@ fn ask<R: Wait, A: ReactorMachine, O: Outside>(
     requires found { IsRow (A.boards head.old.machine) k found.states.items found.note }
     requires states { AreOf (λ s. s.turn + 1) k found.states.items }
     requires note { IfSome found.note (λ n. n.turn + 1 ≡ k) }
-    ensures asked { IfSome result (λ r. A.turns head.old.machine k found.states.items found.note r.0.controls.items r.0.word r.0.lines r.0.end head.new.machine) }
-    ensures controls { IfSome result (λ r. (vec_len r.0.controls ≡ A.boards head.old.machine) × AreOf (λ c. c.turn) k r.0.controls.items) }
+    ensures asked { IfSome result (λ r. A.turns head.old.machine k found.states.items found.note r.0.controls.items
+        r.0.word r.0.lines r.0.end head.new.machine) }
+    ensures controls { IfSome result
+        (λ r. (vec_len r.0.controls ≡ A.boards head.old.machine) × AreOf (λ c. c.turn) k r.0.controls.items) }
     ensures word { IfSome result (λ r. r.0.word.turn ≡ k) }
     ensures memory { IfSome result (λ r. r.0.end ≢ Some Cause.Memory) }
     ensures room { IfSome result (λ r. (vec_len r.1 ≡ 0) × (boards ≤ vec_capacity r.1)) }
@@ -316,8 +330,8 @@ fn ask<R: Wait, A: ReactorMachine, O: Outside>(
     Some((ordered, room))
 }
 
-/// On one thread: what the machine orders in turn k over what was found. The controls and the word come back with room for
-/// the states, and nothing is put ahead. The end, where there is one.
+/// On one thread: what the machine orders in turn k over what was found. The controls and the word come back
+/// with room for the states, and nothing is put ahead. The end, where there is one.
 pub fn order_here<R: Wait, A: ReactorMachine, O: Outside>(
     rt: &R,
     alloc: Global,
@@ -333,10 +347,13 @@ pub fn order_here<R: Wait, A: ReactorMachine, O: Outside>(
     hand: &mut ReactorDone<A, O>,
 ) -> Result<(Vec<Control>, WordMsg, Vec<State>), Cause>
     requires limit { k + 1 < 2 ^ 64 }
-    requires found { IsFound A.ReactorMachine O.Outside words.now notes.now asks.now pieces.now controls.now states.now k start.now.value found hand.old }
-    ensures on { IfOk result (λ r. OwesWord A.ReactorMachine O.Outside words.now notes.now asks.now pieces.now controls.now states.now k start.now.value r.0.items r.1 hand.new) }
+    requires found { IsFound A.ReactorMachine O.Outside words.now notes.now asks.now pieces.now controls.now states.now
+        k start.now.value found hand.old }
+    ensures on { IfOk result (λ r. OwesWord A.ReactorMachine O.Outside words.now notes.now asks.now pieces.now
+        controls.now states.now k start.now.value r.0.items r.1 hand.new) }
     ensures room { IfOk result (λ r. (vec_len r.2 ≡ 0) × (length states.now ≤ vec_capacity r.2)) }
-    ensures end { IfErr result (λ c. IsReactorDone A.ReactorMachine O.Outside words.now notes.now asks.now pieces.now controls.now states.now c start.now.value hand.new) }
+    ensures end { IfErr result (λ c. IsReactorDone A.ReactorMachine O.Outside words.now notes.now asks.now pieces.now
+        controls.now states.now c start.now.value hand.new) }
 {
     let asked = ask(rt, alloc, k, states.len(), &mut hand.head, found);
     let Some((ordered, room)) = asked else {
@@ -397,8 +414,10 @@ fn serve<R: Wait, A: ReactorMachine, O: Outside>(
     states: &[Lane<State>],
     hand: &mut ReactorDone<A, O>,
 )
-    requires { IsServing A.ReactorMachine O.Outside words.now notes.now asks.now pieces.now controls.now states.now k start.now.value hand.old }
-    ensures { IsReactorAt A.ReactorMachine O.Outside words.now notes.now asks.now pieces.now controls.now states.now (k + 1) start.now.value hand.new }
+    requires { IsServing A.ReactorMachine O.Outside words.now notes.now asks.now pieces.now controls.now states.now k
+        start.now.value hand.old }
+    ensures { IsReactorAt A.ReactorMachine O.Outside words.now notes.now asks.now pieces.now controls.now states.now
+        (k + 1) start.now.value hand.new }
 {
     for _ in rt.forever() {
         if hand.head.stopped || hand.closed || k < hand.sated {
@@ -425,7 +444,8 @@ pub fn put_piece<R: Wait>(
 )
     requires pass { IsSendOf pieces.now pass.old × (next_put pass.old ≡ count.old) }
     requires number { piece.number ≡ count.old }
-    ensures pass { IsSendOf pieces.now pass.new × (put_first pass.new ≡ put_first pass.old) × (put pass.new ≡ put pass.old ++ piece ∷ []) }
+    ensures pass { IsSendOf pieces.now pass.new × (put_first pass.new ≡ put_first pass.old)
+        × (put pass.new ≡ put pass.old ++ piece ∷ []) }
     ensures count { next_put pass.new ≡ count.new }
 {
     // No count passes the last number.
@@ -456,9 +476,12 @@ pub fn reactor_turn<R: Wait, G: Gate, A: ReactorMachine, O: Outside>(
     hand: &mut ReactorDone<A, O>,
 ) -> Option<Cause>
     requires limit { k + 1 < 2 ^ 64 }
-    requires at { IsReactorAt A.ReactorMachine O.Outside words.now notes.now asks.now pieces.now controls.now states.now k start.now.value hand.old }
-    ensures on { IfNone result (IsReactorAt A.ReactorMachine O.Outside words.now notes.now asks.now pieces.now controls.now states.now (k + 1) start.now.value hand.new) }
-    ensures end { IfSome result (λ c. IsReactorDone A.ReactorMachine O.Outside words.now notes.now asks.now pieces.now controls.now states.now c start.now.value hand.new) }
+    requires at { IsReactorAt A.ReactorMachine O.Outside words.now notes.now asks.now pieces.now controls.now states.now
+        k start.now.value hand.old }
+    ensures on { IfNone result (IsReactorAt A.ReactorMachine O.Outside words.now notes.now asks.now pieces.now
+        controls.now states.now (k + 1) start.now.value hand.new) }
+    ensures end { IfSome result (λ c. IsReactorDone A.ReactorMachine O.Outside words.now notes.now asks.now pieces.now
+        controls.now states.now c start.now.value hand.new) }
 {
     gate.pass(Who::Reactor, k);
     let end = order(
@@ -487,8 +510,10 @@ pub fn reactor_worker<R: Wait, G: Gate, A: ReactorMachine, O: Outside>(
     states: &[Lane<State>],
     hand: ReactorDone<A, O>,
 ) -> (ReactorDone<A, O>, Cause)
-    requires { IsReactorAt A.ReactorMachine O.Outside words.now notes.now asks.now pieces.now controls.now states.now 0 start.now.value hand }
-    ensures { IsReactorDone A.ReactorMachine O.Outside words.now notes.now asks.now pieces.now controls.now states.now result.1 start.now.value result.0 }
+    requires { IsReactorAt A.ReactorMachine O.Outside words.now notes.now asks.now pieces.now controls.now states.now 0
+        start.now.value hand }
+    ensures { IsReactorDone A.ReactorMachine O.Outside words.now notes.now asks.now pieces.now controls.now states.now
+        result.1 start.now.value result.0 }
 {
     let mut hand = hand;
     for k in 0..u64::MAX {

@@ -65,8 +65,9 @@ impl<M: MotionMachine> Seat<M> {
         }
     }
 
-    /// Before the batches of turn k, where more words are needed for them: the first turn of the reactor in which a piece of
-    /// the file may be asked for. A turn that takes one has heard the word of 64 turns before.
+    /// Before the batches of turn k, where more words are needed for them: the first turn of the reactor in
+    /// which a piece of the file may be asked for. A turn that takes one has heard the word of 64 turns
+    /// before.
     pub fn sated(&self, k: u64) -> u64 {
         if self.halted || self.quiet {
             return u64::MAX;
@@ -96,10 +97,14 @@ impl<M: MotionMachine> Seat<M> {
     /// The batches of turn k and its note; none where the machine is asked no more.
     pub fn turn<R: Wait>(&mut self, rt: &R, k: u64) -> Option<Made>
         requires fed { hungers M.hungry k self.old ≡ false }
-        ensures made { IfSome result (λ m. (n : ℕ) → M.boards self.old.machine ≡ n → MakeStep n M.turns k self.old m.batches.items m.note self.new) }
-        ensures batches { IfSome result (λ m. (vec_len m.batches ≡ M.boards self.old.machine) × AreOf (λ b. b.turn) k m.batches.items) }
+        ensures made { IfSome result (λ m.
+            (n : ℕ) → M.boards self.old.machine ≡ n → MakeStep n M.turns k self.old m.batches.items m.note self.new) }
+        ensures batches { IfSome result
+            (λ m. (vec_len m.batches ≡ M.boards self.old.machine) × AreOf (λ b. b.turn) k m.batches.items) }
         ensures note { IfSome result (λ m. m.note.turn ≡ k) }
-        ensures none { IfNone result ((n : ℕ) → MakeStep n M.turns k self.old (copies n (bare_batch k self.new.halted)) (bare_note k self.new.out) self.new) }
+        ensures none { IfNone result ((n : ℕ) →
+            MakeStep n M.turns k self.old (copies n (bare_batch k self.new.halted)) (bare_note k self.new.out)
+            self.new) }
         ensures boards { M.boards self.new.machine ≡ M.boards self.old.machine }
     {
         if self.halted {
@@ -123,7 +128,8 @@ impl<M: MotionMachine> Seat<M> {
         None
     }
 
-    /// Takes the next piece of the file. One that says that nothing comes is of the turn of the last word that was heard.
+    /// Takes the next piece of the file. One that says that nothing comes is of the turn of the last word
+    /// that was heard.
     pub fn piece(&mut self, piece: Piece)
         requires on { self.old.quiet ≡ false }
         ensures step { PieceStep M.reads self.old piece self.new }

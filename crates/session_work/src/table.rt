@@ -19,8 +19,8 @@ pub struct MotionTurn {
     pub note: Note,
 }
 
-/// A turn of the reactor: the states, one of each board, and the note that it took, what it put and wrote, and the pieces
-/// that it read behind them.
+/// A turn of the reactor: the states, one of each board, and the note that it took, what it put and wrote,
+/// and the pieces that it read behind them.
 pub struct ReactorTurn {
     pub states: LinkedList<State>,
     pub note: Option<Note>,

@@ -30,7 +30,8 @@ lasts_from x s (r ∷ rs) = (if r.unit.stepper == s then one_from x r.unit.last 
 
 -- the rings hold the last ticks of the units that are released and not over in a turn
 pub record AreRings (clocks : Clocks) (next : ℕ) (rings : List Ring) (before : List Release) : Type 0 where
-  pub held : (s x : ℕ) (d : Ring) → s < length rings → made_before clocks next ≤ x → count_from x (slice_index_or rings s d).ends.items ≡ lasts_from x s before
+  pub held : (s x : ℕ) (d : Ring) → s < length rings → made_before clocks next ≤ x →
+      count_from x (slice_index_or rings s d).ends.items ≡ lasts_from x s before
   pub others : (s x : ℕ) → length rings ≤ s → made_before clocks next ≤ x → lasts_from x s before ≡ 0
 
 -- there is no room for the first of some units before a turn
@@ -43,8 +44,10 @@ abbrev pub IsStuck : Clocks → ℕ → ℕ → List Release → List StepUnit �
 IsStuck clocks slots next before [] = Unit {0}
 IsStuck clocks slots next before (u ∷ us) = HasRoom clocks slots before u next → ⊥
 
--- Of the units that were pushed, the first ones were released, up to a turn, of whose bytes some are used; the others wait.
-pub record IsFed (clocks : Clocks) (slots next used : ℕ) (rings : List Ring) (waiting : List StepUnit) (from : ℕ) (pushed : List StepUnit) (released : List Release) : Type 0 where
+-- Of the units that were pushed, the first ones were released, up to a turn, of whose bytes some are used;
+-- the others wait.
+pub record IsFed (clocks : Clocks) (slots next used : ℕ) (rings : List Ring) (waiting : List StepUnit) (from : ℕ)
+    (pushed : List StepUnit) (released : List Release) : Type 0 where
   pub pushed_is : pushed ≡ units_of released ++ waiting
   pub paced : ArePaced clocks slots from [] released
   pub past : last_turn from released ≤ next
@@ -53,7 +56,8 @@ pub record IsFed (clocks : Clocks) (slots next used : ℕ) (rings : List Ring) (
   pub rings_are : AreRings clocks next rings (behind [] released)
   pub no_sooner : IsNoSooner clocks slots next (last_turn from released) (behind [] released) waiting
 
--- the first turn, from one on, that has room for some bytes, where so many are used in the turn next and none in a later one
+-- the first turn, from one on, that has room for some bytes, where so many are used in the turn next and none
+-- in a later one
 pub record IsFitting (next turn used bytes found rest : ℕ) : Type 0 where
   pub after : turn ≤ found
   pub same : found ≡ next → rest ≡ used

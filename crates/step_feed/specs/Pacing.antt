@@ -37,7 +37,8 @@ one_pending clocks k last = if nat_lt k (over_turn clocks last) then 1 else 0
 -- how many units of a stepper are released and not yet over in a turn
 abbrev pub pending : Clocks → ℕ → ℕ → List Release → ℕ
 pending clocks s k [] = 0
-pending clocks s k (r ∷ rs) = (if r.unit.stepper == s then one_pending clocks k r.unit.last else 0) + pending clocks s k rs
+pending clocks s k (r ∷ rs) =
+    (if r.unit.stepper == s then one_pending clocks k r.unit.last else 0) + pending clocks s k rs
 
 -- in a turn there is room for a unit behind others
 pub record HasRoom (clocks : Clocks) (slots : ℕ) (before : List Release) (u : StepUnit) (k : ℕ) : Type 0 where
@@ -54,7 +55,8 @@ pub record IsReleased (clocks : Clocks) (slots from : ℕ) (before : List Releas
 -- the releases of units from a turn on, behind others, of which the last stands first
 abbrev pub ArePaced : Clocks → ℕ → ℕ → List Release → List Release → Type 0
 ArePaced clocks slots from before [] = Unit {0}
-ArePaced clocks slots from before (r ∷ rs) = IsReleased clocks slots from before r × ArePaced clocks slots r.turn (r ∷ before) rs
+ArePaced clocks slots from before (r ∷ rs) =
+    IsReleased clocks slots from before r × ArePaced clocks slots r.turn (r ∷ before) rs
 
 -- the units of some releases
 abbrev pub units_of : List Release → List StepUnit

@@ -10,7 +10,8 @@ use Rattle.step_feed.specs.Fed.{IsFed}
 
 -- of the bytes of a stream's next turn so many are used
 abbrev pub IsFedBy : FeedStream → Clocks → ℕ → List StepUnit → List Release → Type 0
-IsFedBy s clocks used pushed released = IsFed clocks s.slots s.next used s.rings.items s.waiting.items s.first pushed released
+IsFedBy s clocks used pushed released =
+    IsFed clocks s.slots s.next used s.rings.items s.waiting.items s.first pushed released
 
 -- a stream to which these units were pushed, and which has released these before its next turn
 abbrev pub IsFedOf : FeedStream → Clocks → List StepUnit → List Release → Type 0

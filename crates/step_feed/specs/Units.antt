@@ -10,7 +10,9 @@ StepUnit = Unit
 
 -- `queue_step` with its four parameters; the identifiers of the boards' own dictionary take one byte
 unfoldable pub queue_bytes : StepUnit → ℕ
-queue_bytes u = 1 + byte_count u.stepper + byte_count u.triple.interval + byte_count u.triple.count + byte_count (cast_unsigned w32 u.triple.add)
+queue_bytes u =
+    1 + byte_count u.stepper + byte_count u.triple.interval + byte_count u.triple.count
+    + byte_count (cast_unsigned w32 u.triple.add)
 
 -- `set_next_step_dir`, where the direction is told
 abbrev pub dir_bytes : ℕ → Option Bool → ℕ

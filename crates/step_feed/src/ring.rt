@@ -112,7 +112,8 @@ impl Ring {
         requires lines_soon { last_from lines.now.first.at lines.now.held < 2 ^ 62 * turn_ns }
         requires small { last < tick_limit }
         requires room { not_over lines.now turn self.old.ends.items < self.old.slots }
-        ensures counts { (x : ℕ) → made_before lines.now turn ≤ x → count_from x self.new.ends.items ≡ one_from x last + count_from x self.old.ends.items }
+        ensures counts { (x : ℕ) → made_before lines.now turn ≤ x →
+            count_from x self.new.ends.items ≡ one_from x last + count_from x self.old.ends.items }
         ensures slots { self.new.slots ≡ self.old.slots }
     {
         lines.is_kept();

@@ -32,8 +32,12 @@ fn add_to(rings: &mut Vec<Ring>, stepper: usize, lines: &Lines, last: u64, turn:
     requires lines_soon { last_from lines.now.first.at lines.now.held < 2 ^ 62 * turn_ns }
     requires known { stepper < length rings.old.items }
     requires small { last < tick_limit }
-    requires room { (d : Ring) → not_over lines.now turn (slice_index_or rings.old.items stepper d).ends.items < (slice_index_or rings.old.items stepper d).slots }
-    ensures counts { (s x : ℕ) (d : Ring) → s < length rings.old.items → made_before lines.now turn ≤ x → count_from x (slice_index_or rings.new.items s d).ends.items ≡ (if stepper == s then one_from x last else 0) + count_from x (slice_index_or rings.old.items s d).ends.items }
+    requires room { (d : Ring) →
+        not_over lines.now turn (slice_index_or rings.old.items stepper d).ends.items
+        < (slice_index_or rings.old.items stepper d).slots }
+    ensures counts { (s x : ℕ) (d : Ring) → s < length rings.old.items → made_before lines.now turn ≤ x →
+        count_from x (slice_index_or rings.new.items s d).ends.items
+        ≡ (if stepper == s then one_from x last else 0) + count_from x (slice_index_or rings.old.items s d).ends.items }
     ensures len { length rings.new.items ≡ length rings.old.items }
     ensures slots { (n : ℕ) → All (λ r. r.slots ≡ n) rings.old.items → All (λ r. r.slots ≡ n) rings.new.items }
 {
@@ -154,7 +158,8 @@ impl FeedStream {
 
     /// Makes rings for a stepper and those before it.
     fn make_rings(&mut self, stepper: usize) -> Result<(), OutOfMemory>
-        ensures fed { (clocks : Clocks) → (pushed : List StepUnit) → (released : List Release) → (used : ℕ) → IsFedBy self.old clocks used pushed released → IsFedBy self.new clocks used pushed released }
+        ensures fed { (clocks : Clocks) → (pushed : List StepUnit) → (released : List Release) → (used : ℕ) →
+            IsFedBy self.old clocks used pushed released → IsFedBy self.new clocks used pushed released }
         ensures known { OnOk result (stepper < length self.new.rings.items) }
         ensures waiting { self.new.waiting.items ≡ self.old.waiting.items }
         ensures next { next_turn self.new ≡ next_turn self.old }
@@ -169,8 +174,10 @@ impl FeedStream {
         requires small { unit.last < tick_limit }
         requires due_small { unit.due < turn_limit }
         requires in_time { (next_turn self.old ≤ first_turn self.old) ⊎ (next_turn self.old + lead ≤ unit.due) }
-        ensures pushed { OnOk result ((clocks : Clocks) → (pushed : List StepUnit) → (released : List Release) → IsFedOf self.old clocks pushed released → IsFedOf self.new clocks (pushed ++ unit ∷ []) released) }
-        ensures unchanged { OnErr result ((clocks : Clocks) → (pushed : List StepUnit) → (released : List Release) → IsFedOf self.old clocks pushed released → IsFedOf self.new clocks pushed released) }
+        ensures pushed { OnOk result ((clocks : Clocks) → (pushed : List StepUnit) → (released : List Release) →
+            IsFedOf self.old clocks pushed released → IsFedOf self.new clocks (pushed ++ unit ∷ []) released) }
+        ensures unchanged { OnErr result ((clocks : Clocks) → (pushed : List StepUnit) → (released : List Release) →
+            IsFedOf self.old clocks pushed released → IsFedOf self.new clocks pushed released) }
         ensures next { next_turn self.new ≡ next_turn self.old }
         ensures first { first_turn self.new ≡ first_turn self.old }
         ensures slots { slots_of self.new ≡ slots_of self.old }
@@ -180,8 +187,8 @@ impl FeedStream {
         Ok(())
     }
 
-    /// Whether a unit that is due in a turn comes in time: the first turn wasn't given yet, or the unit is due 250 turns
-    /// after the next one or later.
+    /// Whether a unit that is due in a turn comes in time: the first turn wasn't given yet, or the unit is
+    /// due 250 turns after the next one or later.
     pub fn takes(&self, due: u64) -> bool
         ensures { IsTrue result ↔ (next_turn self.now ≤ first_turn self.now) ⊎ (next_turn self.now + lead ≤ due) }
     {
@@ -200,9 +207,13 @@ impl FeedStream {
         requires lines_soon { last_from lines.now.first.at lines.now.held < 2 ^ 62 * turn_ns }
         requires used { used ≤ turn_bytes }
         requires known { unit.now.stepper < length self.now.rings.items }
-        ensures room { (pushed : List StepUnit) → (released : List Release) → IsFedBy self.now lines.now used pushed released → (IsTrue result ↔ HasRoom lines.now self.now.slots (behind [] released) unit.now (next_turn self.now)) }
+        ensures room { (pushed : List StepUnit) → (released : List Release) →
+            IsFedBy self.now lines.now used pushed released →
+            (IsTrue result ↔ HasRoom lines.now self.now.slots (behind [] released) unit.now (next_turn self.now)) }
         ensures bytes { IsTrue result → used + unit_bytes unit.now ≤ turn_bytes }
-        ensures slot { IsTrue result → (d : Ring) → not_over lines.now (next_turn self.now) (slice_index_or self.now.rings.items unit.now.stepper d).ends.items < (slice_index_or self.now.rings.items unit.now.stepper d).slots }
+        ensures slot { IsTrue result → (d : Ring) →
+            not_over lines.now (next_turn self.now) (slice_index_or self.now.rings.items unit.now.stepper d).ends.items
+            < (slice_index_or self.now.rings.items unit.now.stepper d).slots }
     {
         if unit.due > self.next.saturating_add(LEAD) {
             return false;
@@ -218,8 +229,13 @@ impl FeedStream {
     fn release(&mut self, lines: &Lines, used: u64) -> Option<Unit>
         requires lines_soon { last_from lines.now.first.at lines.now.held < 2 ^ 62 * turn_ns }
         requires used { used ≤ turn_bytes }
-        ensures fed { IfSome result (λ u. (pushed : List StepUnit) → (released : List Release) → IsFedBy self.old lines.now used pushed released → IsFedBy self.new lines.now (used + unit_bytes u) pushed (released ++ record { unit = u; turn = next_turn self.old } ∷ [])) }
-        ensures stuck { IfNone result ((pushed : List StepUnit) → (released : List Release) → IsFedBy self.old lines.now used pushed released → IsStuck lines.now self.old.slots (next_turn self.old) (behind [] released) self.old.waiting.items) }
+        ensures fed { IfSome result (λ u. (pushed : List StepUnit) → (released : List Release) →
+            IsFedBy self.old lines.now used pushed released →
+            IsFedBy self.new lines.now (used + unit_bytes u) pushed
+            (released ++ record { unit = u; turn = next_turn self.old } ∷ [])) }
+        ensures stuck { IfNone result ((pushed : List StepUnit) → (released : List Release) →
+            IsFedBy self.old lines.now used pushed released →
+            IsStuck lines.now self.old.slots (next_turn self.old) (behind [] released) self.old.waiting.items) }
         ensures unchanged { IfNone result (self.new ≡ self.old) }
         ensures bytes { IfSome result (λ u. used + unit_bytes u ≤ turn_bytes) }
         ensures fewer { IsSome result → length self.new.waiting.items + 1 ≡ length self.old.waiting.items }
@@ -258,7 +274,9 @@ impl FeedStream {
         requires lines_soon { last_from lines.now.first.at lines.now.held < 2 ^ 62 * turn_ns }
         requires turn { turn ≡ next_turn self.old }
         requires turn_small { turn < turn_limit }
-        ensures taken { IfOk result (λ units. (pushed : List StepUnit) → (released : List Release) → IsFedOf self.old lines.now pushed released → IsFedOf self.new lines.now pushed (released ++ at_turn turn units.items)) }
+        ensures taken { IfOk result (λ units. (pushed : List StepUnit) → (released : List Release) →
+            IsFedOf self.old lines.now pushed released →
+            IsFedOf self.new lines.now pushed (released ++ at_turn turn units.items)) }
         ensures next { OnOk result (next_turn self.new ≡ turn + 1) }
         ensures first { first_turn self.new ≡ first_turn self.old }
         ensures slots { slots_of self.new ≡ slots_of self.old }
@@ -288,7 +306,11 @@ impl FeedStream {
         requires used { used ≤ turn_bytes }
         requires none { self.old.waiting.items ≡ [] }
         requires next_small { next_turn self.old + 1 < 2 ^ 64 }
-        ensures placed { IfOk result (λ bytes. (pushed : List StepUnit) → (released : List Release) → next_turn self.old ≤ last_turn (first_turn self.old) released → IsFedBy self.old lines.now used pushed released → IsFedBy self.new lines.now bytes (pushed ++ unit.now ∷ []) (released ++ record { unit = unit.now; turn = next_turn self.new } ∷ [])) }
+        ensures placed { IfOk result (λ bytes. (pushed : List StepUnit) → (released : List Release) →
+            next_turn self.old ≤ last_turn (first_turn self.old) released →
+            IsFedBy self.old lines.now used pushed released →
+            IsFedBy self.new lines.now bytes (pushed ++ unit.now ∷ [])
+            (released ++ record { unit = unit.now; turn = next_turn self.new } ∷ [])) }
         ensures bytes { IfOk result (λ bytes. bytes ≤ turn_bytes) }
         ensures none_waits { OnOk result (self.new.waiting.items ≡ []) }
         ensures next { OnOk result ((next_turn self.new ≤ next_turn self.old + 1) ⊎ (next_turn self.new < turn_limit)) }

@@ -72,7 +72,8 @@ impl Batches {
 
     /// Whether all units are released before a turn.
     pub fn is_over(&self, turn: u64) -> bool
-        ensures { result ≡ true → (k : ℕ) → turn ≤ k → batch_at k (releases self.now.units.items self.now.turns.items) ≡ [] }
+        ensures { result ≡ true → (k : ℕ) → turn ≤ k →
+            batch_at k (releases self.now.units.items self.now.turns.items) ≡ [] }
     {
         let before = count_before(&self.turns, turn);
         if before < self.turns.len() {

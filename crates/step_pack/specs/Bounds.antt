@@ -15,8 +15,10 @@ triangle k = k * (k + 1) / 2
 pub record Meets (behind : ℕ) (windows : List Window) (lows highs nears bend interval : ℕ) : Type 0 where
   pub some : 0 < interval
   pub small : interval < 2 ^ 32
-  pub not_early : (k : ℕ) → k < lows → (window_at windows k).low + 1024 * triangle k ≤ behind + (k + 1) * interval + bend * triangle k
-  pub not_late : (k : ℕ) → k < highs → behind + (k + 1) * interval + bend * triangle k ≤ (window_at windows k).high + 1024 * triangle k
+  pub not_early : (k : ℕ) → k < lows →
+      (window_at windows k).low + 1024 * triangle k ≤ behind + (k + 1) * interval + bend * triangle k
+  pub not_late : (k : ℕ) → k < highs →
+      behind + (k + 1) * interval + bend * triangle k ≤ (window_at windows k).high + 1024 * triangle k
   pub near : (k : ℕ) → k < nears → interval + bend * k < 2 ^ 32 + 1024 * k
 
 -- the intervals that meet so much with a bend, and for each side a step that bounds those of all bends
@@ -26,11 +28,14 @@ pub record AreBounds (behind : ℕ) (windows : List Window) (lows highs nears be
   pub small : b.greatest < 2 ^ 32
   pub least : (interval : ℕ) → Meets behind windows lows highs nears bend interval → b.least ≤ interval
   pub greatest : (interval : ℕ) → Meets behind windows lows highs nears bend interval → interval ≤ b.greatest
-  pub all : (interval : ℕ) → b.least ≤ interval → interval ≤ b.greatest → Meets behind windows lows highs nears bend interval
+  pub all : (interval : ℕ) → b.least ≤ interval → interval ≤ b.greatest →
+      Meets behind windows lows highs nears bend interval
   pub low_place : b.low_place ≤ lows - 1
-  pub low_line : (other interval : ℕ) → Meets behind windows lows highs nears other interval → b.low_at + bend * triangle b.low_place ≤ (b.low_place + 1) * interval + other * triangle b.low_place
+  pub low_line : (other interval : ℕ) → Meets behind windows lows highs nears other interval →
+      b.low_at + bend * triangle b.low_place ≤ (b.low_place + 1) * interval + other * triangle b.low_place
   pub high_place : b.high_place ≤ highs - 1
-  pub high_line : (other interval : ℕ) → Meets behind windows lows highs nears other interval → (b.high_place + 1) * interval + other * triangle b.high_place ≤ b.high_at + bend * triangle b.high_place
+  pub high_line : (other interval : ℕ) → Meets behind windows lows highs nears other interval →
+      (b.high_place + 1) * interval + other * triangle b.high_place ≤ b.high_at + bend * triangle b.high_place
 
 -- what is known of a bend is known of the other as well
 abbrev pub Rules : Verdict → ℕ → ℕ → Type 0

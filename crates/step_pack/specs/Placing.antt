@@ -8,7 +8,8 @@ use Rattle.step_pack.specs.declared.Placed.{Placed}
 abbrev pub PacksPlaced : ℕ → List Window → List Placed → Type 0
 PacksPlaced behind windows [] = windows ≡ []
 PacksPlaced behind windows (p ∷ placed) =
-    Covers behind p.first p.triple.interval p.triple.count p.triple.add windows × (p.last ≡ last_tick p.first p.triple) × IsLongest behind windows p.triple.count × PacksPlaced p.last (drop p.triple.count windows) placed
+    Covers behind p.first p.triple.interval p.triple.count p.triple.add windows × (p.last ≡ last_tick p.first p.triple)
+    × IsLongest behind windows p.triple.count × PacksPlaced p.last (drop p.triple.count windows) placed
 
 -- the ticks of all triples, behind the first one of each
 abbrev pub placed_ticks : List Placed → List ℕ

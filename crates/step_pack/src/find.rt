@@ -26,8 +26,8 @@ fn all_intervals(behind: u64, windows: &[Window], bend: u64) -> Bounds
     }
 }
 
-/// What stops all triples at a step where one add is stopped there: with any add, where none can have a tick in the step's
-/// window. So it is with most pieces' last steps, whose windows are one tick.
+/// What stops all triples at a step where one add is stopped there: with any add, where none can have a tick
+/// in the step's window. So it is with most pieces' last steps, whose windows are one tick.
 #[inline]
 fn settled(verdict: Verdict, behind: u64, windows: &[Window], place: usize, bend: u64) -> Verdict
     requires place { place < length windows.now }

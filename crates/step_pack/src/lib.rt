@@ -34,8 +34,8 @@ struct Bounds {
     high_at: u64,
 }
 
-/// With which adds no triple covers more steps: all; this one, so many less and all greater ones; this one, so many more
-/// and all smaller ones; or this one.
+/// With which adds no triple covers more steps: all; this one, so many less and all greater ones; this one,
+/// so many more and all smaller ones; or this one.
 #[derive(Clone, Copy, PartialEq, Eq)]
 enum Verdict {
     Whole,
@@ -82,9 +82,9 @@ pub fn are_spaced(last: u64, steps: &[Planned]) -> bool
     true
 }
 
-/// The triples of planned steps behind the tick `last`. Each step is at most `max_error` ticks and half of the gap before
-/// it early and never late, the last one is at its planned tick, and each triple covers as many steps as one can there.
-/// Intervals are kept modulo 2^32. Nothing but want of memory is an error.
+/// The triples of planned steps behind the tick `last`. Each step is at most `max_error` ticks and half of
+/// the gap before it early and never late, the last one is at its planned tick, and each triple covers as
+/// many steps as one can there. Intervals are kept modulo 2^32. Nothing but want of memory is an error.
 pub fn pack(
     alloc: Global,
     last: u64,
@@ -164,9 +164,11 @@ fn windows_of(
 fn first_triple(behind: u64, windows: &[Window]) -> Placed
     requires some { 0 < length windows.now }
     requires run_on { RunOn behind windows.now }
-    ensures covers { Covers behind result.first result.triple.interval result.triple.count result.triple.add windows.now }
+    ensures covers { Covers behind result.first result.triple.interval result.triple.count result.triple.add
+        windows.now }
     ensures longest { IsLongest behind windows.now result.triple.count }
-    ensures last { result.last ≡ tick_at result.first result.triple.interval result.triple.add (result.triple.count - 1) }
+    ensures last { result.last
+        ≡ tick_at result.first result.triple.interval result.triple.add (result.triple.count - 1) }
 {
     let none = Reach {
         count: 0,
@@ -217,25 +219,34 @@ fn triple_of(reach: Reach) -> Triple
 /// The law of packings: triples that pack windows have an expansion with one tick in each of them, and none goes over
 /// a change of direction.
 pub fn packings_expand()
-    ensures expansion { (behind : ℕ) (windows : List Window) (triples : List Triple) → RunOn behind windows → Packs behind windows triples → HasExpansion behind windows triples }
-    ensures directions { (behind : ℕ) (windows : List Window) (triples : List Triple) → Packs behind windows triples → KeepDirections windows triples }
+    ensures expansion { (behind : ℕ) (windows : List Window) (triples : List Triple) → RunOn behind windows →
+        Packs behind windows triples → HasExpansion behind windows triples }
+    ensures directions { (behind : ℕ) (windows : List Window) (triples : List Triple) → Packs behind windows triples →
+        KeepDirections windows triples }
 {}
 
 /// The law of placed triples: they are a packing, and the ticks that go with their first ones are an expansion of them
 /// with one tick in each window.
 pub fn placed_pack()
-    ensures packing { (behind : ℕ) (windows : List Window) (placed : List Placed) → PacksPlaced behind windows placed → Packs behind windows (map (λ p. p.triple) placed) }
-    ensures expansion { (behind : ℕ) (windows : List Window) (placed : List Placed) → RunOn behind windows → PacksPlaced behind windows placed → Expands behind (map (λ p. p.triple) placed) (placed_ticks placed) }
-    ensures windows { (behind : ℕ) (windows : List Window) (placed : List Placed) → PacksPlaced behind windows placed → AreInWindows (placed_ticks placed) windows }
+    ensures packing { (behind : ℕ) (windows : List Window) (placed : List Placed) → PacksPlaced behind windows placed →
+        Packs behind windows (map (λ p. p.triple) placed) }
+    ensures expansion { (behind : ℕ) (windows : List Window) (placed : List Placed) → RunOn behind windows →
+        PacksPlaced behind windows placed → Expands behind (map (λ p. p.triple) placed) (placed_ticks placed) }
+    ensures windows { (behind : ℕ) (windows : List Window) (placed : List Placed) → PacksPlaced behind windows placed →
+        AreInWindows (placed_ticks placed) windows }
 {}
 
 /// The law of expansions: ticks in the windows of some steps are one for each step, rise, end with the last planned
 /// tick, and as pulses with the steps' directions they fit the plan.
 pub fn ticks_fit()
-    ensures count { (e last : ℕ) (steps : List Planned) (ticks : List ℕ) → AreInWindows ticks (windows_of e last steps) → length ticks ≡ length steps }
-    ensures rise { (e last : ℕ) (steps : List Planned) (ticks : List ℕ) → AreSpaced last steps → AreInWindows ticks (windows_of e last steps) → TicksRise (last ∷ ticks) }
-    ensures last { (e last : ℕ) (steps : List Planned) (ticks : List ℕ) → AreInWindows ticks (windows_of e last steps) → last_of last ticks ≡ last_of last (map (λ s. s.tick) steps) }
-    ensures fits { (freq last : ℕ) (steps : List Planned) (pulses : List Pulse) → AreInWindows (map (λ p. p.tick) pulses) (windows_of (max_error freq) last steps) →
+    ensures count { (e last : ℕ) (steps : List Planned) (ticks : List ℕ) →
+        AreInWindows ticks (windows_of e last steps) → length ticks ≡ length steps }
+    ensures rise { (e last : ℕ) (steps : List Planned) (ticks : List ℕ) → AreSpaced last steps →
+        AreInWindows ticks (windows_of e last steps) → TicksRise (last ∷ ticks) }
+    ensures last { (e last : ℕ) (steps : List Planned) (ticks : List ℕ) → AreInWindows ticks (windows_of e last steps) →
+        last_of last ticks ≡ last_of last (map (λ s. s.tick) steps) }
+    ensures fits { (freq last : ℕ) (steps : List Planned) (pulses : List Pulse) →
+        AreInWindows (map (λ p. p.tick) pulses) (windows_of (max_error freq) last steps) →
         map (λ p. p.up) pulses ≡ map (λ s. s.up) steps → Fits freq last pulses steps }
 {}
 
@@ -243,25 +254,32 @@ pub fn ticks_fit()
 /// The triples of all pieces expand and keep the directions, and no triple that ends before the last step of its piece
 /// covers more steps than the one that is there.
 pub fn pieces_pack()
-    ensures expansion { (e last : ℕ) (steps more : List Planned) (triples others : List Triple) → HasExpansion last (windows_of e last steps) triples →
-        HasExpansion (last_of last (map (λ s. s.tick) steps)) (open_windows e (last_of last (map (λ s. s.tick) steps)) more) others →
+    ensures expansion { (e last : ℕ) (steps more : List Planned) (triples others : List Triple) →
+        HasExpansion last (windows_of e last steps) triples →
+        HasExpansion (last_of last (map (λ s. s.tick) steps))
+        (open_windows e (last_of last (map (λ s. s.tick) steps)) more) others →
         HasExpansion last (open_windows e last (steps ++ more)) (triples ++ others) }
-    ensures directions { (e last : ℕ) (steps more : List Planned) (triples others : List Triple) → Packs last (windows_of e last steps) triples →
-        KeepDirections (open_windows e (last_of last (map (λ s. s.tick) steps)) more) others → KeepDirections (open_windows e last (steps ++ more)) (triples ++ others) }
-    ensures longest { (e last : ℕ) (steps more : List Planned) (triples : List Triple) → Packs last (windows_of e last steps) triples →
+    ensures directions { (e last : ℕ) (steps more : List Planned) (triples others : List Triple) →
+        Packs last (windows_of e last steps) triples →
+        KeepDirections (open_windows e (last_of last (map (λ s. s.tick) steps)) more) others →
+        KeepDirections (open_windows e last (steps ++ more)) (triples ++ others) }
+    ensures longest { (e last : ℕ) (steps more : List Planned) (triples : List Triple) →
+        Packs last (windows_of e last steps) triples →
         PacksPiece last (open_windows e last (steps ++ more)) (length steps) triples }
 {}
 
 /// The law of windows: those of a packing, of which the last is narrowed, lie in those of the plan.
 pub fn windows_open()
-    ensures { (e last : ℕ) (steps : List Planned) (ticks : List ℕ) → AreInWindows ticks (windows_of e last steps) → AreInWindows ticks (open_windows e last steps) }
+    ensures { (e last : ℕ) (steps : List Planned) (ticks : List ℕ) → AreInWindows ticks (windows_of e last steps) →
+        AreInWindows ticks (open_windows e last steps) }
 {}
 
 /// The law of ticks: those of a triple that covers windows are the sums that a step queue makes, and rise.
 pub fn ticks_rise()
-    ensures { (behind first interval count : ℕ) (add : ℤ) (windows : List Window) → RunOn behind windows → Covers behind first interval count add windows →
-        (i : ℕ) → i < count → IsSum (tick_at first interval add i) (first + i * interval) add (i * (i + 1) / 2) ×
-        (i + 1 < count → tick_at first interval add i < tick_at first interval add (i + 1)) }
+    ensures { (behind first interval count : ℕ) (add : ℤ) (windows : List Window) → RunOn behind windows →
+        Covers behind first interval count add windows → (i : ℕ) → i < count →
+        IsSum (tick_at first interval add i) (first + i * interval) add (i * (i + 1) / 2)
+        × (i + 1 < count → tick_at first interval add i < tick_at first interval add (i + 1)) }
 {}
 
 /// The law of spaced steps: their windows are one behind the other.

@@ -173,15 +173,16 @@ fn near_before(
     })
 }
 
-/// Whether no triple has a tick in a step's window, whatever its interval and its add: how far the tick is from `behind` is
-/// a multiple of the step's number, from 1 on, or of half of it where that is even.
+/// Whether no triple has a tick in a step's window, whatever its interval and its add: how far the tick is
+/// from `behind` is a multiple of the step's number, from 1 on, or of half of it where that is even.
 #[inline]
 pub fn is_missed(behind: u64, windows: &[Window], place: usize) -> bool
     requires place { place < length windows.now }
     requires place_small { place < 65_535 }
     requires low { behind ≤ (window_at windows.now place).low }
     requires high { behind ≤ (window_at windows.now place).high }
-    ensures { IsTrue result → (bend : ℕ) → NoneMeets behind windows.now (place + 1) (place + 1) (place + 1) bend Verdict.Whole }
+    ensures { IsTrue result → (bend : ℕ) →
+        NoneMeets behind windows.now (place + 1) (place + 1) (place + 1) bend Verdict.Whole }
 {
     let number = place as u64 + 1;
     let unit = if number % 2 == 0 { number / 2 } else { number };

@@ -18,4 +18,5 @@ pub record IsDropped (reach : ℕ) (raw : List Planned) (next : ℕ) : Type 0 wh
 
 -- the step at a place does not cancel with the one behind it
 pub record IsKept (reach : ℕ) (raw : List Planned) (next : ℕ) : Type 0 where
-  pub keeps : next + 1 < length raw → cancel reach (slice_index_or raw next no_step) (slice_index_or raw (next + 1) no_step) ≡ false
+  pub keeps : next + 1 < length raw →
+      cancel reach (slice_index_or raw next no_step) (slice_index_or raw (next + 1) no_step) ≡ false

@@ -13,7 +13,8 @@ use Rattle.step_ticks.specs.declared.stream.StepStream.{StepStream}
 abbrev pub due_steps : Gear → Clocks → List Segment → ℕ → ℕ → ℕ → List Planned
 due_steps gear clocks segments base until end =
     let reach = cancel_reach clocks.first.freq in
-    spaced base (map (on_board clocks) (take_while (is_due reach until end) (filtered reach (raw_steps gear clocks.first.freq segments))))
+    spaced base (map (on_board clocks)
+    (take_while (is_due reach until end) (filtered reach (raw_steps gear clocks.first.freq segments))))
 
 -- the ticks do not fall, from one on
 abbrev pub AreRising : ℕ → List Planned → Type 0
@@ -23,7 +24,8 @@ AreRising from (s ∷ steps) = from ≤ s.tick × AreRising s.tick steps
 -- Of the raw steps so far, the filter keeps kept; waiting are raw steps that are not decided. It is so whatever raw
 -- steps come from the end of the last segment on.
 pub record IsKeptOf (reach end : ℕ) (raw kept waiting : List Planned) : Type 0 where
-  pub whole : (more : List Planned) → All (λ s. end ≤ s.tick) more → filtered reach (raw ++ more) ≡ kept ++ filtered reach (waiting ++ more)
+  pub whole : (more : List Planned) → All (λ s. end ≤ s.tick) more →
+      filtered reach (raw ++ more) ≡ kept ++ filtered reach (waiting ++ more)
 
 -- the tick of the last step, or one before them all
 abbrev pub last_of : ℕ → List Planned → ℕ
@@ -32,7 +34,8 @@ last_of base (s ∷ steps) = last_of s.tick steps
 
 -- Of these segments the steps out were given, the last at tick last, and none was asked for from tick asked on;
 -- waiting are raw steps that are not decided.
-pub record AreSteps (gear : Gear) (clocks : Clocks) (reach end last_end last : ℕ) (waiting : List Planned) (base : ℕ) (segments : List Segment) (asked : ℕ) (out : List Planned) : Type 0 where
+pub record AreSteps (gear : Gear) (clocks : Clocks) (reach end last_end last : ℕ) (waiting : List Planned) (base : ℕ)
+    (segments : List Segment) (asked : ℕ) (out : List Planned) : Type 0 where
   pub kept : List Planned
   pub reach_is : reach ≡ cancel_reach clocks.first.freq
   pub kept_is : IsKeptOf reach end (raw_steps gear clocks.first.freq segments) kept waiting

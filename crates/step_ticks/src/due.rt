@@ -14,7 +14,8 @@ pub fn is_due(raw: &[Planned], next: usize, until: u64, reach: u64, end: u64) ->
     requires small { All (λ s. s.tick < tick_limit) raw.now }
     ensures inside { result ≡ true → next < length raw.now }
     ensures due { result ≡ true → is_due reach until end (slice_index_or raw.now next no_step) ≡ true }
-    ensures later { result ≡ false → next < length raw.now → is_due reach until end (slice_index_or raw.now next no_step) ≡ false }
+    ensures later { result ≡ false → next < length raw.now →
+        is_due reach until end (slice_index_or raw.now next no_step) ≡ false }
 {
     match raw.get(next) {
         Some(step) => step.tick < until && step.tick + reach < end,

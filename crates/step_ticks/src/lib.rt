@@ -1,7 +1,7 @@
 //! The planned steps of one stepper in one section.
 //!
-//! Each half step that a segment passes is due at the first board tick at which the segment has gone that far (Klipper's
-//! Code_Overview.md, kinematics and step generation).
+//! Each half step that a segment passes is due at the first board tick at which the segment has gone that far
+//! (Klipper's Code_Overview.md, kinematics and step generation).
 #![tactic(auto)]
 
 ghost use Rattle.std.specs.Prelude.{◌≡◌, ℕ, ◌+◌, ◌*◌, ◌^◌, ◌<◌, ◌≤◌, All, IfOk, length, slice_index_or};

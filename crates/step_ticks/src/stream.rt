@@ -97,7 +97,8 @@ impl StepStream {
     /// No step of the section comes before a plan tick.
     pub fn begin_at(&mut self, from: u64)
         requires order { known_end self.old ≤ from }
-        ensures begun { (base : ℕ) → (segments : List Segment) → (asked : ℕ) → (out : List Planned) → IsStepsOf self.old base segments asked out → IsStepsOf self.new base segments asked out }
+        ensures begun { (base : ℕ) → (segments : List Segment) → (asked : ℕ) → (out : List Planned) →
+            IsStepsOf self.old base segments asked out → IsStepsOf self.new base segments asked out }
         ensures end { known_end self.new ≡ from }
         ensures waits { waiting_steps self.new ≡ waiting_steps self.old }
         ensures gear { self.new.gear ≡ self.old.gear }
@@ -113,10 +114,13 @@ impl StepStream {
         requires order { known_end self.old ≤ segment.now.start }
         requires after { self.old.lines.first.clock ≤ segment.now.start }
         requires on_board { lines_board self.old.lines segment.now.end < tick_limit }
-        ensures pushed { OnOk result ((base : ℕ) → (segments : List Segment) → (asked : ℕ) → (out : List Planned) → IsStepsOf self.old base segments asked out → IsStepsOf self.new base (segments ++ segment.now ∷ []) asked out) }
+        ensures pushed { OnOk result ((base : ℕ) → (segments : List Segment) → (asked : ℕ) → (out : List Planned) →
+            IsStepsOf self.old base segments asked out →
+            IsStepsOf self.new base (segments ++ segment.now ∷ []) asked out) }
         ensures end { OnOk result (known_end self.new ≡ segment.now.end) }
         ensures past { OnOk result ((t : ℕ) → IsPast t self.old → IsPast t self.new) }
-        ensures unchanged { OnErr result ((base : ℕ) → (segments : List Segment) → (asked : ℕ) → (out : List Planned) → IsStepsOf self.old base segments asked out → IsStepsOf self.new base segments asked out) }
+        ensures unchanged { OnErr result ((base : ℕ) → (segments : List Segment) → (asked : ℕ) → (out : List Planned) →
+            IsStepsOf self.old base segments asked out → IsStepsOf self.new base segments asked out) }
         ensures gear { self.new.gear ≡ self.old.gear }
         ensures lines { self.new.lines ≡ self.old.lines }
     {
@@ -161,7 +165,9 @@ impl StepStream {
         requires start_small { tick line from < 2 ^ 64 }
         requires plan_small { tick self.old.lines.first from < 2 ^ 64 }
         requires on_board { lines_board (added self.old.lines from line) (end_of_segments self.old) < tick_limit }
-        ensures added { OnOk result ((base : ℕ) → (segments : List Segment) → (asked : ℕ) → (out : List Planned) → asked ≤ tick self.old.lines.first from → IsStepsOf self.old base segments asked out → IsStepsOf self.new base segments asked out) }
+        ensures added { OnOk result ((base : ℕ) → (segments : List Segment) → (asked : ℕ) → (out : List Planned) →
+            asked ≤ tick self.old.lines.first from → IsStepsOf self.old base segments asked out →
+            IsStepsOf self.new base segments asked out) }
         ensures lines { OnOk result (self.new.lines ≡ added self.old.lines from line) }
         ensures unchanged { OnErr result (self.new ≡ self.old) }
         ensures gear { self.new.gear ≡ self.old.gear }
@@ -185,7 +191,8 @@ impl StepStream {
 
     /// The section ends here.
     pub fn finish(&mut self)
-        ensures ended { (base : ℕ) → (segments : List Segment) → (asked : ℕ) → (out : List Planned) → IsStepsOf self.old base segments asked out → IsStepsOf self.new base segments asked out }
+        ensures ended { (base : ℕ) → (segments : List Segment) → (asked : ℕ) → (out : List Planned) →
+            IsStepsOf self.old base segments asked out → IsStepsOf self.new base segments asked out }
         ensures end { known_end self.new ≡ u64.MAX }
         ensures past { (t : ℕ) → IsPast t self.old → IsPast t self.new }
         ensures gear { self.new.gear ≡ self.old.gear }
@@ -197,8 +204,13 @@ impl StepStream {
 
     /// Takes the planned steps out whose raw tick is below `until`, as far as no later segment can change them.
     pub fn take(&mut self, until: u64) -> Result<Vec<Planned>, OutOfMemory>
-        ensures due { IfOk result (λ steps. (base : ℕ) → (segments : List Segment) → (asked : ℕ) → (out : List Planned) → asked ≤ until → IsStepsOf self.old base segments asked out → (out ++ steps.items ≡ due_steps self.old.gear self.old.lines segments base until (known_end self.old)) × IsStepsOf self.new base segments until (out ++ steps.items)) }
-        ensures past { OnOk result ((base : ℕ) → (segments : List Segment) → (asked : ℕ) → (out : List Planned) → asked ≤ until → IsStepsOf self.old base segments asked out → until + reach_of self.old ≤ known_end self.old → IsPast until self.new) }
+        ensures due { IfOk result (λ steps. (base : ℕ) → (segments : List Segment) → (asked : ℕ) →
+            (out : List Planned) → asked ≤ until → IsStepsOf self.old base segments asked out →
+            (out ++ steps.items ≡ due_steps self.old.gear self.old.lines segments base until (known_end self.old))
+            × IsStepsOf self.new base segments until (out ++ steps.items)) }
+        ensures past { OnOk result ((base : ℕ) → (segments : List Segment) → (asked : ℕ) → (out : List Planned) →
+            asked ≤ until → IsStepsOf self.old base segments asked out →
+            until + reach_of self.old ≤ known_end self.old → IsPast until self.new) }
         ensures unchanged { OnErr result (self.new ≡ self.old) }
         ensures gear { self.new.gear ≡ self.old.gear }
         ensures lines { self.new.lines ≡ self.old.lines }

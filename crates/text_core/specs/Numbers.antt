@@ -37,8 +37,15 @@ rest_of text = if begins is_point text then behind is_digit (without is_point te
 
 -- the sign, the digits before the point, the decimals, and the rest of a text
 unfoldable pub parts_of : List ℕ → Parts
-parts_of text = let unsigned = without is_sign text in let fraction = behind is_digit unsigned in
-    record { negative = begins (λ b. b == 45) text; whole = front is_digit unsigned; decimals = decimals_of fraction; rest = rest_of fraction }
+parts_of text =
+    let unsigned = without is_sign text in
+    let fraction = behind is_digit unsigned in
+    record {
+      negative = begins (λ b. b == 45) text;
+      whole = front is_digit unsigned;
+      decimals = decimals_of fraction;
+      rest = rest_of fraction;
+    }
 
 -- at least one digit, at most so many before the point, and behind them no further point or sign
 unfoldable pub is_readable : ℕ → ℕ → ℕ → List ℕ → Bool
@@ -54,6 +61,10 @@ signed negative n = if negative then pos 0 -ℤ pos n else pos n
 unfoldable pub amount : Parts → ℤ
 amount parts = signed parts.negative (value_of parts.whole * 1000000 + worth 100000 parts.decimals)
 
--- the number that stands first in a text, in millionths, and what stands behind it; it has at most so many digits before the point
+-- the number that stands first in a text, in millionths, and what stands behind it; it has at most so many
+-- digits before the point
 unfoldable pub number_at : ℕ → List ℕ → Option (ℤ × List ℕ)
-number_at most text = let parts = parts_of text in if is_readable most (length parts.whole) (length parts.decimals) parts.rest then Some (amount parts, parts.rest) else None
+number_at most text =
+    let parts = parts_of text in
+    if is_readable most (length parts.whole) (length parts.decimals) parts.rest then Some (amount parts, parts.rest)
+    else None

@@ -20,7 +20,8 @@ pub struct WordedLine<'a> {
 pub fn next_line(text: &[u8], number: u64, comment: u8) -> Option<WordedLine<'_>>
     requires { number + length text.now < 2 ^ 64 }
     ensures none { IfNone result (worded_lines comment number (lines_of text.now) ≡ []) }
-    ensures some { IfSome result (λ line. worded_lines comment number (lines_of text.now) ≡ (line.number, words_of line.words.now) ∷ worded_lines comment (line.number + 1) (lines_of line.rest.now)) }
+    ensures some { IfSome result (λ line. worded_lines comment number (lines_of text.now)
+        ≡ (line.number, words_of line.words.now) ∷ worded_lines comment (line.number + 1) (lines_of line.rest.now)) }
     ensures shorter { IfSome result (λ line. length line.rest.now < length text.now) }
     ensures small { IfSome result (λ line. line.number + 1 + length line.rest.now ≤ number + length text.now) }
 {

@@ -163,7 +163,8 @@ fn split_number(text: &[u8]) -> Split<'_>
 fn find(text: &[u8], most: usize) -> Option<Split<'_>>
     requires { most ≤ 18 }
     ensures none { IfNone result (number_at most text.now ≡ None) }
-    ensures number { IfSome result (λ found. number_at most text.now ≡ Some (signed found.negative (found.whole * 1000000 + found.millionths), found.rest.now)) }
+    ensures number { IfSome result (λ found. number_at most text.now
+        ≡ Some (signed found.negative (found.whole * 1000000 + found.millionths), found.rest.now)) }
     ensures rest { IfSome result (λ found. found.rest.now ≡ (parts_of text.now).rest) }
     ensures whole { IfSome result (λ found. found.whole < 10 ^ most) }
     ensures bounded { IfSome result (λ found. found.whole ≤ 1000000000000000000) }

@@ -1,5 +1,6 @@
-//! What the host's end of a link puts on the line to a board, turn by turn, for one millimetre along x: the controls with which the
-//! reactor connects, and the units that the planner sends. Written as a trace, it is the one in examples.
+//! What the host's end of a link puts on the line to a board, turn by turn, for one millimetre along x: the
+//! controls with which the reactor connects, and the units that the planner sends. Written as a trace, it is
+//! the one in examples.
 
 use board_world::{Event, World};
 use msg_code::{Batch, Cmd, Control, Unit};
@@ -59,7 +60,8 @@ turn 1014 0C1E0800819C204D00B6617E
 turn 1111 0C1F080081BB460100D3FE7E
 ";
 
-/// Adds the commands that make the steppers, the trigger and the endstops of a printer with four steppers and three axes.
+/// Adds the commands that make the steppers, the trigger and the endstops of a printer with four steppers and
+/// three axes.
 fn set_up(commands: &mut Listed<Cmd>) -> Result<(), AllocError> {
     commands.push(Cmd::AllocateOids { count: 8 })?;
     for (oid, step_pin, dir_pin) in [(0, 0, 1), (1, 3, 4), (2, 6, 7), (3, 9, 10)] {
@@ -181,8 +183,8 @@ fn put_line(alloc: Global, world: &World, turn: u32, trace: &mut String) -> Resu
     trace.push_str("\n")
 }
 
-/// All blocks under way come to the board, whose clock has 16,000 ticks a turn, it runs to the end of the turn, and all its blocks
-/// come to the host.
+/// All blocks under way come to the board, whose clock has 16,000 ticks a turn, it runs to the end of the
+/// turn, and all its blocks come to the host.
 fn pass(world: &mut World, turn: u32) -> Result<(), AllocError> {
     for _ in 0..world.copies(Way::Down) {
         happen(world, Event::Arrive)?;

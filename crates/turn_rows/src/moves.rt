@@ -1,5 +1,5 @@
-//! One move over lines that lose, repeat, delay and change blocks: either each step is made at its tick, or the board tells
-//! that one came too late.
+//! One move over lines that lose, repeat, delay and change blocks: either each step is made at its tick, or
+//! the board tells that one came too late.
 
 ghost use Rattle.std.specs.Prelude.{◌<◌, ◌≤◌, ◌^◌};
 
@@ -42,7 +42,8 @@ fn unit(i: u32) -> Unit
     }
 }
 
-/// In turns 0 and 4 the board is asked for its dictionary, in turn 5 the stepper is made, and then connecting has ended.
+/// In turns 0 and 4 the board is asked for its dictionary, in turn 5 the stepper is made, and then connecting
+/// has ended.
 fn control(alloc: Global, turn: u64) -> Result<Control, AllocError> {
     let mut commands = Listed::new(alloc);
     match turn {
@@ -83,8 +84,8 @@ fn batch(alloc: Global, turn: u64) -> Result<Batch, AllocError> {
     })
 }
 
-/// What a link told: how many steps were made, whether each was made up at its tick; the turn of each answer with the number
-/// of its block; and why the board was shut down.
+/// What a link told: how many steps were made, whether each was made up at its tick; the turn of each answer
+/// with the number of its block; and why the board was shut down.
 #[derive(Drop)]
 struct Told {
     steps: u32,

@@ -1,7 +1,7 @@
 //! Links over long random scenes: what they tell, turn by turn, is what another program's link tells.
 //!
-//! That program stands apart from this repository. It makes the same scenes, controls and batches from the same seeds, and
-//! both take each state into the same digest.
+//! That program stands apart from this repository. It makes the same scenes, controls and batches from the
+//! same seeds, and both take each state into the same digest.
 
 ghost use Rattle.std.specs.Prelude.{◌≤◌};
 
@@ -177,7 +177,8 @@ fn unit(stepper: &mut Stepper, triple: Triple, up: Option<bool>, reset: Option<u
     }
 }
 
-/// The first unit of a stepper in a turn: one step, behind the beginning of the turn that comes 250 turns later or sooner.
+/// The first unit of a stepper in a turn: one step, behind the beginning of the turn that comes 250 turns
+/// later or sooner.
 fn begin(row: &mut u64, stepper: &mut Stepper, start: u64, first: u64) -> Unit {
     let begins = !stepper.begun;
     if begins {
@@ -233,8 +234,8 @@ fn put_units(
     Ok(())
 }
 
-/// What is queued is made from a row of numbers: two steppers, and by how many turns units are held back. And what was told
-/// so far, as a digest.
+/// What is queued is made from a row of numbers: two steppers, and by how many turns units are held back. And
+/// what was told so far, as a digest.
 #[derive(Drop)]
 struct Plan {
     row: u64,
@@ -298,8 +299,9 @@ fn take_lists(digest: &mut u64, state: &State) {
     }
 }
 
-/// It takes a whole state in: the turn, the news, the pulses, the blocks that ask, why the board shut down with the spoiled
-/// turns and the spill, and whether the link is idle. So a digest tells of all states up to a turn.
+/// It takes a whole state in: the turn, the news, the pulses, the blocks that ask, why the board shut down
+/// with the spoiled turns and the spill, and whether the link is idle. So a digest tells of all states up to
+/// a turn.
 fn take_state(digest: &mut u64, formats: &Dict, state: &State) {
     take(digest, state.turn);
     take_news(digest, formats, state);
@@ -417,8 +419,8 @@ fn digests(alloc: Global, run: &Run) -> Result<Vec<u64>, AllocError> {
     Ok(digests)
 }
 
-/// Few blocks are disturbed, until the board is told to stop; more, until a step comes too late; and so with a clock that is
-/// off. Each with its digests.
+/// Few blocks are disturbed, until the board is told to stop; more, until a step comes too late; and so with
+/// a clock that is off. Each with its digests.
 const RUNS: [(Run, &[u64]); 3] = [
     (
         Run {

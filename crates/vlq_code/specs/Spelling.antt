@@ -1,4 +1,5 @@
--- How a number below 2 ^ 32 is spelled: groups of seven bits, the high part first (Klipper's Protocol.md, "Variable Length Quantities").
+-- How a number below 2 ^ 32 is spelled: groups of seven bits, the high part first (Klipper's Protocol.md,
+-- "Variable Length Quantities").
 use Rattle.std.specs.Prelude.{◌≡◌, ℕ, Bool, ◌+◌, ◌-◌, ◌*◌, ◌/◌, ◌%◌, ◌^◌, ◌<◌, ◌≤◌, ◌⊎◌, List, [], ◌∷◌, ◌&&◌, zero, suc, length, nat_lt, nat_le, if◌then◌else◌}
 
 -- all bytes but the last have bit 7 set
@@ -17,7 +18,8 @@ abbrev pub first_group : List ℕ → ℕ
 first_group [] = 0
 first_group (b ∷ bs) = b % 128
 
--- the number that bytes with these groups stand for: fewer than five, of which the first has its bits 5 and 6 set, begin a negative number
+-- the number that bytes with these groups stand for: fewer than five, of which the first has its bits 5 and 6
+-- set, begin a negative number
 abbrev pub number_of : ℕ → ℕ → ℕ → ℕ
 number_of len first groups =
     if nat_lt len 5 && nat_le 96 first then (groups + 2 ^ 32 - 2 ^ (7 * len)) % 2 ^ 32 else groups % 2 ^ 32
@@ -41,7 +43,9 @@ needs_more k n = nat_le (2 ^ (7 * k)) ((n + 2 ^ (7 * k - 2)) % 2 ^ 32)
 -- how many bytes a number takes
 abbrev pub byte_count : ℕ → ℕ
 byte_count n =
-    if needs_more 1 n then (if needs_more 2 n then (if needs_more 3 n then (if needs_more 4 n then 5 else 4) else 3) else 2) else 1
+    if needs_more 1 n
+    then (if needs_more 2 n then (if needs_more 3 n then (if needs_more 4 n then 5 else 4) else 3) else 2)
+    else 1
 
 -- the byte at a place, the lowest seven bits at place 0
 abbrev pub byte_at : ℕ → ℕ → ℕ

@@ -1,4 +1,5 @@
-//! The integers of Klipper's protocol (Protocol.md, "Variable Length Quantities"): a number below 2^32 in one to five bytes.
+//! The integers of Klipper's protocol (Protocol.md, "Variable Length Quantities"): a number below 2^32 in one
+//! to five bytes.
 #![tactic(auto)]
 
 ghost use Rattle.std.specs.Prelude.{◌≡◌, ℕ, ◌+◌, ◌*◌, ◌/◌, ◌%◌, ◌^◌, ◌<◌, ◌≤◌, List, [], ◌∷◌, ◌++◌, length, take, IfSome, IfNone};
@@ -73,7 +74,8 @@ fn group(n: u32, place: usize) -> u8
 
 /// Up to and with the first byte that has bit 7 clear, where it is among the first five.
 fn end_of(bytes: &[u8]) -> Option<usize>
-    ensures found { IfSome result (λ len. (len ≤ length bytes.now) × (1 ≤ len) × (len ≤ 5) × AreJoined (take len bytes.now)) }
+    ensures found { IfSome result
+        (λ len. (len ≤ length bytes.now) × (1 ≤ len) × (len ≤ 5) × AreJoined (take len bytes.now)) }
     ensures none { IfNone result ((k : ℕ) → length (take k bytes.now) ≤ 5 → AreJoined (take k bytes.now) → ⊥) }
 {
     for i in 0..bytes.len().min(5) {

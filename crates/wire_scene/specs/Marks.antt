@@ -2,6 +2,7 @@
 use Rattle.std.specs.Prelude.{◌≡◌, ℕ, ◌+◌, ◌*◌, ◌<◌, ◌==◌, ◌&&◌, Bool, List, Option, Some, None, if◌then◌else◌, option_map, replicate, get_or}
 use Rattle.wire_scene.specs.Scenes.{last_where}
 
+-- the place of a board's mark in the table
 abbrev pub place_of : ℕ → ℕ → ℕ
 place_of board place = 256 * board + place
 
@@ -15,8 +16,11 @@ no_marks = replicate 2048 None
 
 -- one mark is set, and the others stay
 abbrev pub Sets : List (Option ℕ) → List (Option ℕ) → ℕ → ℕ → ℕ → Type 0
-Sets old new board place mark = (b p : ℕ) → p < 256 → marked new b p ≡ (if (board == b) && (place == p) then Some mark else marked old b p)
+Sets old new board place mark =
+    (b p : ℕ) → p < 256 → marked new b p ≡ (if (board == b) && (place == p) then Some mark else marked old b p)
 
 -- Each place has the mark of the last element that is there.
 abbrev pub Remember : {A : Type 0} → (ℕ → ℕ → A → Bool) → (A → ℕ) → List (Option ℕ) → List A → Type 0
-Remember is_at mark marks xs = (board place : ℕ) → board < 8 → place < 256 → marked marks board place ≡ option_map mark (last_where (is_at board place) xs)
+Remember is_at mark marks xs =
+    (board place : ℕ) → board < 8 → place < 256 →
+    marked marks board place ≡ option_map mark (last_where (is_at board place) xs)

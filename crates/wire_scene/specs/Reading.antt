@@ -20,10 +20,12 @@ abbrev pub items : List BoardDef → ℕ → List (List ℕ) → List Item
 items boards number [] = []
 items boards number (line ∷ lines) = meant boards number line ∷ items boards (number + 1) lines
 
+-- the entry of a line, where it is one of a block
 abbrev pub entry_of : Item → List Entry
 entry_of (OnLine e) = e ∷ []
 entry_of item = []
 
+-- the switch of a line, where it is one of a switch
 abbrev pub switch_of : Item → List Switch
 switch_of (AtPin s) = s ∷ []
 switch_of item = []
@@ -51,9 +53,13 @@ refusal rising count = if rising then (if nat_le 100_000 count then Some TooMany
 abbrev pub fault_of : List Entry → List Switch → Item → Option SceneKind
 fault_of entries switches Nothing = None
 fault_of entries switches (Wrong kind) = Some kind
-fault_of entries switches (OnLine e) = refusal (is_above e.number (last_number e.board (way_number e.connecting e.way) entries)) (length entries + length switches)
-fault_of entries switches (AtPin s) = refusal (is_above s.tick (last_tick s.board s.pin switches)) (length entries + length switches)
+fault_of entries switches (OnLine e) =
+    refusal (is_above e.number (last_number e.board (way_number e.connecting e.way) entries))
+    (length entries + length switches)
+fault_of entries switches (AtPin s) =
+    refusal (is_above s.tick (last_tick s.board s.pin switches)) (length entries + length switches)
 
+-- the fault of a line of this number, where it has one, else the first of the later lines
 abbrev pub or_later : ℕ → Option SceneKind → Option SceneFault → Option SceneFault
 or_later number None later = later
 or_later number (Some kind) later = Some (At number kind)
@@ -61,21 +67,27 @@ or_later number (Some kind) later = Some (At number kind)
 -- line by line from the top, the first fault
 abbrev pub first_fault : List Entry → List Switch → ℕ → List Item → Option SceneFault
 first_fault entries switches number [] = None
-first_fault entries switches number (item ∷ items) = or_later number (fault_of entries switches item) (first_fault (entries ++ entry_of item) (switches ++ switch_of item) (number + 1) items)
+first_fault entries switches number (item ∷ items) =
+    or_later number (fault_of entries switches item)
+    (first_fault (entries ++ entry_of item) (switches ++ switch_of item) (number + 1) items)
 
+-- the scene that lines say
 abbrev pub scene_of : List Item → Scene
 scene_of items = record { entries = entries_among items; switches = switches_among items }
 
+-- a scene, unless there is a fault
 abbrev pub unless : Option SceneFault → Scene → Result Scene SceneFault
 unless None scene = Ok scene
 unless (Some fault) scene = Err fault
 
+-- the scene that lines say, or their first fault
 abbrev pub reading_of : List Item → Result Scene SceneFault
 reading_of items = unless (first_fault [] [] 1 items) (scene_of items)
 
 -- the scene of a text, or its first fault
 unfoldable pub reading : Machine → List ℕ → Result Scene SceneFault
-reading m text = if nat_lt 16_777_216 (length text) then Err (At 0 TooLarge) else reading_of (items m.boards 1 (lines_of text))
+reading m text =
+    if nat_lt 16_777_216 (length text) then Err (At 0 TooLarge) else reading_of (items m.boards 1 (lines_of text))
 
 -- a reader's answer is this, but for want of memory
 abbrev pub Answers : Result Scene SceneFault → Result Scene SceneFault → Type 0

@@ -6,6 +6,7 @@ use Rattle.wire_scene.specs.declared.scene.Way.TheVariants.{Down, Up}
 use Rattle.wire_scene.specs.declared.scene.Entry.{Entry}
 use Rattle.wire_scene.specs.declared.scene.Switch.{Switch}
 
+-- a value, else an earlier one
 abbrev pub or_earlier : {A : Type 0} → Option A → Option A → Option A
 or_earlier None earlier = earlier
 or_earlier (Some x) earlier = Some x
@@ -45,7 +46,9 @@ last_switch board pin tick switches = last_where (λ s. is_of board pin s && nat
 -- the ticks and levels of a pin's entries
 abbrev pub levels_of : ℕ → ℕ → List Switch → List Level
 levels_of board pin [] = []
-levels_of board pin (s ∷ switches) = if is_of board pin s then record { tick = s.tick; level = s.level } ∷ levels_of board pin switches else levels_of board pin switches
+levels_of board pin (s ∷ switches) =
+    if is_of board pin s then record { tick = s.tick; level = s.level } ∷ levels_of board pin switches
+    else levels_of board pin switches
 
 -- for each pin the ticks of its entries rise
 abbrev pub SwitchesRise : List Switch → Type 0
@@ -63,4 +66,6 @@ line_of (Some s) = s.line
 
 -- on each line, while connecting and later, the numbers of the entries rise
 abbrev pub NumbersRise : List Entry → Type 0
-NumbersRise entries = AllPairs (λ (d e : Entry). d.board ≡ e.board → d.way ≡ e.way → d.connecting ≡ e.connecting → d.number < e.number) entries
+NumbersRise entries =
+    AllPairs (λ (d e : Entry). d.board ≡ e.board → d.way ≡ e.way → d.connecting ≡ e.connecting → d.number < e.number)
+    entries

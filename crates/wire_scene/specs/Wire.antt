@@ -40,6 +40,7 @@ same_way Up Up = true
 same_way Down Up = false
 same_way Up Down = false
 
+-- two times are both while connecting, or both after it
 abbrev pub same_time : Bool → Bool → Bool
 same_time true time = time
 same_time false true = false
@@ -49,7 +50,9 @@ same_time false false = true
 abbrev pub entries_of : ℕ → Way → Bool → List Entry → List Entry
 entries_of board way connecting [] = []
 entries_of board way connecting (e ∷ es) =
-    if (e.board == board) && same_way e.way way && same_time e.connecting connecting then e ∷ entries_of board way connecting es else entries_of board way connecting es
+    if (e.board == board) && same_way e.way way && same_time e.connecting connecting
+    then e ∷ entries_of board way connecting es
+    else entries_of board way connecting es
 
 -- the numbers of entries rise, from a number on
 abbrev pub RiseFrom : ℕ → List Entry → Type 0
@@ -82,7 +85,9 @@ delay_of (Some (Garble at xor)) = 0
 -- of the bytes behind the first, the one at this place, counted around, is xored with this number
 abbrev pub changed : ℕ → ℕ → List ℕ → List ℕ
 changed at xor bytes =
-    if nat_lt 1 (length bytes) then slice_set bytes (1 + at % (length bytes - 1)) (bit_xor (slice_index bytes (1 + at % (length bytes - 1))) xor) else bytes
+    if nat_lt 1 (length bytes)
+    then slice_set bytes (1 + at % (length bytes - 1)) (bit_xor (slice_index bytes (1 + at % (length bytes - 1))) xor)
+    else bytes
 
 -- what comes of a block
 abbrev pub comes_of : Option Deed → List ℕ → List ℕ
@@ -107,7 +112,8 @@ calm_from calm turn (Some deed) = max calm (turn + 5)
 
 -- a line without blocks, with its entries for the time while connecting and for later
 abbrev pub empty_line : List Entry → List Entry → Line
-empty_line connecting entries = record { entries = connecting; later = entries; connected = false; number = 0; last = 0; calm = 0; copies = [] }
+empty_line connecting entries =
+    record { entries = connecting; later = entries; connected = false; number = 0; last = 0; calm = 0; copies = [] }
 
 -- the line of a board
 abbrev pub new_line : ℕ → Way → List Entry → Line
@@ -131,7 +137,14 @@ put_with l turn bytes deed = record {
   number = counted l.number (behind l.number l.entries);
   last = max l.last (turn + delay_of deed);
   calm = calm_from l.calm turn deed;
-  copies = l.copies ++ record { bytes = bytes; comes = comes_of deed bytes; due = max l.last (turn + delay_of deed); fate = fate_of deed bytes } ∷ [];
+  copies =
+      l.copies
+      ++ record {
+        bytes = bytes;
+        comes = comes_of deed bytes;
+        due = max l.last (turn + delay_of deed);
+        fate = fate_of deed bytes;
+      } ∷ [];
 }
 
 -- a block is put on a line in a turn
@@ -181,7 +194,8 @@ abbrev pub IsOldest : List Copy → List ℕ → Fate → Type 0
 IsOldest [] bytes fate = ⊥
 IsOldest (c ∷ cs) bytes fate = (bytes ≡ c.comes) × (fate ≡ c.fate)
 
--- a line is quiet in a turn: nothing is under way, and each turn in which an entry was used is more than four turns before it
+-- a line is quiet in a turn: nothing is under way, and each turn in which an entry was used is more than four
+-- turns before it
 pub record IsQuiet (l : Line) (turn : ℕ) : Type 0 where
   pub nothing : l.copies ≡ []
   pub calm : l.calm ≤ turn

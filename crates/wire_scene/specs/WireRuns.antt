@@ -54,8 +54,8 @@ blocks_put (Put turn bytes ∷ steps) = bytes ∷ blocks_put steps
 blocks_put (Due turn ∷ steps) = blocks_put steps
 blocks_put (Connect ∷ steps) = blocks_put steps
 
--- what the scene says of the blocks that are put, by the entries for the time while connecting and for later: the block of
--- this number comes next, and where connecting ends blocks count from 0 anew
+-- what the scene says of the blocks that are put, by the entries for the time while connecting and for later:
+-- the block of this number comes next, and where connecting ends blocks count from 0 anew
 abbrev pub deeds_later : List Entry → ℕ → List Step → List (Option Deed)
 deeds_later entries n [] = []
 deeds_later entries n (Put turn bytes ∷ steps) = deed_of n entries ∷ deeds_later entries (n + 1) steps

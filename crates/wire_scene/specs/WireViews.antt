@@ -6,4 +6,5 @@ use Rattle.wire_scene.specs.Wire.{Copy, comes_of}
 -- what a line keeps, as blocks under way
 abbrev pub copies_of : List Underway → List Copy
 copies_of [] = []
-copies_of (u ∷ us) = record { bytes = u.block.items; comes = comes_of u.deed u.block.items; due = u.due; fate = u.fate } ∷ copies_of us
+copies_of (u ∷ us) =
+    record { bytes = u.block.items; comes = comes_of u.deed u.block.items; due = u.due; fate = u.fate } ∷ copies_of us

@@ -71,7 +71,8 @@ fn fault(reader: &Reader, item: &Item) -> Option<SceneKind>
     requires in_step { IsInStep reader.now }
     requires boards { IsTrue (is_on_boards 8 item.now) }
     ensures value { result ≡ fault_of reader.now.scene.entries reader.now.scene.switches item.now }
-    ensures room { IfNone result (length reader.now.scene.entries + length reader.now.scene.switches + length (entry_of item.now) + length (switch_of item.now) ≤ 100000) }
+    ensures room { IfNone result (length reader.now.scene.entries + length reader.now.scene.switches
+        + length (entry_of item.now) + length (switch_of item.now) ≤ 100000) }
 {
     let count = reader.scene.entries.len() + reader.scene.switches.len();
     match item {
@@ -128,7 +129,8 @@ fn keep_switch(reader: &mut Reader, switch: Switch) -> Result<(), AllocError>
 fn keep(reader: &mut Reader, item: Item) -> Result<(), AllocError>
     requires in_step { IsInStep reader.old }
     requires boards { IsTrue (is_on_boards 8 item) }
-    requires room { length reader.old.scene.entries + length reader.old.scene.switches + length (entry_of item) + length (switch_of item) ≤ 100000 }
+    requires room { length reader.old.scene.entries + length reader.old.scene.switches + length (entry_of item)
+        + length (switch_of item) ≤ 100000 }
     ensures entries { OnOk result (reader.new.scene.entries ≡ reader.old.scene.entries ++ entry_of item) }
     ensures switches { OnOk result (reader.new.scene.switches ≡ reader.old.scene.switches ++ switch_of item) }
     ensures in_step { OnOk result (IsInStep reader.new) }

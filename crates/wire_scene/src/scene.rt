@@ -27,7 +27,8 @@ pub enum Deed {
     Garble { at: u64, xor: u8 },
 }
 
-/// What happens to the block of a number on a line, where blocks count from 0, and from 0 anew once connecting has ended.
+/// What happens to the block of a number on a line, where blocks count from 0, and from 0 anew once
+/// connecting has ended.
 #[derive(Clone, Copy, Debug, PartialEq, Eq)]
 pub struct Entry {
     /// The number of the board.

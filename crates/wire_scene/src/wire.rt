@@ -48,10 +48,10 @@ struct Underway {
 
 /// A line, one way, on which blocks are under way.
 ///
-/// Blocks arrive in the order in which they were put. One that was put in turn k is due in turn k, or, where the scene
-/// delays it by T turns, in turn k + T; but not before one that was put earlier. A block that the scene changes comes in its
-/// turn, but doesn't arrive. While connecting the scene's entries for that time are used, and then the others, for which
-/// blocks count from 0 anew.
+/// Blocks arrive in the order in which they were put. One that was put in turn k is due in turn k, or, where
+/// the scene delays it by T turns, in turn k + T; but not before one that was put earlier. A block that the
+/// scene changes comes in its turn, but doesn't arrive. While connecting the scene's entries for that time
+/// are used, and then the others, for which blocks count from 0 anew.
 #[derive(Drop)]
 pub struct Wire {
     entries: VecDeque<Entry>,
@@ -82,11 +82,13 @@ impl Model for Wire {
 
     ghost use Rattle.wire_scene.specs.Wire.{AreFoundOut};
 
-    ghost invariant = { λ w. RiseFrom w.number w.entries.items × RiseFrom 0 w.later.items × AreFoundOut (copies_of w.copies.items) };
+    ghost invariant = { λ w.
+        RiseFrom w.number w.entries.items × RiseFrom 0 w.later.items × AreFoundOut (copies_of w.copies.items) };
 }
 
 impl Wire {
-    /// The line down to a board or up from it, without blocks, while connecting. It keeps the scene's entries of that line.
+    /// The line down to a board or up from it, without blocks, while connecting. It keeps the scene's entries
+    /// of that line.
     #[tactic(auto, using(crate::proofs::Wires::rises))]
     pub fn new(alloc: Global, s: &Scene, board: u8, way: Way) -> Result<Wire, OutOfMemory>
         requires { NumbersRise s.now.entries }
@@ -139,8 +141,8 @@ impl Wire {
         next_due(&mut self.copies, turn)
     }
 
-    /// Connecting has ended: from now on blocks count from 0 anew, and the entries for later are used. A second call changes
-    /// nothing.
+    /// Connecting has ended: from now on blocks count from 0 anew, and the entries for later are used. A
+    /// second call changes nothing.
     pub fn connected(&mut self)
         ensures { self.new ≡ connect self.old }
     {
@@ -212,7 +214,8 @@ fn add_of(
 
 /// Whether an entry is one of a line, while connecting or later.
 fn is_of(entry: &Entry, board: u8, way: Way, connecting: bool) -> bool
-    ensures { result ≡ (entry.now.board == board) && same_way entry.now.way way && same_time entry.now.connecting connecting }
+    ensures { result
+        ≡ (entry.now.board == board) && same_way entry.now.way way && same_time entry.now.connecting connecting }
 {
     entry.board == board && entry.way == way && entry.connecting == connecting
 }

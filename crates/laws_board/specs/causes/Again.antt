@@ -9,4 +9,5 @@ use Rattle.laws_board.specs.clocks.Samples.{further_lines}
 abbrev pub TellsLineFrom : Machine → List Switch → ℕ → ℕ → List Came → Type 0
 TellsLineFrom m switches b from [] = ⊥
 TellsLineFrom m switches b from (c ∷ before) =
-    ((from ≤ length before) × (1 ≤ length (further_lines b (last_turn m switches c before).ordered.word.news))) ⊎ TellsLineFrom m switches b from before
+    ((from ≤ length before) × (1 ≤ length (further_lines b (last_turn m switches c before).ordered.word.news)))
+    ⊎ TellsLineFrom m switches b from before

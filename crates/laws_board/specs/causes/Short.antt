@@ -20,5 +20,7 @@ abbrev pub HaveShortDictionaries : Machine → Type 0
 HaveShortDictionaries m = (b : ℕ) → b < length m.boards → length (dictionary_of (board_at m b)) < 59 * 40
 
 -- each board of a machine is in a run, with its own levels and turns
-abbrev pub AreInRun : Machine → List Switch → (ℕ → List (List Level)) → List Entry → List Came → (ℕ → List BoardTurn) → Type 0
-AreInRun m switches pins entries came turns = (b : ℕ) → b < length m.boards → IsInRun m switches (pins b) entries b came (turns b)
+abbrev pub AreInRun : Machine → List Switch → (ℕ → List (List Level)) → List Entry → List Came → (ℕ → List BoardTurn) →
+    Type 0
+AreInRun m switches pins entries came turns =
+    (b : ℕ) → b < length m.boards → IsInRun m switches (pins b) entries b came (turns b)

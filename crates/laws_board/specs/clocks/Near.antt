@@ -16,12 +16,14 @@ pub record KeepsUp (clock : BoardClock) (line : Line) (turn : ℕ) : Type 0 wher
 abbrev pub turn_from : ℕ → ℕ
 turn_from time = (time + 999_999) / 1_000_000
 
--- Each line of a board keeps up with it in its time: the first one from a turn on, each further one from the turn of its own time
--- on; and each until the first turn behind the time of the next one, the last one until a turn.
+-- Each line of a board keeps up with it in its time: the first one from a turn on, each further one from the
+-- turn of its own time on; and each until the first turn behind the time of the next one, the last one until
+-- a turn.
 abbrev pub AllKeepUp : BoardClock → ℕ → Line → List Held → ℕ → Type 0
 AllKeepUp clock from line [] until = (turn : ℕ) → from ≤ turn → turn ≤ until → KeepsUp clock line turn
 AllKeepUp clock from line (h ∷ held) until =
-    ((turn : ℕ) → from ≤ turn → turn ≤ turn_from h.from → KeepsUp clock line turn) × AllKeepUp clock (h.from / turn_ns) h.line held until × (from ≤ turn_from h.from)
+    ((turn : ℕ) → from ≤ turn → turn ≤ turn_from h.from → KeepsUp clock line turn)
+    × AllKeepUp clock (h.from / turn_ns) h.line held until × (from ≤ turn_from h.from)
 
 -- as a turn begins, the clock lines of a board are at most a turn behind it, and less than four turns ahead
 pub record LinesKeepUp (clock : BoardClock) (clocks : Clocks) (turn : ℕ) : Type 0 where

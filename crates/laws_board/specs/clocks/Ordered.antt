@@ -15,8 +15,8 @@ abbrev pub IsHoming : Option Homing → Type 0
 IsHoming None = ⊥
 IsHoming (Some h) = Unit {0}
 
--- the reactor may order a command in a turn: no steps and no direction of a stepper, the clock of a stepper only where a homing
--- section sets it, and a stepper is bound to a trigger only while a board homes
+-- the reactor may order a command in a turn: no steps and no direction of a stepper, the clock of a stepper
+-- only where a homing section sets it, and a stepper is bound to a trigger only while a board homes
 abbrev pub MayOrder : Option Homing → ℕ → Cmd → Type 0
 MayOrder h turn (cmd.QueueStep oid interval count add) = ⊥
 MayOrder h turn (cmd.SetNextStepDir oid dir) = ⊥

@@ -15,9 +15,10 @@ use Rattle.link_work.specs.Turn.{Orders}
 use Rattle.host_reactor.specs.Runs.{Came, GoesOn}
 use Rattle.laws_board.specs.turns.Turns.{AreBoardTurns, BoardTurn, IsBoardOf}
 
--- A board of a machine in a run that goes on: the turns of its link are turns of that board with its levels and entries, they
--- and the reactor's take from each other what the other told, and its ticks are in range.
-pub record IsInRun (m : Machine) (switches : List Switch) (pins : List (List Level)) (entries : List Entry) (b : ℕ) (came : List Came) (turns : List BoardTurn) : Type 0 where
+-- A board of a machine in a run that goes on: the turns of its link are turns of that board with its levels
+-- and entries, they and the reactor's take from each other what the other told, and its ticks are in range.
+pub record IsInRun (m : Machine) (switches : List Switch) (pins : List (List Level)) (entries : List Entry) (b : ℕ)
+    (came : List Came) (turns : List BoardTurn) : Type 0 where
   pub board : b < length m.boards
   pub goes_on : GoesOn m switches came
   pub turns_are : AreBoardTurns (clock_of (board_at m b)) (first_state (board_at m b) pins b entries) turns

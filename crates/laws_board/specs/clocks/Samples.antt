@@ -36,11 +36,12 @@ TellsClock number clock (n ∷ news) = ((n.number ≡ number) × IsClock clock n
 -- in a turn a clock came to the host, in a reply with this number
 abbrev pub WasTold : ℕ → ℕ → ℕ → List BoardTurn → Type 0
 WasTold number clock turn [] = ⊥
-WasTold number clock turn (t ∷ before) = ((turn ≡ length before) × TellsClock number clock t.state.news) ⊎ WasTold number clock turn before
+WasTold number clock turn (t ∷ before) =
+    ((turn ≡ length before) × TellsClock number clock t.state.news) ⊎ WasTold number clock turn before
 
--- A sample of a board's clock: it was sent in the turn in which the block with the asking was first put on the line, it was got
--- in the turn in which the answer to this block came, at most three turns later, and the clock is the board's own tick of a turn
--- between the two.
+-- A sample of a board's clock: it was sent in the turn in which the block with the asking was first put on
+-- the line, it was got in the turn in which the answer to this block came, at most three turns later, and the
+-- clock is the board's own tick of a turn between the two.
 pub record IsSample (clock : BoardClock) (turns : List BoardTurn) (s : Sample) : Type 0 where
   -- the number of the block
   pub block : ℕ
@@ -88,8 +89,10 @@ further_lines b (n ∷ news) = further_lines b news
 
 -- a clock line of a board is that of a sample of its clock, which was got in the latest of these turns
 abbrev pub IsFresh : BoardClock → List BoardTurn → Line → Type 0
-IsFresh clock turns line = (s : Sample) × IsSample clock turns s × (line ≡ sampled s clock.freq) × (s.got + 1 ≡ length turns)
+IsFresh clock turns line =
+    (s : Sample) × IsSample clock turns s × (line ≡ sampled s clock.freq) × (s.got + 1 ≡ length turns)
 
 -- a clock line of a board is that of a sample of its clock, which was got in the turn in which it was sent
 abbrev pub IsSampledAtOnce : BoardClock → List BoardTurn → Line → Type 0
-IsSampledAtOnce clock turns line = (s : Sample) × IsSample clock turns s × (line ≡ sampled s clock.freq) × (s.got ≡ s.sent)
+IsSampledAtOnce clock turns line =
+    (s : Sample) × IsSample clock turns s × (line ≡ sampled s clock.freq) × (s.got ≡ s.sent)

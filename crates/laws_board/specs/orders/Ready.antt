@@ -6,6 +6,7 @@ use Rattle.host_reactor.specs.declared.ordered.Phase.{Phase}
 use Rattle.host_reactor.specs.declared.ordered.Phase.TheVariants.{Connecting}
 use Rattle.host_reactor.specs.Runs.{Came, known_by}
 
+-- a run has not ended connecting
 abbrev pub is_connecting : Phase → Bool
 is_connecting Connecting = true
 is_connecting phase = false

@@ -12,20 +12,21 @@ abbrev pub AnyHomed : List WordMsg → Type 0
 AnyHomed [] = ⊥
 AnyHomed (w ∷ ws) = (tells_homed w.news ≡ true) ⊎ AnyHomed ws
 
--- In turns from number k on, before which so many words were taken: in those from turn `start` on and before turn `end` the word of the
--- same turn is taken, and none that tells of an answer.
+-- In turns from number k on, before which so many words were taken: in those from turn `start` on and before
+-- turn `end` the word of the same turn is taken, and none that tells of an answer.
 abbrev pub WaitsIn : ℕ → ℕ → ℕ → ℕ → List MotionTurn → Type 0
 WaitsIn start end k taken [] = Unit {0}
 WaitsIn start end k taken (t ∷ ts) =
-    (start ≤ k → k < end → (AnyHomed t.words → ⊥) × (k < taken + length t.words)) × WaitsIn start end (k + 1) (taken + length t.words) ts
+    (start ≤ k → k < end → (AnyHomed t.words → ⊥) × (k < taken + length t.words))
+    × WaitsIn start end (k + 1) (taken + length t.words) ts
 
 -- in a turn, of some from number k on, a word is taken that tells of an answer
 abbrev pub TakesAnswer : ℕ → ℕ → List MotionTurn → Type 0
 TakesAnswer end k [] = ⊥
 TakesAnswer end k (t ∷ ts) = ((k ≡ end) × AnyHomed t.words) ⊎ TakesAnswer end (k + 1) ts
 
--- A homing section by the words of some turns from number k on: from its start on none tells of an answer up to the turn in which it
--- ends; and where it ends in one of them, one tells of it there.
+-- A homing section by the words of some turns from number k on: from its start on none tells of an answer up
+-- to the turn in which it ends; and where it ends in one of them, one tells of it there.
 pub record EndsByWord (k taken : ℕ) (ts : List MotionTurn) (s : Started) : Type 0 where
   pub waits : WaitsIn s.start s.end k taken ts
   pub ends : (s.end < k) ⊎ ((s.end ≡ no_end) ⊎ TakesAnswer s.end k ts)
@@ -33,7 +34,8 @@ pub record EndsByWord (k taken : ℕ) (ts : List MotionTurn) (s : Started) : Typ
 -- so each of some sections that homes
 abbrev pub EndByWords : ℕ → ℕ → List MotionTurn → List Started → Type 0
 EndByWords k taken ts [] = Unit {0}
-EndByWords k taken ts (s ∷ begun) = ((axis : ℕ) → s.section.kind ≡ Home axis → EndsByWord k taken ts s) × EndByWords k taken ts begun
+EndByWords k taken ts (s ∷ begun) =
+    ((axis : ℕ) → s.section.kind ≡ Home axis → EndsByWord k taken ts s) × EndByWords k taken ts begun
 
 -- in turns from number k on no word is taken before the turn of its number
 abbrev pub TookNoneAhead : ℕ → ℕ → List MotionTurn → Type 0

@@ -25,6 +25,8 @@ lines_between from to rs = gather (λ t. t.lines) (take (to - from) (drop from r
 abbrev pub times_of : List Started → List Times
 times_of ss = map (λ s. record { start = s.start; end = s.end }) ss
 
--- the pulses of a stepper at a place as a report tells them, with their directions turned back where its wire is inverted
+-- the pulses of a stepper at a place as a report tells them, with their directions turned back where its wire
+-- is inverted
 abbrev pub as_told : Machine → ℕ → List Pulse → List Pulse
-as_told m place ps = map (λ p. record { tick = p.tick; stepper = place; up = turned (stepper_at m place).inverted p.up }) ps
+as_told m place ps =
+    map (λ p. record { tick = p.tick; stepper = place; up = turned (stepper_at m place).inverted p.up }) ps

@@ -28,8 +28,8 @@ runs_on m clocks begun b = map (run_on m clocks b) begun
 abbrev pub is_set_in : ℕ → ℕ → Bool
 is_set_in start turn = nat_le start (turn + 254) && nat_le (turn + 252) start
 
--- Where the parts of steppers' steps stop that are begun in a turn: those of homing sections with the end of the section, all others
--- don't.
+-- Where the parts of steppers' steps stop that are begun in a turn: those of homing sections with the end of
+-- the section, all others don't.
 abbrev pub stops_of : List Started → ℕ → Option ℕ
 stops_of [] turn = None
 stops_of (s ∷ begun) turn = if is_home s.section.kind && is_set_in s.start turn then Some s.end else stops_of begun turn
@@ -38,15 +38,20 @@ stops_of (s ∷ begun) turn = if is_home s.section.kind && is_set_in s.start tur
 abbrev pub ArePlannedBefore : Machine → List Clocks → ℕ → List Started → Type 0
 ArePlannedBefore m clocks until [] = Unit {0}
 ArePlannedBefore m clocks until (s ∷ begun) =
-    (section_end m clocks s.section.moves s.start < until) × (section_end m clocks s.section.moves s.start + 6 < no_end) × ArePlannedBefore m clocks until begun
+    (section_end m clocks s.section.moves s.start < until) × (section_end m clocks s.section.moves s.start + 6 < no_end)
+    × ArePlannedBefore m clocks until begun
 
--- no unit of those of these sections that home is released on a board more than five turns behind the planned end of its section
+-- no unit of those of these sections that home is released on a board more than five turns behind the planned
+-- end of its section
 abbrev pub AreOutInTime : Machine → List Clocks → ℕ → List Started → Type 0
 AreOutInTime m clocks b [] = Unit {0}
 AreOutInTime m clocks b (s ∷ begun) =
-    (is_home s.section.kind ≡ true → AreBefore (section_end m clocks s.section.moves s.start + 6) (part_on m clocks s b).releases) × AreOutInTime m clocks b begun
+    (is_home s.section.kind ≡ true →
+    AreBefore (section_end m clocks s.section.moves s.start + 6) (part_on m clocks s b).releases)
+    × AreOutInTime m clocks b begun
 
 -- the controls of turns from a number on are those of a run in which axes home
 abbrev pub TookControlsIn : Clocks → List RunSection → ℕ → List Orders → Type 0
 TookControlsIn clocks ss turn [] = Unit {0}
-TookControlsIn clocks ss turn (o ∷ os) = All (IsControlIn clocks ss turn) o.control.commands × TookControlsIn clocks ss (turn + 1) os
+TookControlsIn clocks ss turn (o ∷ os) =
+    All (IsControlIn clocks ss turn) o.control.commands × TookControlsIn clocks ss (turn + 1) os

@@ -17,7 +17,8 @@ use Rattle.session_work.specs.declared.table.ReactorTurn.{ReactorTurn}
 
 -- the pulse of the stepper at a place that a line tells, where it tells one
 abbrev pub pulse_in : ℕ → ReportLine → List Pulse
-pulse_in place (report.Pulse board stepper tick up) = if stepper == place then record { tick = tick; stepper = place; up = up } ∷ [] else []
+pulse_in place (report.Pulse board stepper tick up) =
+    if stepper == place then record { tick = tick; stepper = place; up = up } ∷ [] else []
 pulse_in place _ = []
 
 -- the pulses of the stepper at a place that some lines tell
@@ -42,7 +43,8 @@ drift_in b _ = []
 abbrev pub drifts_of : ℕ → List ReportLine → List ReportLine
 drifts_of b lines = flat_map (drift_in b) lines
 
--- the lines that tell further clock lines of a board: the turn and the tick of each, and the time from which on it holds
+-- the lines that tell further clock lines of a board: the turn and the tick of each, and the time from which
+-- on it holds
 abbrev pub held_lines : ℕ → List Held → List ReportLine
 held_lines b [] = []
 held_lines b (h ∷ held) = report.Drift b (turn_at h.line.at) h.line.clock h.from ∷ held_lines b held
@@ -56,12 +58,14 @@ starts_at k i (s ∷ ss) = (if s.start == k then report.Section i k s.section.ki
 abbrev pub came_in : ReactorTurn → Came
 came_in t = record { states = t.states; note = t.note }
 
--- The lines of some turns of the reactor, behind those in which this came, are those of its function, where it knows which section
--- was begun, whatever else it knows.
+-- The lines of some turns of the reactor, behind those in which this came, are those of its function, where
+-- it knows which section was begun, whatever else it knows.
 abbrev pub AreLinesOf : Machine → List Switch → List Came → List ReactorTurn → Type 0
 AreLinesOf m switches before [] = Unit {0}
 AreLinesOf m switches before (t ∷ ts) =
-    ((r : Known) × (r.begun ≡ (known_by m switches before).begun) × (t.lines ≡ (reacts m switches r (length before) t.states t.note).ordered.lines)) × AreLinesOf m switches (came_in t ∷ before) ts
+    ((r : Known) × (r.begun ≡ (known_by m switches before).begun)
+    × (t.lines ≡ (reacts m switches r (length before) t.states t.note).ordered.lines))
+    × AreLinesOf m switches (came_in t ∷ before) ts
 
 -- in some turns of the reactor it took these notes, one in each
 abbrev pub TookEach : List Note → List ReactorTurn → Type 0
@@ -74,8 +78,8 @@ abbrev pub TookNotes : List Note → List ReactorTurn → Type 0
 TookNotes notes [] = Unit {0}
 TookNotes notes (t ∷ ts) = (t.note ≡ None) × TookEach notes ts
 
--- The lines of a turn of the reactor: those of the sections that start in it, and behind them the pulses of the boards' states,
--- and no further line of a section.
+-- The lines of a turn of the reactor: those of the sections that start in it, and behind them the pulses of
+-- the boards' states, and no further line of a section.
 pub record TellsTurn (m : Machine) (begun : List Started) (k : ℕ) (t : ReactorTurn) : Type 0 where
   pub rest : List ReportLine
   pub are : t.lines ≡ machine_line m k ++ (starts_at k 0 begun ++ rest)

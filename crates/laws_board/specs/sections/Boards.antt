@@ -40,8 +40,8 @@ abbrev pub AreEnded : ℕ → List Times → Type 0
 AreEnded turn [] = Unit {0}
 AreEnded turn (t ∷ ts) = (t.end + 5 ≤ turn) × AreEnded turn ts
 
--- Turns of a run: from the one before a section's start on, and before another, which is at least one before the start of the
--- next section.
+-- Turns of a run: from the one before a section's start on, and before another, which is at least one before
+-- the start of the next section.
 pub record IsWindow (turns from to : ℕ) (t : Times) (later : List Times) : Type 0 where
   pub begins : from + 1 ≡ t.start
   pub order : from ≤ to

@@ -1,5 +1,5 @@
--- What the host knows of a stepper that a trigger may halt, and what is made of its steps: a part of them begins where its
--- clock is set, and each part may be cut short.
+-- What the host knows of a stepper that a trigger may halt, and what is made of its steps: a part of them
+-- begins where its clock is set, and each part may be cut short.
 use Rattle.std.specs.Prelude.{◌≡◌, ℕ, ◌+◌, ◌++◌, ◌<◌, ◌≤◌, ◌==◌, ◌⊎◌, true, false, List, [], ◌∷◌, Option, Some, None, if◌then◌else◌}
 use Rattle.plan_types.specs.declared.levels.Level.{Level}
 use Rattle.plan_types.specs.declared.machine.BoardDef.{BoardDef}
@@ -21,14 +21,14 @@ use Rattle.laws_board.specs.sections.Runs.{Begins}
 use Rattle.laws_board.specs.sections.Timely.{AllTimely}
 use Rattle.board_sim.specs.Rig.{takes_all}
 
--- the steps that a stepper was told between two commands that set its clock, and the turn in which the first of the two was
--- queued, where there was one
+-- the steps that a stepper was told between two commands that set its clock, and the turn in which the first
+-- of the two was queued, where there was one
 pub record Part : Type 0 where
   pub since : Option ℕ
   pub steps : List Pulse
 
--- a stepper, as some commands make it: what is known of its present part, the turn in which that was begun, and its earlier parts, the
--- latest first
+-- a stepper, as some commands make it: what is known of its present part, the turn in which that was begun,
+-- and its earlier parts, the latest first
 pub record Course : Type 0 where
   pub known : Known
   pub since : Option ℕ
@@ -59,6 +59,7 @@ course_of oid turn c m ticks = record c { known = knows_of oid c.known m ticks }
 abbrev pub course_behind : ℕ → Course → Sent → Course
 course_behind oid c s = course_of oid s.turn c s.order.command s.order.ticks
 
+-- and what all of some commands make of it, one after the other
 abbrev pub course_from : ℕ → Course → List Sent → Course
 course_from oid c [] = c
 course_from oid c (s ∷ ss) = course_from oid (course_behind oid c s) ss
@@ -77,34 +78,41 @@ abbrev pub IsFrom : ℕ → Option ℕ → Type 0
 IsFrom turn None = ⊥
 IsFrom turn (Some stop) = stop ≤ turn
 
--- A part that was begun in a turn is stopped by another one: from that on its stepper is halted. So of each part, where it stops.
+-- A part that was begun in a turn is stopped by another one: from that on its stepper is halted. So of each
+-- part, where it stops.
 abbrev pub IsStopped : (ℕ → Option ℕ) → ℕ → Option ℕ → Type 0
 IsStopped stops turn None = ⊥
 IsStopped stops turn (Some since) = IsFrom turn (stops since)
 
--- pulses before a tick, where a part that was begun in a turn stops
+-- each pulse is before a tick
 abbrev pub AreBefore : ℕ → List Pulse → Type 0
 AreBefore tick [] = Unit {0}
 AreBefore tick (p ∷ ps) = (p.tick < tick) × AreBefore tick ps
 
+-- pulses before the board's own tick of the turn in which their part stops, if it does
 abbrev pub AreBeforeTurn : (ℕ → ℕ) → Option ℕ → List Pulse → Type 0
 AreBeforeTurn own None ps = Unit {0}
 AreBeforeTurn own (Some stop) ps = AreBefore (own stop) ps
 
+-- pulses of the part that was begun in a turn, before the tick at which it stops; so all pulses, where no
+-- part was begun
 abbrev pub AreBeforeStop : (ℕ → ℕ) → (ℕ → Option ℕ) → Option ℕ → List Pulse → Type 0
 AreBeforeStop own stops None ps = Unit {0}
 AreBeforeStop own stops (Some since) ps = AreBeforeTurn own (stops since) ps
 
--- Pulses of a stepper that are made for these parts of its steps, the latest part first: for the first steps of each, one part behind the
--- other, and none at or after the board's tick of the turn in which its part stops.
+-- Pulses of a stepper that are made for these parts of its steps, the latest part first: for the first steps
+-- of each, one part behind the other, and none at or after the board's tick of the turn in which its part
+-- stops.
 abbrev pub AreMadeFor : (ℕ → ℕ) → (ℕ → Option ℕ) → List Part → List Pulse → Type 0
 AreMadeFor own stops [] ps = ps ≡ []
 AreMadeFor own stops (p ∷ past) ps =
-    (early late : List Pulse) × (ps ≡ early ++ late) × AreMadeFor own stops past early × Begins late p.steps × AreBeforeStop own stops p.since late
+    (early late : List Pulse) × (ps ≡ early ++ late) × AreMadeFor own stops past early × Begins late p.steps
+    × AreBeforeStop own stops p.since late
 
--- The pulses that a stepper has made so far: for its earlier parts, and for its present one, whose other steps pend, but for those
--- that a halt dropped.
-pub record IsMadeBy (own : ℕ → ℕ) (stops : ℕ → Option ℕ) (oid : ℕ) (o : Option Pending) (c : Course) (made : List Pulse) : Type 0 where
+-- The pulses that a stepper has made so far: for its earlier parts, and for its present one, whose other
+-- steps pend, but for those that a halt dropped.
+pub record IsMadeBy (own : ℕ → ℕ) (stops : ℕ → Option ℕ) (oid : ℕ) (o : Option Pending) (c : Course)
+    (made : List Pulse) : Type 0 where
   pub early : List Pulse
   pub late : List Pulse
   pub is : made ≡ early ++ late
@@ -114,7 +122,8 @@ pub record IsMadeBy (own : ℕ → ℕ) (stops : ℕ → Option ℕ) (oid : ℕ)
   pub whole : is_halted o ≡ false → dropped ≡ []
   pub before : AreBeforeStop own stops c.since late
 
--- a stepper's clock may be set in a turn: its present part is stopped by then, or all its steps are before the board's tick
+-- a stepper's clock may be set in a turn: its present part is stopped by then, or all its steps are before
+-- the board's tick
 pub record MaySetClock (own : ℕ → ℕ) (stops : ℕ → Option ℕ) (turn : ℕ) (c : Course) : Type 0 where
   pub made : c.known.made ≡ true
   pub over : IsStopped stops turn c.since ⊎ AreBelow (own turn) c.known.ends
@@ -132,32 +141,37 @@ IsGoodOn own stops slots oid turn c _ ticks = Unit {0}
 abbrev pub AreGoodOn : (ℕ → ℕ) → (ℕ → Option ℕ) → ℕ → ℕ → Course → List Sent → Type 0
 AreGoodOn own stops slots oid c [] = Unit {0}
 AreGoodOn own stops slots oid c (s ∷ ss) =
-    IsGoodOn own stops slots oid s.turn c s.order.command s.order.ticks × AreGoodOn own stops slots oid (course_behind oid c s) ss
+    IsGoodOn own stops slots oid s.turn c s.order.command s.order.ticks
+    × AreGoodOn own stops slots oid (course_behind oid c s) ss
 
 -- commands that are good for every stepper
 abbrev pub AreAllGood : (ℕ → ℕ) → (ℕ → Option ℕ) → ℕ → List Sent → Type 0
 AreAllGood own stops slots ss = (oid : ℕ) → AreGoodOn own stops slots oid no_course ss
 
--- commands of which the first one is a triple that is queued too late, and good but for that: its first step is before the board's tick of
--- that turn, as are all before it of the stepper's present part
+-- commands of which the first one is a triple that is queued too late, and good but for that: its first step
+-- is before the board's tick of that turn, as are all before it of the stepper's present part
 abbrev pub BeginLostOn : (ℕ → ℕ) → (ℕ → Option ℕ) → ℕ → (ℕ → Course) → List Sent → Type 0
 BeginLostOn own stops slots cs [] = Unit {0}
 BeginLostOn own stops slots cs (s ∷ ss) =
-    ((oid : ℕ) → IsGoodOn own stops slots oid s.turn (cs oid) s.order.command s.order.ticks) × IsLostFor own s.turn (λ oid. (cs oid).known) s.order.command s.order.ticks
+    ((oid : ℕ) → IsGoodOn own stops slots oid s.turn (cs oid) s.order.command s.order.ticks)
+    × IsLostFor own s.turn (λ oid. (cs oid).known) s.order.command s.order.ticks
 
 -- the stepper of a triple isn't halted
 abbrev pub FindsFree : Controller → Cmd → Type 0
 FindsFree b (cmd.QueueStep oid interval count add) = is_halted (stepper_at b oid) ≡ false
 FindsFree b _ = Unit {0}
 
--- Where a board takes these commands, and runs when it took all of a front of what was queued, the stepper of the first triple behind that
--- front isn't halted then: a halted stepper takes no triple, and so refuses none that comes too late.
+-- Where a board takes these commands, and runs when it took all of a front of what was queued, the stepper of
+-- the first triple behind that front isn't halted then: a halted stepper takes no triple, and so refuses none
+-- that comes too late.
 abbrev pub HeedsIn : List Sent → List Sent → Core → List Meant → Type 0
 HeedsIn front [] h ms = Unit {0}
 HeedsIn front (t ∷ tail) h ms =
-    (first rest : List Meant) → ms ≡ first ++ t.order ∷ rest → h.taken ++ first ≡ orders_in front → (takes_all h.board (commands_of first)).rig.controller.state ≡ Running →
+    (first rest : List Meant) → ms ≡ first ++ t.order ∷ rest → h.taken ++ first ≡ orders_in front →
+    (takes_all h.board (commands_of first)).rig.controller.state ≡ Running →
     FindsFree (takes_all h.board (commands_of first)).rig.controller t.order.command
 
+-- so it is of the commands that a board takes in one step of a run
 abbrev pub HeedsAt : List Sent → List Sent → Core → Step → Type 0
 HeedsAt front tail h (Do e) = HeedsIn front tail h (takes_in h e)
 HeedsAt front tail h (Turn turn) = Unit {0}
@@ -172,6 +186,7 @@ abbrev pub IsInTime : (ℕ → Option ℕ) → ℕ → ℕ → Cmd → Type 0
 IsInTime stops turn queued (cmd.ResetStepClock oid clock) = IsStopped stops turn (Some queued) → ⊥
 IsInTime stops turn queued _ = Unit {0}
 
+-- so each of some commands, which were sent in their turns
 abbrev pub AreInTime : (ℕ → Option ℕ) → ℕ → List Sent → Type 0
 AreInTime stops turn [] = Unit {0}
 AreInTime stops turn (s ∷ ss) = IsInTime stops turn s.turn s.order.command × AreInTime stops turn ss
@@ -181,10 +196,11 @@ AreInTime stops turn (s ∷ ss) = IsInTime stops turn s.turn s.order.command × 
 -- of that part was taken.
 abbrev pub IsSettled : (ℕ → Option ℕ) → List Sent → ℕ → List Sent → Core → Type 0
 IsSettled stops front turn sent h =
-    h.board.controller.state ≡ Running →
-    (done left more : List Sent) → done ++ left ≡ sent → done ++ more ≡ front → orders_in done ≡ h.taken →
+    h.board.controller.state ≡ Running → (done left more : List Sent) → done ++ left ≡ sent → done ++ more ≡ front →
+    orders_in done ≡ h.taken →
     AreInTime stops turn more
-    × ((oid : ℕ) → IsStopped stops turn (courses done oid).since → (is_halted (stepper_at h.board.controller oid) ≡ true) ⊎ ((courses done oid).known.ends ≡ []))
+    × ((oid : ℕ) → IsStopped stops turn (courses done oid).since →
+    (is_halted (stepper_at h.board.controller oid) ≡ true) ⊎ ((courses done oid).known.ends ≡ []))
 
 -- And in some steps that follow such a stepper is halted before the board takes a step of it.
 abbrev pub FindStopped : (ℕ → Option ℕ) → List Sent → ℕ → List Sent → Core → List Step → Type 0
@@ -201,11 +217,13 @@ AreSettled stops front own turn sent (o ∷ os) steps h t =
     IsSettled stops front turn sent h × FindStopped stops front turn sent h t.0
     × AreSettled stops front own (turn + 1) (sent ++ sent_at turn (queued_in o)) os t.1 (run t.0 h) t.4
 
--- What happens on a board and its link in some turns, where the commands that are queued are good, up to one that is queued too late, and
--- triggers may halt steppers: no unit is taken half a round of the 32-bit clock after its first tick; where a part of a stepper's steps
--- stops, the board has begun it by then, and halts the stepper by then or before it takes a step of it; and where it takes the late one, that
--- one's stepper isn't halted.
-pub record IsGoodRun (b : BoardDef) (pins : List (List Level)) (own : ℕ → ℕ) (stops : ℕ → Option ℕ) (os : List Orders) (steps : List Step) : Type 0 where
+-- What happens on a board and its link in some turns, where the commands that are queued are good, up to one
+-- that is queued too late, and triggers may halt steppers: no unit is taken half a round of the 32-bit clock
+-- after its first tick; where a part of a stepper's steps stops, the board has begun it by then, and halts
+-- the stepper by then or before it takes a step of it; and where it takes the late one, that one's stepper
+-- isn't halted.
+pub record IsGoodRun (b : BoardDef) (pins : List (List Level)) (own : ℕ → ℕ) (stops : ℕ → Option ℕ) (os : List Orders)
+    (steps : List Step) : Type 0 where
   pub ticks : AreTicks own
   pub first : own 0 ≡ b.start
   pub ahead : (turn : ℕ) → IsFrom turn (stops turn) → ⊥

@@ -33,16 +33,16 @@ pub record RunSection : Type 0 where
   pub section : BoardSection
   pub homes : Bool
 
--- A section of moves on a board, whose clock lines are near until a turn: no part of a stepper's steps that is begun in its turns stops before
--- they are over.
+-- A section of moves on a board, whose clock lines are near until a turn: no part of a stepper's steps that
+-- is begun in its turns stops before they are over.
 pub record IsMovesIn (clocks : Clocks) (freq slots until : ℕ) (stops : ℕ → Option ℕ) (s : BoardSection) : Type 0 where
   pub is : IsSection clocks freq slots s
   pub limit : s.end < until
   pub goes_on : (turn : ℕ) → s.start ≤ turn + 254 → turn ≤ s.end + 5 → stops turn ≡ None
 
--- A homing section on a board: its units are those that were released before its end, of a plan whose last step is due in a turn; none
--- sets a clock, which a command of its own sets to the section's first tick; and the parts of its steppers' steps, which are begun 254
--- to 252 turns before its start, stop with its end.
+-- A homing section on a board: its units are those that were released before its end, of a plan whose last
+-- step is due in a turn; none sets a clock, which a command of its own sets to the section's first tick; and
+-- the parts of its steppers' steps, which are begun 254 to 252 turns before its start, stop with its end.
 pub record IsHomingIn (clocks : Clocks) (freq slots until : ℕ) (stops : ℕ → Option ℕ) (s : BoardSection) : Type 0 where
   pub spaced : (oid : ℕ) → AreSpaced (base_of clocks s) (s.plan oid)
   pub last : ℕ
@@ -57,6 +57,7 @@ pub record IsHomingIn (clocks : Clocks) (freq slots until : ℕ) (stops : ℕ �
   pub released : AreBefore s.end s.releases
   pub stop : (turn : ℕ) → s.start ≤ turn + 254 → turn + 252 ≤ s.start → stops turn ≡ Some s.end
 
+-- a board's part of a section, which homes an axis or not, with what holds of such a section
 abbrev pub IsSectionBy : Bool → Clocks → ℕ → ℕ → ℕ → (ℕ → Option ℕ) → BoardSection → Type 0
 IsSectionBy true clocks freq slots until stops s = IsHomingIn clocks freq slots until stops s
 IsSectionBy false clocks freq slots until stops s = IsMovesIn clocks freq slots until stops s
@@ -64,16 +65,20 @@ IsSectionBy false clocks freq slots until stops s = IsMovesIn clocks freq slots 
 -- sections one behind the other, each 260 turns or more after the end of the one before, or after a turn
 abbrev pub AreInTurn : ℕ → List RunSection → Type 0
 AreInTurn turn [] = Unit {0}
-AreInTurn turn (s ∷ ss) = (turn + 260 ≤ s.section.start) × (s.section.start ≤ s.section.end) × AreInTurn s.section.end ss
+AreInTurn turn (s ∷ ss) =
+    (turn + 260 ≤ s.section.start) × (s.section.start ≤ s.section.end) × AreInTurn s.section.end ss
 
--- in a turn one of some sections sets the clocks of its steppers, to its first tick: a homing section, 254 to 252 turns before its start
+-- in a turn one of some sections sets the clocks of its steppers, to its first tick: a homing section, 254 to
+-- 252 turns before its start
 abbrev pub SetsClock : Clocks → List RunSection → ℕ → ℕ → Type 0
 SetsClock clocks [] turn clock = ⊥
 SetsClock clocks (s ∷ ss) turn clock =
-    ((s.homes ≡ true) × (s.section.start ≤ turn + 254) × (turn + 252 ≤ s.section.start) × (clock ≡ base_of clocks s.section % 2 ^ 32)) ⊎ SetsClock clocks ss turn clock
+    ((s.homes ≡ true) × (s.section.start ≤ turn + 254) × (turn + 252 ≤ s.section.start)
+    × (clock ≡ base_of clocks s.section % 2 ^ 32))
+    ⊎ SetsClock clocks ss turn clock
 
--- A control command of a run in a turn: no step and no direction of a stepper, and its clock only where a homing section sets it; and a
--- stepper has one of a board's 256 numbers.
+-- A control command of a run in a turn: no step and no direction of a stepper, and its clock only where a
+-- homing section sets it; and a stepper has one of a board's 256 numbers.
 abbrev pub IsControlIn : Clocks → List RunSection → ℕ → Cmd → Type 0
 IsControlIn clocks ss turn (cmd.QueueStep oid interval count add) = ⊥
 IsControlIn clocks ss turn (cmd.SetNextStepDir oid dir) = ⊥
@@ -96,17 +101,20 @@ abbrev pub AreReleasedIn : List RunSection → Type 0
 AreReleasedIn [] = Unit {0}
 AreReleasedIn (s ∷ ss) = (s.homes ≡ false → AreBefore (s.section.end + 5) s.section.releases) × AreReleasedIn ss
 
--- what is queued in turns from a number on: control commands, and the units of the sections that are released in the turn
+-- what is queued in turns from a number on: control commands, and the units of the sections that are released
+-- in the turn
 abbrev pub AreOrdersIn : Clocks → List RunSection → ℕ → List Orders → Type 0
 AreOrdersIn clocks ss turn [] = Unit {0}
 AreOrdersIn clocks ss turn (o ∷ os) =
-    All (IsControlIn clocks ss turn) o.control.commands × (o.batch.units ≡ flat_map (λ s. batch_at turn s.section.releases) ss) × AreOrdersIn clocks ss (turn + 1) os
+    All (IsControlIn clocks ss turn) o.control.commands
+    × (o.batch.units ≡ flat_map (λ s. batch_at turn s.section.releases) ss) × AreOrdersIn clocks ss (turn + 1) os
 
--- some commands set the clock of a stepper
+-- a command sets the clock of a stepper
 abbrev pub IsSetting : ℕ → Cmd → Type 0
 IsSetting oid (cmd.ResetStepClock other clock) = other ≡ oid
 IsSetting oid _ = ⊥
 
+-- one of some commands sets the clock of a stepper
 abbrev pub Sets : ℕ → List Cmd → Type 0
 Sets oid [] = ⊥
 Sets oid (c ∷ cs) = IsSetting oid c ⊎ Sets oid cs
@@ -114,27 +122,31 @@ Sets oid (c ∷ cs) = IsSetting oid c ⊎ Sets oid cs
 -- a stepper's clock is set for a homing section in one of some turns, of which this is the first one's number
 abbrev pub SetsIn : ℕ → BoardSection → ℕ → List Orders → Type 0
 SetsIn oid s turn [] = ⊥
-SetsIn oid s turn (o ∷ os) = ((s.start ≤ turn + 254) × (turn + 252 ≤ s.start) × Sets oid o.control.commands) ⊎ SetsIn oid s (turn + 1) os
+SetsIn oid s turn (o ∷ os) =
+    ((s.start ≤ turn + 254) × (turn + 252 ≤ s.start) × Sets oid o.control.commands) ⊎ SetsIn oid s (turn + 1) os
 
 -- so it is for each homing section that has units of it, where these turns come to them
 abbrev pub AreSet : ℕ → List RunSection → ℕ → List Orders → Type 0
 AreSet oid [] turn os = Unit {0}
 AreSet oid (s ∷ ss) turn os =
-    (s.homes ≡ true → of_stepper oid (units_of s.section.releases) ≢ [] → s.section.start ≤ turn + length os + 250 → SetsIn oid s.section turn os) × AreSet oid ss turn os
+    (s.homes ≡ true → of_stepper oid (units_of s.section.releases) ≢ [] → s.section.start ≤ turn + length os + 250 →
+    SetsIn oid s.section turn os) × AreSet oid ss turn os
 
--- a stepper's clock is set by a control of some turns; or some sections have units of it
+-- a stepper's clock is set by a control of some turns
 abbrev pub SetsAny : ℕ → List Orders → Type 0
 SetsAny oid [] = ⊥
 SetsAny oid (o ∷ os) = Sets oid o.control.commands ⊎ SetsAny oid os
 
+-- one of some sections has units of a stepper
 abbrev pub HasUnits : ℕ → List RunSection → Type 0
 HasUnits oid [] = ⊥
 HasUnits oid (s ∷ ss) = (of_stepper oid (units_of s.section.releases) ≢ []) ⊎ HasUnits oid ss
 
--- A board's part of a run in which axes home: its own ticks and its clock lines, the sections, where the parts of its steppers' steps
--- stop, and what is queued turn by turn. A stepper that is used is made before the boards are ready, and its clock is set before the units of a
--- homing section.
-pub record IsHomeRun (own : ℕ → ℕ) (clocks : Clocks) (freq slots ready : ℕ) (stops : ℕ → Option ℕ) (ss : List RunSection) (os : List Orders) : Type 0 where
+-- A board's part of a run in which axes home: its own ticks and its clock lines, the sections, where the
+-- parts of its steppers' steps stop, and what is queued turn by turn. A stepper that is used is made before
+-- the boards are ready, and its clock is set before the units of a homing section.
+pub record IsHomeRun (own : ℕ → ℕ) (clocks : Clocks) (freq slots ready : ℕ) (stops : ℕ → Option ℕ)
+    (ss : List RunSection) (os : List Orders) : Type 0 where
   pub tracked : AreTracked own clocks ready
   pub sections : All (λ s. IsSectionBy s.homes clocks freq slots tracked.until stops s.section) ss
   pub row : AreInTurn ready ss
@@ -143,12 +155,13 @@ pub record IsHomeRun (own : ℕ → ℕ) (clocks : Clocks) (freq slots ready : �
   pub made : ready ≤ length os → (oid : ℕ) → HasUnits oid ss ⊎ SetsAny oid os → MakesIn oid (take ready os)
   pub ahead : (turn : ℕ) → IsFrom turn (stops turn) → ⊥
 
--- Pulses of a stepper that are made section by section: for the first steps of each, in order, and before the board's tick of the fifth
--- turn behind its end.
+-- Pulses of a stepper that are made section by section: for the first steps of each, in order, and before the
+-- board's tick of the fifth turn behind its end.
 abbrev pub AreFrontsIn : (ℕ → ℕ) → ℕ → List RunSection → List Pulse → Type 0
 AreFrontsIn own oid [] ps = ps ≡ []
 AreFrontsIn own oid (s ∷ ss) ps =
-    (first rest : List Pulse) × (ps ≡ first ++ rest) × Begins first (section_steps oid s.section) × course.AreBefore (own (s.section.end + 5)) first × AreFrontsIn own oid ss rest
+    (first rest : List Pulse) × (ps ≡ first ++ rest) × Begins first (section_steps oid s.section)
+    × course.AreBefore (own (s.section.end + 5)) first × AreFrontsIn own oid ss rest
 
 -- Of each section what is released by a turn is released by the fifth turn behind its end.
 abbrev pub AreSoonBy : ℕ → ℕ → List Release → Type 0
@@ -165,9 +178,9 @@ abbrev pub IsBegunFor : ℕ → (ℕ → Course) → Cmd → Type 0
 IsBegunFor turn cs (cmd.QueueStep oid interval count add) = IsSince turn (cs oid).since
 IsBegunFor turn cs _ = ⊥
 
--- The first triple that is left of some sections of moves five turns behind their end: it is queued in that turn, and its
--- stepper's clock was set 250 turns before the section's start or later; of the sections of moves before it all units are
--- released by four turns behind their end.
+-- The first triple that is left of some sections of moves five turns behind their end: it is queued in that
+-- turn, and its stepper's clock was set 250 turns before the section's start or later; of the sections of
+-- moves before it all units are released by four turns behind their end.
 abbrev pub IsLeftOf : List RunSection → (ℕ → Course) → ℕ → Cmd → Type 0
 IsLeftOf [] cs turn c = ⊥
 IsLeftOf (s ∷ ss) cs turn c =
@@ -178,7 +191,9 @@ IsLeftOf (s ∷ ss) cs turn c =
 -- behind its end
 abbrev pub AreReleasedBy : ℕ → List RunSection → Type 0
 AreReleasedBy turns [] = Unit {0}
-AreReleasedBy turns (s ∷ ss) = (s.homes ≡ false → s.section.end + 5 < turns → AreBefore (s.section.end + 5) s.section.releases) × AreReleasedBy turns ss
+AreReleasedBy turns (s ∷ ss) =
+    (s.homes ≡ false → s.section.end + 5 < turns → AreBefore (s.section.end + 5) s.section.releases)
+    × AreReleasedBy turns ss
 
 -- commands of so many turns of which the first is that one; or there are none, and so no triple is left
 abbrev pub BeginLeftOf : ℕ → List RunSection → (ℕ → Course) → List Sent → Type 0
@@ -190,18 +205,22 @@ abbrev pub AreBeforeFirst : (ℕ → ℕ) → List Sent → List Pulse → Type 
 AreBeforeFirst own [] ps = Unit {0}
 AreBeforeFirst own (t ∷ tail) ps = course.AreBefore (own t.turn) ps
 
--- What is queued in a run in which axes home: commands that are good, of whose parts pulses are made section by section,
--- and perhaps others behind them, of which the first is a triple of a section of moves that is queued too late, the first
--- that is left so, and by whose turn the pulses are over. There is none where all units of moves are released soon.
-pub record IsSplitIn (own : ℕ → ℕ) (stops : ℕ → Option ℕ) (slots : ℕ) (ss : List RunSection) (os : List Orders) : Type 0 where
+-- What is queued in a run in which axes home: commands that are good, of whose parts pulses are made section
+-- by section, and perhaps others behind them, of which the first is a triple of a section of moves that is
+-- queued too late, the first that is left so, and by whose turn the pulses are over. There is none where all
+-- units of moves are released soon.
+pub record IsSplitIn (own : ℕ → ℕ) (stops : ℕ → Option ℕ) (slots : ℕ) (ss : List RunSection) (os : List Orders)
+    : Type 0 where
   pub front : List Sent
   pub tail : List Sent
   pub are : front ++ tail ≡ sent_in 0 os
   pub good : AreAllGood own stops slots front
   pub lost : BeginLostOn own stops slots (courses front) tail
   pub begun : BeginLeftOf (length os) ss (courses front) tail
-  pub fronts : (oid : ℕ) (ps : List Pulse) → AreMadeFor own stops (parts_of (courses front oid)) ps → AreFrontsIn own oid ss ps
-  pub early : (oid : ℕ) (ps : List Pulse) → AreMadeFor own stops (parts_of (courses front oid)) ps → AreBeforeFirst own tail ps
+  pub fronts : (oid : ℕ) (ps : List Pulse) → AreMadeFor own stops (parts_of (courses front oid)) ps →
+      AreFrontsIn own oid ss ps
+  pub early : (oid : ℕ) (ps : List Pulse) → AreMadeFor own stops (parts_of (courses front oid)) ps →
+      AreBeforeFirst own tail ps
   pub whole : AreReleasedIn ss → tail ≡ []
 
 -- the turn in which the first of some commands was queued, or the end of so many turns where there is none
@@ -223,7 +242,9 @@ AreOverBy turn (s ∷ ss) = (s.section.end + 5 ≤ turn) × AreOverBy turn ss
 -- unit is taken half a round of the 32-bit clock after its first tick; as each turn begins, a board that runs and took
 -- no unit that is queued too late has begun the parts that stop by then, and halted their steppers; and where it takes
 -- the first of those, that one's stepper isn't halted.
-pub record IsHomeSpan (b : BoardDef) (pins : List (List Level)) (own : ℕ → ℕ) (clocks : Clocks) (ready : ℕ) (stops : ℕ → Option ℕ) (ss : List RunSection) (before during behind : List Orders) (first second : List Step) : Type 0 where
+pub record IsHomeSpan (b : BoardDef) (pins : List (List Level)) (own : ℕ → ℕ) (clocks : Clocks) (ready : ℕ)
+    (stops : ℕ → Option ℕ) (ss : List RunSection) (before during behind : List Orders) (first second : List Step)
+    : Type 0 where
   pub ticks : AreTicks own
   pub begin : own 0 ≡ b.start
   pub run_is : IsHomeRun own clocks b.freq b.slots ready stops ss (before ++ (during ++ behind))
@@ -246,11 +267,13 @@ AreSettledOn stops front clock turn sent (o ∷ os) l m t =
     × FindStopped stops front turn sent l.core (steps_of_turn clock turn o t.1.resent l)
     × AreSettledOn stops front clock (turn + 1) (sent ++ sent_at turn (queued_in o)) os t.0 m t.2
 
--- A board of a run of so many turns in which axes home, at a place among the boards, with its sections and which of them home: its link took
--- what it was given and told the states, its orders are those of its sections, no unit is taken half a round of the
--- 32-bit clock after its first tick, what stops is halted, and where the board takes a first unit of moves that is
--- queued too late, that one's stepper isn't halted. Its ticks go on somehow behind the run.
-pub record IsHomeBoard (place : ℕ) (entries : List Entry) (ready turns : ℕ) (ss : List RunSection) (x : OnBoard) : Type 0 where
+-- A board of a run of so many turns in which axes home, at a place among the boards, with its sections and
+-- which of them home: its link took what it was given and told the states, its orders are those of its
+-- sections, no unit is taken half a round of the 32-bit clock after its first tick, what stops is halted, and
+-- where the board takes a first unit of moves that is queued too late, that one's stepper isn't halted. Its
+-- ticks go on somehow behind the run.
+pub record IsHomeBoard (place : ℕ) (entries : List Entry) (ready turns : ℕ) (ss : List RunSection) (x : OnBoard)
+    : Type 0 where
   pub valid : IsValidBoard x.board
   pub stops : ℕ → Option ℕ
   pub own : ℕ → ℕ
@@ -260,7 +283,8 @@ pub record IsHomeBoard (place : ℕ) (entries : List Entry) (ready turns : ℕ) 
   pub count : length x.orders ≡ turns
   pub end : LinkState
   pub told : AreTold (clock_of x.board) 0 x.orders x.states (first_state x.board x.pins place entries) end
-  pub timely : AllTimely (start x.board x.pins) (steps_of (clock_of x.board) 0 x.orders (first_state x.board x.pins place entries) end
+  pub timely : AllTimely (start x.board x.pins) (steps_of (clock_of x.board) 0 x.orders
+      (first_state x.board x.pins place entries) end
       (turns_told (clock_of x.board) 0 x.orders x.states (first_state x.board x.pins place entries) end told))
   pub settled : AreSettledOn stops split.front (clock_of x.board) 0 [] x.orders
       (first_state x.board x.pins place entries) end

@@ -62,7 +62,8 @@ more_steps oid k ticks = record k {
 
 -- what a command makes of a stepper
 abbrev pub knows_of : ℕ → Known → Cmd → List ℕ → Known
-knows_of oid k (cmd.ConfigStepper other step dir invert width) ticks = if other == oid then record k { made = true } else k
+knows_of oid k (cmd.ConfigStepper other step dir invert width) ticks =
+    if other == oid then record k { made = true } else k
 knows_of oid k (cmd.QueueStep other interval count add) ticks = if other == oid then more_steps oid k ticks else k
 knows_of oid k (cmd.SetNextStepDir other dir) ticks = if other == oid then record k { up = dir == 1 } else k
 knows_of oid k (cmd.ResetStepClock other clock) ticks = if other == oid then record k { clock = clock } else k

@@ -1,5 +1,5 @@
--- A worked example: one millimetre at 10 mm/s on a board of 16 MHz, with 80 steps a millimetre, 3,000 mm/s² and a start in
--- turn 1260. Its 80 steps take four triples.
+-- A worked example: one millimetre at 10 mm/s on a board of 16 MHz, with 80 steps a millimetre, 3,000 mm/s²
+-- and a start in turn 1260. Its 80 steps take four triples.
 use Rattle.std.specs.Prelude.{ℕ, pos, ◌+◌, ◌*◌, ◌==◌, Bool, true, Option, Some, None, List, [], ◌∷◌, map, if◌then◌else◌}
 use Rattle.std.specs.List.{range_with_len}
 use Rattle.plan_types.specs.declared.clock.BoardClock.{BoardClock}

@@ -34,13 +34,16 @@ AllTimely h [] = Unit {0}
 AllTimely h (s ∷ steps) = IsTimelyAt h s × AllTimely (after h s) steps
 
 -- as each of some turns begins, a board has taken all that was queued n turns before it or earlier
-abbrev pub TakesSoon : (n : ℕ) (all : List Orders) (own : ℕ → ℕ) (turn : ℕ) (os : List Orders) (steps : List Step) (h : Core) → AreTurnsOf own turn os steps → Type 0
+abbrev pub TakesSoon : (n : ℕ) (all : List Orders) (own : ℕ → ℕ) (turn : ℕ) (os : List Orders) (steps : List Step)
+    (h : Core) → AreTurnsOf own turn os steps → Type 0
 TakesSoon n all own turn [] steps h t = Unit {0}
 TakesSoon n all own turn (o ∷ os) steps h t =
-    ((more : List Meant) × (flat_map queued_in (take (turn - n) all) ++ more ≡ h.taken)) × TakesSoon n all own (turn + 1) os t.1 (run t.0 h) t.4
+    ((more : List Meant) × (flat_map queued_in (take (turn - n) all) ++ more ≡ h.taken))
+    × TakesSoon n all own (turn + 1) os t.1 (run t.0 h) t.4
 
 -- the control commands of some turns keep the limits of a turn: 42 bytes, and one at most closes its block
 abbrev pub ControlsKeep : List Orders → Type 0
 ControlsKeep [] = Unit {0}
 ControlsKeep (o ∷ os) =
-    (bytes_in (map on_wire (map plain o.control.commands)) ≤ 42) × (closing_in (map on_wire (map plain o.control.commands)) ≤ 1) × ControlsKeep os
+    (bytes_in (map on_wire (map plain o.control.commands)) ≤ 42)
+    × (closing_in (map on_wire (map plain o.control.commands)) ≤ 1) × ControlsKeep os

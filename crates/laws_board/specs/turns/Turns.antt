@@ -23,7 +23,8 @@ abbrev pub stands_after : LinkState → List BoardTurn → LinkState
 stands_after first [] = first
 stands_after first (t ∷ before) = t.after
 
--- the turns of a link that began so, from turn 0 on: each is one that the definition of a turn allows, and tells what happened in it
+-- the turns of a link that began so, from turn 0 on: each is one that the definition of a turn allows, and
+-- tells what happened in it
 abbrev pub AreBoardTurns : BoardClock → LinkState → List BoardTurn → Type 0
 AreBoardTurns clock first [] = Unit {0}
 AreBoardTurns clock first (t ∷ before) =
@@ -42,8 +43,8 @@ abbrev pub latest_state : List BoardTurn → List State
 latest_state [] = []
 latest_state (t ∷ before) = t.state ∷ []
 
--- A board in a run: the reactor took what the board told in the turn before, and the board took the control that the reactor
--- ordered for it, turn by turn.
+-- A board in a run: the reactor took what the board told in the turn before, and the board took the control
+-- that the reactor ordered for it, turn by turn.
 abbrev pub IsBoardOf : Machine → List Switch → ℕ → List Came → List BoardTurn → Type 0
 IsBoardOf m switches b [] [] = Unit {0}
 IsBoardOf m switches b [] (t ∷ turns) = ⊥

@@ -14,8 +14,9 @@ abbrev pub RelayNone : List Cmd → Type 0
 RelayNone [] = Unit {0}
 RelayNone (c ∷ cs) = (Relays c → ⊥) × RelayNone cs
 
--- A trigger that can trigger: its next report is at a tick that the board hasn't passed, and neither that nor a tick at which its switch may trigger it
--- is before the section's first one; reports come every so many ticks, and its reasons fit a byte.
+-- A trigger that can trigger: its next report is at a tick that the board hasn't passed, and neither that nor
+-- a tick at which its switch may trigger it is before the section's first one; reports come every so many
+-- ticks, and its reasons fit a byte.
 pub record IsAlive (oid base every now : ℕ) (r : Rig) : Type 0 where
   pub slot : Slot
   pub is : slot_at r oid ≡ Some slot
@@ -27,12 +28,15 @@ pub record IsAlive (oid base every now : ℕ) (r : Rig) : Type 0 where
   pub begun : base ≤ next
   pub reason : slot.trigger.reason < 2 ^ 8
   pub expire : slot.trigger.expire < 2 ^ 8
-  pub sampled : (y : Sampling) → slot.trigger.sampling ≡ Some y → (y.reason < 2 ^ 8) × ((x : ℕ) → IsTriggerTick (slice_index_or r.pins slot.pin []) y x → base ≤ x)
+  pub sampled : (y : Sampling) → slot.trigger.sampling ≡ Some y →
+      (y.reason < 2 ^ 8) × ((x : ℕ) → IsTriggerTick (slice_index_or r.pins slot.pin []) y x → base ≤ x)
 
 -- It can still trigger behind a stretch of time: the next report is the same, or stands behind one that was told.
 pub record StaysAlive (oid base every now until report : ℕ) (r : Rig) (answers : List Cmd) : Type 0 where
   pub alive : IsAlive oid base every until r
-  pub told : (alive.next ≡ report) ⊎ ((at : ℕ) × (base ≤ at) × (now ≤ at) × (at < until) × (at + every ≡ alive.next) × TellCan oid (at % 2 ^ 32) answers)
+  pub told : (alive.next ≡ report)
+      ⊎ ((at : ℕ) × (base ≤ at) × (now ≤ at) × (at < until) × (at + every ≡ alive.next)
+      × TellCan oid (at % 2 ^ 32) answers)
 
 -- Or its switch triggered it, and that was told, of a tick before its timeout.
 pub record IsSwitched (oid base now until limit : ℕ) (r : Rig) (answers : List Cmd) : Type 0 where

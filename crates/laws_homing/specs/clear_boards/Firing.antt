@@ -9,8 +9,9 @@ use Rattle.msg_code.specs.declared.cmd.Cmd.TheVariants as cmd
 use Rattle.board_sim.specs.Rig.{Rig, Slot, slot_at}
 use Rattle.laws_homing.specs.clear_boards.Limited.{limit_of}
 
--- A trigger of which all is told, whose timeout is at a tick while it can trigger, whose switch triggers it at a tick or later, and whose reasons fit a
--- byte; where it can't trigger it triggered at such a tick, before its timeout and before a tick.
+-- A trigger of which all is told, whose timeout is at a tick while it can trigger, whose switch triggers it
+-- at a tick or later, and whose reasons fit a byte; where it can't trigger it triggered at such a tick,
+-- before its timeout and before a tick.
 pub record IsKeen (base limit until : ℕ) (pins : List (List Level)) (s : Slot) : Type 0 where
   pub told : s.trigger.untold ≡ None
   pub moves : MovesOn s.trigger.sampling
@@ -18,16 +19,19 @@ pub record IsKeen (base limit until : ℕ) (pins : List (List Level)) (s : Slot)
   pub reason : s.trigger.reason < 2 ^ 8
   pub expire : s.trigger.expire < 2 ^ 8
   pub stopped : s.trigger.can ≡ false → (base ≤ s.trigger.tick) × (s.trigger.tick < limit) × (s.trigger.tick < until)
-  pub sampled : (y : Sampling) → s.trigger.sampling ≡ Some y → (y.reason < 2 ^ 8) × ((x : ℕ) → IsTriggerTick (slice_index_or pins s.pin []) y x → base ≤ x)
+  pub sampled : (y : Sampling) → s.trigger.sampling ≡ Some y →
+      (y.reason < 2 ^ 8) × ((x : ℕ) → IsTriggerTick (slice_index_or pins s.pin []) y x → base ≤ x)
 
 -- so all triggers of a board
 abbrev pub AllKeen : ℕ → ℕ → ℕ → Rig → Type 0
 AllKeen base limit until r = (oid : ℕ) (s : Slot) → slot_at r oid ≡ Some s → IsKeen base limit until r.pins s
 
--- The reason and the clock of an answer that tells of a trigger fit, and where it tells that it can't trigger, it tells of such a tick.
+-- The reason and the clock of an answer that tells of a trigger fit, and where it tells that it can't
+-- trigger, it tells of such a tick.
 abbrev pub IsSpoken : ℕ → ℕ → ℕ → Cmd → Type 0
 IsSpoken base limit until (cmd.TrsyncState oid can reason clock) =
-    (reason < 2 ^ 8) × (clock < 2 ^ 32) × (can ≡ 0 → (at : ℕ) × (base ≤ at) × (at < limit) × (at < until) × (clock ≡ at % 2 ^ 32))
+    (reason < 2 ^ 8) × (clock < 2 ^ 32)
+    × (can ≡ 0 → (at : ℕ) × (base ≤ at) × (at < limit) × (at < until) × (clock ≡ at % 2 ^ 32))
 IsSpoken base limit until answer = Unit {0}
 
 -- so those of some answers
@@ -45,36 +49,40 @@ abbrev pub TellOff : ℕ → ℕ → List Cmd → Type 0
 TellOff oid clock [] = ⊥
 TellOff oid clock (c ∷ cs) = TellsOff oid clock c ⊎ TellOff oid clock cs
 
--- A trigger behind a stretch of time up to a tick: where it could trigger before and can't now, that was told, of a tick before the stretch's end and
--- before its timeout, at which a switch may trigger it.
+-- A trigger behind a stretch of time up to a tick: where it could trigger before and can't now, that was
+-- told, of a tick before the stretch's end and before its timeout, at which a switch may trigger it.
 pub record IsOff (oid base until limit : ℕ) (can : Bool) (r : Rig) (answers : List Cmd) : Type 0 where
   pub slot : Slot
   pub is : slot_at r oid ≡ Some slot
-  pub told : can ≡ true → slot.trigger.can ≡ false → (at : ℕ) × (base ≤ at) × (at < until) × (at < limit) × TellOff oid (at % 2 ^ 32) answers
+  pub told : can ≡ true → slot.trigger.can ≡ false →
+      (at : ℕ) × (base ≤ at) × (at < until) × (at < limit) × TellOff oid (at % 2 ^ 32) answers
 
--- the numbers of an answer that tells of a trigger fit, and so those of some answers
+-- the numbers of an answer that tells of a trigger fit a byte
 abbrev pub IsNumbered : Cmd → Type 0
 IsNumbered (cmd.TrsyncState oid can reason clock) = (oid < 2 ^ 8) × (can < 2 ^ 8)
 IsNumbered c = Unit {0}
 
+-- so the numbers of each of some answers
 abbrev pub AreNumbered : List Cmd → Type 0
 AreNumbered [] = Unit {0}
 AreNumbered (c ∷ cs) = IsNumbered c × AreNumbered cs
 
--- the reason and the clock of an answer that tells of a trigger fit, and so those of some answers
+-- the reason and the clock of an answer that tells of a trigger fit 8 bits and 32 bits
 abbrev pub IsSmall : Cmd → Type 0
 IsSmall (cmd.TrsyncState oid can reason clock) = (reason < 2 ^ 8) × (clock < 2 ^ 32)
 IsSmall answer = Unit {0}
 
+-- so the reason and the clock of each of some answers
 abbrev pub AreSmall : List Cmd → Type 0
 AreSmall [] = Unit {0}
 AreSmall (c ∷ cs) = IsSmall c × AreSmall cs
 
--- the reasons of each trigger of a board fit a byte
+-- the reasons of a trigger fit a byte
 pub record HasSmall (s : Slot) : Type 0 where
   pub reason : s.trigger.reason < 2 ^ 8
   pub expire : s.trigger.expire < 2 ^ 8
   pub sampled : (y : Sampling) → s.trigger.sampling ≡ Some y → y.reason < 2 ^ 8
 
+-- so the reasons of each trigger of a board
 abbrev pub AllSmall : Rig → Type 0
 AllSmall r = (oid : ℕ) (s : Slot) → slot_at r oid ≡ Some s → HasSmall s

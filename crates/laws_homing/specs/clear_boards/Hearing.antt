@@ -11,7 +11,8 @@ use Rattle.trigger_group.specs.Group.{fired_by, heard_of}
 
 -- an answer in a turn tells of a trigger that it could trigger, at a tick that lies in a turn by these clock lines
 abbrev pub IsAble : Clocks → ℕ → ℕ → Cmd → Type 0
-IsAble clocks turn when (cmd.TrsyncState oid can reason clock) = (can ≡ 0 → ⊥) × (turn_in_run clocks (nearest (turn_tick clocks turn) clock) ≡ Some when)
+IsAble clocks turn when (cmd.TrsyncState oid can reason clock) =
+    (can ≡ 0 → ⊥) × (turn_in_run clocks (nearest (turn_tick clocks turn) clock) ≡ Some when)
 IsAble clocks turn when answer = ⊥
 
 -- so one of some answers
@@ -27,37 +28,43 @@ HeardBy start b when (m ∷ ms) = (m.member.board ≡ b → when ≤ heard_of st
 -- an answer in a turn that tells of a trigger that it can't trigger tells of a tick that lies between two turns
 abbrev pub IsFiredIn : Clocks → ℕ → ℕ → ℕ → Cmd → Type 0
 IsFiredIn clocks turn start last (cmd.TrsyncState oid can reason clock) =
-    can ≡ 0 → (when : ℕ) × (start ≤ when) × (when ≤ last) × (turn_in_run clocks (nearest (turn_tick clocks turn) clock) ≡ Some when)
+    can ≡ 0 →
+    (when : ℕ) × (start ≤ when) × (when ≤ last)
+    × (turn_in_run clocks (nearest (turn_tick clocks turn) clock) ≡ Some when)
 IsFiredIn clocks turn start last answer = Unit {0}
 
 -- so all of some answers
 abbrev pub AllFiredIn : Clocks → ℕ → ℕ → ℕ → List News → Type 0
 AllFiredIn clocks turn start last [] = Unit {0}
-AllFiredIn clocks turn start last (n ∷ news) = IsFiredIn clocks turn start last n.answer × AllFiredIn clocks turn start last news
+AllFiredIn clocks turn start last (n ∷ news) =
+    IsFiredIn clocks turn start last n.answer × AllFiredIn clocks turn start last news
 
--- an answer tells of a trigger that it can't trigger, and one of some answers does
+-- an answer tells of a trigger that it can't trigger
 abbrev pub IsFiring : Cmd → Type 0
 IsFiring (cmd.TrsyncState oid can reason clock) = can ≡ 0
 IsFiring answer = ⊥
 
+-- one of some answers tells of a trigger that it can't trigger
 abbrev pub TellFiring : List News → Type 0
 TellFiring [] = ⊥
 TellFiring (n ∷ news) = IsFiring n.answer ⊎ TellFiring news
 
--- the members of a board are known to have triggered by a turn; or so is each of which anything is known
+-- the members of a board are known to have triggered by a turn
 abbrev pub FiredOn : ℕ → ℕ → List Seen → Type 0
 FiredOn b last [] = Unit {0}
 FiredOn b last (m ∷ ms) = (m.member.board ≡ b → fired_by last m.fired ≡ true) × FiredOn b last ms
 
+-- each member of a board is known to have triggered by a turn, or nothing is known of it
 abbrev pub KnownOn : ℕ → ℕ → List Seen → Type 0
 KnownOn b last [] = Unit {0}
 KnownOn b last (m ∷ ms) = (m.member.board ≡ b → (fired_by last m.fired ≡ true) ⊎ (m.fired ≡ None)) × KnownOn b last ms
 
--- nothing is known of the members of a board to have triggered; and no answer tells of a trigger that it can't trigger
+-- no member of a board is known to have triggered
 abbrev pub NoneOn : ℕ → List Seen → Type 0
 NoneOn b [] = Unit {0}
 NoneOn b (m ∷ ms) = (m.member.board ≡ b → m.fired ≡ None) × NoneOn b ms
 
+-- no answer tells of a trigger that it can't trigger
 abbrev pub FiringNone : List News → Type 0
 FiringNone [] = Unit {0}
 FiringNone (n ∷ news) = (IsFiring n.answer → ⊥) × FiringNone news

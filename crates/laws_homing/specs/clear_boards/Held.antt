@@ -19,7 +19,8 @@ abbrev pub AllTellOnly : ℕ → List Cmd → Type 0
 AllTellOnly tick [] = Unit {0}
 AllTellOnly tick (c ∷ cs) = TellsOnly tick c × AllTellOnly tick cs
 
--- of a trigger all is told, its readings move on, its switch triggers it for another reason, and where its timeout passed it did so at this tick
+-- of a trigger all is told, its readings move on, its switch triggers it for another reason, and where its
+-- timeout passed it did so at this tick
 pub record IsHeld (tick : ℕ) (s : Slot) : Type 0 where
   pub told : s.trigger.untold ≡ None
   pub moves : MovesOn s.trigger.sampling
@@ -32,10 +33,11 @@ AllHeld tick r = (oid : ℕ) (s : Slot) → slot_at r oid ≡ Some s → IsHeld 
 
 -- the timeout of each trigger is at a tick or later, but where it is at this one
 abbrev pub AllFar : ℕ → ℕ → Rig → Type 0
-AllFar until tick r = (oid : ℕ) (s : Slot) → slot_at r oid ≡ Some s → (x : ℕ) → ExpiresAt s.trigger x → (until ≤ x) ⊎ (x ≡ tick)
+AllFar until tick r =
+    (oid : ℕ) (s : Slot) → slot_at r oid ≡ Some s → (x : ℕ) → ExpiresAt s.trigger x → (until ≤ x) ⊎ (x ≡ tick)
 
--- a timeout that a command sets is later than the board's tick, and a trigger that it triggers, or lets a switch trigger, does so for another
--- reason
+-- a timeout that a command sets is later than the board's tick, and a trigger that it triggers, or lets a
+-- switch trigger, does so for another reason
 abbrev pub IsFit : ℕ → Cmd → Type 0
 IsFit now (cmd.TrsyncSetTimeout oid clock) = now < nearest now clock
 IsFit now (cmd.TrsyncTrigger oid reason) = reason ≡ 2 → ⊥
@@ -48,11 +50,12 @@ AreFit tick r [] = Unit {0}
 AreFit tick r (Takes c ∷ ss) = IsFit r.controller.tick c × AreFit tick (rig_after r (Takes c)) ss
 AreFit tick r (Passes n t ∷ ss) = AllFar t tick r × AreFit tick (rig_after r (Passes n t)) ss
 
--- what a board answers to a command or in a stretch of time, and in all of them
+-- what a board answers to a command or in a stretch of time
 abbrev pub answers_in : Rig → RigStep → List Cmd
 answers_in r (Takes c) = (takes r c).answers
 answers_in r (Passes n t) = (pass n r t).answers
 
+-- what a board answers in all of some steps, one after the other
 abbrev pub all_answers : List RigStep → Rig → List Cmd
 all_answers [] r = []
 all_answers (s ∷ ss) r = answers_in r s ++ all_answers ss (rig_after r s)

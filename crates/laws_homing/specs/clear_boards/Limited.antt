@@ -28,10 +28,12 @@ pub record IsLimited (oid tick limit : ℕ) (r : Rig) : Type 0 where
 abbrev pub AllFired : Rig → Type 0
 AllFired r = (oid : ℕ) (s : Slot) → slot_at r oid ≡ Some s → s.trigger.can ≡ false
 
--- A command behind the set-up of a homing section: it makes, starts and samples no trigger, and binds no stepper; a timeout that it sets is this
--- trigger's, and later than the board's tick, where the trigger can trigger; and what it triggers triggers for another reason.
+-- A command behind the set-up of a homing section: it makes, starts and samples no trigger, and binds no
+-- stepper; a timeout that it sets is this trigger's, and later than the board's tick, where the trigger can
+-- trigger; and what it triggers triggers for another reason.
 abbrev pub IsRenewing : ℕ → Rig → Cmd → Type 0
-IsRenewing oid r (cmd.TrsyncSetTimeout other clock) = (other ≡ oid) × ((r.controller.tick < nearest r.controller.tick clock) ⊎ AllFired r)
+IsRenewing oid r (cmd.TrsyncSetTimeout other clock) =
+    (other ≡ oid) × ((r.controller.tick < nearest r.controller.tick clock) ⊎ AllFired r)
 IsRenewing oid r (cmd.TrsyncTrigger other reason) = reason ≡ 2 → ⊥
 IsRenewing oid r (cmd.ConfigTrsync other) = ⊥
 IsRenewing oid r (cmd.TrsyncStart other clock every reason) = ⊥
@@ -51,10 +53,12 @@ limit_after limit r [] = limit
 limit_after limit r (Takes c ∷ ss) = limit_after (limit_by r.controller.tick limit c) (rig_after r (Takes c)) ss
 limit_after limit r (Passes n t ∷ ss) = limit_after limit (rig_after r (Passes n t)) ss
 
--- such commands are taken by a board that runs, and no stretch of time goes past the timeout, but where it is at this tick or no trigger can
--- trigger
+-- such commands are taken by a board that runs, and no stretch of time goes past the timeout, but where it is
+-- at this tick or no trigger can trigger
 abbrev pub AreRenewing : ℕ → ℕ → ℕ → Rig → List RigStep → Type 0
 AreRenewing oid tick limit r [] = Unit {0}
 AreRenewing oid tick limit r (Takes c ∷ ss) =
-    (r.controller.state ≡ Running) × IsRenewing oid r c × AreRenewing oid tick (limit_by r.controller.tick limit c) (rig_after r (Takes c)) ss
-AreRenewing oid tick limit r (Passes n t ∷ ss) = ((t ≤ limit) ⊎ ((limit ≡ tick) ⊎ AllFired r)) × AreRenewing oid tick limit (rig_after r (Passes n t)) ss
+    (r.controller.state ≡ Running) × IsRenewing oid r c
+    × AreRenewing oid tick (limit_by r.controller.tick limit c) (rig_after r (Takes c)) ss
+AreRenewing oid tick limit r (Passes n t ∷ ss) =
+    ((t ≤ limit) ⊎ ((limit ≡ tick) ⊎ AllFired r)) × AreRenewing oid tick limit (rig_after r (Passes n t)) ss

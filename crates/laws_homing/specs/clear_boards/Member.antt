@@ -7,10 +7,13 @@ use Rattle.laws_homing.specs.clear_boards.Alive.{IsAlive}
 use Rattle.laws_homing.specs.clear_boards.Hearing.{FiredOn, NoneOn}
 use Rattle.laws_homing.specs.clear_boards.Lately.{IsHeardOf, NearOn}
 
--- A board's trigger can trigger, and was heard of lately, and isn't known to have triggered; or it can't, and is known to have triggered by the section's last turn.
+-- A board's trigger can trigger, and was heard of lately, and isn't known to have triggered; or it can't, and
+-- is known to have triggered by the section's last turn.
 abbrev pub IsMember : (own : ℕ → ℕ) (oid base every start last b turn : ℕ) → Rig → List Seen → Type 0
 IsMember own oid base every start last b turn r members =
-    ((a : IsAlive oid base every (own turn) r) × IsHeardOf own base every start b a.next members × NearOn start b turn members × NoneOn b members) ⊎ (HasFired oid r × FiredOn b last members)
+    ((a : IsAlive oid base every (own turn) r) × IsHeardOf own base every start b a.next members
+    × NearOn start b turn members × NoneOn b members)
+    ⊎ (HasFired oid r × FiredOn b last members)
 
 -- a trigger stands here that can't trigger
 abbrev pub is_fired : Option Slot → Bool

@@ -1,4 +1,5 @@
--- How far a homing group and its boards have come, at each of its turns, when it has heard what they told in the turn before.
+-- How far a homing group and its boards have come, at each of its turns, when it has heard what they told in
+-- the turn before.
 use Rattle.std.specs.Prelude.{◌≡◌, ◌⊎◌, ◌≤◌, ◌+◌, ℕ, Bool, false, true, List, [], ◌∷◌, None}
 use Rattle.trigger_group.specs.declared.seen.Seen.{Seen}
 use Rattle.trigger_group.specs.Group.{GroupState, any_fired_by, fired_by, first_timeout, heard_of}
@@ -9,8 +10,8 @@ abbrev pub AllOn : (ℕ → Bool) → List Seen → Type 0
 AllOn holds [] = Unit {0}
 AllOn holds (x ∷ xs) = (holds x.member.board ≡ true) × AllOn holds xs
 
--- No member is known to have triggered by the last turn, and each could trigger ten turns before or later, as far as was heard, or the start isn't
--- more than ten turns past.
+-- No member is known to have triggered by the last turn, and each could trigger ten turns before or later, as
+-- far as was heard, or the start isn't more than ten turns past.
 pub record IsLive (turn : ℕ) (g : GroupState) : Type 0 where
   pub relay : g.relay ≡ None
   pub none : any_fired_by g.last g.members ≡ false
@@ -18,8 +19,9 @@ pub record IsLive (turn : ℕ) (g : GroupState) : Type 0 where
   pub near : turn ≤ least + 10
   pub heard : HeardFrom g.start least g.members
 
--- A member is known to have triggered by the last turn, and the first relay is still to come: until the fourth turn behind the start, for which the
--- first timeout is enough, or in this turn, for which the last one is.
+-- A member is known to have triggered by the last turn, and the first relay is still to come: until the
+-- fourth turn behind the start, for which the first timeout is enough, or in this turn, for which the last
+-- one is.
 pub record IsKnown (turn : ℕ) (g : GroupState) : Type 0 where
   pub relay : g.relay ≡ None
   pub some : any_fired_by g.last g.members ≡ true
@@ -45,8 +47,10 @@ pub record Hears (g heard : GroupState) : Type 0 where
 -- each member was heard of lately as able to trigger, or is known to have triggered by the last turn
 abbrev pub HeardLately : ℕ → ℕ → ℕ → List Seen → Type 0
 HeardLately start last turn [] = Unit {0}
-HeardLately start last turn (x ∷ xs) = ((turn ≤ heard_of start x.heard + 10) ⊎ (fired_by last x.fired ≡ true)) × HeardLately start last turn xs
+HeardLately start last turn (x ∷ xs) =
+    ((turn ≤ heard_of start x.heard + 10) ⊎ (fired_by last x.fired ≡ true)) × HeardLately start last turn xs
 
 -- The same, and while a trigger can trigger the last timeout is three turns ahead.
 abbrev pub IsAheadIn : (ℕ → Bool) → ℕ → GroupState → Type 0
-IsAheadIn fired turn g = (g.sent ≡ g.last + 1) ⊎ (AllOn fired g.members ⊎ ((turn + 3 ≤ g.sent) × (IsLive turn g ⊎ IsKnown turn g)))
+IsAheadIn fired turn g =
+    (g.sent ≡ g.last + 1) ⊎ (AllOn fired g.members ⊎ ((turn + 3 ≤ g.sent) × (IsLive turn g ⊎ IsKnown turn g)))

@@ -10,8 +10,10 @@ use Rattle.axis_homing.specs.Homing.{commands_to}
 use Rattle.laws_homing.specs.clear_boards.Alive.{RelayNone}
 use Rattle.laws_homing.specs.clear_boards.Turned.{AreBehind}
 
--- the commands of the group's orders to the board, and then some that are behind the set-up, whatever timeout was sent, and trigger nothing
-pub record IsOrdered (m : Machine) (clocks : Clocks) (b : ℕ) (h : Homing) (turn : ℕ) (g : GroupState) (commands : List Cmd) : Type 0 where
+-- the commands of the group's orders to the board, and then some that are behind the set-up, whatever timeout
+-- was sent, and trigger nothing
+pub record IsOrdered (m : Machine) (clocks : Clocks) (b : ℕ) (h : Homing) (turn : ℕ) (g : GroupState)
+    (commands : List Cmd) : Type 0 where
   pub tail : List Cmd
   pub are : commands ≡ commands_to m clocks b h.start (axis_at m h.axis) (orders g turn) ++ tail
   pub behind : (oid clock : ℕ) → AreBehind oid clock tail

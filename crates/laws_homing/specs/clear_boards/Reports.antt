@@ -14,8 +14,9 @@ abbrev pub TellCan : ℕ → ℕ → List Cmd → Type 0
 TellCan oid clock [] = ⊥
 TellCan oid clock (c ∷ cs) = TellsCan oid clock c ⊎ TellCan oid clock cs
 
--- A trigger behind a stretch of time up to a tick, of which the next report was at this one and which could trigger or not: its next report is the
--- same, or it stands behind one that was told before the tick, no earlier, while the trigger could trigger; and it can trigger only where it could before.
+-- A trigger behind a stretch of time up to a tick, of which the next report was at this one and which could
+-- trigger or not: its next report is the same, or it stands behind one that was told before the tick, no
+-- earlier, while the trigger could trigger; and it can trigger only where it could before.
 pub record IsReported (oid until report every : ℕ) (can : Bool) (r : Rig) (answers : List Cmd) : Type 0 where
   pub slot : Slot
   pub is : slot_at r oid ≡ Some slot
@@ -23,4 +24,6 @@ pub record IsReported (oid until report every : ℕ) (can : Bool) (r : Rig) (ans
   pub next : ℕ
   pub report_is : slot.trigger.report ≡ Some next
   pub stays : slot.trigger.can ≡ true → can ≡ true
-  pub told : (next ≡ report) ⊎ ((at : ℕ) × (report ≤ at) × (at < until) × (at + every ≡ next) × (slot.trigger.can ≡ true → TellCan oid (at % 2 ^ 32) answers))
+  pub told : (next ≡ report)
+      ⊎ ((at : ℕ) × (report ≤ at) × (at < until) × (at + every ≡ next)
+      × (slot.trigger.can ≡ true → TellCan oid (at % 2 ^ 32) answers))

@@ -7,8 +7,9 @@ use Rattle.board_world.specs.World.{says}
 use Rattle.laws_homing.specs.clear_boards.Held.{AllTellOnly}
 use Rattle.laws_homing.specs.clear_boards.Limited.{IsLimited}
 
--- A command that a board is sent behind the set-up: it makes, starts and samples no trigger, and binds no stepper; a timeout that it sets is this
--- trigger's, at this clock; and what it triggers is this trigger, as a relay.
+-- A command that a board is sent behind the set-up: it makes, starts and samples no trigger, and binds no
+-- stepper; a timeout that it sets is this trigger's, at this clock; and what it triggers is this trigger, as
+-- a relay.
 abbrev pub IsBehind : ℕ → ℕ → Cmd → Type 0
 IsBehind oid clock (cmd.TrsyncSetTimeout other at) = (other ≡ oid) × (at ≡ clock)
 IsBehind oid clock (cmd.TrsyncTrigger other reason) = (other ≡ oid) × (reason ≡ 3)
@@ -19,29 +20,33 @@ IsBehind oid clock (cmd.ConfigEndstop other pin pull) = ⊥
 IsBehind oid clock (cmd.EndstopHome other at sample count rest value trigger reason) = ⊥
 IsBehind oid clock c = Unit {0}
 
+-- so each of some commands
 abbrev pub AreBehind : ℕ → ℕ → List Cmd → Type 0
 AreBehind oid clock [] = Unit {0}
 AreBehind oid clock (c ∷ cs) = IsBehind oid clock c × AreBehind oid clock cs
 
--- one of them sets the timeout
+-- a command sets the timeout of a trigger
 abbrev pub Sets : Cmd → Type 0
 Sets (cmd.TrsyncSetTimeout other at) = Unit {0}
 Sets c = ⊥
 
+-- one of some commands sets the timeout of a trigger
 abbrev pub SetsOne : List Cmd → Type 0
 SetsOne [] = ⊥
 SetsOne (c ∷ cs) = Sets c ⊎ SetsOne cs
 
--- one of them triggers
+-- a command tells a trigger to trigger
 abbrev pub Relays : Cmd → Type 0
 Relays (cmd.TrsyncTrigger other reason) = Unit {0}
 Relays c = ⊥
 
+-- one of some commands tells a trigger to trigger
 abbrev pub RelaysOne : List Cmd → Type 0
 RelaysOne [] = ⊥
 RelaysOne (c ∷ cs) = Relays c ⊎ RelaysOne cs
 
--- A board takes commands in a turn and runs on to a tick: its timeout is then this one, and what it tells tells of no expiry but at one tick.
+-- A board takes commands in a turn and runs on to a tick: its timeout is then this one, and what it tells
+-- tells of no expiry but at one tick.
 pub record IsTurnedTo (oid tick limit until : ℕ) (r : Rig) (cs : List Cmd) : Type 0 where
   pub limited : IsLimited oid tick limit (passes (takes_all r cs).rig until).rig
   pub tells : AllTellOnly tick ((takes_all r cs).answers ++ says (takes_all r cs).rig until)

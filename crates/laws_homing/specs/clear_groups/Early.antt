@@ -9,7 +9,8 @@ use Rattle.trigger_group.specs.Group.{heard_of}
 
 -- an answer that tells of a trigger that it can trigger tells of a tick from one on and before another
 abbrev pub IsEarly : ℕ → ℕ → Cmd → Type 0
-IsEarly from until (cmd.TrsyncState oid can reason clock) = (can ≡ 0 → ⊥) → (at : ℕ) × (from ≤ at) × (at < until) × (clock ≡ at % 2 ^ 32)
+IsEarly from until (cmd.TrsyncState oid can reason clock) =
+    (can ≡ 0 → ⊥) → (at : ℕ) × (from ≤ at) × (at < until) × (clock ≡ at % 2 ^ 32)
 IsEarly from until answer = Unit {0}
 
 -- so some answers

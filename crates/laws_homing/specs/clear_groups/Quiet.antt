@@ -11,11 +11,12 @@ use Rattle.laws_homing.specs.home_runs.Told.{IsMember}
 abbrev pub IsQuiet : Rig → Type 0
 IsQuiet r = (oid : ℕ) (s : Slot) → slot_at r oid ≡ Some s → s.trigger.can ≡ false → s.trigger.sampling ≡ None
 
--- a command lets no trigger read its switch, and so some commands
+-- a command lets no trigger read its switch
 abbrev pub IsBlind : Cmd → Type 0
 IsBlind (cmd.EndstopHome oid clock sample count rest value trigger reason) = ⊥
 IsBlind c = Unit {0}
 
+-- none of some commands lets a trigger read its switch
 abbrev pub EachBlind : List Cmd → Type 0
 EachBlind [] = Unit {0}
 EachBlind (c ∷ cs) = IsBlind c × EachBlind cs

@@ -18,11 +18,12 @@ use Rattle.laws_homing.specs.home_runs.Words.{BeginsNone}
 abbrev pub AllOff : Rig → Type 0
 AllOff r = (oid : ℕ) (s : Slot) → slot_at r oid ≡ Some s → s.trigger.can ≡ false
 
--- a command starts no trigger, and so some commands
+-- a command starts no trigger
 abbrev pub IsTame : Cmd → Type 0
 IsTame (cmd.TrsyncStart oid clock every reason) = ⊥
 IsTame c = Unit {0}
 
+-- none of some commands starts a trigger
 abbrev pub EachTame : List Cmd → Type 0
 EachTame [] = Unit {0}
 EachTame (c ∷ cs) = IsTame c × EachTame cs
@@ -34,7 +35,8 @@ pub record IsStartedIn (b turn : ℕ) (o : Option Homing) : Type 0 where
   pub at : homing.group.start ≡ turn + 251
   pub member : IsMember b (members_of homing.group)
 
--- A board has started its trigger for the section that is known; and once it told since of a trigger that it can't trigger, its own can't.
+-- A board has started its trigger for the section that is known; and once it told since of a trigger that it
+-- can't trigger, its own can't.
 pub record IsUnderWay (oid b turn : ℕ) (o : Option Homing) (turns : List BoardTurn) (r : Rig) : Type 0 where
   pub homing : Homing
   pub known : o ≡ Some homing
@@ -47,5 +49,7 @@ pub record IsUnderWay (oid b turn : ℕ) (o : Option Homing) (turns : List Board
 abbrev pub BeginsAlone : Machine → List Switch → List Came → Type 0
 BeginsAlone m switches [] = Unit {0}
 BeginsAlone m switches (c ∷ before) =
-    (BeginsNone (news_of c.note) ⊎ (((known_by m switches before).homing ≡ None) × ((h : Homing) → (noted m c.note (known_by m switches before)).homing ≡ Some h → length before + 251 ≤ h.start)))
+    (BeginsNone (news_of c.note)
+    ⊎ (((known_by m switches before).homing ≡ None)
+    × ((h : Homing) → (noted m c.note (known_by m switches before)).homing ≡ Some h → length before + 251 ≤ h.start)))
     × BeginsAlone m switches before

@@ -45,26 +45,29 @@ abbrev pub BeginsNoneFrom : ℕ → List Came → Type 0
 BeginsNoneFrom from [] = Unit {0}
 BeginsNoneFrom from (c ∷ before) = (from < length before → BeginsNone (news_of c.note)) × BeginsNoneFrom from before
 
--- Clock lines of a board that hold one after the other, by which each turn up to one begins at the same tick as by others.
+-- Clock lines of a board that hold one after the other, by which each turn up to one begins at the same tick
+-- as by others.
 pub record IsAlike (most : ℕ) (known lines : Clocks) : Type 0 where
   pub kept : AreKept known
   pub ticks : (turn : ℕ) → turn ≤ most → lines_tick known (turn * turn_ns) ≡ lines_tick lines (turn * turn_ns)
 
--- In each turn behind connecting in which a homing section with this start is known the reactor knows clock lines of each board by which each turn up
--- to 276 behind this one begins at the same tick as by these.
+-- In each turn behind connecting in which a homing section with this start is known the reactor knows clock
+-- lines of each board by which each turn up to 276 behind this one begins at the same tick as by these.
 abbrev pub KnowsLines : Machine → List Switch → ℕ → (ℕ → Clocks) → List Came → Type 0
 KnowsLines m switches start lines [] = Unit {0}
 KnowsLines m switches start lines (c ∷ before) =
-    (((known_by m switches before).phase ≡ Connecting → ⊥) → (h : Homing) → (noted m c.note (known_by m switches before)).homing ≡ Some h → h.start ≡ start → (b : ℕ) → b < length m.boards →
-    (b < length (noted m c.note (known_by m switches before)).clocks) × IsAlike (length before + 276) (clocks_at (noted m c.note (known_by m switches before)).clocks b) (lines b))
+    (((known_by m switches before).phase ≡ Connecting → ⊥) → (h : Homing) →
+    (noted m c.note (known_by m switches before)).homing ≡ Some h → h.start ≡ start → (b : ℕ) → b < length m.boards →
+    (b < length (noted m c.note (known_by m switches before)).clocks)
+    × IsAlike (length before + 276) (clocks_at (noted m c.note (known_by m switches before)).clocks b) (lines b))
     × KnowsLines m switches start lines before
 
 -- the ticks between two reports of a board's trigger
 abbrev pub report_ticks : Machine → ℕ → ℕ
 report_ticks m b = (board_at m b).freq * 5 / 1_000
 
--- A board whose clock lines follow it, from five turns before a section's start on until a turn at least, or until the turn behind the section's last one,
--- where that is sooner.
+-- A board whose clock lines follow it, from five turns before a section's start on until a turn at least, or
+-- until the turn behind the section's last one, where that is sooner.
 pub record IsFollowed (m : Machine) (b : ℕ) (clocks : Clocks) (ready start last until : ℕ) : Type 0 where
   pub tracked : AreTracked (λ k. board_tick (clock_of (board_at m b)) k) clocks ready
   pub begins : ready + 5 ≤ start
@@ -73,12 +76,14 @@ pub record IsFollowed (m : Machine) (b : ℕ) (clocks : Clocks) (ready start las
   pub in_run : tracked.until < run_turns
   pub ticks : AreTicks (λ k. board_tick (clock_of (board_at m b)) k)
   pub rises : (u : ℕ) → board_tick (clock_of (board_at m b)) u < board_tick (clock_of (board_at m b)) (u + 1)
-  pub reports : (u : ℕ) → board_tick (clock_of (board_at m b)) u + report_ticks m b < board_tick (clock_of (board_at m b)) (u + 6)
+  pub reports : (u : ℕ) →
+      board_tick (clock_of (board_at m b)) u + report_ticks m b < board_tick (clock_of (board_at m b)) (u + 6)
   pub trigger : trigger_of m b < 2 ^ 8
   pub spaced : 0 < report_ticks m b
 
 -- A member's board in a run that goes on: what it is sent keeps the limits, and none of its states tells of a shutdown.
-pub record IsPlain (m : Machine) (switches : List Switch) (pins : List (List Level)) (entries : List Entry) (b : ℕ) (before : List Came) (turns : List BoardTurn) : Type 0 where
+pub record IsPlain (m : Machine) (switches : List Switch) (pins : List (List Level)) (entries : List Entry) (b : ℕ)
+    (before : List Came) (turns : List BoardTurn) : Type 0 where
   pub run : IsInRun m switches pins entries b before turns
   pub limits : AllKeepLimits (orders_in turns)
   pub none_shut : ShutNone turns
@@ -123,11 +128,14 @@ IsRestingSection m switches pins entries lines from start members c before all =
 abbrev pub rig_at : Machine → (ℕ → List (List Level)) → List Entry → List (ℕ → BoardTurn) → ℕ → Rig
 rig_at m pins entries all b = (stands_after (first_state (board_at m b) (pins b) b entries) (turns_of b all)).core.board
 
--- what a board told of expiries in some turns, from a number on, is of no turn that isn't past the section's last one, by any clock lines by which
--- turns begin as by these
+-- what a board told of expiries in some turns, from a number on, is of no turn that isn't past the section's
+-- last one, by any clock lines by which turns begin as by these
 abbrev pub AllLate : Clocks → ℕ → ℕ → List BoardTurn → Type 0
 AllLate clocks last at [] = Unit {0}
-AllLate clocks last at (t ∷ before) = (at ≤ length before → (known : Clocks) → IsAlike (length before + 277) known clocks → (when : ℕ) → TellExpiry known (length before) when t.state.news → last < when) × AllLate clocks last at before
+AllLate clocks last at (t ∷ before) =
+    (at ≤ length before → (known : Clocks) → IsAlike (length before + 277) known clocks → (when : ℕ) →
+    TellExpiry known (length before) when t.state.news → last < when)
+    × AllLate clocks last at before
 
 -- the turns before the latest one
 abbrev pub rest_of : List (ℕ → BoardTurn) → List (ℕ → BoardTurn)

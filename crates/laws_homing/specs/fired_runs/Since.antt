@@ -77,22 +77,26 @@ AreRead R (c ∷ before) (t ∷ earlier) = R c before (t ∷ earlier) × AreRead
 abbrev pub AreReadTrue : Machine → List Switch → ℕ → List Came → List BoardTurn → Type 0
 AreReadTrue m switches b came turns = AreRead (ReadsTrue m switches b) came turns
 
--- As a homing section that is known starts a board is no more than a turn ahead of its clock lines, by those that are known in some turns from the start
--- on: its own tick of the turn in front of the start is no later than theirs of the start.
+-- As a homing section that is known starts a board is no more than a turn ahead of its clock lines, by those
+-- that are known in some turns from the start on: its own tick of the turn in front of the start is no later
+-- than theirs of the start.
 abbrev pub AreBehind : Machine → List Switch → ℕ → List Came → Type 0
 AreBehind m switches b [] = Unit {0}
 AreBehind m switches b (c ∷ before) =
     ((h : Homing) → (noted m c.note (known_by m switches before)).homing ≡ Some h → h.start ≤ length before →
-    board_tick (clock_of (board_at m b)) (h.start - 1) ≤ lines_tick (clocks_at (noted m c.note (known_by m switches before)).clocks b) (h.start * turn_ns))
+    board_tick (clock_of (board_at m b)) (h.start - 1)
+    ≤ lines_tick (clocks_at (noted m c.note (known_by m switches before)).clocks b) (h.start * turn_ns))
     × AreBehind m switches b before
 
--- Each note begins no section, or it begins one where no homing section is known; and where it is a homing section, past connecting, and 251 turns before
--- its start or earlier.
+-- Each note begins no section, or it begins one where no homing section is known; and where it is a homing
+-- section, past connecting, and 251 turns before its start or earlier.
 abbrev pub BeginsApart : Machine → List Switch → List Came → Type 0
 BeginsApart m switches [] = Unit {0}
 BeginsApart m switches (c ∷ before) =
-    (BeginsNone (news_of c.note) ⊎ (((known_by m switches before).homing ≡ None)
-    × ((h : Homing) → (noted m c.note (known_by m switches before)).homing ≡ Some h → ((known_by m switches before).phase ≡ Connecting → ⊥) × (length before + 251 ≤ h.start))))
+    (BeginsNone (news_of c.note)
+    ⊎ (((known_by m switches before).homing ≡ None)
+    × ((h : Homing) → (noted m c.note (known_by m switches before)).homing ≡ Some h →
+    ((known_by m switches before).phase ≡ Connecting → ⊥) × (length before + 251 ≤ h.start))))
     × BeginsApart m switches before
 
 -- a command starts a trigger
@@ -111,8 +115,8 @@ pub record IsAtRest (trigger : ℕ) (first : LinkState) (turns : List BoardTurn)
   pub rest : (stands_after first turns).core.taken ++ left ≡ (stands_after first turns).core.queued
   pub tame : EachTame (commands_of left)
 
--- A board took the command that starts its trigger for a homing section with this start, 251 turns before it, with all that was queued before, and
--- nothing that starts it since; and its trigger is at rest.
+-- A board took the command that starts its trigger for a homing section with this start, 251 turns before it,
+-- with all that was queued before, and nothing that starts it since; and its trigger is at rest.
 pub record HasFiredSince (trigger start : ℕ) (first : LinkState) (turns : List BoardTurn) : Type 0 where
   pub later : List BoardTurn
   pub early : List BoardTurn
@@ -126,14 +130,17 @@ pub record HasFiredSince (trigger start : ℕ) (first : LinkState) (turns : List
   pub tame : EachTame (commands_of more)
   pub at_rest : IsAtRest trigger first turns
 
--- What a board tells in the turns of a run up to one is read so: as the ticks since which its trigger can't trigger, of sections that are begun one behind
--- the other, by clock lines that the board is no more than a turn ahead of.
-pub record IsReadSo (m : Machine) (switches : List Switch) (b : ℕ) (c : Came) (before : List Came) (turns : List BoardTurn) : Type 0 where
+-- What a board tells in the turns of a run up to one is read so: as the ticks since which its trigger can't
+-- trigger, of sections that are begun one behind the other, by clock lines that the board is no more than a
+-- turn ahead of.
+pub record IsReadSo (m : Machine) (switches : List Switch) (b : ℕ) (c : Came) (before : List Came)
+    (turns : List BoardTurn) : Type 0 where
   pub apart : BeginsApart m switches (c ∷ before)
   pub reads : AreReadTrue m switches b (c ∷ before) turns
   pub behind : AreBehind m switches b (c ∷ before)
 
--- so all that a board tells in a run: what comes in each turn of the reactor is of the board's turns before it, of which there are as many
+-- so all that a board tells in a run: what comes in each turn of the reactor is of the board's turns before
+-- it, of which there are as many
 abbrev pub AllRead : (Came → List Came → List BoardTurn → Type 0) → List Came → List BoardTurn → Type 0
 AllRead R came [] = Unit {0}
 AllRead R came (t ∷ earlier) = AreRead R came earlier
@@ -143,7 +150,8 @@ abbrev pub AllReadTrue : Machine → List Switch → ℕ → List Came → List 
 AllReadTrue m switches b came turns = AllRead (ReadsTrue m switches b) came turns
 
 -- What a board tells in a whole run is read so (`IsReadSo`), up to each of its turns.
-pub record AreReadSo (m : Machine) (switches : List Switch) (b : ℕ) (came : List Came) (turns : List BoardTurn) : Type 0 where
+pub record AreReadSo (m : Machine) (switches : List Switch) (b : ℕ) (came : List Came) (turns : List BoardTurn)
+    : Type 0 where
   pub apart : BeginsApart m switches came
   pub reads : AllReadTrue m switches b came turns
   pub behind : AreBehind m switches b came

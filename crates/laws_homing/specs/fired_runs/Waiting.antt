@@ -8,11 +8,12 @@ use Rattle.link_work.specs.Turn.{LinkState}
 use Rattle.laws_board.specs.turns.Turns.{BoardTurn, stands_after}
 use Rattle.laws_homing.specs.home_runs.Sections.{queued_by}
 
--- a command holds no step of a stepper, and so some commands
+-- a command holds no step of a stepper
 abbrev pub StepsNot : ℕ → Cmd → Type 0
 StepsNot stepper (cmd.QueueStep oid interval count add) = oid ≡ stepper → ⊥
 StepsNot stepper c = Unit {0}
 
+-- none of some commands holds a step of a stepper
 abbrev pub AllStepNot : ℕ → List Meant → Type 0
 AllStepNot stepper [] = Unit {0}
 AllStepNot stepper (m ∷ ms) = StepsNot stepper m.command × AllStepNot stepper ms
@@ -25,7 +26,8 @@ MoveNone oid (u ∷ us) = (u.stepper ≡ oid → ⊥) × MoveNone oid us
 -- nor is any in some turns from a number on and before another one
 abbrev pub MoveNoneIn : ℕ → ℕ → ℕ → List BoardTurn → Type 0
 MoveNoneIn oid from to [] = Unit {0}
-MoveNoneIn oid from to (t ∷ before) = (from ≤ length before → length before < to → MoveNone oid t.batch.units) × MoveNoneIn oid from to before
+MoveNoneIn oid from to (t ∷ before) =
+    (from ≤ length before → length before < to → MoveNone oid t.batch.units) × MoveNoneIn oid from to before
 
 -- of what was queued from a turn on a board took no step of a stepper
 pub record TookNone (oid from : ℕ) (first : LinkState) (turns : List BoardTurn) : Type 0 where

@@ -17,25 +17,31 @@ abbrev pub cut_section : ℕ → BoardSection → BoardSection
 cut_section turn s = record {
   start = s.start;
   end = s.end;
-  plan = λ oid. take (length (steps_said oid false (of_stepper oid (units_of (before_turn turn s.releases))))) (s.plan oid);
+  plan =
+      λ oid.
+      take (length (steps_said oid false (of_stepper oid (units_of (before_turn turn s.releases))))) (s.plan oid);
   releases = before_turn turn s.releases;
 }
 
 -- what a board has so of a section that was begun
 abbrev pub cut_on : Machine → List Clocks → ℕ → ℕ → Started → RunSection
-cut_on m clocks turn b s = record { section = cut_section turn (run_on m clocks b s).section; homes = (run_on m clocks b s).homes }
+cut_on m clocks turn b s =
+    record { section = cut_section turn (run_on m clocks b s).section; homes = (run_on m clocks b s).homes }
 
 -- and of all
 abbrev pub cuts_on : Machine → List Clocks → ℕ → List Started → ℕ → List RunSection
 cuts_on m clocks turn begun b = map (cut_on m clocks turn b) begun
 
--- The turn by which the steps of a section's units are over: that in which its plan ends; and of one that homes and whose end is known, 269 turns
--- behind this one, where that is sooner.
+-- The turn by which the steps of a section's units are over: that in which its plan ends; and of one that
+-- homes and whose end is known, 269 turns behind this one, where that is sooner.
 abbrev pub over_in : SectionKind → Machine → List Clocks → Started → ℕ
 over_in Moves m clocks s = section_end m clocks s.section.moves s.start
-over_in (Home axis) m clocks s = if nat_lt s.end no_end then min (s.end + 269) (section_end m clocks s.section.moves s.start) else section_end m clocks s.section.moves s.start
+over_in (Home axis) m clocks s =
+    if nat_lt s.end no_end then min (s.end + 269) (section_end m clocks s.section.moves s.start)
+    else section_end m clocks s.section.moves s.start
 
 -- so it is before a turn in all of some sections
 abbrev pub AreOverBefore : Machine → List Clocks → ℕ → List Started → Type 0
 AreOverBefore m clocks until [] = Unit {0}
-AreOverBefore m clocks until (s ∷ begun) = (over_in s.section.kind m clocks s < until) × AreOverBefore m clocks until begun
+AreOverBefore m clocks until (s ∷ begun) =
+    (over_in s.section.kind m clocks s < until) × AreOverBefore m clocks until begun

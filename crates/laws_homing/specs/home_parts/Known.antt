@@ -10,12 +10,15 @@ use Rattle.host_reactor.specs.Runs.{Came, known_by}
 use Rattle.motion_work.specs.Known.{lines_by}
 use Rattle.motion_work.specs.Seen.{Started}
 
--- In each turn behind connecting the reactor knows just the boards' clock lines that hold by 276 turns behind it: those that the planner's notes told
--- so far, which hold 277 turns behind the planner's turn, one turn before.
+-- In each turn behind connecting the reactor knows just the boards' clock lines that hold by 276 turns behind
+-- it: those that the planner's notes told so far, which hold 277 turns behind the planner's turn, one turn
+-- before.
 abbrev pub KnowsLately : Machine → List Switch → List Clocks → List Came → Type 0
 KnowsLately m switches clocks [] = Unit {0}
 KnowsLately m switches clocks (c ∷ before) =
-    (((known_by m switches before).phase ≡ Connecting → ⊥) → (noted m c.note (known_by m switches before)).clocks ≡ map (lines_by (length before + 276)) clocks) × KnowsLately m switches clocks before
+    (((known_by m switches before).phase ≡ Connecting → ⊥) →
+    (noted m c.note (known_by m switches before)).clocks ≡ map (lines_by (length before + 276)) clocks)
+    × KnowsLately m switches clocks before
 
 -- the ticks at which these sections start are in the range of 64 bits
 abbrev pub StartInRange : Clocks → List Started → Type 0

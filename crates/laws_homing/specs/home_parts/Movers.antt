@@ -23,4 +23,6 @@ pub record IsMover (m : Machine) (b : ℕ) (s : Started) (axis oid : ℕ) : Type
 abbrev pub HaveMovers : Machine → List Clocks → ℕ → ℕ → List Started → Type 0
 HaveMovers m clocks turn b [] = Unit {0}
 HaveMovers m clocks turn b (s ∷ begun) =
-    ((axis oid : ℕ) → s.section.kind ≡ Home axis → of_stepper oid (units_of (cut_on m clocks turn b s).section.releases) ≢ [] → IsMover m b s axis oid) × HaveMovers m clocks turn b begun
+    ((axis oid : ℕ) → s.section.kind ≡ Home axis →
+    of_stepper oid (units_of (cut_on m clocks turn b s).section.releases) ≢ [] → IsMover m b s axis oid)
+    × HaveMovers m clocks turn b begun

@@ -24,7 +24,8 @@ use Rattle.laws_homing.specs.home_runs.Words.{BeginsNone, TellsHomed}
 abbrev pub IsNoteOf : List Started → ℕ → Option Note → Type 0
 IsNoteOf begun zero note = note ≡ None
 IsNoteOf begun (suc k) note =
-    (n : Note) × (read : List NoteNews) × (note ≡ Some n) × (n.news ≡ done_notes k 0 begun ++ (begun_notes k 0 begun ++ read)) × BeginsNone read
+    (n : Note) × (read : List NoteNews) × (note ≡ Some n)
+    × (n.news ≡ done_notes k 0 begun ++ (begun_notes k 0 begun ++ read)) × BeginsNone read
 
 -- so in each of some turns
 abbrev pub CameNotes : List Started → List Came → Type 0
@@ -35,18 +36,25 @@ CameNotes begun (c ∷ before) = IsNoteOf begun (length before) c.note × CameNo
 abbrev pub IsSilentFrom : Machine → List Switch → ℕ → List Came → Type 0
 IsSilentFrom m switches from [] = Unit {0}
 IsSilentFrom m switches from (c ∷ before) =
-    (from ≤ length before → ((known_by m switches before).phase ≡ Connecting → ⊥) × (TellsHomed (last_turn m switches c before).ordered.word.news → ⊥)) × IsSilentFrom m switches from before
+    (from ≤ length before →
+    ((known_by m switches before).phase ≡ Connecting → ⊥)
+    × (TellsHomed (last_turn m switches c before).ordered.word.news → ⊥))
+    × IsSilentFrom m switches from before
 
--- a homing section that is known is one of some that were begun: it starts with it, and has its number, its axis and its last turn
+-- a homing section that is known is one of some that were begun: it starts with it, and has its number, its
+-- axis and its last turn
 abbrev pub WasBegun : List Started → Option Homing → Type 0
 WasBegun begun None = Unit {0}
 WasBegun begun (Some h) =
-    (past : List Started) × (s : Started) × (later : List Started) × (axis : ℕ) × (begun ≡ past ++ s ∷ later) × (s.section.kind ≡ Home axis) × (h.start ≡ s.start) × (h.group.start ≡ s.start) × (h.section ≡ length past) × (h.axis ≡ axis) × (h.group.last ≡ s.last)
+    (past : List Started) × (s : Started) × (later : List Started) × (axis : ℕ) × (begun ≡ past ++ s ∷ later)
+    × (s.section.kind ≡ Home axis) × (h.start ≡ s.start) × (h.group.start ≡ s.start) × (h.section ≡ length past)
+    × (h.axis ≡ axis) × (h.group.last ≡ s.last)
 
 -- the controls of a board in some turns are those of a run in which axes home
 abbrev pub HoldControlsIn : Clocks → List RunSection → List BoardTurn → Type 0
 HoldControlsIn clocks ss [] = Unit {0}
-HoldControlsIn clocks ss (t ∷ before) = All (IsControlIn clocks ss (length before)) t.control.commands × HoldControlsIn clocks ss before
+HoldControlsIn clocks ss (t ∷ before) =
+    All (IsControlIn clocks ss (length before)) t.control.commands × HoldControlsIn clocks ss before
 
 -- What a board has of each section that was begun: it homes where the section does, and starts in the same turn.
 pub record ShowsSections (part : Started → RunSection) (begun : List Started) (ss : List RunSection) : Type 0 where
@@ -54,11 +62,13 @@ pub record ShowsSections (part : Started → RunSection) (begun : List Started) 
   pub homes : (s : Started) (axis : ℕ) → s.section.kind ≡ Home axis → (part s).homes ≡ true
   pub start : (s : Started) → (part s).section.start ≡ s.start
 
--- in some turns behind connecting the homing section that the reactor knows starts, by the clock lines that it knows of a board then, at the same
--- tick as by all of them
+-- in some turns behind connecting the homing section that the reactor knows starts, by the clock lines that
+-- it knows of a board then, at the same tick as by all of them
 abbrev pub KnowBases : Machine → List Switch → ℕ → Clocks → (Started → RunSection) → List Came → Type 0
 KnowBases m switches b clocks part [] = Unit {0}
 KnowBases m switches b clocks part (c ∷ before) =
-    (((known_by m switches before).phase ≡ Connecting → ⊥) → (h : Homing) (s : Started) → (noted m c.note (known_by m switches before)).homing ≡ Some h → h.start ≡ s.start →
-    turn_tick (clocks_at (noted m c.note (known_by m switches before)).clocks b) h.start ≡ base_of clocks (part s).section)
+    (((known_by m switches before).phase ≡ Connecting → ⊥) → (h : Homing) (s : Started) →
+    (noted m c.note (known_by m switches before)).homing ≡ Some h → h.start ≡ s.start →
+    turn_tick (clocks_at (noted m c.note (known_by m switches before)).clocks b) h.start
+    ≡ base_of clocks (part s).section)
     × KnowBases m switches b clocks part before

@@ -42,14 +42,15 @@ ReasonFits trigger r = (s : Slot) → slot_at r trigger ≡ Some s → s.trigger
 abbrev pub IsSole : ℕ → Rig → Type 0
 IsSole trigger r = (oid : ℕ) (s : Slot) → slot_at r oid ≡ Some s → oid ≡ trigger
 
--- a command behind the set-up of a homing section: it neither starts the trigger anew nor sets the clock of the stepper, and makes no
--- other trigger
+-- a command behind the set-up of a homing section: it neither starts the trigger anew nor sets the clock of
+-- the stepper, and makes no other trigger
 abbrev pub IsCalm : ℕ → ℕ → Cmd → Type 0
 IsCalm stepper trigger (cmd.TrsyncStart oid clock every reason) = oid ≡ trigger → ⊥
 IsCalm stepper trigger (cmd.ResetStepClock oid clock) = oid ≡ stepper → ⊥
 IsCalm stepper trigger (cmd.ConfigTrsync oid) = oid ≡ trigger
 IsCalm stepper trigger c = Unit {0}
 
+-- so each of some commands
 abbrev pub AreCalm : ℕ → ℕ → List Meant → Type 0
 AreCalm stepper trigger [] = Unit {0}
 AreCalm stepper trigger (m ∷ ms) = IsCalm stepper trigger m.command × AreCalm stepper trigger ms

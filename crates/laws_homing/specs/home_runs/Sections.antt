@@ -1,4 +1,5 @@
--- A homing section over the turns of a run: what the reactor knows of it, which steppers move in it, and what the planner sends.
+-- A homing section over the turns of a run: what the reactor knows of it, which steppers move in it, and what
+-- the planner sends.
 use Rattle.std.specs.Prelude.{◌≡◌, ◌<◌, ◌≤◌, ◌+◌, ◌⊎◌, ℕ, true, List, [], ◌∷◌, ◌++◌, length, Option, Some, None}
 use Rattle.plan_types.specs.declared.machine.Machine.{Machine}
 use Rattle.plan_types.specs.Machines.{stepper_at}
@@ -36,7 +37,9 @@ IsOf start members (Some h) = (h.start ≡ start) × (h.group.start ≡ start) �
 abbrev pub HomesFrom : Machine → List Switch → ℕ → ℕ → List Member → List Came → Type 0
 HomesFrom m switches from start members [] = Unit {0}
 HomesFrom m switches from start members (c ∷ before) =
-    (from ≤ length before → ((known_by m switches before).phase ≡ Connecting → ⊥) × IsOf start members (noted m c.note (known_by m switches before)).homing)
+    (from ≤ length before →
+    ((known_by m switches before).phase ≡ Connecting → ⊥)
+    × IsOf start members (noted m c.note (known_by m switches before)).homing)
     × HomesFrom m switches from start members before
 
 -- no unit sets the clock of a stepper
@@ -54,9 +57,10 @@ abbrev pub queued_by : List BoardTurn → List Meant
 queued_by [] = []
 queued_by (t ∷ before) = queued_by before ++ queued_in (orders t.control t.batch)
 
--- A board in a homing section, in some turns up to that in which its group answers: 250 turns before the section's start the last
--- command of the set-up was queued; and before the turn in front of the start there is one by which the board has taken all that was
--- queued until then, and nothing that it said is under way any more.
+-- A board in a homing section, in some turns up to that in which its group answers: 250 turns before the
+-- section's start the last command of the set-up was queued; and before the turn in front of the start there
+-- is one by which the board has taken all that was queued until then, and nothing that it said is under way
+-- any more.
 pub record TakesSetUp (first : LinkState) (start : ℕ) (turns : List BoardTurn) : Type 0 where
   pub window : List BoardTurn
   pub late : List BoardTurn
@@ -68,12 +72,13 @@ pub record TakesSetUp (first : LinkState) (start : ℕ) (turns : List BoardTurn)
   pub took : queued_by past ++ more ≡ (stands_after first (late ++ past)).core.taken
   pub heard : (stands_after first (late ++ past)).core.link.up ≡ []
 
--- the group of the homing section that is known answers in a turn, by what came to the reactor in it and before; and the section was
--- known from 254 turns before its start on
+-- the group of the homing section that is known answers in a turn, by what came to the reactor in it and
+-- before; and the section was known from 254 turns before its start on
 pub record IsAnswered (m : Machine) (switches : List Switch) (c : Came) (before : List Came) (h : Homing) : Type 0 where
   pub known : (noted m c.note (known_by m switches before)).homing ≡ Some h
   pub end : End
-  pub answer : answer_in (length before) h.start (hears_all (noted m c.note (known_by m switches before)).clocks c.states h).group ≡ Some end
+  pub answer : answer_in (length before) h.start
+      (hears_all (noted m c.note (known_by m switches before)).clocks c.states h).group ≡ Some end
   pub from : ℕ
   pub set_up : from + 254 ≡ h.start
   pub since : HomesFrom m switches from h.start (members_of h.group) before
@@ -87,8 +92,8 @@ pub record IsMoved (m : Machine) (b : ℕ) (h : Homing) (turns : List BoardTurn)
   pub begun : from + 254 ≡ h.start
   pub sets_none : SetNoneFrom (stepper_at m stepper).oid from turns
 
--- 249 turns before a section's start or later, and before the turn in front of it, a turn ends in which nothing is left of a link's
--- work: nothing waits or is outstanding, and nothing is under way up.
+-- 249 turns before a section's start or later, and before the turn in front of it, a turn ends in which
+-- nothing is left of a link's work: nothing waits or is outstanding, and nothing is under way up.
 pub record RestsInTime (first : LinkState) (start : ℕ) (turns : List BoardTurn) : Type 0 where
   pub later : List BoardTurn
   pub past : List BoardTurn
@@ -98,8 +103,8 @@ pub record RestsInTime (first : LinkState) (start : ℕ) (turns : List BoardTurn
   pub idle : is_idle (stands_after first past) ≡ true
   pub none : (stands_after first past).up.copies ≡ []
 
--- Between the set-up of a homing section, n turns on, and the turn in front of its start a turn ends in which nothing is under way up; of the
--- busy stretch at its end at most n turns were spoiled.
+-- Between the set-up of a homing section, n turns on, and the turn in front of its start a turn ends in which
+-- nothing is under way up; of the busy stretch at its end at most n turns were spoiled.
 pub record SpoilsFew (first : LinkState) (start n : ℕ) (turns : List BoardTurn) : Type 0 where
   pub later : List BoardTurn
   pub past : List BoardTurn

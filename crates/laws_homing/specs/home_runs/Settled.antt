@@ -27,12 +27,15 @@ SetNoClockFrom from (t ∷ before) = (from ≤ length before → SetNoClock t.ba
 -- no unit is sent in some turns from a number on and before another one
 abbrev pub SendNoneIn : ℕ → ℕ → List BoardTurn → Type 0
 SendNoneIn from to [] = Unit {0}
-SendNoneIn from to (t ∷ before) = (from ≤ length before → length before < to → t.batch.units ≡ []) × SendNoneIn from to before
+SendNoneIn from to (t ∷ before) =
+    (from ≤ length before → length before < to → t.batch.units ≡ []) × SendNoneIn from to before
 
--- A homing section of a board in a run, which starts in a turn and whose group answers in another: the section was known, and no unit set a
--- clock, from 254 turns before its start on, and none was sent in the four turns of the set-up; and the board took the set-up in time, or what it
--- told is read as the ticks since which its trigger can't trigger.
-pub record IsHomed (m : Machine) (switches : List Switch) (pins : List (List Level)) (entries : List Entry) (b start end : ℕ) (turns : List BoardTurn) : Type 0 where
+-- A homing section of a board in a run, which starts in a turn and whose group answers in another: the
+-- section was known, and no unit set a clock, from 254 turns before its start on, and none was sent in the
+-- four turns of the set-up; and the board took the set-up in time, or what it told is read as the ticks since
+-- which its trigger can't trigger.
+pub record IsHomed (m : Machine) (switches : List Switch) (pins : List (List Level)) (entries : List Entry)
+    (b start end : ℕ) (turns : List BoardTurn) : Type 0 where
   pub came : Came
   pub before : List Came
   pub later : List BoardTurn
@@ -48,8 +51,11 @@ pub record IsHomed (m : Machine) (switches : List Switch) (pins : List (List Lev
   pub sends_none : SendNoneIn answered.from (answered.from + 4) past
   pub fires : TakesSetUp (first_state (board_at m b) pins b entries) start past ⊎ IsReadSo m switches b came before past
 
--- The parts of a board's steps that are begun by a turn stop with homing sections that have ended by the end of some turns: each such part is
--- begun 254 to 252 turns before the start of one.
-abbrev pub AreHomed : Machine → List Switch → List (List Level) → List Entry → ℕ → ℕ → (ℕ → Option ℕ) → List BoardTurn → Type 0
+-- The parts of a board's steps that are begun by a turn stop with homing sections that have ended by the end
+-- of some turns: each such part is begun 254 to 252 turns before the start of one.
+abbrev pub AreHomed : Machine → List Switch → List (List Level) → List Entry → ℕ → ℕ → (ℕ → Option ℕ) → List BoardTurn →
+    Type 0
 AreHomed m switches pins entries b until stops turns =
-    (turn end : ℕ) → turn ≤ until → stops turn ≡ Some end → end ≤ length turns → (start : ℕ) × (start ≤ turn + 254) × (turn + 252 ≤ start) × (start ≤ end) × IsHomed m switches pins entries b start end turns
+    (turn end : ℕ) → turn ≤ until → stops turn ≡ Some end → end ≤ length turns →
+    (start : ℕ) × (start ≤ turn + 254) × (turn + 252 ≤ start) × (start ≤ end)
+    × IsHomed m switches pins entries b start end turns

@@ -33,10 +33,11 @@ TellFired (t ∷ before) = SayFired t.state.news ⊎ TellFired before
 -- what comes to a board in some turns is calm
 abbrev pub BringCalm : ℕ → ℕ → List BoardTurn → Type 0
 BringCalm stepper trigger [] = Unit {0}
-BringCalm stepper trigger (t ∷ before) = AreCalm stepper trigger (queued_in (orders t.control t.batch)) × BringCalm stepper trigger before
+BringCalm stepper trigger (t ∷ before) =
+    AreCalm stepper trigger (queued_in (orders t.control t.batch)) × BringCalm stepper trigger before
 
--- A link whose board's only trigger this is: what was queued and the board has not taken is calm, and nothing that it said before is still
--- under way.
+-- A link whose board's only trigger this is: what was queued and the board has not taken is calm, and nothing
+-- that it said before is still under way.
 pub record IsWatched (stepper trigger : ℕ) (h : Core) : Type 0 where
   pub sole : IsSole trigger h.board
   pub left : List Meant
@@ -44,8 +45,9 @@ pub record IsWatched (stepper trigger : ℕ) (h : Core) : Type 0 where
   pub calm : AreCalm stepper trigger left
   pub heard : h.link.up ≡ []
 
--- A board took the set-up of a homing section: a stepper is bound to its only trigger, and halted where that can't trigger; what was
--- queued and it has not taken is calm; and nothing that it said before is still under way.
+-- A board took the set-up of a homing section: a stepper is bound to its only trigger, and halted where that
+-- can't trigger; what was queued and it has not taken is calm; and nothing that it said before is still under
+-- way.
 pub record IsSetUp (stepper trigger : ℕ) (h : Core) : Type 0 where
   pub guarded : IsGuarded stepper trigger h.board
   pub sole : IsSole trigger h.board

@@ -24,12 +24,14 @@ TellsHomed [] = ⊥
 TellsHomed (word.Homed ∷ ns) = Unit {0}
 TellsHomed (n ∷ ns) = TellsHomed ns
 
--- in some turns from a number on: in the first one, past connecting, a homing section with this start and these members is known by the
--- note; no later note begins a section; and no word tells of an answer
+-- in some turns from a number on: in the first one, past connecting, a homing section with this start and
+-- these members is known by the note; no later note begins a section; and no word tells of an answer
 abbrev pub IsBegunIn : Machine → List Switch → ℕ → ℕ → List Member → List Came → Type 0
 IsBegunIn m switches from start members [] = Unit {0}
 IsBegunIn m switches from start members (c ∷ before) =
-    (length before ≡ from → ((known_by m switches before).phase ≡ Connecting → ⊥) × IsOf start members (noted m c.note (known_by m switches before)).homing)
+    (length before ≡ from →
+    ((known_by m switches before).phase ≡ Connecting → ⊥)
+    × IsOf start members (noted m c.note (known_by m switches before)).homing)
     × (from < length before → BeginsNone (news_of c.note))
     × (from ≤ length before → TellsHomed (last_turn m switches c before).ordered.word.news → ⊥)
     × IsBegunIn m switches from start members before

@@ -10,13 +10,16 @@ use Rattle.board_sim.specs.Rig.{Slot}
 abbrev pub Hits : List Level → Option Sampling → ℕ → Type 0
 Hits levels o x = (y : Sampling) × (o ≡ Some y) × IsTriggerTick levels y x
 
--- A trigger can't trigger any more: its readings triggered it (1), at one of these ticks; or its timeout passed (2), or it was told to (3), for
--- which there is a cause, no later than any of them.
+-- A trigger can't trigger any more: its readings triggered it (1), at one of these ticks; or its timeout
+-- passed (2), or it was told to (3), for which there is a cause, no later than any of them.
 abbrev pub HasCause : (ℕ → Type 0) → Type 0 → Slot → Type 0
-HasCause T Q s = ((s.trigger.reason ≡ 1) × T s.trigger.tick) ⊎ (((s.trigger.reason ≡ 2) ⊎ ((s.trigger.reason ≡ 3) × Q)) × ((x : ℕ) → T x → s.trigger.tick ≤ x))
+HasCause T Q s =
+    ((s.trigger.reason ≡ 1) × T s.trigger.tick)
+    ⊎ (((s.trigger.reason ≡ 2) ⊎ ((s.trigger.reason ≡ 3) × Q)) × ((x : ℕ) → T x → s.trigger.tick ≤ x))
 
--- Of a trigger all is told, and its readings move on; its timeout triggers it for the reason 2, and its readings for the reason 1, at these ticks
--- alone, while it can trigger; and where it can't, it reads nothing, and has such a cause.
+-- Of a trigger all is told, and its readings move on; its timeout triggers it for the reason 2, and its
+-- readings for the reason 1, at these ticks alone, while it can trigger; and where it can't, it reads
+-- nothing, and has such a cause.
 pub record Minds (T : ℕ → Type 0) (Q : Type 0) (pins : List (List Level)) (s : Slot) : Type 0 where
   pub told : s.trigger.untold ≡ None
   pub moves : MovesOn s.trigger.sampling

@@ -19,10 +19,11 @@ readings_from m b axis tick = record {
   reason = 1;
 }
 
--- The tick at which its switch triggers, by the levels of the board's pins: the last reading of the first group from a tick on whose readings all
--- show it pressed. There is one at most.
+-- The tick at which its switch triggers, by the levels of the board's pins: the last reading of the first
+-- group from a tick on whose readings all show it pressed. There is one at most.
 abbrev pub IsSwitchTick : Machine → List (List Level) → ℕ → AxisDef → ℕ → ℕ → Type 0
-IsSwitchTick m pins b axis begin tick = IsTriggerTick (slice_index_or pins axis.pin []) (readings_from m b axis begin) tick
+IsSwitchTick m pins b axis begin tick =
+    IsTriggerTick (slice_index_or pins axis.pin []) (readings_from m b axis begin) tick
 
 -- a board is the member with the endstop
 abbrev pub IsReader : ℕ → List Member → Type 0

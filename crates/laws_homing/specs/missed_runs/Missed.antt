@@ -30,8 +30,9 @@ pub record IsMissedOf (m : Machine) (switches : List Switch) (pins : List (List 
   pub other : reason ≡ 1 → ⊥
   pub none : (tick : ℕ) → IsTriggerOf m switches pins entries b start axis came turns tick → until ≤ tick
 
--- A board that runs, up to a turn of the reactor: its reports are read as what they told, as homing sections start it is no
--- more than a turn ahead of its clock lines, and from a turn on these keep up with it, until 275 turns behind that one.
+-- A board that runs, up to a turn of the reactor: its reports are read as what they told, as homing sections
+-- start it is no more than a turn ahead of its clock lines, and from a turn on these keep up with it, until
+-- 275 turns behind that one.
 pub record IsHeardWell (m : Machine) (switches : List Switch) (pins : List (List Level)) (entries : List Entry)
     (clocks : List Clocks) (b from : ℕ) (c : Came) (before : List Came) (turns : List BoardTurn) : Type 0 where
   pub run : IsInRun m switches pins entries b before turns

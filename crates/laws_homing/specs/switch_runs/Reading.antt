@@ -20,8 +20,9 @@ pub record IsComplete (levels : List Level) (home : Homing) (now tick : ℕ) : T
   pub begun : first_sampling now home ≡ Some sampling
   pub complete : IsTriggerTick levels sampling tick
 
--- What is asked of a command: an endstop that it makes has this pin; it triggers a trigger by no reading's reason (1), nor lets a timeout do so;
--- and the readings that it begins for this reason, where a board takes it at a tick, are complete at such ticks alone.
+-- What is asked of a command: an endstop that it makes has this pin; it triggers a trigger by no reading's
+-- reason (1), nor lets a timeout do so; and the readings that it begins for this reason, where a board takes
+-- it at a tick, are complete at such ticks alone.
 abbrev pub IsFit : (ℕ → (ℕ → Type 0)) → (ℕ → (ℕ → Type 0)) → List (List Level) → Cmd → Type 0
 IsFit E F pins (cmd.ConfigEndstop oid pin pull) = E oid pin
 IsFit E F pins (cmd.TrsyncTrigger oid reason) = (reason < 2 ^ 8) × (reason ≡ 1 → ⊥)
@@ -38,30 +39,33 @@ IsFit E F pins (cmd.EndstopHome oid clock sample count rest value other reason) 
     }) now tick → F now tick)
 IsFit E F pins c = Unit {0}
 
--- so commands that come to a board, and those of some turns
+-- so each of some commands that come to a board
 abbrev pub AreFit : (ℕ → (ℕ → Type 0)) → (ℕ → (ℕ → Type 0)) → List (List Level) → List Meant → Type 0
 AreFit E F pins [] = Unit {0}
 AreFit E F pins (m ∷ ms) = IsFit E F pins m.command × AreFit E F pins ms
 
+-- so the commands that come to it in each of some turns, the latest turn first
 abbrev pub BringFit : (ℕ → (ℕ → Type 0)) → (ℕ → (ℕ → Type 0)) → List (List Level) → List BoardTurn → Type 0
 BringFit E F pins [] = Unit {0}
 BringFit E F pins (t ∷ before) = AreFit E F pins (queued_in (orders t.control t.batch)) × BringFit E F pins before
 
--- an answer that tells that readings triggered a trigger tells of such a tick
+-- the clock of an answer is the lower 32 bits of a tick of which this holds
 pub record TellsOf (F : ℕ → Type 0) (clock : ℕ) : Type 0 where
   pub tick : ℕ
   pub clock_is : clock ≡ tick % 2 ^ 32
   pub complete : F tick
 
+-- an answer that tells that readings triggered a trigger tells of such a tick
 abbrev pub TellsTrue : (ℕ → Type 0) → Cmd → Type 0
 TellsTrue F (cmd.TrsyncState oid can reason clock) = can ≡ 0 → reason ≡ 1 → TellsOf F clock
 TellsTrue F answer = Unit {0}
 
--- so do some answers, and those of some turns
+-- so does each of some answers
 abbrev pub TellTrue : (ℕ → Type 0) → List News → Type 0
 TellTrue F [] = Unit {0}
 TellTrue F (n ∷ news) = TellsTrue F n.answer × TellTrue F news
 
+-- so do the answers of each of some turns
 abbrev pub AllTellTrue : (ℕ → Type 0) → List BoardTurn → Type 0
 AllTellTrue F [] = Unit {0}
 AllTellTrue F (t ∷ before) = TellTrue F t.state.news × AllTellTrue F before

@@ -37,7 +37,8 @@ readings m b axis clock = record {
 }
 
 -- in a turn of the reactor a homing section of an axis with this start is known, and these clock lines of a board
-pub record KnowsSo (m : Machine) (switches : List Switch) (b start axis : ℕ) (lines : Clocks) (c : Came) (before : List Came) : Type 0 where
+pub record KnowsSo (m : Machine) (switches : List Switch) (b start axis : ℕ) (lines : Clocks) (c : Came)
+    (before : List Came) : Type 0 where
   pub homing : Homing
   pub known : (noted m c.note (known_by m switches before)).homing ≡ Some homing
   pub start_is : homing.start ≡ start
@@ -62,7 +63,8 @@ pub record IsReadAt (m : Machine) (switches : List Switch) (pins : List (List Le
       (readings m b (axis_at m axis) (low (turn_tick lines start))) now tick
 
 -- so those that any homing section has it make, whenever it took their command
-pub record IsRead (m : Machine) (switches : List Switch) (pins : List (List Level)) (b : ℕ) (came : List Came) (tick : ℕ) : Type 0 where
+pub record IsRead (m : Machine) (switches : List Switch) (pins : List (List Level)) (b : ℕ) (came : List Came)
+    (tick : ℕ) : Type 0 where
   pub at : ℕ
   pub start : ℕ
   pub axis : ℕ

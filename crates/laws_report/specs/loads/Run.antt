@@ -41,6 +41,7 @@ pub record IsLoadRun {F S : Type 0} (f : Files F) (o : Sink S) (seed moves : ℕ
       run.reported.runs.runs.0 run.reported.runs.runs.1 run.reported.runs.runs.2 run.reported.told.cause
   -- Counts: where all is done, each is the number of steps that its stepper's plan has
   pub planned : c ≡ cause.Done →
-      counts ≡ counts_planned load_machine (sections_over load_machine (load_text seed moves)) (log_of run.reported.said)
+      counts
+      ≡ counts_planned load_machine (sections_over load_machine (load_text seed moves)) (log_of run.reported.said)
   -- Completeness: all is done where units are sent soon
   pub done : SendsAllSoon load_machine (load_text seed moves) run.reported.runs.runs.0 → c ≡ cause.Done

@@ -1,5 +1,6 @@
--- What the pulses of a log that checks are: those of the plan, as the headline has them of a run's report. The lines of a log are
--- listed from the last one back, so what stands behind a line in the list are the lines before it.
+-- What the pulses of a log that checks are: those of the plan, as the headline has them of a run's report.
+-- The lines of a log are listed from the last one back, so what stands behind a line in the list are the
+-- lines before it.
 use Rattle.std.specs.Prelude.{◌≡◌, ℕ, ◌+◌, ◌<◌, ◌≤◌, Bool, true, false, List, [], ◌∷◌, ◌++◌, length, slice_index_or, Ok}
 use Rattle.log_text.specs.declared.line.LogLine.{LogLine}
 use Rattle.log_text.specs.declared.line.LogLine.TheVariants as line
@@ -27,57 +28,78 @@ abbrev pub further_among : List LogLine → List Further
 further_among [] = []
 further_among (l ∷ lines) = further_among lines ++ with_one (further_of (Ok l)) []
 
--- the planned steps of a stepper in the section that is open behind some lines, by the further clock lines of the log; none before
--- the first section
+-- the planned steps of a stepper in the section that is open behind some lines, by the further clock lines of
+-- the log; none before the first section
 abbrev pub plan_at : Machine → List Section → List Further → List LogLine → ℕ → List Planned
 plan_at m sections further lines s = slice_index_or (plans m sections further lines) s []
 
--- the frequency of its board, and the tick at which that section begins, by the clocks that the lines told
+-- the frequency of a stepper's board, in ticks a second, by the clocks that the lines told
 abbrev pub freq_at : Machine → List Further → List LogLine → ℕ → ℕ
 freq_at m further lines s = (clocks_at (clocks m further lines) (stepper_at m s).board).first.freq
 
+-- the tick of a stepper's board at which the open section begins, by the clocks that the lines told
 abbrev pub base_at : Machine → List Further → List LogLine → ℕ → ℕ
 base_at m further lines s = base_tick m (clocks m further lines) (start lines) s
 
 -- Prefix: the pulses of a stepper in the open section fit its planned steps.
 abbrev pub FitsHere : Machine → List Section → List Further → List LogLine → ℕ → Type 0
-FitsHere m sections further lines s = Fits (freq_at m further lines s) (base_at m further lines s) (in_order (pulses s lines)) (plan_at m sections further lines s)
+FitsHere m sections further lines s =
+    Fits (freq_at m further lines s) (base_at m further lines s) (in_order (pulses s lines))
+    (plan_at m sections further lines s)
 
 -- Whole: there are as many of them as planned steps.
 abbrev pub IsWholeHere : Machine → List Section → List Further → List LogLine → ℕ → Type 0
 IsWholeHere m sections further lines s = length (pulses s lines) ≡ length (plan_at m sections further lines s)
 
 -- Sections: a section behind some lines is the next one of the text, and starts when it may, or later.
-pub record IsNext (m : Machine) (sections : List Section) (further : List Further) (lines : List LogLine) (i turn : ℕ) (kind : SectionKind) : Type 0 where
+pub record IsNext (m : Machine) (sections : List Section) (further : List Further) (lines : List LogLine) (i turn : ℕ)
+    (kind : SectionKind) : Type 0 where
   pub number : i ≡ begun lines
   pub there : i < length sections
   pub same : kind ≡ (section_at sections i).kind
-  pub due : ready (is_cut lines) (begun lines) (start lines) (end_by m sections (clocks m further lines) (begun lines) (start lines)) + (section_at sections i).dwell ≤ turn
+  pub due : ready (is_cut lines) (begun lines) (start lines)
+      (end_by m sections (clocks m further lines) (begun lines) (start lines))
+      + (section_at sections i).dwell ≤ turn
 
--- The lines of a log follow the plan of a file: behind each line the pulses of every stepper fit, and where a section ends that was
--- not cut, they are as many as planned; each section is the next one.
+-- The lines of a log follow the plan of a file: behind each line the pulses of every stepper fit, and where a
+-- section ends that was not cut, they are as many as planned; each section is the next one.
 pub record FollowsPlan (m : Machine) (sections : List Section) (lines : List LogLine) : Type 0 where
-  pub prefix : (later before : List LogLine) → lines ≡ later ++ before → (s : ℕ) → s < length m.steppers → FitsHere m sections (further_among lines) before s
-  pub whole : (later before : List LogLine) (i turn : ℕ) (kind : SectionKind) → lines ≡ later ++ line.Section i turn kind ∷ before → is_cut before ≡ false → (s : ℕ) → s < length m.steppers → IsWholeHere m sections (further_among lines) before s
-  pub last_whole : is_cut lines ≡ false → (s : ℕ) → s < length m.steppers → IsWholeHere m sections (further_among lines) lines s
-  pub next : (later before : List LogLine) (i turn : ℕ) (kind : SectionKind) → lines ≡ later ++ line.Section i turn kind ∷ before → IsNext m sections (further_among lines) before i turn kind
+  pub prefix : (later before : List LogLine) → lines ≡ later ++ before → (s : ℕ) → s < length m.steppers →
+      FitsHere m sections (further_among lines) before s
+  pub whole : (later before : List LogLine) (i turn : ℕ) (kind : SectionKind) →
+      lines ≡ later ++ line.Section i turn kind ∷ before → is_cut before ≡ false → (s : ℕ) → s < length m.steppers →
+      IsWholeHere m sections (further_among lines) before s
+  pub last_whole : is_cut lines ≡ false → (s : ℕ) → s < length m.steppers →
+      IsWholeHere m sections (further_among lines) lines s
+  pub next : (later before : List LogLine) (i turn : ℕ) (kind : SectionKind) →
+      lines ≡ later ++ line.Section i turn kind ∷ before → IsNext m sections (further_among lines) before i turn kind
 
--- what the lines with words of a log say, in order
+-- what a line of a log says that is well formed
 abbrev pub ok_line : LogLine → Said
 ok_line l = Ok l
 
+-- what each line of a log that has words says, in order
 abbrev pub all_said : Machine → List (ℕ × List Text) → List Said
 all_said m [] = []
 all_said m (w ∷ words) = line_said m w.1 ∷ all_said m words
 
--- The lines of a log that are no pulses stand where they may: each board's line before the first section, in the order of the
--- boards; a further clock line where it may hold behind those that its board told; a section where all boards told clocks that have ticks for it; a cut in the section that it names, which homes; nothing
--- behind the end. And the steppers of pulses are there.
+-- The lines of a log that are no pulses stand where they may: each board's line before the first section, in
+-- the order of the boards; a further clock line where it may hold behind those that its board told; a section
+-- where all boards told clocks that have ticks for it; a cut in the section that it names, which homes;
+-- nothing behind the end. And the steppers of pulses are there.
 pub record StandsWell (m : Machine) (sections : List Section) (lines : List LogLine) : Type 0 where
-  pub boards : (later before : List LogLine) (b turn tick : ℕ) → lines ≡ later ++ line.Board b turn tick ∷ before → (begun before ≡ 0) × (b ≡ length (clocks m (further_among lines) before))
-  pub furthers : (later before : List LogLine) (b turn tick from : ℕ) → lines ≡ later ++ line.Line b turn tick from ∷ before → may_follow m (told m before) b turn tick from ≡ true
-  pub rooms : (later before : List LogLine) (i turn : ℕ) (kind : SectionKind) → lines ≡ later ++ line.Section i turn kind ∷ before → (length (clocks m (further_among lines) before) ≡ length m.boards) × (have_room (clocks m (further_among lines) before) (length (section_at sections i).moves) turn ≡ true)
-  pub steppers : (later before : List LogLine) (s tick : ℕ) (up : Bool) → lines ≡ later ++ line.Pulse s tick up ∷ before → s < length m.steppers
-  pub cuts : (later before : List LogLine) (i : ℕ) → lines ≡ later ++ line.Cut i ∷ before → may_cut sections (begun before) i ≡ true
+  pub boards : (later before : List LogLine) (b turn tick : ℕ) → lines ≡ later ++ line.Board b turn tick ∷ before →
+      (begun before ≡ 0) × (b ≡ length (clocks m (further_among lines) before))
+  pub furthers : (later before : List LogLine) (b turn tick from : ℕ) →
+      lines ≡ later ++ line.Line b turn tick from ∷ before → may_follow m (told m before) b turn tick from ≡ true
+  pub rooms : (later before : List LogLine) (i turn : ℕ) (kind : SectionKind) →
+      lines ≡ later ++ line.Section i turn kind ∷ before →
+      (length (clocks m (further_among lines) before) ≡ length m.boards)
+      × (have_room (clocks m (further_among lines) before) (length (section_at sections i).moves) turn ≡ true)
+  pub steppers : (later before : List LogLine) (s tick : ℕ) (up : Bool) →
+      lines ≡ later ++ line.Pulse s tick up ∷ before → s < length m.steppers
+  pub cuts : (later before : List LogLine) (i : ℕ) → lines ≡ later ++ line.Cut i ∷ before →
+      may_cut sections (begun before) i ≡ true
   pub ends : (later before : List LogLine) (l : LogLine) → lines ≡ later ++ l ∷ before → is_ended before ≡ false
-  pub whole_end : (later before : List LogLine) → lines ≡ later ++ line.End ∷ before → is_cut before ≡ false → (s : ℕ) → s < length m.steppers → IsWholeHere m sections (further_among lines) before s
+  pub whole_end : (later before : List LogLine) → lines ≡ later ++ line.End ∷ before → is_cut before ≡ false → (s : ℕ) →
+      s < length m.steppers → IsWholeHere m sections (further_among lines) before s

@@ -20,7 +20,9 @@ raised_place t place = at place 0 ∷ at place 1 ∷ raised t place ∷ at place
 
 -- two places are not the same
 abbrev pub differ : List ℤ → List ℤ → Bool
-differ from to = differs (at from 0) (at to 0) || (differs (at from 1) (at to 1) || (differs (at from 2) (at to 2) || differs (at from 3) (at to 3)))
+differ from to =
+    differs (at from 0) (at to 0)
+    || (differs (at from 1) (at to 1) || (differs (at from 2) (at to 2) || differs (at from 3) (at to 3)))
 
 -- a move with its length
 abbrev pub measured : Move → Move
@@ -54,19 +56,25 @@ abbrev pub last_acceleration : ℕ → List Move → ℕ
 last_acceleration a [] = a
 last_acceleration a (m ∷ ms) = last_acceleration m.a ms
 
--- A section over a bed, and those behind it. In a section of moves each move is replaced by its parts to its ends; where none is
--- left, there is no section, and its dwells stand before the next one. In a section that homes the same axis does; the others stand
--- where the moves over the bed led them, and the acceleration is that of the last move before.
-abbrev pub bent_by : Machine → Mesh → List ℤ → ℕ → ℕ → SectionKind → List Move → (List ℤ → ℕ → ℕ → List Section) → List Section
+-- A section over a bed, and those behind it. In a section of moves each move is replaced by its parts to its
+-- ends; where none is left, there is no section, and its dwells stand before the next one. In a section that
+-- homes the same axis does; the others stand where the moves over the bed led them, and the acceleration is
+-- that of the last move before.
+abbrev pub bent_by : Machine → Mesh → List ℤ → ℕ → ℕ → SectionKind → List Move → (List ℤ → ℕ → ℕ → List Section) →
+    List Section
 bent_by m t place a dwell Moves moves rest =
-    closed dwell (bent_moves t place moves) ++ rest (led_to t place moves) (last_acceleration a moves) (left dwell (bent_moves t place moves))
+    closed dwell (bent_moves t place moves)
+    ++ rest (led_to t place moves) (last_acceleration a moves) (left dwell (bent_moves t place moves))
 bent_by m t place a dwell (Home axis) moves rest =
-    record { kind = Home axis; moves = homing_move m place a axis ∷ []; dwell = dwell } ∷ rest (placed_on place axis (axis_at m axis).endstop) a 0
+    record { kind = Home axis; moves = homing_move m place a axis ∷ []; dwell = dwell }
+    ∷ rest (placed_on place axis (axis_at m axis).endstop) a 0
 
--- sections over a bed, from a place on, with this acceleration before their first move, behind so many milliseconds of dwells
+-- sections over a bed, from a place on, with this acceleration before their first move, behind so many
+-- milliseconds of dwells
 abbrev pub bent_sections : Machine → Mesh → List ℤ → ℕ → ℕ → List Section → List Section
 bent_sections m t place a dwell [] = []
-bent_sections m t place a dwell (s ∷ ss) = bent_by m t place a (dwell + s.dwell) s.kind s.moves (λ q b d. bent_sections m t q b d ss)
+bent_sections m t place a dwell (s ∷ ss) =
+    bent_by m t place a (dwell + s.dwell) s.kind s.moves (λ q b d. bent_sections m t q b d ss)
 
 -- where everything stands before the first line
 abbrev pub origin : List ℤ

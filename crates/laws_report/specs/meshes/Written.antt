@@ -33,15 +33,15 @@ IsEnding end = (end ≡ []) ⊎ IsComment end
 abbrev pub IsSmallFile : List ℕ → Type 0
 IsSmallFile file = length file ≤ 1_073_741_824
 
--- How a file is read that is accepted, by how the reading of the text stops for which it is written: with all its lines to its end,
--- where that isn't at a line that asks for a stop; and else to such a line, which is the last of its code. No line of it is passed
--- over.
+-- How a file is read that is accepted, by how the reading of the text stops for which it is written: with all
+-- its lines to its end, where that isn't at a line that asks for a stop; and else to such a line, which is
+-- the last of its code. No line of it is passed over.
 abbrev pub accepted_end : ReadStop → List (List ℕ) → List (List ℕ) → ReadEnd
 accepted_end (Stop number) code all = record { lines = length code; passed = 0; stop = Stop (length code) }
 accepted_end other code all = record { lines = length all; passed = 0; stop = End }
 
--- A text is read no further for a file, though its next line is accepted: what would be written for that is refused behind the
--- code, and so is the line.
+-- A text is read no further for a file, though its next line is accepted: what would be written for that is
+-- refused behind the code, and so is the line.
 pub record IsRefusedThere (m : Machine) (t : Mesh) (text : List ℕ) : Type 0 where
   pub before : List Deed
   pub next : Deed

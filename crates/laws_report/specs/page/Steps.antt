@@ -9,7 +9,8 @@ use Rattle.plan_types.specs.declared.plan.Section.{Section}
 use Rattle.plan_types.specs.Sections.{for_each_stepper}
 use Rattle.session_run.specs.Counts.{counted}
 
--- how many steps of a stepper are planned in the sections that have their line in a log, by the clock lines that it tells
+-- how many steps of a stepper are planned in the sections that have their line in a log, by the clock lines
+-- that it tells
 abbrev pub steps_planned : Machine → List Section → List Further → ℕ → List LogLine → ℕ
 steps_planned m sections further s [] = 0
 steps_planned m sections further s (line.Section i turn kind ∷ lines) =

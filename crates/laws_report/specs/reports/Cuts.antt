@@ -31,7 +31,8 @@ scene_line m switches axis tick = line_of (last_switch (axis_at m axis).board (a
 -- one cut line, of the section of a number, and of the endstop of an axis: at a tick, and with the scene's line for it
 abbrev pub IsCutOf : Machine → List Switch → ℕ → ℕ → List ReportLine → Type 0
 IsCutOf m switches i axis lines =
-    (tick : ℕ) × (lines ≡ report.Cut i (axis_at m axis).board (axis_at m axis).pin tick (scene_line m switches axis tick) ∷ [])
+    (tick : ℕ)
+    × (lines ≡ report.Cut i (axis_at m axis).board (axis_at m axis).pin tick (scene_line m switches axis tick) ∷ [])
 
 -- The cut lines of a report of the sections of a text: there are none before the line of the first section, nor in
 -- sections of moves; and in one that homes there is at most one, of its number and its axis's endstop, with a tick and

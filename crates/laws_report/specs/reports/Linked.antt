@@ -80,16 +80,17 @@ pub record EndsMissed (m : Machine) (s : Scene) (text : List ℕ) (planned : Lis
   pub of_text : made.plans.seen.text ≡ text
   pub misses : Misses m s made.plans.seen planned turns end section
 
--- What the cause of a run says, by the text of its file and its turns, of which `end` is the last. It ends for a board
--- that gives no answer, or whose clock line is too old, only where its askings in a row were hindered on its link; and
--- for steps that came too late only where the board took them so in its link's last turn, and they are a unit's of its
--- plan where each board takes all near, and units of moves are sent by four turns behind their section's end. It
--- ends for a board that expired only where, by what the members of the homing section's group told, it is the first of
--- them, and the link of a member's board was hindered by then, in the section or its set-up, where each board takes all
--- near and the reports are read as what they told. It ends as no switch closed only where, by what these told, none
--- expired in time and the endstop's board read no switch; and where the reports are read as what they told, and no board
--- tells of a shutdown, the section missed its switch: its readings, from where its board took their command on, show it at
--- no tick before that of the turn behind its last planned step.
+-- What the cause of a run says, by the text of its file and its turns, of which `end` is the last. It ends
+-- for a board that gives no answer, or whose clock line is too old, only where its askings in a row were
+-- hindered on its link; and for steps that came too late only where the board took them so in its link's last
+-- turn, and they are a unit's of its plan where each board takes all near, and units of moves are sent by
+-- four turns behind their section's end. It ends for a board that expired only where, by what the members of
+-- the homing section's group told, it is the first of them, and the link of a member's board was hindered by
+-- then, in the section or its set-up, where each board takes all near and the reports are read as what they
+-- told. It ends as no switch closed only where, by what these told, none expired in time and the endstop's
+-- board read no switch; and where the reports are read as what they told, and no board tells of a shutdown,
+-- the section missed its switch: its readings, from where its board took their command on, show it at no tick
+-- before that of the turn behind its last planned step.
 abbrev pub EndsFor :
     Machine → Scene → Option (List ℕ) → List MotionTurn → List ReactorTurn → ReactorTurn → Cause → Type 0
 EndsFor m s told planned turns end (cause.Connect board turn) =
@@ -121,8 +122,9 @@ pub record EndsUnswitched (m : Machine) (s : Scene) (text : List ℕ) (planned :
 -- The report of a run over links: of a planner, a link for each board and the reactor, which made the turns that
 -- `reported` has, over a file of G-code and a scene, and of what was written. All else that can be said of it follows
 -- from that. This is said:
-pub record IsLinkReport {F S : Type 0} (f : Files F) (o : Sink S) (m : Machine) (s : Scene) (gcode : List ℕ) (files files' : F)
-    (out out' : S) (c : Cause) (lines : List ReportLine) (counts : List ℕ) (links : List LinkLog) : Type 0 where
+pub record IsLinkReport {F S : Type 0} (f : Files F) (o : Sink S) (m : Machine) (s : Scene) (gcode : List ℕ)
+    (files files' : F) (out out' : S) (c : Cause) (lines : List ReportLine) (counts : List ℕ) (links : List LinkLog)
+    : Type 0 where
   -- Links, Bytes, End line, Pulses: it is that of such turns; its lines were written, and its counts are of its pulses
   pub reported : IsReported f o m s gcode files files' out out' c lines counts links
   -- Scene: it is none, or one that was read
@@ -139,19 +141,21 @@ pub record IsLinkReport {F S : Type 0} (f : Files F) (o : Sink S) (m : Machine) 
       m text c reported.said ∥₁
   -- Memory: where memory ran out the last turn has no lines, so all that was printed is of the turns before it
   pub memory : reported.told.cause ≡ cause.Memory → reported.runs.runs.2.lines ≡ []
-  -- Boards: each board's lists in `links` hold the units of the text's sections, each in its turn, in order and with
-  -- longest triples, the controls that the reactor orders, and the states of the board's turns, whose pulses its lines show
+  -- Boards: each board's lists in `links` hold the units of the text's sections, each in its turn, in order
+  -- and with longest triples, the controls that the reactor orders, and the states of the board's turns,
+  -- whose pulses its lines show
   pub boards : (text : List ℕ) → f.told files gcode ≡ Some text →
       ∥ AreLinksIn m s text reported.told.cause reported.runs.runs.0 reported.runs.runs.1 reported.runs.runs.2 links ∥₁
   -- Sections start and end in their turns, and the `board` lines are of clock lines that follow the boards' clocks
   pub times : (text : List ℕ) → f.told files gcode ≡ Some text →
       ∥ ((made : IsMade m s reported.runs.runs.0 reported.runs.runs.1) × (made.plans.seen.text ≡ text)
-      × AreTimed m s reported.told.cause reported.runs.runs.0 reported.runs.runs.1 reported.runs.runs.2 made.plans.seen) ∥₁
+      × AreTimed m s reported.told.cause reported.runs.runs.0 reported.runs.runs.1 reported.runs.runs.2
+      made.plans.seen) ∥₁
   pub board_lines : (reported.told.cause ≡ cause.Memory → ⊥) →
       (boards_of (lines_of (reported.runs.runs.1 ++ reported.runs.runs.2 ∷ [])) ≡ [])
       ⊎ TellKnownLines m s.switches reported.runs.runs.1 (lines_of (reported.runs.runs.1 ++ reported.runs.runs.2 ∷ []))
-  -- Causes: a cause of the run's own is so in the reactor's last turn, the first one that is, and in no earlier turn was
-  -- any; and what each says of links, boards and switches
+  -- Causes: a cause of the run's own is so in the reactor's last turn, the first one that is, and in no
+  -- earlier turn was any; and what each says of links, boards and switches
   pub names : IsOwn c → (c ≡ cause.Memory → ⊥) → IsNamed m s reported.runs.runs.1 reported.runs.runs.2 c
   pub earlier : NoneSo m s reported.runs.runs.1
   pub ends : EndsFor m s (f.told files gcode) reported.runs.runs.0 reported.runs.runs.1 reported.runs.runs.2 c
@@ -159,9 +163,9 @@ pub record IsLinkReport {F S : Type 0} (f : Files F) (o : Sink S) (m : Machine) 
   pub shutdowns : (text : List ℕ) → f.told files gcode ≡ Some text → (reported.told.cause ≡ cause.Memory → ⊥) →
       AllTakeNear m s text reported.runs.runs.0 (reported.runs.runs.1 ++ reported.runs.runs.2 ∷ []) →
       ∥ AllMayTell (reported.runs.runs.1 ++ reported.runs.runs.2 ∷ []) ∥₁
-  -- Answers: a turn tells of a switch exactly where the group of the homing section that is known answers that it closed,
-  -- at the tick of the answer, and not the last turn; whatever tells of readings tells of complete ones; and that tick is
-  -- the section's trigger tick where the reports of readings are read true
+  -- Answers: a turn tells of a switch exactly where the group of the homing section that is known answers
+  -- that it closed, at the tick of the answer, and not the last turn; whatever tells of readings tells of
+  -- complete ones; and that tick is the section's trigger tick where the reports of readings are read true
   pub answers : TellAnswers m s.switches [] reported.runs.runs.1
   pub last_cut : (text : List ℕ) → f.told files gcode ≡ Some text → cuts_of reported.runs.runs.2.lines ≡ []
   pub readings : TellOfReadings m s.switches (came_from [] reported.runs.runs.1)
@@ -176,13 +180,16 @@ pub record IsLinkReport {F S : Type 0} (f : Files F) (o : Sink S) (m : Machine) 
       AllTakeInTime m s text reported.runs.runs.0 (reported.runs.runs.1 ++ reported.runs.runs.2 ∷ []) →
       ∥ ((made : IsMade m s reported.runs.runs.0 reported.runs.runs.1) × (made.plans.seen.text ≡ text)
       × TellFirst m s made.plans.seen [] reported.runs.runs.1) ∥₁
-  -- Completeness: in a scene without entries a text without a line that asks for a stop, whose units are sent soon, is run
-  -- as it reads, but for want of memory and faults of files and output; unless a switch closes too late
+  -- Completeness: in a scene without entries a text without a line that asks for a stop, whose units are sent
+  -- soon, is run as it reads, but for want of memory and faults of files and output; unless a switch closes
+  -- too late
   pub complete : (text : List ℕ) → f.told files gcode ≡ Some text →
-      ((line : ℕ) → (program_end m text).stop ≡ read.Stop line → ⊥) → s.entries ≡ [] → SendsAllSoon m text reported.runs.runs.0 →
+      ((line : ℕ) → (program_end m text).stop ≡ read.Stop line → ⊥) → s.entries ≡ [] →
+      SendsAllSoon m text reported.runs.runs.0 →
       ∥ IsCauseOf (cause_of (program_end m text).stop) c
       ⊎ EndsUnswitched m s text reported.runs.runs.0 reported.runs.runs.1 c ∥₁
-  -- Pulses: where a run of moves went through and met its premise, each count is the number of its stepper's planned steps
+  -- Pulses: where a run of moves went through and met its premise, each count is the number of its stepper's
+  -- planned steps
   pub counted : (text : List ℕ) → f.told files gcode ≡ Some text → GoesThrough c → AreOfMoves (sections_over m text) →
       MeetPremise m s text reported.runs.runs.0 reported.runs.runs.1 reported.runs.runs.2 reported.told.cause →
       counts ≡ counts_planned m (sections_over m text) (log_of reported.said)

@@ -36,7 +36,8 @@ abbrev pub IsCauseOn : Machine → Cause → Type 0
 IsCauseOn m (cause.Config line kind) = IsLong line
 IsCauseOn m (cause.Scene line kind) = IsLong line
 IsCauseOn m (cause.Line line kind) = IsLong line
-IsCauseOn m (cause.Late board first arrival spoiled spill) = (board < length m.boards) × IsLong first × IsLong arrival × IsLong spoiled × IsLong spill
+IsCauseOn m (cause.Late board first arrival spoiled spill) =
+    (board < length m.boards) × IsLong first × IsLong arrival × IsLong spoiled × IsLong spill
 IsCauseOn m (cause.Asked line) = IsLong line
 IsCauseOn m (cause.NoSwitch section) = IsLong section
 IsCauseOn m (cause.Expired board turn) = (board < length m.boards) × IsLong turn
@@ -47,14 +48,18 @@ IsCauseOn m (cause.Mesh line kind) = IsLong line
 IsCauseOn m (cause.Misfit line kind) = IsLong line
 IsCauseOn m _ = Unit {0}
 
--- A line that the report of a run on a machine may have: it names what the machine has, each stepper with its board, and its
--- numbers are of 64 bits.
+-- A line that the report of a run on a machine may have: it names what the machine has, each stepper with its
+-- board, and its numbers are of 64 bits.
 abbrev pub IsOfRun : Machine → ReportLine → Type 0
-IsOfRun m (report.Machine corexy boards steppers) = (corexy ≡ m.corexy) × (boards ≡ length m.boards) × (steppers ≡ length m.steppers)
-IsOfRun m (report.Board board freq turn tick) = (board < length m.boards) × (freq ≡ (board_at m board).freq) × (turn < turn_limit) × IsLong tick
+IsOfRun m (report.Machine corexy boards steppers) =
+    (corexy ≡ m.corexy) × (boards ≡ length m.boards) × (steppers ≡ length m.steppers)
+IsOfRun m (report.Board board freq turn tick) =
+    (board < length m.boards) × (freq ≡ (board_at m board).freq) × (turn < turn_limit) × IsLong tick
 IsOfRun m (report.Section i turn kind) = IsLong i × (turn < turn_limit) × IsKind kind
-IsOfRun m (report.Pulse board stepper tick up) = (stepper < length m.steppers) × (board ≡ (stepper_at m stepper).board) × IsLong tick
-IsOfRun m (report.Cut i board pin tick from) = IsLong i × (board < length m.boards) × (pin < length (board_at m board).pins) × IsLong tick × IsLong from
+IsOfRun m (report.Pulse board stepper tick up) =
+    (stepper < length m.steppers) × (board ≡ (stepper_at m stepper).board) × IsLong tick
+IsOfRun m (report.Cut i board pin tick from) =
+    IsLong i × (board < length m.boards) × (pin < length (board_at m board).pins) × IsLong tick × IsLong from
 IsOfRun m (report.Drift board sent clock from) = (board < length m.boards) × IsLong sent × IsLong clock × IsLong from
 IsOfRun m (report.Lines accepted passed) = IsLong accepted × IsLong passed
 IsOfRun m (report.End cause) = IsCauseOn m cause

@@ -25,11 +25,13 @@ sections_over m text = program_sections m text
 abbrev pub FollowsPlanBy : List Clocks → Machine → List Section → List ReportLine → Type 0
 FollowsPlanBy clocks m sections lines =
     (i turn s : ℕ) → section_turn i lines ≡ Some turn → s < length m.steppers →
-    Fits (clocks_at clocks (stepper_at m s).board).first.freq (base_tick m clocks turn s) (pulses_in i s lines) (plan_by clocks m sections i turn s)
+    Fits (clocks_at clocks (stepper_at m s).board).first.freq (base_tick m clocks turn s) (pulses_in i s lines)
+    (plan_by clocks m sections i turn s)
 
 -- Causes: the run ends as the reading of the text does, but for want of memory and for faults of files and output.
 abbrev pub IsCauseOf : Cause → Cause → Type 0
-IsCauseOf wanted given = (given ≡ wanted) ⊎ ((given ≡ cause.Memory) ⊎ ((given ≡ cause.ReadFault) ⊎ (given ≡ cause.WriteFault)))
+IsCauseOf wanted given =
+    (given ≡ wanted) ⊎ ((given ≡ cause.Memory) ⊎ ((given ≡ cause.ReadFault) ⊎ (given ≡ cause.WriteFault)))
 
 -- the numbers of accepted lines and of passed commands that the report shows
 abbrev pub lines_line : List ReportLine → Option (ℕ × ℕ)
@@ -37,7 +39,9 @@ lines_line [] = None
 lines_line (report.Lines accepted passed ∷ lines) = Some (accepted, passed)
 lines_line (_ ∷ lines) = lines_line lines
 
--- Bytes: a front of the text of the lines is written, and the whole of it but for want of memory and a write that failed.
+-- Bytes: a front of the text of the lines is written, and the whole of it but for want of memory and a write
+-- that failed.
 abbrev pub WritesText : Machine → Option (List ℕ) → Option (List ℕ) → Cause → List ReportLine → Type 0
 WritesText m old new given lines =
-    WritesFront old new (report_text m lines) × (given ≢ cause.Memory → given ≢ cause.WriteFault → WritesAll old new (report_text m lines))
+    WritesFront old new (report_text m lines)
+    × (given ≢ cause.Memory → given ≢ cause.WriteFault → WritesAll old new (report_text m lines))

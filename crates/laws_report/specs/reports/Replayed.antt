@@ -36,10 +36,12 @@ abbrev pub TurnsFind : BoardDef → Rig → List MeantIn → Type 0
 TurnsFind b r [] = Unit {0}
 TurnsFind b r (m ∷ ms) = FindSteppers (plays_to b m.turn r).rig m.meant × TurnsFind b (behind_turn b r m) ms
 
--- The steps that are meant behind such turns, where some were made and some are meant already: those of the units that are taken come
--- to them, and of a stepper that was halted the rest of those before its next reset is left out.
+-- The steps that are meant behind such turns, where some were made and some are meant already: those of the
+-- units that are taken come to them, and of a stepper that was halted the rest of those before its next reset
+-- is left out.
 abbrev pub steps_meant : BoardDef → Rig → List Pulse → List Pulse → List MeantIn → List Pulse
 steps_meant b r made meant [] = meant
 steps_meant b r made meant (m ∷ ms) =
     let before = plays_to b m.turn r in
-    steps_meant b (behind_turn b r m) (made ++ before.pulses) (meant_behind before.rig (made ++ before.pulses) meant m.meant) ms
+    steps_meant b (behind_turn b r m) (made ++ before.pulses)
+    (meant_behind before.rig (made ++ before.pulses) meant m.meant) ms

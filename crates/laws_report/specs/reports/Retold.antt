@@ -11,7 +11,11 @@ use Rattle.clock_line.specs.Kept.{AreKept}
 
 -- the lines of a board, the first one told at the beginning of a turn: from then on, with the board's tick then
 abbrev pub retold : ℕ → Clocks → Clocks
-retold turn clocks = record { first = record { at = turn * turn_ns; clock = tick clocks.first (turn * turn_ns); freq = clocks.first.freq }; held = clocks.held }
+retold turn clocks =
+    record {
+      first = record { at = turn * turn_ns; clock = tick clocks.first (turn * turn_ns); freq = clocks.first.freq };
+      held = clocks.held;
+    }
 
 -- those of all boards
 abbrev pub all_retold : ℕ → List Clocks → List Clocks
@@ -22,7 +26,8 @@ abbrev pub HoldFrom : ℕ → List Held → Type 0
 HoldFrom turn [] = Unit {0}
 HoldFrom turn (h ∷ held) = turn * turn_ns ≤ h.from
 
--- the lines of each board of a machine hold one after the other, the first one from before a turn on, and the others from then on or later
+-- the lines of each board of a machine hold one after the other, the first one from before a turn on, and the
+-- others from then on or later
 pub record HaveLines (m : Machine) (clocks : List Clocks) (turn : ℕ) : Type 0 where
   pub boards : length clocks ≡ length m.boards
   pub kept : (b : ℕ) → b < length m.boards → AreKept (clocks_at clocks b)
@@ -33,14 +38,16 @@ pub record HaveLines (m : Machine) (clocks : List Clocks) (turn : ℕ) : Type 0 
 
 -- the plan of a section by some clock lines is that by others
 pub record PlanAlike (m : Machine) (clocks others : List Clocks) (moves : List Move) (turn : ℕ) : Type 0 where
-  pub freq : (s : ℕ) → (clocks_at clocks (stepper_at m s).board).first.freq ≡ (clocks_at others (stepper_at m s).board).first.freq
+  pub freq : (s : ℕ) →
+      (clocks_at clocks (stepper_at m s).board).first.freq ≡ (clocks_at others (stepper_at m s).board).first.freq
   pub base : (s : ℕ) → base_tick m clocks turn s ≡ base_tick m others turn s
   pub steps : (s : ℕ) → stepper_plan m clocks moves turn s ≡ stepper_plan m others moves turn s
   pub end : section_end m clocks moves turn ≡ section_end m others moves turn
 
 -- so the plan of each stepper that is there
 pub record PlansAlike (m : Machine) (clocks others : List Clocks) (moves : List Move) (turn : ℕ) : Type 0 where
-  pub freq : (s : ℕ) → s < length m.steppers → (clocks_at clocks (stepper_at m s).board).first.freq ≡ (clocks_at others (stepper_at m s).board).first.freq
+  pub freq : (s : ℕ) → s < length m.steppers →
+      (clocks_at clocks (stepper_at m s).board).first.freq ≡ (clocks_at others (stepper_at m s).board).first.freq
   pub base : (s : ℕ) → s < length m.steppers → base_tick m clocks turn s ≡ base_tick m others turn s
   pub steps : (s : ℕ) → s < length m.steppers → stepper_plan m clocks moves turn s ≡ stepper_plan m others moves turn s
   pub end : section_end m clocks moves turn ≡ section_end m others moves turn

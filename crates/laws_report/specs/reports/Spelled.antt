@@ -39,7 +39,8 @@ end_words m (cause.Config line kind) = codes "5" ∷ codes "config" ∷ decimal 
 end_words m (cause.Scene line kind) = codes "6" ∷ codes "scene" ∷ decimal line ∷ scene_word kind ∷ []
 end_words m (cause.Line line kind) = codes "7" ∷ codes "line" ∷ decimal line ∷ line_word kind ∷ []
 end_words m (cause.Late board first arrival spoiled spill) =
-    codes "8" ∷ codes "late" ∷ (board_at m board).name ∷ decimal first ∷ decimal arrival ∷ decimal spoiled ∷ decimal spill ∷ []
+    codes "8" ∷ codes "late" ∷ (board_at m board).name ∷ decimal first ∷ decimal arrival ∷ decimal spoiled
+    ∷ decimal spill ∷ []
 end_words m (cause.Asked line) = codes "8" ∷ codes "asked" ∷ decimal line ∷ []
 end_words m (cause.NoSwitch section) = codes "9" ∷ codes "noswitch" ∷ decimal section ∷ []
 end_words m (cause.Expired board turn) = codes "9" ∷ codes "expired" ∷ (board_at m board).name ∷ decimal turn ∷ []
@@ -59,22 +60,27 @@ kind_words (Home axis) = codes "home" ∷ axis_word axis ∷ []
 -- the words of a line
 abbrev pub words_said : Machine → ReportLine → List Text
 words_said m (report.Machine corexy boards steppers) =
-    codes "machine" ∷ kinematics_word corexy ∷ codes "boards" ∷ decimal boards ∷ codes "steppers" ∷ decimal steppers ∷ []
+    codes "machine" ∷ kinematics_word corexy ∷ codes "boards" ∷ decimal boards ∷ codes "steppers" ∷ decimal steppers
+    ∷ []
 words_said m (report.Board board freq turn tick) =
-    codes "board" ∷ (board_at m board).name ∷ codes "freq" ∷ decimal freq ∷ codes "turn" ∷ decimal turn ∷ codes "tick" ∷ decimal tick ∷ []
+    codes "board" ∷ (board_at m board).name ∷ codes "freq" ∷ decimal freq ∷ codes "turn" ∷ decimal turn ∷ codes "tick"
+    ∷ decimal tick ∷ []
 words_said m (report.Section i turn kind) = codes "section" ∷ decimal i ∷ codes "turn" ∷ decimal turn ∷ kind_words kind
 words_said m (report.Pulse board stepper tick up) =
     codes "pulse" ∷ (board_at m board).name ∷ (stepper_at m stepper).name ∷ decimal tick ∷ sign up ∷ []
 words_said m (report.Cut i board pin tick line) =
     codes "cut" ∷ decimal i ∷ (board_at m board).name ∷ pin_name m board pin ∷ decimal tick ∷ decimal line ∷ []
 words_said m (report.Drift board sent clock from) =
-    codes "line" ∷ (board_at m board).name ∷ codes "turn" ∷ decimal sent ∷ codes "tick" ∷ decimal clock ∷ codes "from" ∷ decimal from ∷ []
+    codes "line" ∷ (board_at m board).name ∷ codes "turn" ∷ decimal sent ∷ codes "tick" ∷ decimal clock ∷ codes "from"
+    ∷ decimal from ∷ []
 words_said m (report.Lines lines passed) = codes "lines" ∷ decimal lines ∷ codes "passed" ∷ decimal passed ∷ []
-words_said m (report.Out board pin tick on) = codes "out" ∷ (board_at m board).name ∷ pin_name m board pin ∷ decimal tick ∷ level on ∷ []
+words_said m (report.Out board pin tick on) =
+    codes "out" ∷ (board_at m board).name ∷ pin_name m board pin ∷ decimal tick ∷ level on ∷ []
 words_said m (report.Made seed moves) = codes "make" ∷ codes "seed" ∷ decimal seed ∷ codes "moves" ∷ decimal moves ∷ []
 words_said m (report.Count stepper pulses) = (stepper_at m stepper).name ∷ decimal pulses ∷ []
 words_said m (report.Fit section stepper pulses planned early late) =
-    codes "section" ∷ decimal section ∷ (stepper_at m stepper).name ∷ decimal pulses ∷ decimal planned ∷ decimal early ∷ decimal late ∷ []
+    codes "section" ∷ decimal section ∷ (stepper_at m stepper).name ∷ decimal pulses ∷ decimal planned ∷ decimal early
+    ∷ decimal late ∷ []
 words_said m (report.End cause) = codes "end" ∷ end_words m cause
 
 -- the words of some lines, with their numbers, of which this is the first one's

@@ -37,19 +37,24 @@ AreBehind homes (report.Drift board sent clock from ∷ lines) = AreBehind homes
 AreBehind homes (report.Lines accepted passed ∷ lines) = AreBehind homes lines
 AreBehind homes (_ ∷ lines) = ⊥
 
--- The plan of a section by the clock lines that are told is that by others; or a cut line is told of it, and its pulses fit the first steps of its
--- plan by those that are told.
+-- The plan of a section by the clock lines that are told is that by others; or a cut line is told of it, and
+-- its pulses fit the first steps of its plan by those that are told.
 abbrev pub IsPlannedAlike : Machine → List Clocks → List Clocks → List Section → List ReportLine → ℕ → ℕ → Type 0
 IsPlannedAlike m told lines sections said i turn =
     PlansAlike m told lines (moves_of sections i) turn
-    ⊎ ((cuts_in i said ≢ []) × ((s : ℕ) → s < length m.steppers → Fits (clocks_at told (stepper_at m s).board).first.freq (base_tick m told turn s) (pulses_in i s said) (plan_by told m sections i turn s)))
+    ⊎ ((cuts_in i said ≢ [])
+    × ((s : ℕ) → s < length m.steppers →
+    Fits (clocks_at told (stepper_at m s).board).first.freq (base_tick m told turn s) (pulses_in i s said)
+    (plan_by told m sections i turn s)))
 
--- The lines of a report stand as a log wants them: first those of the boards, in order, which tell the boards' first clock lines at the
--- beginning of the turn from which on the first section may start; then that of the first section, and behind it only lines of
--- sections, of pulses, and notes, and in a run that homes of cuts. Each further clock line may follow the lines before it. The clock
--- lines that are told have ticks for each section, and the plan of each section by them is that by the boards' clock lines, or it is cut,
+-- The lines of a report stand as a log wants them: first those of the boards, in order, which tell the
+-- boards' first clock lines at the beginning of the turn from which on the first section may start; then that
+-- of the first section, and behind it only lines of sections, of pulses, and notes, and in a run that homes
+-- of cuts. Each further clock line may follow the lines before it. The clock lines that are told have ticks
+-- for each section, and the plan of each section by them is that by the boards' clock lines, or it is cut,
 -- and its pulses fit by them; the machine is valid.
-pub record StandInOrder (homes : Bool) (m : Machine) (lines : List Clocks) (ready : ℕ) (sections : List Section) (said : List ReportLine) : Type 0 where
+pub record StandInOrder (homes : Bool) (m : Machine) (lines : List Clocks) (ready : ℕ) (sections : List Section)
+    (said : List ReportLine) : Type 0 where
   pub head : List ReportLine
   pub body : List ReportLine
   pub are : said ≡ head ++ body
@@ -63,5 +68,6 @@ pub record StandInOrder (homes : Bool) (m : Machine) (lines : List Clocks) (read
   pub have : HaveLines m told_lines ready
   pub alike : (i turn : ℕ) → section_turn i said ≡ Some turn → IsPlannedAlike m told_lines lines sections said i turn
   pub soonest : first_turn ≤ ready
-  pub rooms : (i turn : ℕ) → section_turn i said ≡ Some turn → have_room (all_retold ready told_lines) (length (moves_of sections i)) turn ≡ true
+  pub rooms : (i turn : ℕ) → section_turn i said ≡ Some turn →
+      have_room (all_retold ready told_lines) (length (moves_of sections i)) turn ≡ true
   pub machine : IsValidMachine m

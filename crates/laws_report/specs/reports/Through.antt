@@ -1,4 +1,5 @@
--- A report that goes through the sections of a text: first the lines of the boards, then each section's line with its pulses.
+-- A report that goes through the sections of a text: first the lines of the boards, then each section's line
+-- with its pulses.
 use Rattle.std.specs.Prelude.{◌≡◌, ℕ, ◌+◌, ◌<◌, ◌≤◌, true, List, [], ◌∷◌, ◌++◌, length, map}
 use Rattle.plan_types.specs.declared.machine.Machine.{Machine}
 use Rattle.plan_types.specs.declared.plan.Move.{Move}
@@ -47,16 +48,19 @@ ArePulses (_ ∷ lines) = ⊥
 abbrev pub told : ℕ → List ReportLine → List Pulse
 told s lines = in_order (pulses s (in_order (map logged lines)))
 
--- The lines behind that of a section of moves which starts in a turn: the pulses of each stepper fit its plan, and are as many as
--- planned. The boards' clock lines have ticks for the section.
-pub record TellsSection (m : Machine) (lines : List Clocks) (moves : List Move) (turn : ℕ) (behind : List ReportLine) : Type 0 where
+-- The lines behind that of a section of moves which starts in a turn: the pulses of each stepper fit its
+-- plan, and are as many as planned. The boards' clock lines have ticks for the section.
+pub record TellsSection (m : Machine) (lines : List Clocks) (moves : List Move) (turn : ℕ) (behind : List ReportLine)
+    : Type 0 where
   pub are : ArePulses behind
-  pub fits : (s : ℕ) → s < length m.steppers → Fits (clocks_at lines (stepper_at m s).board).first.freq (base_tick m lines turn s) (told s behind) (stepper_plan m lines moves turn s)
+  pub fits : (s : ℕ) → s < length m.steppers →
+      Fits (clocks_at lines (stepper_at m s).board).first.freq (base_tick m lines turn s) (told s behind)
+      (stepper_plan m lines moves turn s)
   pub whole : (s : ℕ) → s < length m.steppers → length (told s behind) ≡ length (stepper_plan m lines moves turn s)
   pub room : have_room lines (length moves) turn ≡ true
 
--- Some sections, the first of which has a number and may start in a turn: each has its line in the turn in which it starts, and the
--- lines behind it tell it; and behind the last one notes alone.
+-- Some sections, the first of which has a number and may start in a turn: each has its line in the turn in
+-- which it starts, and the lines behind it tell it; and behind the last one notes alone.
 abbrev pub TellSections : Machine → List Clocks → ℕ → ℕ → List Section → List ReportLine → Type 0
 TellSections m lines i ready [] told_lines = AreNotes told_lines
 TellSections m lines i ready (s ∷ sections) told_lines =
@@ -64,9 +68,11 @@ TellSections m lines i ready (s ∷ sections) told_lines =
     × TellsSection m lines s.moves (ready + s.dwell) behind
     × TellSections m lines (i + 1) (section_end m lines s.moves (ready + s.dwell) + 260) sections rest
 
--- The lines of a report but the end line go through the sections of a text, by the clock lines that the boards' lines tell and all its
--- further ones, each of which may follow the lines before it; the first one may start in a turn.
-pub record GoThrough (m : Machine) (sections : List Section) (lines : List Clocks) (ready : ℕ) (said : List ReportLine) : Type 0 where
+-- The lines of a report but the end line go through the sections of a text, by the clock lines that the
+-- boards' lines tell and all its further ones, each of which may follow the lines before it; the first one
+-- may start in a turn.
+pub record GoThrough (m : Machine) (sections : List Section) (lines : List Clocks) (ready : ℕ)
+    (said : List ReportLine) : Type 0 where
   pub head : List ReportLine
   pub body : List ReportLine
   pub are : said ≡ head ++ body

@@ -22,17 +22,21 @@ use Rattle.laws_run.specs.home_headline.Cuts.{TellsAnswer}
 abbrev pub tick_in : Machine → List Clocks → ℕ → ℕ → ℕ
 tick_in m clocks axis turn = lines_tick (clocks_at clocks (axis_at m axis).board) (turn * turn_ns)
 
--- The tick at which the switch of a homing section's axis closes, by the levels of its pin in the scene: the section reads it from the tick of its start
--- on, and this is the first one at which four readings in a row show it pressed.
+-- The tick at which the switch of a homing section's axis closes, by the levels of its pin in the scene: the
+-- section reads it from the tick of its start on, and this is the first one at which four readings in a row
+-- show it pressed.
 abbrev pub ClosesAt : Machine → Scene → List Clocks → Started → ℕ → ℕ → Type 0
 ClosesAt m s clocks x axis tick =
     let b = (axis_at m axis).board in
     IsSwitchTick m (pins_of (board_at m b) b s.switches) b (axis_at m axis) (tick_in m clocks axis x.start) tick
 
--- Each homing section of a text that the planner begun has its switch close before the tick of the turn behind its last planned step.
+-- Each homing section of a text that the planner begun has its switch close before the tick of the turn
+-- behind its last planned step.
 abbrev pub AllClose : Machine → Scene → List ℕ → List MotionTurn → Type 0
 AllClose m s text planned =
-    (p : Plans m (length m.boards) planned) (t : Told) → p.seen.text ≡ text → p.seen.told ≡ Some t → (past : List Started) (x : Started) (later : List Started) (axis : ℕ) → p.seen.begun ≡ past ++ x ∷ later → x.section.kind ≡ Home axis →
+    (p : Plans m (length m.boards) planned) (t : Told) → p.seen.text ≡ text → p.seen.told ≡ Some t →
+    (past : List Started) (x : Started) (later : List Started) (axis : ℕ) → p.seen.begun ≡ past ++ x ∷ later →
+    x.section.kind ≡ Home axis →
     (tick : ℕ) × ClosesAt m s t.clocks x axis tick × (tick < tick_in m t.clocks axis (x.last + 1))
 
 -- The section with this number, of those that were begun, homes, and its switch closes at no tick before that.
@@ -61,9 +65,10 @@ pub record ClosesFirst (m : Machine) (s : Scene) (seen : Seen) (section tick : �
   pub home : x.section.kind ≡ Home axis
   pub closes : ClosesAt m s told.clocks x axis tick
 
--- Each of some turns of the reactor, behind what came to it before, that tells that the switch of a homing section closed, tells of the tick at which it
--- closes.
+-- Each of some turns of the reactor, behind what came to it before, that tells that the switch of a homing
+-- section closed, tells of the tick at which it closes.
 abbrev pub TellFirst : Machine → Scene → Seen → List Came → List ReactorTurn → Type 0
 TellFirst m s seen before [] = Unit {0}
 TellFirst m s seen before (t ∷ ts) =
-    ((x : TellsAnswer m s.switches (came_in t) before t.lines) → ClosesFirst m s seen x.homing.section x.tick) × TellFirst m s seen (came_in t ∷ before) ts
+    ((x : TellsAnswer m s.switches (came_in t) before t.lines) → ClosesFirst m s seen x.homing.section x.tick)
+    × TellFirst m s seen (came_in t ∷ before) ts

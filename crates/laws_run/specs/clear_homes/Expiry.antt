@@ -9,9 +9,10 @@ use Rattle.session_work.specs.declared.table.ReactorTurn.{ReactorTurn}
 use Rattle.session_run.specs.Boards.{came_from, came_in}
 use Rattle.laws_homing.specs.clear_boards.Expiry.{CameExpiry}
 
--- A run that ends as a board expired in a turn, by the reactor's turns and the last one: the homing section that was under way, of which that
--- turn isn't past the last one, and a state that tells so, of the turn in front of the section's start or later.
+-- A run that ends as a board expired in a turn, by the reactor's turns and the last one: the homing section
+-- that was under way, of which that turn isn't past the last one, and a state that tells so, of the turn in
+-- front of the section's start or later.
 abbrev pub IsExpired : Machine → List Switch → ℕ → ℕ → List ReactorTurn → ReactorTurn → Type 0
 IsExpired m switches board turn turns last =
-    (h : Homing) × ((noted m last.note (known_by m switches (came_from [] turns))).homing ≡ Some h) × (turn ≤ h.group.last)
-    × CameExpiry m switches board h.start turn (came_in last ∷ came_from [] turns)
+    (h : Homing) × ((noted m last.note (known_by m switches (came_from [] turns))).homing ≡ Some h)
+    × (turn ≤ h.group.last) × CameExpiry m switches board h.start turn (came_in last ∷ came_from [] turns)

@@ -1,5 +1,5 @@
--- The board for which a run ends as one that expired, among the members of its homing section's group; and what these told
--- where it ends since no switch closed.
+-- The board for which a run ends as one that expired, among the members of its homing section's group; and
+-- what these told where it ends since no switch closed.
 use Rattle.std.specs.Prelude.{◌≡◌, ◌<◌, ◌≤◌, ℕ, true, List, [], ◌∷◌, ◌++◌, Some, length}
 use Rattle.plan_types.specs.declared.machine.Machine.{Machine}
 use Rattle.plan_types.specs.Machines.{axis_at}
@@ -26,8 +26,8 @@ abbrev pub NoneExpired : (ℕ → Fired → Type 0) → ℕ → List Member → 
 NoneExpired W last [] = Unit {0}
 NoneExpired W last (x ∷ xs) = ((f : Fired) × W x.board f × (f.reason ≡ 2 → f.turn ≤ last → ⊥)) × NoneExpired W last xs
 
--- Of some members this board is the first one that told that its timeout passed in a turn up to this last one, and it passed in that turn; all told that
--- their triggers have triggered.
+-- Of some members this board is the first one that told that its timeout passed in a turn up to this last
+-- one, and it passed in that turn; all told that their triggers have triggered.
 pub record IsFirstOf (W : ℕ → Fired → Type 0) (last board turn : ℕ) (members : List Member) : Type 0 where
   pub ahead : List Member
   pub at : Member
@@ -40,28 +40,31 @@ pub record IsFirstOf (W : ℕ → Fired → Type 0) (last board turn : ℕ) (mem
   pub others : NoneExpired W last ahead
   pub later : HaveTold W behind
 
--- A run ends as a board expired in a turn: in the homing section that is under way all members told that their triggers have triggered, in states of the
--- turn in front of its start or later, and of those that told that their timeouts passed in turns up to the section's last one the board is the first.
--- The members stand in the order of their boards' numbers.
-pub record IsFirstExpired (m : Machine) (switches : List Switch) (board turn : ℕ) (turns : List ReactorTurn) (last : ReactorTurn) : Type 0 where
+-- A run ends as a board expired in a turn: in the homing section that is under way all members told that
+-- their triggers have triggered, in states of the turn in front of its start or later, and of those that told
+-- that their timeouts passed in turns up to the section's last one the board is the first. The members stand
+-- in the order of their boards' numbers.
+pub record IsFirstExpired (m : Machine) (switches : List Switch) (board turn : ℕ) (turns : List ReactorTurn)
+    (last : ReactorTurn) : Type 0 where
   pub homing : Homing
   pub known : (noted m last.note (known_by m switches (came_from [] turns))).homing ≡ Some homing
   pub rise : BoardsRise (members_of homing.group)
-  pub first : IsFirstOf (λ b f. WasReported m switches b homing.start f (came_in last ∷ came_from [] turns)) homing.group.last board turn (members_of homing.group)
+  pub first : IsFirstOf (λ b f. WasReported m switches b homing.start f (came_in last ∷ came_from [] turns))
+      homing.group.last board turn (members_of homing.group)
 
--- Each of some members told that its trigger has triggered: none since its timeout passed in a turn up to this one, and none
--- with an endstop by readings.
+-- Each of some members told that its trigger has triggered: none since its timeout passed in a turn up to
+-- this one, and none with an endstop by readings.
 abbrev pub NoneSwitched : (ℕ → Fired → Type 0) → ℕ → List Member → Type 0
 NoneSwitched W last [] = Unit {0}
 NoneSwitched W last (x ∷ xs) =
     ((f : Fired) × W x.board f × (f.reason ≡ 2 → f.turn ≤ last → ⊥) × (x.endstop ≡ true → f.reason ≡ 1 → ⊥))
     × NoneSwitched W last xs
 
--- A run ends since no switch closed in the section with this number: it is the homing section that is under way, and its
--- members, in states of the turn in front of its start or later, told so. They stand in the order of their boards' numbers; one
--- is the endstop's board, where there is that.
-pub record IsUnswitched (m : Machine) (switches : List Switch) (section : ℕ) (turns : List ReactorTurn) (last : ReactorTurn)
-    : Type 0 where
+-- A run ends since no switch closed in the section with this number: it is the homing section that is under
+-- way, and its members, in states of the turn in front of its start or later, told so. They stand in the
+-- order of their boards' numbers; one is the endstop's board, where there is that.
+pub record IsUnswitched (m : Machine) (switches : List Switch) (section : ℕ) (turns : List ReactorTurn)
+    (last : ReactorTurn) : Type 0 where
   pub homing : Homing
   pub known : (noted m last.note (known_by m switches (came_from [] turns))).homing ≡ Some homing
   pub number : homing.section ≡ section

@@ -20,9 +20,12 @@ abbrev pub AllSoon : ℕ → List BoardSection → Type 0
 AllSoon turns [] = Unit {0}
 AllSoon turns (s ∷ ss) = AreSoon turns s.releases × AllSoon turns ss
 
--- The planner of a run of a text sends its units soon to every board, those that are due in its turns: where the board's clock is exact, none
--- behind the turn in which it is due; where it drifts, each before that turn.
+-- The planner of a run of a text sends its units soon to every board, those that are due in its turns: where
+-- the board's clock is exact, none behind the turn in which it is due; where it drifts, each before that
+-- turn.
 abbrev pub SendsAllSoon : Machine → List ℕ → List MotionTurn → Type 0
 SendsAllSoon m text planned =
-    (p : Plans m (length m.boards) planned) (t : Told) (b : ℕ) → p.seen.text ≡ text → p.seen.told ≡ Some t → b < length m.boards →
-    (((board_at m b).drift ≡ pos 0) × AreSpilled (length p.made) 0 (parts_on m t.clocks p.seen.begun b)) ⊎ AllSoon (length p.made) (parts_on m t.clocks p.seen.begun b)
+    (p : Plans m (length m.boards) planned) (t : Told) (b : ℕ) → p.seen.text ≡ text → p.seen.told ≡ Some t →
+    b < length m.boards →
+    (((board_at m b).drift ≡ pos 0) × AreSpilled (length p.made) 0 (parts_on m t.clocks p.seen.begun b))
+    ⊎ AllSoon (length p.made) (parts_on m t.clocks p.seen.begun b)

@@ -30,41 +30,52 @@ cut_in _ = []
 abbrev pub cuts_of : List ReportLine → List ReportLine
 cuts_of lines = flat_map cut_in lines
 
--- A turn of the reactor tells that a switch closed: the group of the homing section that is known answers so, at a tick, and the one such
--- line of the turn is that of the section, of its axis's endstop, at this tick.
+-- A turn of the reactor tells that a switch closed: the group of the homing section that is known answers so,
+-- at a tick, and the one such line of the turn is that of the section, of its axis's endstop, at this tick.
 pub record TellsCut (m : Machine) (switches : List Switch) (c : Came) (before : List Came) : Type 0 where
   pub homing : Homing
   pub known : (noted m c.note (known_by m switches before)).homing ≡ Some homing
   pub tick : ℕ
-  pub answer : answer_in (length before) homing.start (hears_all (noted m c.note (known_by m switches before)).clocks c.states homing).group ≡ Some (Endstop tick)
-  pub lines : cuts_of (last_turn m switches c before).ordered.lines ≡ cut_line m switches homing.section (axis_at m homing.axis) (Some tick)
+  pub answer : answer_in (length before) homing.start
+      (hears_all (noted m c.note (known_by m switches before)).clocks c.states homing).group ≡ Some (Endstop tick)
+  pub lines : cuts_of (last_turn m switches c before).ordered.lines
+      ≡ cut_line m switches homing.section (axis_at m homing.axis) (Some tick)
 
--- Lines of a turn of the reactor tell that a switch closed: the group of the homing section that is known answers so, at a tick, and the one
--- such line is that of the section, of its axis's endstop, at this tick. The endstop's board told so, by its switch, in a state that came in this
--- turn or one before it, at this tick, which is in a turn from the section's start on. All members told that they triggered, none
--- since its timeout passed in a turn up to the section's last one.
-pub record TellsAnswer (m : Machine) (switches : List Switch) (c : Came) (before : List Came) (lines : List ReportLine) : Type 0 where
+-- Lines of a turn of the reactor tell that a switch closed: the group of the homing section that is known
+-- answers so, at a tick, and the one such line is that of the section, of its axis's endstop, at this tick.
+-- The endstop's board told so, by its switch, in a state that came in this turn or one before it, at this
+-- tick, which is in a turn from the section's start on. All members told that they triggered, none since its
+-- timeout passed in a turn up to the section's last one.
+pub record TellsAnswer (m : Machine) (switches : List Switch) (c : Came) (before : List Came)
+    (lines : List ReportLine) : Type 0 where
   pub homing : Homing
   pub known : (noted m c.note (known_by m switches before)).homing ≡ Some homing
   pub tick : ℕ
-  pub answer : answer_in (length before) homing.start (hears_all (noted m c.note (known_by m switches before)).clocks c.states homing).group ≡ Some (Endstop tick)
+  pub answer : answer_in (length before) homing.start
+      (hears_all (noted m c.note (known_by m switches before)).clocks c.states homing).group ≡ Some (Endstop tick)
   pub turn : ℕ
-  pub told : WasReported m switches (axis_at m homing.axis).board homing.start (record { reason = 1; tick = tick; turn = turn }) (c ∷ before)
+  pub told : WasReported m switches (axis_at m homing.axis).board homing.start
+      (record { reason = 1; tick = tick; turn = turn }) (c ∷ before)
   pub unexpired : NoneExpired (λ b f. WasReported m switches b homing.start f (c ∷ before)) homing.group.last
       (members_of homing.group)
   pub lines_are : cuts_of lines ≡ cut_line m switches homing.section (axis_at m homing.axis) (Some tick)
 
 -- They tell of none: the run is connecting or stopping, or no group answers so.
-pub record TellsNoAnswer (m : Machine) (switches : List Switch) (c : Came) (before : List Came) (lines : List ReportLine) : Type 0 where
-  pub none : (homing : Homing) (tick : ℕ) → (noted m c.note (known_by m switches before)).phase ≡ Running → (noted m c.note (known_by m switches before)).homing ≡ Some homing →
-      answer_in (length before) homing.start (hears_all (noted m c.note (known_by m switches before)).clocks c.states homing).group ≡ Some (Endstop tick) → ⊥
+pub record TellsNoAnswer (m : Machine) (switches : List Switch) (c : Came) (before : List Came)
+    (lines : List ReportLine) : Type 0 where
+  pub none : (homing : Homing) (tick : ℕ) → (noted m c.note (known_by m switches before)).phase ≡ Running →
+      (noted m c.note (known_by m switches before)).homing ≡ Some homing →
+      answer_in (length before) homing.start
+      (hears_all (noted m c.note (known_by m switches before)).clocks c.states homing).group ≡ Some (Endstop tick) → ⊥
   pub lines_are : cuts_of lines ≡ []
 
--- Each of some turns of the reactor, behind what came to it before, tells of a switch exactly where a group answers that it closed.
+-- Each of some turns of the reactor, behind what came to it before, tells of a switch exactly where a group
+-- answers that it closed.
 abbrev pub TellAnswers : Machine → List Switch → List Came → List ReactorTurn → Type 0
 TellAnswers m switches before [] = Unit {0}
 TellAnswers m switches before (t ∷ ts) =
-    (TellsAnswer m switches (came_in t) before t.lines ⊎ TellsNoAnswer m switches (came_in t) before t.lines) × TellAnswers m switches (came_in t ∷ before) ts
+    (TellsAnswer m switches (came_in t) before t.lines ⊎ TellsNoAnswer m switches (came_in t) before t.lines)
+    × TellAnswers m switches (came_in t ∷ before) ts
 
 -- A homing section of those that were begun, by its number and its axis, ended in a turn.
 pub record EndsIn (begun : List Started) (k number axis : ℕ) : Type 0 where
@@ -76,8 +87,10 @@ pub record EndsIn (begun : List Started) (k number axis : ℕ) : Type 0 where
   pub home : s.section.kind ≡ Home axis
   pub end : s.end ≡ k
 
--- A homing section ended in a turn, whose lines tell of one switch: that of the section's axis, with the section's number, at a tick.
-pub record TellsSwitch (m : Machine) (switches : List Switch) (begun : List Started) (k : ℕ) (lines : List ReportLine) : Type 0 where
+-- A homing section ended in a turn, whose lines tell of one switch: that of the section's axis, with the
+-- section's number, at a tick.
+pub record TellsSwitch (m : Machine) (switches : List Switch) (begun : List Started) (k : ℕ) (lines : List ReportLine)
+    : Type 0 where
   pub number : ℕ
   pub axis : ℕ
   pub ended : EndsIn begun k number axis
@@ -89,7 +102,9 @@ pub record TellsNone (begun : List Started) (k : ℕ) (lines : List ReportLine) 
   pub none : (number axis : ℕ) → EndsIn begun k number axis → ⊥
   pub lines_are : cuts_of lines ≡ []
 
--- so in each of some turns, of which this is the first one's number: they tell of a switch where a homing section ended, and else of none
+-- so in each of some turns, of which this is the first one's number: they tell of a switch where a homing
+-- section ended, and else of none
 abbrev pub TellEnds : Machine → List Switch → List Started → ℕ → List ReactorTurn → Type 0
 TellEnds m switches begun k [] = Unit {0}
-TellEnds m switches begun k (t ∷ ts) = (TellsSwitch m switches begun k t.lines ⊎ TellsNone begun k t.lines) × TellEnds m switches begun (k + 1) ts
+TellEnds m switches begun k (t ∷ ts) =
+    (TellsSwitch m switches begun k t.lines ⊎ TellsNone begun k t.lines) × TellEnds m switches begun (k + 1) ts

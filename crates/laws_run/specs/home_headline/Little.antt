@@ -20,10 +20,10 @@ use Rattle.laws_run.specs.lanes.Boards.{IsInWhole, behind, orders_of, states_of}
 use Rattle.laws_run.specs.run_headline.Timely.{link_of}
 use Rattle.laws_run.specs.home_headline.Near.{SetsUp}
 
--- A board in a whole run in which axes home holds little: of the units that are due in the planner's turns none is sent
--- more than so many turns behind the turn in which it is due, 10,700 at most; the scene has no entries, or no busy stretch
--- of the board's link has more spoiled turns than are left of 10,700; and it takes the set-up of each homing section in
--- time, or its reports are read true.
+-- A board in a whole run in which axes home holds little: of the units that are due in the planner's turns
+-- none is sent more than so many turns behind the turn in which it is due, 10,700 at most; the scene has no
+-- entries, or no busy stretch of the board's link has more spoiled turns than are left of 10,700; and it
+-- takes the set-up of each homing section in time, or its reports are read true.
 pub record HomesLittle (m : Machine) (s : Scene) (b : ℕ) (planned : List MotionTurn) (first : ReactorTurn)
     (rest : List ReactorTurn) (turns : ℕ) (t : Told) (begun : List Started)
     (w : IsInWhole m s.switches b (clock_of (board_at m b)) (link_of m s b) planned first rest) : Type 0 where
@@ -50,14 +50,15 @@ AllHomeLittle m s text planned (first ∷ rest) =
 -- are due by four turns behind the section's end, to every board, of those that are due in its turns.
 abbrev pub SendsOut : Machine → List ℕ → List MotionTurn → Type 0
 SendsOut m text planned =
-    (p : Plans m (length m.boards) planned) (t : Told) (b : ℕ) → p.seen.text ≡ text → p.seen.told ≡ Some t → b < length m.boards → AreOut (length p.made) (runs_on m t.clocks p.seen.begun b)
+    (p : Plans m (length m.boards) planned) (t : Told) (b : ℕ) → p.seen.text ≡ text → p.seen.told ≡ Some t →
+    b < length m.boards → AreOut (length p.made) (runs_on m t.clocks p.seen.begun b)
 
--- The planner of a run of a text sends its units in time to every board: of those that are due in its turns none behind the turn in which
--- it is due.
+-- The planner of a run of a text sends its units in time to every board: of those that are due in its turns
+-- none behind the turn in which it is due.
 abbrev pub SendsAllInTime : Machine → List ℕ → List MotionTurn → Type 0
 SendsAllInTime m text planned =
-    (p : Plans m (length m.boards) planned) (t : Told) (b : ℕ) → p.seen.text ≡ text → p.seen.told ≡ Some t → b < length m.boards →
-    AreSpilled (length p.made) 0 (parts_on m t.clocks p.seen.begun b)
+    (p : Plans m (length m.boards) planned) (t : Told) (b : ℕ) → p.seen.text ≡ text → p.seen.told ≡ Some t →
+    b < length m.boards → AreSpilled (length p.made) 0 (parts_on m t.clocks p.seen.begun b)
 
 -- So much suffices in a scene without entries: of those that are due in the planner's turns no unit is sent more than
 -- 10,700 turns behind the turn in which it is due.

@@ -16,9 +16,9 @@ use Rattle.laws_run.specs.run_headline.Timely.{IsTimelyIn, link_of}
 use Rattle.laws_homing.specs.fired_runs.Since.{AllReadTrue, AreRead, ReadsAsTold}
 use Rattle.laws_homing.specs.home_parts.Answers.{TakeSetUps}
 
--- A board in a whole run takes all near: while it runs it takes no unit half a round of its 32-bit clock, 2^31 ticks, or
--- more after the unit's first tick; and what it reports of its trigger is read as what it told: each report that counts
--- for a homing section as a tick since which the trigger can't trigger.
+-- A board in a whole run takes all near: while it runs it takes no unit half a round of its 32-bit clock,
+-- 2^31 ticks, or more after the unit's first tick; and what it reports of its trigger is read as what it
+-- told: each report that counts for a homing section as a tick since which the trigger can't trigger.
 pub record TakesNear (m : Machine) (s : Scene) (b : ℕ) (planned : List MotionTurn) (first : ReactorTurn)
     (rest : List ReactorTurn)
     (w : IsInWhole m s.switches b (clock_of (board_at m b)) (link_of m s b) planned first rest) : Type 0 where
@@ -48,8 +48,9 @@ AllReportsReadTrue m s planned (first ∷ rest) =
     (w : IsInWhole m s.switches b (clock_of (board_at m b)) (link_of m s b) planned first rest) →
     AllReadTrue m s.switches b (came_before [] (first ∷ rest)) (behind [] w.made)
 
--- Of each board of a whole run, by the planner's turns, the reactor's turns before its last one, and this one, each report
--- that its trigger has triggered, which counts for a homing section, is read as what it told (`ReadsAsTold`).
+-- Of each board of a whole run, by the planner's turns, the reactor's turns before its last one, and this
+-- one, each report that its trigger has triggered, which counts for a homing section, is read as what it told
+-- (`ReadsAsTold`).
 abbrev pub AllReadAsTold : Machine → Scene → List MotionTurn → List ReactorTurn → ReactorTurn → Type 0
 AllReadAsTold m s planned [] last = Unit {0}
 AllReadAsTold m s planned (first ∷ rest) last =

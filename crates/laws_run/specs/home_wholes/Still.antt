@@ -37,10 +37,15 @@ BringStill (o ∷ os) = EachStill o.control.commands × BringStill os
 
 -- As a turn begins, no trigger of a board that runs can trigger, and what is left in the queue starts none.
 abbrev pub IsStillAt : Core → Type 0
-IsStillAt h = h.board.controller.state ≡ Running → (left : List Meant) → h.taken ++ left ≡ h.queued → IsOff h.board × EachTame (commands_of left)
+IsStillAt h =
+    h.board.controller.state ≡ Running → (left : List Meant) → h.taken ++ left ≡ h.queued →
+    IsOff h.board × EachTame (commands_of left)
 
--- A board is still in a section's turns: as the first turn begins in which units of the section may be released, and up to six turns
--- behind its end no control starts a trigger or binds a stepper.
+-- A board is still in a section's turns: as the first turn begins in which units of the section may be
+-- released, and up to six turns behind its end no control starts a trigger or binds a stepper.
 pub record IsStillIn (place : ℕ) (entries : List Entry) (s : BoardSection) (x : OnBoard) : Type 0 where
-  pub begins : (m : LinkState) → AreTurns (clock_of x.board) 0 (take (s.start - 250) x.orders) (first_state x.board x.pins place entries) m → IsStillAt m.core
-  pub goes_on : (turn : ℕ) → s.start - 250 ≤ turn → turn ≤ s.end + 6 → BringStill (take (turn - (s.start - 250)) (drop (s.start - 250) x.orders))
+  pub begins : (m : LinkState) →
+      AreTurns (clock_of x.board) 0 (take (s.start - 250) x.orders) (first_state x.board x.pins place entries) m →
+      IsStillAt m.core
+  pub goes_on : (turn : ℕ) → s.start - 250 ≤ turn → turn ≤ s.end + 6 →
+      BringStill (take (turn - (s.start - 250)) (drop (s.start - 250) x.orders))

@@ -14,17 +14,24 @@ use Rattle.laws_board.specs.plans.Lines.{pulses_of}
 use Rattle.laws_board.specs.plans.Planned.{Seen}
 use Rattle.laws_run.specs.run_ends.Ends.{GoesThrough}
 
--- The pulses that the turns of a whole run in which axes home tell of sections of moves: all of their plans. Place k of `rest` is turn k + 1.
-pub record WholeHomes (m : Machine) (seen : Seen) (clocks : List Clocks) (c : Cause) (rest : List ReactorTurn) : Type 0 where
+-- The pulses that the turns of a whole run in which axes home tell of sections of moves: all of their plans.
+-- Place k of `rest` is turn k + 1.
+pub record WholeHomes (m : Machine) (seen : Seen) (clocks : List Clocks) (c : Cause) (rest : List ReactorTurn)
+    : Type 0 where
   -- in a run that went through they are as many as the steps of the plan
-  pub whole : GoesThrough c → (past : List Started) (s : Started) (later : List Started) (from to place : ℕ) → seen.begun ≡ past ++ s ∷ later → s.section.kind ≡ Moves → place < length m.steppers →
+  pub whole : GoesThrough c → (past : List Started) (s : Started) (later : List Started) (from to place : ℕ) →
+      seen.begun ≡ past ++ s ∷ later → s.section.kind ≡ Moves → place < length m.steppers →
       IsWindow (length rest) from to (record { start = s.start; end = s.end }) (times_of later) → s.end + 5 ≤ to →
-      length (pulses_of place (lines_between from to rest)) ≡ length (stepper_plan m clocks s.section.moves s.start place)
+      length (pulses_of place (lines_between from to rest))
+      ≡ length (stepper_plan m clocks s.section.moves s.start place)
   -- and so they are, whatever ended the run, where any pulse of a stepper of the same board is told behind them
-  pub passed : (past : List Started) (s : Started) (later : List Started) (from to place other : ℕ) → seen.begun ≡ past ++ s ∷ later → s.section.kind ≡ Moves → place < length m.steppers → other < length m.steppers →
-      (stepper_at m other).board ≡ (stepper_at m place).board → IsWindow (length rest) from to (record { start = s.start; end = s.end }) (times_of later) → s.end + 5 ≤ to →
+  pub passed : (past : List Started) (s : Started) (later : List Started) (from to place other : ℕ) →
+      seen.begun ≡ past ++ s ∷ later → s.section.kind ≡ Moves → place < length m.steppers → other < length m.steppers →
+      (stepper_at m other).board ≡ (stepper_at m place).board →
+      IsWindow (length rest) from to (record { start = s.start; end = s.end }) (times_of later) → s.end + 5 ≤ to →
       pulses_of other (lines_between to (length rest) rest) ≢ [] →
-      length (pulses_of place (lines_between from to rest)) ≡ length (stepper_plan m clocks s.section.moves s.start place)
+      length (pulses_of place (lines_between from to rest))
+      ≡ length (stepper_plan m clocks s.section.moves s.start place)
 
 -- so the turns of a whole run
 abbrev pub AllWholeHomes : Machine → Seen → List Clocks → Cause → List ReactorTurn → Type 0

@@ -22,10 +22,11 @@ abbrev pub behind : List BoardTurn → List BoardTurn → List BoardTurn
 behind turns [] = turns
 behind turns (t ∷ made) = behind (t ∷ turns) made
 
--- what came to a board in some turns, and what it told
+-- what came to a board in each of some turns
 abbrev pub orders_of : List BoardTurn → List Orders
 orders_of made = map (λ t. orders t.control t.batch) made
 
+-- the state that it told in each of some turns
 abbrev pub states_of : List BoardTurn → List State
 states_of made = map (λ t. t.state) made
 
@@ -35,10 +36,12 @@ TookEach b [] states = states ≡ []
 TookEach b (t ∷ ts) [] = ⊥
 TookEach b (t ∷ ts) (s ∷ states) = (item b t.states ≡ s ∷ []) × TookEach b ts states
 
--- A board in a whole run, of which the planner made some turns and the reactor a first one and others, the last of which may end
--- the run: its turns with its link, as far as the reactor took their states. In each it took the control that the reactor ordered for it, and the next of the batches
--- that the planner put for it; and the reactor took each state in the turn behind it.
-pub record IsInWhole (m : Machine) (switches : List Switch) (b : ℕ) (clock : BoardClock) (begin : LinkState) (planned : List MotionTurn) (first : ReactorTurn) (rest : List ReactorTurn) : Type 0 where
+-- A board in a whole run, of which the planner made some turns and the reactor a first one and others, the
+-- last of which may end the run: its turns with its link, as far as the reactor took their states. In each it
+-- took the control that the reactor ordered for it, and the next of the batches that the planner put for it;
+-- and the reactor took each state in the turn behind it.
+pub record IsInWhole (m : Machine) (switches : List Switch) (b : ℕ) (clock : BoardClock) (begin : LinkState)
+    (planned : List MotionTurn) (first : ReactorTurn) (rest : List ReactorTurn) : Type 0 where
   -- the turns of the board, in order
   pub made : List BoardTurn
   pub both : IsBoardOf m switches b (came_before [] (first ∷ rest)) (behind [] made)
@@ -50,4 +53,5 @@ pub record IsInWhole (m : Machine) (switches : List Switch) (b : ℕ) (clock : B
   pub in_order : orders_in (behind [] made) ≡ orders_of made
   pub told : AreTold clock 0 (orders_of made) (states_of made) begin (stands_after begin (behind [] made))
   pub states : TookEach b rest (states_of made)
-  pub batches : (left : List Batch) × (map (λ o. o.batch) (orders_of made) ++ left ≡ gather (λ t. item b t.batches) planned)
+  pub batches : (left : List Batch)
+      × (map (λ o. o.batch) (orders_of made) ++ left ≡ gather (λ t. item b t.batches) planned)

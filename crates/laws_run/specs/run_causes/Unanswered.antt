@@ -15,23 +15,33 @@ use Rattle.session_run.specs.Boards.{came_from, came_in}
 use Rattle.laws_run.specs.lanes.Boards.{IsInWhole, behind}
 use Rattle.laws_run.specs.run_headline.Timely.{link_of}
 
--- In a whole run, by the planner's turns, the reactor's turns before its last one, and this one, a board gave no answer while it was connected: of
--- its turns with its link, eight askings in a row or more, four turns apart, from a turn on and up to the last turn, are unanswered, and each of
--- them was hindered on the board's link.
+-- In a whole run, by the planner's turns, the reactor's turns before its last one, and this one, a board gave
+-- no answer while it was connected: of its turns with its link, eight askings in a row or more, four turns
+-- apart, from a turn on and up to the last turn, are unanswered, and each of them was hindered on the board's
+-- link.
 abbrev pub GaveNoAnswer : Machine → Scene → ℕ → ℕ → List MotionTurn → List ReactorTurn → ReactorTurn → Type 0
 GaveNoAnswer m s board turn planned [] last = ⊥
 GaveNoAnswer m s board turn planned (first ∷ rest) last =
-    (board < length m.boards) × (w : IsInWhole m s.switches board (clock_of (board_at m board)) (link_of m s board) planned first (rest ++ last ∷ [])) × (count : ℕ) × (8 ≤ count)
-    × AreUnanswered (configuration m board) (told_by board (came_in last ∷ came_from [] (first ∷ rest))) turn count × AreHindered (link_of m s board) (behind [] w.made) turn count
+    (board < length m.boards)
+    × (w : IsInWhole m s.switches board (clock_of (board_at m board)) (link_of m s board) planned first
+    (rest ++ last ∷ [])) × (count : ℕ) × (8 ≤ count)
+    × AreUnanswered (configuration m board) (told_by board (came_in last ∷ came_from [] (first ∷ rest))) turn count
+    × AreHindered (link_of m s board) (behind [] w.made) turn count
 
--- So of a board whose clock line is too old: it was asked for its clock 200 times in a row or more, from a turn on, which is 1000 or later, each
--- asking four turns or more behind the one before it, with none between. Each of them is unanswered, and was hindered; so its link was disturbed in
--- the four turns of the asking or the four before them, or something waited at the end of the turn before it. It is asked that the units of each
--- turn have at most 210 bytes.
+-- So of a board whose clock line is too old: it was asked for its clock 200 times in a row or more, from a
+-- turn on, which is 1000 or later, each asking four turns or more behind the one before it, with none
+-- between. Each of them is unanswered, and was hindered; so its link was disturbed in the four turns of the
+-- asking or the four before them, or something waited at the end of the turn before it. It is asked that the
+-- units of each turn have at most 210 bytes.
 abbrev pub IsStaleSince : Machine → Scene → ℕ → ℕ → List MotionTurn → List ReactorTurn → ReactorTurn → Type 0
 IsStaleSince m s board turn planned [] last = ⊥
 IsStaleSince m s board turn planned (first ∷ rest) last =
-    (board < length m.boards) × (w : IsInWhole m s.switches board (clock_of (board_at m board)) (link_of m s board) planned first (rest ++ last ∷ []))
-    × (UnitsFit (behind [] w.made) → (1_000 ≤ turn) × (asked : List ℕ) × (200 ≤ length asked) × AreInRow turn (length (behind [] w.made)) asked × AsksNoneBetween (behind [] w.made) (length (behind [] w.made)) asked
-    × AllUnanswered m s.switches board (came_in last ∷ came_from [] (first ∷ rest)) asked × AreAskedAndHindered (link_of m s board) (behind [] w.made) asked
+    (board < length m.boards)
+    × (w : IsInWhole m s.switches board (clock_of (board_at m board)) (link_of m s board) planned first
+    (rest ++ last ∷ []))
+    × (UnitsFit (behind [] w.made) →
+    (1_000 ≤ turn) × (asked : List ℕ) × (200 ≤ length asked) × AreInRow turn (length (behind [] w.made)) asked
+    × AsksNoneBetween (behind [] w.made) (length (behind [] w.made)) asked
+    × AllUnanswered m s.switches board (came_in last ∷ came_from [] (first ∷ rest)) asked
+    × AreAskedAndHindered (link_of m s board) (behind [] w.made) asked
     × All (λ k. IsDisturbedAround (link_of m s board) (behind [] w.made) k) asked)

@@ -31,14 +31,16 @@ IsUndisturbedBefore m s b k planned (first ∷ rest) =
 abbrev pub IsTakenAtOnce : BoardClock → Line → Type 0
 IsTakenAtOnce clock line = (x : FollowsClock clock line) × (x.got ≡ x.sent)
 
--- The boards' first clock lines in a whole run, by the turns of the planner, those of the reactor before its last one, and this one: where no entry of
--- the scene was used on a board's link before the turn in which connecting ended, as where the scene has none of the link's lines for the time while
--- connecting, the board's line is taken at once. So the tick in it is the board's own of the turn with which it begins; and where the board's clock is
--- exact, so is the line from that turn on.
-pub record AreFirstTaken (m : Machine) (s : Scene) (planned : List MotionTurn) (turns : List ReactorTurn) (last : ReactorTurn) (clocks : List Clocks) : Type 0 where
+-- The boards' first clock lines in a whole run, by the turns of the planner, those of the reactor before its
+-- last one, and this one: where no entry of the scene was used on a board's link before the turn in which
+-- connecting ended, as where the scene has none of the link's lines for the time while connecting, the
+-- board's line is taken at once. So the tick in it is the board's own of the turn with which it begins; and
+-- where the board's clock is exact, so is the line from that turn on.
+pub record AreFirstTaken (m : Machine) (s : Scene) (planned : List MotionTurn) (turns : List ReactorTurn)
+    (last : ReactorTurn) (clocks : List Clocks) : Type 0 where
   pub connected : ℕ
   pub ends : EndsConnecting m s.switches turns connected
-  pub unused : (b : ℕ) → b < length m.boards → entries_of b Down true s.entries ≡ [] → entries_of b Up true s.entries ≡ [] →
-      IsUndisturbedBefore m s b connected planned (turns ++ last ∷ [])
+  pub unused : (b : ℕ) → b < length m.boards → entries_of b Down true s.entries ≡ [] →
+      entries_of b Up true s.entries ≡ [] → IsUndisturbedBefore m s b connected planned (turns ++ last ∷ [])
   pub taken : (b : ℕ) → b < length m.boards → IsUndisturbedBefore m s b connected planned (turns ++ last ∷ []) →
       IsTakenAtOnce (clock_of (board_at m b)) (clocks_at clocks b).first

@@ -12,9 +12,11 @@ use Rattle.laws_run.specs.run_ends.Boards.{boards_of, lines_at}
 use Rattle.laws_run.specs.run_headline.Near.{FollowsClock}
 use Rattle.laws_run.specs.run_turns.Starts.{EndsConnecting}
 
--- The `board` lines of a report are those of the boards' clock lines that are known as connecting ends in a turn, one for each board. Each follows its
--- board's clock, and the line tells at which tick the turn begins by it from which on the first section may start: 1,260, or 260 turns behind that one.
-pub record TellKnownLines (m : Machine) (switches : List Switch) (turns : List ReactorTurn) (lines : List ReportLine) : Type 0 where
+-- The `board` lines of a report are those of the boards' clock lines that are known as connecting ends in a
+-- turn, one for each board. Each follows its board's clock, and the line tells at which tick the turn begins
+-- by it from which on the first section may start: 1,260, or 260 turns behind that one.
+pub record TellKnownLines (m : Machine) (switches : List Switch) (turns : List ReactorTurn) (lines : List ReportLine)
+    : Type 0 where
   pub connected : ℕ
   pub ends : EndsConnecting m switches turns connected
   pub clocks : List Clocks

@@ -15,8 +15,8 @@ board_in _ = []
 abbrev pub boards_of : List ReportLine → List ReportLine
 boards_of lines = flat_map board_in lines
 
--- The lines of boards, from a number on, with these clock lines: each tells the frequency of its clock line, and at which tick a
--- turn begins by it.
+-- The lines of boards, from a number on, with these clock lines: each tells the frequency of its clock line,
+-- and at which tick a turn begins by it.
 abbrev pub lines_at : ℕ → ℕ → List Clocks → List ReportLine
 lines_at turn b [] = []
 lines_at turn b (c ∷ clocks) = report.Board b c.first.freq turn (turn_tick c.first turn) ∷ lines_at turn (b + 1) clocks

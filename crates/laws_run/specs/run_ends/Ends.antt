@@ -28,9 +28,9 @@ ended_by k (s ∷ ss) = (if nat_lt s.end k then 1 else 0) + ended_by k ss
 abbrev pub reading_of : Machine → List ℕ → Reading
 reading_of m text = record { end = program_end m text; sections = length (program_sections m text) }
 
--- What a reactor knows of some sections behind the notes of the turns before one: no more have ended than did, the last end is
--- not before theirs, and how the text was read is what it was told, if anything: and that only behind a turn by which all sections of the
--- text ended and all their units were put.
+-- What a reactor knows of some sections behind the notes of the turns before one: no more have ended than
+-- did, the last end is not before theirs, and how the text was read is what it was told, if anything: and
+-- that only behind a turn by which all sections of the text ended and all their units were put.
 pub record Counts (m : Machine) (text : List ℕ) (ss : List Started) (k : ℕ) (r : Known) : Type 0 where
   pub few : r.done ≤ ended_by k ss
   pub behind : All (λ s. s.end < k → s.end ≤ r.ended) ss
@@ -55,13 +55,17 @@ abbrev pub EndsSo : Machine → Known → ℕ → List State → Cause → Type 
 EndsSo m r k states cause.Done = WentThrough r k states read.End
 EndsSo m r k states (cause.Line line kind) = WentThrough r k states (read.Refused line kind)
 EndsSo m r k states (cause.Asked line) = (r.phase ≡ Stopping line) × (late 0 states ≡ None)
-EndsSo m r k states (cause.Late board first arrival spoiled spill) = late 0 states ≡ Some (cause.Late board first arrival spoiled spill)
-EndsSo m r k states (cause.Connect board turn) = (r.phase ≡ Connecting) × (giving_up k 0 (ready_all m 0 (listen_all r.askings.items states)) ≡ Some (cause.Connect board turn))
-EndsSo m r k states (cause.Stale board turn) = (r.phase ≡ Connecting → ⊥) × (stale k 0 (listen_all r.askings.items states) ≡ Some (cause.Stale board turn))
+EndsSo m r k states (cause.Late board first arrival spoiled spill) =
+    late 0 states ≡ Some (cause.Late board first arrival spoiled spill)
+EndsSo m r k states (cause.Connect board turn) =
+    (r.phase ≡ Connecting)
+    × (giving_up k 0 (ready_all m 0 (listen_all r.askings.items states)) ≡ Some (cause.Connect board turn))
+EndsSo m r k states (cause.Stale board turn) =
+    (r.phase ≡ Connecting → ⊥) × (stale k 0 (listen_all r.askings.items states) ≡ Some (cause.Stale board turn))
 EndsSo m r k states c = (r.phase ≡ Running) × ((homing_turn r.clocks k states r.homing).end ≡ Some c)
 
--- the order of the causes that are so in one turn: want of memory, a file or an output that failed, a late board, one that gives no
--- answer, homing, and the text's end
+-- the order of the causes that are so in one turn: want of memory, a file or an output that failed, a late
+-- board, one that gives no answer, homing, and the text's end
 abbrev pub order : Cause → ℕ
 order cause.Memory = 0
 order cause.ReadFault = 1
@@ -76,7 +80,8 @@ order c = 5
 -- no board homes behind any of the notes that came, of which the latest stands first
 abbrev pub NoneHomes : Machine → List Switch → List Came → Type 0
 NoneHomes m switches [] = Unit {0}
-NoneHomes m switches (c ∷ before) = ((noted m c.note (known_by m switches before)).homing ≡ None) × NoneHomes m switches before
+NoneHomes m switches (c ∷ before) =
+    ((noted m c.note (known_by m switches before)).homing ≡ None) × NoneHomes m switches before
 
 -- the causes of a run that went through: to the text's end, to a line that was refused, or to a stop that was asked for
 abbrev pub GoesThrough : Cause → Type 0

@@ -22,8 +22,8 @@ AreNamed m [] = Unit {0}
 AreNamed m (report.Drift board sent clock from ∷ lines) = (board < length m.boards) × AreNamed m lines
 AreNamed m (other ∷ lines) = AreNamed m lines
 
--- The further clock lines of a board in a report: its lines tell the first ones of those that hold, in order; the others
--- hold from behind a turn on.
+-- The further clock lines of a board in a report: its lines tell the first ones of those that hold, in order;
+-- the others hold from behind a turn on.
 pub record TellsFurther (b : ℕ) (held : List Held) (turn : ℕ) (lines : List ReportLine) : Type 0 where
   pub told : List Held
   pub rest : List Held
@@ -31,8 +31,8 @@ pub record TellsFurther (b : ℕ) (held : List Held) (turn : ℕ) (lines : List 
   pub lines_are : drifts_of b lines ≡ held_lines b told
   pub later : HoldBehind turn rest
 
--- The lines of a run tell the further clock lines of its boards, as above: none stands before a board's line, and each is of a board that
--- is there.
+-- The lines of a run tell the further clock lines of its boards, as above: none stands before a board's line,
+-- and each is of a board that is there.
 pub record TellFurther (m : Machine) (clocks : List Clocks) (turn : ℕ) (lines : List ReportLine) : Type 0 where
   pub first : BoardsFirst lines
   pub named : AreNamed m lines

@@ -37,14 +37,19 @@ use Rattle.laws_run.specs.run_headline.Near.{FollowsClock}
 abbrev pub link_of : Machine → Scene → ℕ → LinkState
 link_of m s b = first_state (board_at m b) (pins_of (board_at m b) b s.switches) b s.entries
 
--- A board in a whole run holds nothing long: the scene has no entries, or no busy stretch of its link has more than 10,000 spoiled turns.
-pub record HoldsLittle (m : Machine) (s : Scene) (b : ℕ) (planned : List MotionTurn) (first : ReactorTurn) (rest : List ReactorTurn)
+-- A board in a whole run holds nothing long: the scene has no entries, or no busy stretch of its link has
+-- more than 10,000 spoiled turns.
+pub record HoldsLittle (m : Machine) (s : Scene) (b : ℕ) (planned : List MotionTurn) (first : ReactorTurn)
+    (rest : List ReactorTurn)
     (w : IsInWhole m s.switches b (clock_of (board_at m b)) (link_of m s b) planned first rest) : Type 0 where
-  pub few : (s.entries ≡ []) ⊎ ((k : ℕ) → spoiled (take k (ends_of (clock_of (board_at m b)) 0 (orders_of w.made) (link_of m s b) (stands_after (link_of m s b) (behind [] w.made))
-      (turns_told (clock_of (board_at m b)) 0 (orders_of w.made) (states_of w.made) (link_of m s b) (stands_after (link_of m s b) (behind [] w.made)) w.told))) ≤ 10_000)
+  pub few : (s.entries ≡ [])
+      ⊎ ((k : ℕ) →
+      spoiled (take k (ends_of (clock_of (board_at m b)) 0 (orders_of w.made) (link_of m s b)
+      (stands_after (link_of m s b) (behind [] w.made)) (turns_told (clock_of (board_at m b)) 0 (orders_of w.made)
+      (states_of w.made) (link_of m s b) (stands_after (link_of m s b) (behind [] w.made)) w.told))) ≤ 10_000)
 
--- A board in a whole run is timely: while it runs it takes no unit half a round of its 32-bit clock, 2^31 ticks, or more
--- after the unit's first tick.
+-- A board in a whole run is timely: while it runs it takes no unit half a round of its 32-bit clock, 2^31
+-- ticks, or more after the unit's first tick.
 abbrev pub IsTimelyIn : (m : Machine) (s : Scene) (b : ℕ) (planned : List MotionTurn) (first : ReactorTurn)
     (rest : List ReactorTurn)
     (w : IsInWhole m s.switches b (clock_of (board_at m b)) (link_of m s b) planned first rest) → Type 0
@@ -67,8 +72,10 @@ AllAreTimely m s text planned (first ∷ rest) =
 abbrev pub HoldsNothingLong : Machine → Scene → List ℕ → List MotionTurn → List ReactorTurn → Type 0
 HoldsNothingLong m s text planned [] = Unit {0}
 HoldsNothingLong m s text planned (first ∷ rest) =
-    (p : Plans m (length m.boards) planned) (t : Told) (b : ℕ) → p.seen.text ≡ text → p.seen.told ≡ Some t → b < length m.boards → length rest ≤ length p.made →
-    (w : IsInWhole m s.switches b (clock_of (board_at m b)) (link_of m s b) planned first rest) → HoldsLittle m s b planned first rest w
+    (p : Plans m (length m.boards) planned) (t : Told) (b : ℕ) → p.seen.text ≡ text → p.seen.told ≡ Some t →
+    b < length m.boards → length rest ≤ length p.made →
+    (w : IsInWhole m s.switches b (clock_of (board_at m b)) (link_of m s b) planned first rest) →
+    HoldsLittle m s b planned first rest w
 
 -- the sections of a text are of moves
 abbrev pub AreOfMoves : List Section → Type 0
@@ -83,9 +90,10 @@ abbrev pub EachMayHold : Clocks → List Held → Type 0
 EachMayHold clocks [] = Unit {0}
 EachMayHold clocks (h ∷ held) = (may_hold clocks h.from h.line ≡ true) × EachMayHold (added clocks h.from h.line) held
 
--- The clock lines of all boards are sound: valid, of the boards' frequencies and from before the turn from which on the first
--- section may start, which is turn 1,260 or later; the further ones hold one after the other, from that turn on or later. Each is that of a sample of
--- its board's clock, and no further from it than that.
+-- The clock lines of all boards are sound: valid, of the boards' frequencies and from before the turn from
+-- which on the first section may start, which is turn 1,260 or later; the further ones hold one after the
+-- other, from that turn on or later. Each is that of a sample of its board's clock, and no further from it
+-- than that.
 pub record AreSound (m : Machine) (clocks : List Clocks) (ready : ℕ) : Type 0 where
   pub clocks_are : AreBoardClocks m clocks ready
   pub kept : (b : ℕ) → b < length m.boards → AreKept (clocks_at clocks b)
@@ -94,10 +102,11 @@ pub record AreSound (m : Machine) (clocks : List Clocks) (ready : ℕ) : Type 0 
   pub late : 1_260 ≤ ready
   pub small : ready < 2 ^ 62
   pub near : (b : ℕ) → b < length m.boards → FollowsClock (clock_of (board_at m b)) (clocks_at clocks b).first
-  pub all_near : (b : ℕ) → b < length m.boards → All (λ h. FollowsClock (clock_of (board_at m b)) h.line) (clocks_at clocks b).held
+  pub all_near : (b : ℕ) → b < length m.boards →
+      All (λ h. FollowsClock (clock_of (board_at m b)) h.line) (clocks_at clocks b).held
 
--- Before a turn the boards had their lines, and behind it there are none: each tells the frequency of the board's clock line, and
--- at which tick the turn begins by it from which on the first section may start.
+-- Before a turn the boards had their lines, and behind it there are none: each tells the frequency of the
+-- board's clock line, and at which tick the turn begins by it from which on the first section may start.
 pub record TellBoards (clocks : List Clocks) (ready : ℕ) (turns : List ReactorTurn) : Type 0 where
   pub past : List ReactorTurn
   pub later : List ReactorTurn
@@ -106,7 +115,8 @@ pub record TellBoards (clocks : List Clocks) (ready : ℕ) (turns : List Reactor
   pub lines : boards_of (gather (λ t. t.lines) past) ≡ lines_at ready 0 clocks
   pub rest : boards_of (gather (λ t. t.lines) later) ≡ []
 
--- All sections of a text were begun, each ended five turns or more before a turn, and the cause is how the reading ended.
+-- All sections of a text were begun, each ended five turns or more before a turn, and the cause is how the
+-- reading ended.
 pub record AreThrough (m : Machine) (seen : Seen) (c : Cause) (turn : ℕ) : Type 0 where
   pub all : map (λ s. s.section) seen.begun ≡ program_sections m seen.text
   pub over : All (λ s. s.end + 5 ≤ turn) seen.begun

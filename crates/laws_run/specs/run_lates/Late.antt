@@ -1,4 +1,5 @@
--- The steps that came too late to a board, in a whole run that ends for it, and which shutdowns a run's states may tell of.
+-- The steps that came too late to a board, in a whole run that ends for it, and which shutdowns a run's
+-- states may tell of.
 use Rattle.std.specs.Prelude.{◌≡◌, ◌+◌, ◌-◌, ◌<◌, ℕ, All, List, [], ◌∷◌, ◌++◌, Some, length}
 use Rattle.plan_types.specs.declared.machine.Machine.{Machine}
 use Rattle.plan_types.specs.declared.plan.BoardState.TheVariants.{Running, Shut}
@@ -31,41 +32,50 @@ use Rattle.laws_run.specs.run_headline.Timely.{link_of}
 
 -- the turns of the busy stretch that were spoiled, up to a turn of a board behind others, and this one where it was
 abbrev pub spoiled_by : List BoardTurn → BoardTurn → List ℕ
-spoiled_by past t = spoiled_with (spoiled_turns (ends_in past)) (length past) (is_quiet (record { turn = length past; link = t.after }))
+spoiled_by past t =
+    spoiled_with (spoiled_turns (ends_in past)) (length past) (is_quiet (record { turn = length past; link = t.after }))
 
 -- the units that were queued in the busy stretch, up to a turn of a board behind others
 abbrev pub held_by : List BoardTurn → BoardTurn → List HeldUnit
 held_by past t = hold (held_in (orders_in past) (ends_in past)) (length past) t.batch.units
 
--- Steps came too late to a board of a whole run, in the last turn of its link. It ran before this turn. As the turn began, at the tick of the
--- arrival, it took a command that shut it down: steps of which the first one was due at an earlier tick, while none of their stepper pended. The
--- spoiled turns and the spill are those of the first unit of the busy stretch with this first tick for which they are more than the lead
+-- Steps came too late to a board of a whole run, in the last turn of its link. It ran before this turn. As
+-- the turn began, at the tick of the arrival, it took a command that shut it down: steps of which the first
+-- one was due at an earlier tick, while none of their stepper pended. The spoiled turns and the spill are
+-- those of the first unit of the busy stretch with this first tick for which they are more than the lead
 -- together, and 0 where there is none.
-pub record ComesLate (m : Machine) (s : Scene) (b first arrival spoiled spill : ℕ) (planned : List MotionTurn) (begin : ReactorTurn) (rest : List ReactorTurn) : Type 0 where
+pub record ComesLate (m : Machine) (s : Scene) (b first arrival spoiled spill : ℕ) (planned : List MotionTurn)
+    (begin : ReactorTurn) (rest : List ReactorTurn) : Type 0 where
   pub there : b < length m.boards
   pub w : IsInWhole m s.switches b (clock_of (board_at m b)) (link_of m s b) planned begin rest
   -- its last turn, and those before, of which the latest stands first
   pub turn : BoardTurn
   pub past : List BoardTurn
   pub are : behind [] w.made ≡ turn ∷ past
-  pub is : IsTurn (clock_of (board_at m b)) (length past) (orders turn.control turn.batch) (stands_after (link_of m s b) past) turn.after
+  pub is : IsTurn (clock_of (board_at m b)) (length past) (orders turn.control turn.batch)
+      (stands_after (link_of m s b) past) turn.after
   pub ran : (stands_after (link_of m s b) past).core.board.controller.state ≡ Running
   pub shut : turn.after.core.board.controller.state ≡ Shut timer_too_close arrival first
   pub began : arrival ≡ board_tick (clock_of (board_at m b)) (length past)
   pub late : first < arrival
-  pub took : WasShut (stands_after (link_of m s b) past).core
-      (steps_of_turn (clock_of (board_at m b)) (length past) (orders turn.control turn.batch) is.resent (stands_after (link_of m s b) past)) timer_too_close arrival first
-  pub counted : (spoiled, spill) ≡ late_by (lead_of (board_at m b).drift) (spoiled_by past turn) first (held_by past turn)
+  pub took : WasShut (stands_after (link_of m s b) past).core (steps_of_turn (clock_of (board_at m b)) (length past)
+      (orders turn.control turn.batch) is.resent (stands_after (link_of m s b) past))
+      timer_too_close arrival first
+  pub counted : (spoiled, spill)
+      ≡ late_by (lead_of (board_at m b).drift) (spoiled_by past turn) first (held_by past turn)
 
 -- so in a run, by the planner's turns, the reactor's turns before its last one, and this one
 abbrev pub ComesLateIn : Machine → Scene → ℕ → ℕ → ℕ → ℕ → ℕ → List MotionTurn → List ReactorTurn → ReactorTurn → Type 0
 ComesLateIn m s b first arrival spoiled spill planned [] last = ⊥
-ComesLateIn m s b first arrival spoiled spill planned (begin ∷ rest) last = ComesLate m s b first arrival spoiled spill planned begin (rest ++ last ∷ [])
+ComesLateIn m s b first arrival spoiled spill planned (begin ∷ rest) last =
+    ComesLate m s b first arrival spoiled spill planned begin (rest ++ last ∷ [])
 
--- A unit of one of the late board's sections has this first tick. So many turns of the busy stretch were spoiled up to the turn in which it is due,
--- and its spill is the one that is told. Together they are more than the lead: 250 turns, and 249 for a board whose clock is off.
-pub record HasLateUnit (m : Machine) (s : Scene) (b first arrival spoiled spill : ℕ) (planned : List MotionTurn) (begin : ReactorTurn) (rest : List ReactorTurn)
-    (clocks : List Clocks) (begun : List Started) (c : ComesLate m s b first arrival spoiled spill planned begin rest) : Type 0 where
+-- A unit of one of the late board's sections has this first tick. So many turns of the busy stretch were
+-- spoiled up to the turn in which it is due, and its spill is the one that is told. Together they are more
+-- than the lead: 250 turns, and 249 for a board whose clock is off.
+pub record HasLateUnit (m : Machine) (s : Scene) (b first arrival spoiled spill : ℕ) (planned : List MotionTurn)
+    (begin : ReactorTurn) (rest : List ReactorTurn) (clocks : List Clocks) (begun : List Started)
+    (c : ComesLate m s b first arrival spoiled spill planned begin rest) : Type 0 where
   pub section : BoardSection
   pub release : Release
   pub among : IsIn section (parts_on m clocks begun b)
@@ -76,15 +86,17 @@ pub record HasLateUnit (m : Machine) (s : Scene) (b first arrival spoiled spill 
   pub disturbed : lead_of (board_at m b).drift < spoiled + spill
 
 -- so in a run, by its turns
-abbrev pub HasLateUnitIn : (m : Machine) (s : Scene) (b first arrival spoiled spill : ℕ) (planned : List MotionTurn) (turns : List ReactorTurn) (last : ReactorTurn)
-    → List Clocks → List Started → ComesLateIn m s b first arrival spoiled spill planned turns last → Type 0
+abbrev pub HasLateUnitIn : (m : Machine) (s : Scene) (b first arrival spoiled spill : ℕ) (planned : List MotionTurn)
+    (turns : List ReactorTurn) (last : ReactorTurn) → List Clocks → List Started →
+    ComesLateIn m s b first arrival spoiled spill planned turns last → Type 0
 HasLateUnitIn m s b first arrival spoiled spill planned [] last clocks begun c = ⊥
 HasLateUnitIn m s b first arrival spoiled spill planned (begin ∷ rest) last clocks begun c =
     HasLateUnit m s b first arrival spoiled spill planned begin (rest ++ last ∷ []) clocks begun c
 
 -- the units of each turn of the late board have at most 210 bytes
-abbrev pub HasFewUnits : (m : Machine) (s : Scene) (b first arrival spoiled spill : ℕ) (planned : List MotionTurn) (turns : List ReactorTurn) (last : ReactorTurn)
-    → ComesLateIn m s b first arrival spoiled spill planned turns last → Type 0
+abbrev pub HasFewUnits : (m : Machine) (s : Scene) (b first arrival spoiled spill : ℕ) (planned : List MotionTurn)
+    (turns : List ReactorTurn) (last : ReactorTurn) → ComesLateIn m s b first arrival spoiled spill planned turns last →
+    Type 0
 HasFewUnits m s b first arrival spoiled spill planned [] last c = ⊥
 HasFewUnits m s b first arrival spoiled spill planned (begin ∷ rest) last c = UnitsFit (behind [] c.w.made)
 

@@ -7,13 +7,14 @@ use Rattle.report_text.specs.declared.line.ReportLine.TheVariants as report
 abbrev pub start_limit : ℕ
 start_limit = 2 ^ 42 + 260
 
--- the greatest tick that a board's line may tell as a turn begins: of a clock of 200 MHz that begins at 2^40, runs fast by 200
--- millionths, and was asked three turns before its answer
+-- the greatest tick that a board's line may tell as a turn begins: of a clock of 200 MHz that begins at 2^40,
+-- runs fast by 200 millionths, and was asked three turns before its answer
 abbrev pub greatest_tick : ℕ → ℕ
 greatest_tick turn = 2 ^ 40 + (turn + 3) * 200_040
 
--- A line keeps the limits of a run: a section starts before the last turn in which one may, and has no greater number than
--- its turn; a board tells a tick that it may have, as does each of its further clock lines; and no more was read than the first 2^30 bytes.
+-- A line keeps the limits of a run: a section starts before the last turn in which one may, and has no
+-- greater number than its turn; a board tells a tick that it may have, as does each of its further clock
+-- lines; and no more was read than the first 2^30 bytes.
 abbrev pub IsLow : ReportLine → Type 0
 IsLow (report.Board board freq turn tick) = (turn < start_limit) × (tick ≤ greatest_tick turn)
 IsLow (report.Section i turn kind) = (i ≤ turn) × (turn < start_limit)

@@ -35,7 +35,8 @@ use Rattle.laws_run.specs.run_links.Units.{AreBatchesOf, IsPartOn}
 -- what the reactor orders for a board in some turns, in order, by what came in them, of which the latest stands first
 abbrev pub ordered_for : Machine → List Switch → ℕ → List Came → List Control
 ordered_for m switches b [] = []
-ordered_for m switches b (c ∷ before) = ordered_for m switches b before ++ control_at b (last_turn m switches c before).ordered.controls
+ordered_for m switches b (c ∷ before) =
+    ordered_for m switches b before ++ control_at b (last_turn m switches c before).ordered.controls
 
 -- the states of a board that came in these turns, in order
 abbrev pub states_from : ℕ → List Came → List State
@@ -46,8 +47,9 @@ states_from b (c ∷ before) = states_from b before ++ state_at b c.states
 abbrev pub out_state : ℕ → State
 out_state k = bare_state k true
 
--- A board in its turns: in each it takes the next control and the next batch, and a state is put, which tells what its core did with them by the
--- definition of a turn, from its first state on and by the scene. From the turn on in which its link wants memory, if it does, each state says only that.
+-- A board in its turns: in each it takes the next control and the next batch, and a state is put, which tells
+-- what its core did with them by the definition of a turn, from its first state on and by the scene. From the
+-- turn on in which its link wants memory, if it does, each state says only that.
 pub record MakesTurns (m : Machine) (s : Scene) (b : ℕ) (x : LinkLog) : Type 0 where
   pub made : List BoardTurn
   pub are : AreBoardTurns (clock_of (board_at m b)) (link_of m s b) (behind [] made)
@@ -68,16 +70,19 @@ pulse_on b _ = []
 abbrev pub pulses_on : ℕ → List ReportLine → List ReportLine
 pulses_on b lines = flat_map (pulse_on b) lines
 
--- The lines of the pulses that some states of a board tell: each names the stepper of this board that has the pulse's object id, with the pulse's tick
--- and its direction, which is turned round where this stepper's dir_pin is inverted (`pulse_line`, which has no line where no stepper has the id).
+-- The lines of the pulses that some states of a board tell: each names the stepper of this board that has the
+-- pulse's object id, with the pulse's tick and its direction, which is turned round where this stepper's
+-- dir_pin is inverted (`pulse_line`, which has no line where no stepper has the id).
 abbrev pub lines_for : Machine → ℕ → List State → List ReportLine
 lines_for m b states = flat_map (λ s. flat_map (pulse_line m b) s.pulses) states
 
--- What the lanes of a board carried in a run of a machine in a scene: by what its planner saw and in how many turns it sent units, by what came to the
--- reactor in each of its turns that went on, by the states that came in its last one, by its lines and by its cause.
+-- What the lanes of a board carried in a run of a machine in a scene: by what its planner saw and in how many
+-- turns it sent units, by what came to the reactor in each of its turns that went on, by the states that came
+-- in its last one, by its lines and by its cause.
 pub record IsLinkIn (m : Machine) (s : Scene) (seen : Seen) (sent : ℕ) (came : List Came) (last : List State)
     (lines : List ReportLine) (c : Cause) (b : ℕ) (x : LinkLog) : Type 0 where
-  -- Batches put: batch k has the units that the sections which were begun release in turn k, and none once the planner stopped
+  -- Batches put: batch k has the units that the sections which were begun release in turn k, and none once
+  -- the planner stopped
   pub batches : AreBatchesOf b seen.begun sent 0 x.batches.0
   pub all_sent : sent ≤ length x.batches.0
   -- and these units are those of the sections' plans, none of a homing section from the turn of its answer on
@@ -86,28 +91,30 @@ pub record IsLinkIn (m : Machine) (s : Scene) (seen : Seen) (sent : ℕ) (came :
   pub batches_taken : IsPrefix x.batches.1 x.batches.0
   pub controls_taken : IsPrefix x.controls.1 x.controls.0
   pub states_taken : IsPrefix x.states.1 x.states.0
-  -- Controls put: in each turn that went on the one that the reactor orders for all that came; behind them controls without commands, of which the
-  -- last one ends the run
+  -- Controls put: in each turn that went on the one that the reactor orders for all that came; behind them
+  -- controls without commands, of which the last one ends the run
   pub ahead : ℕ
   pub controls : x.controls.0 ≡ ordered_for m s.switches b came ++ last_controls (length came) ahead
   -- States put: they are told of the board's turns, in which it took these controls and batches
   pub board : MakesTurns m s b x
   -- States taken: they are those that came to the reactor
   pub states : x.states.1 ≡ states_from b came ++ last
-  -- Pulses: the lines that tell pulses of the board are those of the states that were taken. Where the run ended for want of memory, the last turn has
-  -- no lines.
+  -- Pulses: the lines that tell pulses of the board are those of the states that were taken. Where the run
+  -- ended for want of memory, the last turn has no lines.
   pub pulses : (c ≡ cause.Memory → ⊥) → pulses_on b lines ≡ lines_for m b x.states.1
   pub pulses_before : c ≡ cause.Memory → pulses_on b lines ≡ lines_for m b (states_from b came)
 
--- What the lanes of a run's boards carried, where the run read a text: there is a log for each board, and of each it holds what `IsLinkIn` says, by the
--- sections of the text that were begun. In each turn of the reactor but the first a state of each board came; in the one that ends the run, where it
--- does not for want of memory.
-pub record AreLinksIn (m : Machine) (s : Scene) (text : List ℕ) (c : Cause) (ts : List MotionTurn) (rs : List ReactorTurn)
-    (end : ReactorTurn) (links : List LinkLog) : Type 0 where
+-- What the lanes of a run's boards carried, where the run read a text: there is a log for each board, and of
+-- each it holds what `IsLinkIn` says, by the sections of the text that were begun. In each turn of the
+-- reactor but the first a state of each board came; in the one that ends the run, where it does not for want
+-- of memory.
+pub record AreLinksIn (m : Machine) (s : Scene) (text : List ℕ) (c : Cause) (ts : List MotionTurn)
+    (rs : List ReactorTurn) (end : ReactorTurn) (links : List LinkLog) : Type 0 where
   pub made : IsMade m s ts rs
   pub of_text : made.plans.seen.text ≡ text
   pub rows : HaveStates m (came_from [] rs)
   pub last_row : (c ≡ cause.Memory → ⊥) → HaveStates m (came_in end ∷ came_from [] rs)
   pub count : length links ≡ length m.boards
   pub each : (b : ℕ) (x : LinkLog) → item b links ≡ x ∷ [] →
-      IsLinkIn m s made.plans.seen (length made.plans.made) (came_from [] rs) (state_at b end.states) (lines_of (rs ++ end ∷ [])) c b x
+      IsLinkIn m s made.plans.seen (length made.plans.made) (came_from [] rs) (state_at b end.states)
+      (lines_of (rs ++ end ∷ [])) c b x

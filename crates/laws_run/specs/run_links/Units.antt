@@ -12,8 +12,9 @@ use Rattle.motion_work.specs.Homes.{no_end}
 use Rattle.motion_work.specs.Known.{lines_by}
 use Rattle.motion_work.specs.Seen.{Started, lines_of}
 
--- Batch k of a board: it has the units that the sections which were begun release in turn k, one section behind the other, up to the turn from which
--- on nothing is sent any more. From then on it has none; and before it, it doesn't say that nothing follows.
+-- Batch k of a board: it has the units that the sections which were begun release in turn k, one section
+-- behind the other, up to the turn from which on nothing is sent any more. From then on it has none; and
+-- before it, it doesn't say that nothing follows.
 pub record IsBatchOf (b : ℕ) (begun : List Started) (sent k : ℕ) (x : Batch) : Type 0 where
   pub turn : x.turn ≡ k
   pub units : k < sent → x.units ≡ units_at b k (map (λ s. s.boards) begun)
@@ -29,8 +30,9 @@ AreBatchesOf b begun sent k (x ∷ batches) = IsBatchOf b begun sent k x × AreB
 abbrev pub units_on : ℕ → Started → List Release
 units_on b s = slice_index_or s.boards b []
 
--- The units of a section that homes on a board: they are those of its plan, by the clock lines that were taken up by its end, which mean one step for
--- each planned step, and none sets a clock; but from the turn of its answer on none is released.
+-- The units of a section that homes on a board: they are those of its plan, by the clock lines that were
+-- taken up by its end, which mean one step for each planned step, and none sets a clock; but from the turn of
+-- its answer on none is released.
 pub record IsHomedOn (m : Machine) (clocks : List Clocks) (b : ℕ) (s : Started) : Type 0 where
   pub planned : List Release
   pub are : IsOnBoardBy true m (map (lines_by (s.end + 276)) clocks) s.section.moves s.start b planned
@@ -42,8 +44,8 @@ abbrev pub IsPlannedOn : SectionKind → Machine → List Clocks → ℕ → Sta
 IsPlannedOn Moves m clocks b s = IsOnBoardBy false m clocks s.section.moves s.start b (units_on b s)
 IsPlannedOn (Home axis) m clocks b s = IsHomedOn m clocks b s
 
--- A section on a board of which units are released before a turn: they are those of its plan; and those that are released before it stand in the order
--- of their first ticks, and no longer triple exists.
+-- A section on a board of which units are released before a turn: they are those of its plan; and those that
+-- are released before it stand in the order of their first ticks, and no longer triple exists.
 pub record IsPartOn (m : Machine) (clocks : List Clocks) (sent b : ℕ) (s : Started) : Type 0 where
   pub planned : IsPlannedOn s.section.kind m clocks b s
   pub longest : AreSentToOn m (lines_of s.section.kind s.end clocks) s.section.moves s.start b sent (units_on b s)

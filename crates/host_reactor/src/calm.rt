@@ -86,16 +86,19 @@ fn put_calm(
     Ok(())
 }
 
-/// What a calm turn gives.
+/// What a calm turn gives. The controls stand in a list whose room is used again.
 pub fn calm_turn(
     alloc: Global,
     k: u64,
     r: &Known,
     lines: Listed<ReportLine>,
+    room: Vec<Control>,
 ) -> Result<Ordered, OutOfMemory>
     ensures { IfOk result (λ o. o ≡ given k (calm_controls k r.now.clocks r.now.askings.items) [] lines None) }
 {
-    let mut controls = Listed::new(alloc);
+    let mut room = room;
+    room.clear();
+    let mut controls = Listed::of(room);
     put_calm(
         alloc,
         k,

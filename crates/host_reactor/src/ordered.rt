@@ -4,8 +4,18 @@ use arrayvec::ArrayVec;
 use axis_homing::Homing;
 use board_asking::{AllClocks, Asking};
 use msg_code::{Control, WordMsg};
-use plan_types::{Cause, Listed, ReadEnd, SectionKind};
+use plan_types::{Cause, Listed, Machine, ReadEnd, SectionKind};
 use report_text::ReportLine;
+use std::alloc::Global;
+use wire_scene::Scene;
+
+/// What a run stands on: the memory, and its machine in a scene.
+#[derive(Drop)]
+pub struct Setting<'a> {
+    pub alloc: Global,
+    pub machine: &'a Machine,
+    pub scene: &'a Scene,
+}
 
 /// The controls of the links, the word to the motion machine, the report's lines, and the end where the run ends.
 #[derive(Drop)]

@@ -10,7 +10,7 @@ ghost use Rattle.host_reactor.specs.Reactor.{Reacted, plain_controls, given, end
 ghost use Rattle.board_asking.specs.Drift.{stale};
 
 use crate::OutOfMemory;
-use crate::ordered::{Known, Ordered, Phase};
+use crate::ordered::{Known, Ordered, Phase, Setting};
 use crate::report::{put_counts, put_first, room_for_lines};
 use crate::run::run;
 use crate::running::first_cause;
@@ -23,7 +23,6 @@ use msg_code::{Control, NoteNews, State, WordMsg, WordNews};
 use plan_types::{BoardDef, Cause, Line, Listed, Machine};
 use report_text::ReportLine;
 use std::alloc::Global;
-use wire_scene::Scene;
 
 /// Adds a control without commands for each board.
 fn put_plain(
@@ -231,57 +230,66 @@ fn stop_turn(
 
 /// What a turn is by its phase.
 fn by_phase(
-    alloc: Global,
-    m: &Machine,
-    scene: &Scene,
+    setting: &Setting<'_>,
     r: &mut Known,
     k: u64,
     states: &[State],
     lines: Listed<ReportLine>,
+    room: Vec<Control>,
 ) -> Result<Ordered, OutOfMemory>
-    requires valid { IsValidMachine m.now }
+    requires valid { IsValidMachine setting.now.machine.now }
     requires few { k < 2 ^ 59 }
     requires numbers { length states.now ≤ 8 }
     requires turns { All (λ s. s.turn < 2 ^ 59) states.now }
-    requires kept { IsKept m.now r.old }
-    ensures kept { IsKept m.now r.new }
-    ensures known { OnOk result
-        (r.new ≡ (by_phase r.old.phase m.now scene.now.switches r.old k states.now lines).known) }
-    ensures ordered { IfOk result
-        (λ o. o ≡ (by_phase r.old.phase m.now scene.now.switches r.old k states.now lines).ordered) }
+    requires kept { IsKept setting.now.machine.now r.old }
+    ensures kept { IsKept setting.now.machine.now r.new }
+    ensures known { OnOk result (r.new
+        ≡ (by_phase r.old.phase setting.now.machine.now setting.now.scene.now.switches r.old k states.now
+        lines).known) }
+    ensures ordered { IfOk result (λ o. o
+        ≡ (by_phase r.old.phase setting.now.machine.now setting.now.scene.now.switches r.old k states.now
+        lines).ordered) }
 {
     match r.phase {
-        Phase::Connecting => connect(alloc, m, r, k, states, lines),
-        Phase::Running => run(alloc, m, scene, r, k, states, lines),
-        Phase::Stopping(line) => stop_turn(alloc, m, r, k, states, lines, line),
+        Phase::Connecting => connect(setting.alloc, setting.machine, r, k, states, lines),
+        Phase::Running => run(setting, r, k, states, lines, room),
+        Phase::Stopping(line) => stop_turn(
+            setting.alloc,
+            setting.machine,
+            r,
+            k,
+            states,
+            lines,
+            line,
+        ),
     }
 }
 
-/// A turn behind its note.
+/// A turn behind its note. The room of a list is used again.
 pub fn react(
-    alloc: Global,
-    m: &Machine,
-    scene: &Scene,
+    setting: &Setting<'_>,
     r: &mut Known,
     k: u64,
     states: &[State],
     news: &[NoteNews],
     out: bool,
+    room: Vec<Control>,
 ) -> Result<Ordered, OutOfMemory>
-    requires valid { IsValidMachine m.now }
+    requires valid { IsValidMachine setting.now.machine.now }
     requires few { k < 2 ^ 59 }
     requires states { length states.now ≤ 8 }
     requires turns { All (λ s. s.turn < 2 ^ 59) states.now }
-    requires kept { IsKept m.now r.old }
-    ensures kept { IsKept m.now r.new }
-    ensures known { OnOk result (r.new ≡ (reacts_to m.now scene.now.switches r.old k states.now news.now out).known) }
-    ensures ordered { IfOk result
-        (λ o. o ≡ (reacts_to m.now scene.now.switches r.old k states.now news.now out).ordered) }
+    requires kept { IsKept setting.now.machine.now r.old }
+    ensures kept { IsKept setting.now.machine.now r.new }
+    ensures known { OnOk result (r.new
+        ≡ (reacts_to setting.now.machine.now setting.now.scene.now.switches r.old k states.now news.now out).known) }
+    ensures ordered { IfOk result (λ o. o
+        ≡ (reacts_to setting.now.machine.now setting.now.scene.now.switches r.old k states.now news.now out).ordered) }
 {
-    let mut lines = room_for_lines(alloc, states)?;
-    put_first(m, r.begun, k, news, states, &mut lines)?;
+    let mut lines = room_for_lines(setting.alloc, states)?;
+    put_first(setting.machine, r.begun, k, news, states, &mut lines)?;
     if let Some(cause) = first_cause(out, r.stopped, states) {
-        return end(alloc, m, k, lines, cause, r);
+        return end(setting.alloc, setting.machine, k, lines, cause, r);
     }
-    by_phase(alloc, m, scene, r, k, states, lines)
+    by_phase(setting, r, k, states, lines, room)
 }

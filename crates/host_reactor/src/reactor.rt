@@ -12,14 +12,15 @@ ghost use Rattle.host_reactor.specs.Reactor.{Run, first_run, new_askings, new_kn
 use crate::OutOfMemory;
 use crate::free::free_turns;
 use crate::notes::{is_out, news_of, take_note};
-use crate::ordered::{Known, Ordered, Phase};
+use crate::ordered::{Known, Ordered, Phase, Setting};
 use crate::react::react;
 use arrayvec::ArrayVec;
 use board_asking::{AllClocks, Asking, new_asking};
-use msg_code::{Note, State};
+use msg_code::{Control, Note, State};
 use plan_types::{BoardDef, Cause, Machine};
 use std::alloc::Global;
 use std::marker::Model;
+use std::mem;
 use wire_scene::Scene;
 
 /// No run has this turn.
@@ -29,11 +30,11 @@ const LAST_TURN: u64 = 1 << 59;
 /// turn by turn.
 #[derive(Drop)]
 pub struct Reactor<'a> {
-    alloc: Global,
-    machine: &'a Machine,
-    scene: &'a Scene,
+    setting: Setting<'a>,
     known: Known,
     next: u64,
+    /// The list of an earlier turn's controls, whose room the next one uses.
+    room: Vec<Control>,
 }
 
 impl<'a> Model for Reactor<'a> {
@@ -45,10 +46,14 @@ impl<'a> Model for Reactor<'a> {
 
     ghost Value = { Run };
 
-    ghost view = { λ r.
-        record { machine = r.machine.now; switches = r.scene.now.switches; known = r.known; next = r.next } };
+    ghost view = { λ r. record {
+      machine = r.setting.machine.now;
+      switches = r.setting.scene.now.switches;
+      known = r.known;
+      next = r.next;
+    } };
 
-    ghost invariant = { λ r. IsValidMachine r.machine.now × IsKept r.machine.now r.known };
+    ghost invariant = { λ r. IsValidMachine r.setting.machine.now × IsKept r.setting.machine.now r.known };
 }
 
 impl<'a> Reactor<'a> {
@@ -58,11 +63,14 @@ impl<'a> Reactor<'a> {
         ensures { result ≡ first_run m.now s.now.switches }
     {
         Reactor {
-            alloc,
-            machine: m,
-            scene: s,
+            setting: Setting {
+                alloc,
+                machine: m,
+                scene: s,
+            },
             known: new_known(alloc, m),
             next: 0,
+            room: Vec::new(alloc),
         }
     }
 
@@ -71,33 +79,33 @@ impl<'a> Reactor<'a> {
     pub fn turn(
         &mut self,
         k: u64,
-        states: Vec<State>,
-        note: Option<Note>,
+        states: &[State],
+        note: &Option<Note>,
     ) -> Result<Ordered, OutOfMemory>
         requires next { k ≡ self.old.next }
         requires few { k < 2 ^ 59 }
-        requires turns { All (λ s. s.turn + 1 ≡ k) states.items }
-        requires boards { length states.items ≤ length self.old.machine.boards }
+        requires turns { All (λ s. s.turn + 1 ≡ k) states.now }
+        requires boards { length states.now ≤ length self.old.machine.boards }
         ensures known { OnOk result
-            (self.new.known ≡ (reacts self.old.machine self.old.switches self.old.known k states.items note).known) }
+            (self.new.known ≡ (reacts self.old.machine self.old.switches self.old.known k states.now note.now).known) }
         ensures ordered { IfOk result
-            (λ o. o ≡ (reacts self.old.machine self.old.switches self.old.known k states.items note).ordered) }
+            (λ o. o ≡ (reacts self.old.machine self.old.switches self.old.known k states.now note.now).ordered) }
         ensures next { OnOk result (self.new.next ≡ k + 1) }
         ensures machine { self.new.machine ≡ self.old.machine }
         ensures switches { self.new.switches ≡ self.old.switches }
     {
-        take_note(self.machine, &mut self.known, &note)?;
-        let out = is_out(&note);
+        take_note(self.setting.machine, &mut self.known, note)?;
+        let out = is_out(note);
         self.next = k + 1;
+        let room = mem::replace(&mut self.room, Vec::new(self.setting.alloc));
         react(
-            self.alloc,
-            self.machine,
-            self.scene,
+            &self.setting,
             &mut self.known,
             k,
-            states.as_slice(),
-            news_of(&note),
+            states,
+            news_of(note),
             out,
+            room,
         )
     }
 
@@ -116,7 +124,14 @@ impl<'a> Reactor<'a> {
         ensures value { result ≡ free_turns self.now.machine self.now.known self.now.next }
         ensures rest { (n : ℕ) → n + 1 ≤ result → IsAtRest self.now.machine self.now.known self.now.next (n + 1) }
     {
-        free_of(self.machine, &self.known, self.next)
+        free_of(self.setting.machine, &self.known, self.next)
+    }
+
+    /// Takes the list of a turn's controls back, whose room the next turn uses.
+    pub fn give_back(&mut self, room: Vec<Control>)
+        ensures { self.new ≡ self.old }
+    {
+        self.room = room;
     }
 
     /// Ends the run in the next turn for a cause, unless one that comes first holds then; of two the first told holds.

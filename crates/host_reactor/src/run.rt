@@ -12,7 +12,7 @@ ghost use Rattle.axis_homing.specs.Homing.{homing_turn};
 
 use crate::OutOfMemory;
 use crate::calm::{calm_turn, is_calm};
-use crate::ordered::{Known, Ordered, Phase};
+use crate::ordered::{Known, Ordered, Phase, Setting};
 use crate::react::end;
 use crate::report::put_counts;
 use crate::running::{is_finished, stop_of};
@@ -26,29 +26,40 @@ use report_text::ReportLine;
 use std::alloc::Global;
 use wire_scene::Scene;
 
+/// What a running turn orders: the group's orders, and whether the boards are to stop.
+#[derive(Drop)]
+struct Orders<'a> {
+    setting: &'a Setting<'a>,
+    k: u64,
+    turn: &'a HomingTurn,
+    stop: bool,
+}
+
 /// Adds the control of a running board, and answers its asking behind it.
 fn put_control(
-    alloc: Global,
-    m: &Machine,
-    k: u64,
+    orders: &Orders<'_>,
     board: u8,
-    turn: &HomingTurn,
-    stop: bool,
     clocks: &Lines,
     a: Asking,
     out: &mut Listed<Control>,
 ) -> Result<Asking, OutOfMemory>
-    requires steppers { length m.now.steppers ≤ 16 }
+    requires steppers { length orders.now.setting.now.machine.now.steppers ≤ 16 }
     requires early { IsEarly a }
-    ensures control { OnOk result
-        (out.new ≡ out.old ++ run_control m.now k board turn.now (stop_command stop) clocks.now a ∷ []) }
-    ensures asking { IfOk result (λ b. b ≡ after_question k (homing_commands m.now turn.now clocks.now board) a) }
+    ensures control { OnOk result (out.new
+        ≡ out.old
+        ++ run_control orders.now.setting.now.machine.now orders.now.k board orders.now.turn.now
+        (stop_command orders.now.stop) clocks.now a ∷ []) }
+    ensures asking { IfOk result (λ b. b
+        ≡ after_question orders.now.k
+        (homing_commands orders.now.setting.now.machine.now orders.now.turn.now clocks.now board) a) }
     ensures early { IfOk result IsEarly }
 {
-    let mut commands = Listed::new(alloc);
-    let axis = axis_at(m, turn.axis);
+    let setting = orders.setting;
+    let turn = orders.turn;
+    let mut commands = Listed::new(setting.alloc);
+    let axis = axis_at(setting.machine, turn.axis);
     put_commands(
-        m,
+        setting.machine,
         clocks,
         board,
         turn.start,
@@ -56,12 +67,12 @@ fn put_control(
         turn.ctls.as_slice(),
         &mut commands,
     )?;
-    let asking = ask_clock(k, a, &mut commands)?;
-    if stop {
+    let asking = ask_clock(orders.k, a, &mut commands)?;
+    if orders.stop {
         commands.push(Cmd::EmergencyStop)?;
     }
     out.push(Control {
-        turn: k,
+        turn: orders.k,
         commands,
         connected: true,
         end: false,
@@ -71,26 +82,26 @@ fn put_control(
 
 /// Adds the controls of the running boards, from a board on, and their askings.
 fn put_controls(
-    alloc: Global,
-    m: &Machine,
-    k: u64,
+    orders: &Orders<'_>,
     board: u8,
-    turn: &HomingTurn,
-    stop: bool,
     clocks: &[Lines],
     askings: &[Asking],
     after: &mut ArrayVec<Asking, 8>,
     out: &mut Listed<Control>,
 ) -> Result<(), OutOfMemory>
-    requires steppers { length m.now.steppers ≤ 16 }
+    requires steppers { length orders.now.setting.now.machine.now.steppers ≤ 16 }
     requires boards { board + length askings.now ≤ 255 }
     requires room { array_vec_len after.old + length askings.now ≤ 8 }
     requires early { All IsEarly askings.now }
     requires before { All IsEarly after.old.items }
-    ensures controls { OnOk result
-        (out.new ≡ out.old ++ run_controls m.now k board turn.now (stop_command stop) clocks.now askings.now) }
-    ensures askings { OnOk result
-        (after.new.items ≡ after.old.items ++ run_askings m.now k board turn.now clocks.now askings.now) }
+    ensures controls { OnOk result (out.new
+        ≡ out.old
+        ++ run_controls orders.now.setting.now.machine.now orders.now.k board orders.now.turn.now
+        (stop_command orders.now.stop) clocks.now askings.now) }
+    ensures askings { OnOk result (after.new.items
+        ≡ after.old.items
+        ++ run_askings orders.now.setting.now.machine.now orders.now.k board orders.now.turn.now clocks.now
+        askings.now) }
     ensures count { OnOk result (array_vec_len after.new ≡ array_vec_len after.old + length askings.now) }
     ensures early { OnOk result (All IsEarly after.new.items) }
 {
@@ -99,11 +110,11 @@ fn put_controls(
         [first, rest @ ..] => match clocks {
             [] => {
                 after.push(*first);
-                put_controls(alloc, m, k, board, turn, stop, clocks, rest, after, out)?;
+                put_controls(orders, board, clocks, rest, after, out)?;
             }
             [line, lines @ ..] => {
-                after.push(put_control(alloc, m, k, board, turn, stop, line, *first, out)?);
-                put_controls(alloc, m, k, board + 1, turn, stop, lines, rest, after, out)?;
+                after.push(put_control(orders, board, line, *first, out)?);
+                put_controls(orders, board + 1, lines, rest, after, out)?;
             }
         },
     }
@@ -144,8 +155,7 @@ fn phase_after(stop: Option<u64>) -> Phase
 
 /// A running turn: the group's orders, the askings, and the order to stop where the text asks for it.
 fn carry_on(
-    alloc: Global,
-    m: &Machine,
+    setting: &Setting<'_>,
     r: &mut Known,
     k: u64,
     lines: Listed<ReportLine>,
@@ -153,29 +163,33 @@ fn carry_on(
     turn: &HomingTurn,
     stop: Option<u64>,
 ) -> Result<Ordered, OutOfMemory>
-    requires valid { IsValidMachine m.now }
-    requires count { length askings.now ≡ length m.now.boards }
+    requires valid { IsValidMachine setting.now.machine.now }
+    requires count { length askings.now ≡ length setting.now.machine.now.boards }
     requires early { All IsEarly askings.now }
-    requires kept { IsKept m.now r.old }
-    ensures kept { IsKept m.now r.new }
-    ensures known { OnOk result (r.new ≡ (carries_on m.now r.old k lines askings.now turn.now stop).known) }
-    ensures ordered { IfOk result (λ o. o ≡ (carries_on m.now r.old k lines askings.now turn.now stop).ordered) }
+    requires kept { IsKept setting.now.machine.now r.old }
+    ensures kept { IsKept setting.now.machine.now r.new }
+    ensures known { OnOk result
+        (r.new ≡ (carries_on setting.now.machine.now r.old k lines askings.now turn.now stop).known) }
+    ensures ordered { IfOk result
+        (λ o. o ≡ (carries_on setting.now.machine.now r.old k lines askings.now turn.now stop).ordered) }
 {
-    let mut news = Listed::new(alloc);
+    let mut news = Listed::new(setting.alloc);
     if turn.cut.is_some() {
         news.push(WordNews::Homed)?;
     }
-    put_new_lines(m, 0, r.askings.as_slice(), askings, &mut news)?;
-    let waiting = waiting(m, k, askings);
+    put_new_lines(setting.machine, 0, r.askings.as_slice(), askings, &mut news)?;
+    let waiting = waiting(setting.machine, k, askings);
     let mut after = ArrayVec::new();
-    let mut controls = Listed::new(alloc);
-    put_controls(
-        alloc,
-        m,
+    let mut controls = Listed::new(setting.alloc);
+    let orders = Orders {
+        setting,
         k,
-        0,
         turn,
-        stop.is_some(),
+        stop: stop.is_some(),
+    };
+    put_controls(
+        &orders,
+        0,
         r.clocks.as_slice(),
         waiting.as_slice(),
         &mut after,
@@ -197,8 +211,7 @@ fn carry_on(
 
 /// The text's end: the run ends, or the boards are told to stop.
 fn finish(
-    alloc: Global,
-    m: &Machine,
+    setting: &Setting<'_>,
     r: &mut Known,
     k: u64,
     lines: Listed<ReportLine>,
@@ -206,31 +219,31 @@ fn finish(
     turn: &HomingTurn,
     how: ReadStop,
 ) -> Result<Ordered, OutOfMemory>
-    requires valid { IsValidMachine m.now }
-    requires count { length askings.now ≡ length m.now.boards }
+    requires valid { IsValidMachine setting.now.machine.now }
+    requires count { length askings.now ≡ length setting.now.machine.now.boards }
     requires early { All IsEarly askings.now }
-    requires kept { IsKept m.now r.old }
-    ensures kept { IsKept m.now r.new }
-    ensures known { OnOk result (r.new ≡ (finishes how m.now r.old k lines askings.now turn.now).known) }
-    ensures ordered { IfOk result (λ o. o ≡ (finishes how m.now r.old k lines askings.now turn.now).ordered) }
+    requires kept { IsKept setting.now.machine.now r.old }
+    ensures kept { IsKept setting.now.machine.now r.new }
+    ensures known { OnOk result
+        (r.new ≡ (finishes how setting.now.machine.now r.old k lines askings.now turn.now).known) }
+    ensures ordered { IfOk result
+        (λ o. o ≡ (finishes how setting.now.machine.now r.old k lines askings.now turn.now).ordered) }
 {
     let cause = match how {
         ReadStop::Stop(line) => {
-            return carry_on(alloc, m, r, k, lines, askings, turn, Some(line));
+            return carry_on(setting, r, k, lines, askings, turn, Some(line));
         }
         ReadStop::End => Cause::Done,
         ReadStop::Refused { line, kind } => Cause::Line { line, kind },
     };
     let mut lines = lines;
     put_counts(r.reading, &mut lines)?;
-    end(alloc, m, k, lines, cause, r)
+    end(setting.alloc, setting.machine, k, lines, cause, r)
 }
 
 /// A running turn behind what homing does in it.
 fn behind_homing(
-    alloc: Global,
-    m: &Machine,
-    scene: &Scene,
+    setting: &Setting<'_>,
     r: &mut Known,
     k: u64,
     states: &[State],
@@ -238,26 +251,28 @@ fn behind_homing(
     askings: &[Asking],
     turn: &HomingTurn,
 ) -> Result<Ordered, OutOfMemory>
-    requires valid { IsValidMachine m.now }
-    requires count { length askings.now ≡ length m.now.boards }
+    requires valid { IsValidMachine setting.now.machine.now }
+    requires count { length askings.now ≡ length setting.now.machine.now.boards }
     requires early { All IsEarly askings.now }
-    requires kept { IsKept m.now r.old }
-    ensures kept { IsKept m.now r.new }
-    ensures known { OnOk result
-        (r.new ≡ (homes m.now scene.now.switches r.old k states.now lines askings.now turn.now).known) }
-    ensures ordered { IfOk result
-        (λ o. o ≡ (homes m.now scene.now.switches r.old k states.now lines askings.now turn.now).ordered) }
+    requires kept { IsKept setting.now.machine.now r.old }
+    ensures kept { IsKept setting.now.machine.now r.new }
+    ensures known { OnOk result (r.new
+        ≡ (homes setting.now.machine.now setting.now.scene.now.switches r.old k states.now lines askings.now
+        turn.now).known) }
+    ensures ordered { IfOk result (λ o. o
+        ≡ (homes setting.now.machine.now setting.now.scene.now.switches r.old k states.now lines askings.now
+        turn.now).ordered) }
 {
     if let Some(cause) = turn.end {
-        return end(alloc, m, k, lines, cause, r);
+        return end(setting.alloc, setting.machine, k, lines, cause, r);
     }
     let mut lines = lines;
-    put_cut(m, scene, turn, &mut lines)?;
+    put_cut(setting.machine, setting.scene, turn, &mut lines)?;
     if is_finished(r, k, states) {
         let how = stop_of(r.reading);
-        finish(alloc, m, r, k, lines, askings, turn, how)
+        finish(setting, r, k, lines, askings, turn, how)
     } else {
-        carry_on(alloc, m, r, k, lines, askings, turn, None)
+        carry_on(setting, r, k, lines, askings, turn, None)
     }
 }
 
@@ -280,61 +295,52 @@ fn take_homing(r: &mut Known, k: u64, states: &[State]) -> HomingTurn
 /// A running turn in which the boards are heard. Its locals are large, so it stands apart from the turns that are calm.
 #[inline(never)]
 fn run_on(
-    alloc: Global,
-    m: &Machine,
-    scene: &Scene,
+    setting: &Setting<'_>,
     r: &mut Known,
     k: u64,
     states: &[State],
     lines: Listed<ReportLine>,
 ) -> Result<Ordered, OutOfMemory>
-    requires valid { IsValidMachine m.now }
+    requires valid { IsValidMachine setting.now.machine.now }
     requires numbers { length states.now ≤ 8 }
     requires turns { All (λ s. s.turn < 2 ^ 59) states.now }
-    requires kept { IsKept m.now r.old }
-    ensures kept { IsKept m.now r.new }
-    ensures known { OnOk result (r.new ≡ (runs m.now scene.now.switches r.old k states.now lines).known) }
-    ensures ordered { IfOk result (λ o. o ≡ (runs m.now scene.now.switches r.old k states.now lines).ordered) }
+    requires kept { IsKept setting.now.machine.now r.old }
+    ensures kept { IsKept setting.now.machine.now r.new }
+    ensures known { OnOk result
+        (r.new ≡ (runs setting.now.machine.now setting.now.scene.now.switches r.old k states.now lines).known) }
+    ensures ordered { IfOk result
+        (λ o. o ≡ (runs setting.now.machine.now setting.now.scene.now.switches r.old k states.now lines).ordered) }
 {
     let askings = listen_all(r.askings.as_slice(), states);
     if let Some(cause) = stale(k, 0, askings.as_slice()) {
-        return end(alloc, m, k, lines, cause, r);
+        return end(setting.alloc, setting.machine, k, lines, cause, r);
     }
     let turn = take_homing(r, k, states);
-    behind_homing(
-        alloc,
-        m,
-        scene,
-        r,
-        k,
-        states,
-        lines,
-        askings.as_slice(),
-        &turn,
-    )
+    behind_homing(setting, r, k, states, lines, askings.as_slice(), &turn)
 }
 
 /// A running turn.
 #[tactic(auto, using(crate::proofs::Unmoved::calm_known, crate::proofs::Unmoved::calm_ordered))]
 pub fn run(
-    alloc: Global,
-    m: &Machine,
-    scene: &Scene,
+    setting: &Setting<'_>,
     r: &mut Known,
     k: u64,
     states: &[State],
     lines: Listed<ReportLine>,
+    room: Vec<Control>,
 ) -> Result<Ordered, OutOfMemory>
-    requires valid { IsValidMachine m.now }
+    requires valid { IsValidMachine setting.now.machine.now }
     requires numbers { length states.now ≤ 8 }
     requires turns { All (λ s. s.turn < 2 ^ 59) states.now }
-    requires kept { IsKept m.now r.old }
-    ensures kept { IsKept m.now r.new }
-    ensures known { OnOk result (r.new ≡ (runs m.now scene.now.switches r.old k states.now lines).known) }
-    ensures ordered { IfOk result (λ o. o ≡ (runs m.now scene.now.switches r.old k states.now lines).ordered) }
+    requires kept { IsKept setting.now.machine.now r.old }
+    ensures kept { IsKept setting.now.machine.now r.new }
+    ensures known { OnOk result
+        (r.new ≡ (runs setting.now.machine.now setting.now.scene.now.switches r.old k states.now lines).known) }
+    ensures ordered { IfOk result
+        (λ o. o ≡ (runs setting.now.machine.now setting.now.scene.now.switches r.old k states.now lines).ordered) }
 {
-    if is_calm(m, r, k, states) {
-        return calm_turn(alloc, k, r, lines);
+    if is_calm(setting.machine, r, k, states) {
+        return calm_turn(setting.alloc, k, r, lines, room);
     }
-    run_on(alloc, m, scene, r, k, states, lines)
+    run_on(setting, r, k, states, lines)
 }

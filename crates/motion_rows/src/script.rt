@@ -285,7 +285,7 @@ pub fn run(
     let mut states = Vec::new(alloc);
     let mut note = None;
     for turn in 0..turns {
-        let o = reactor.turn(turn, states, note)?;
+        let o = reactor.turn(turn, states.as_slice(), &note)?;
         put_ordered(alloc, m, is_noted(script, turn), &o, &mut ran)?;
         if let Some(cause) = o.end {
             put_line(alloc, m, &ReportLine::End(cause), &mut ran.report)?;

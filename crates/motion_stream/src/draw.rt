@@ -38,6 +38,7 @@ fn pass(
     machine: &Machine,
     course: &mut Course,
     own: &[Listed<Unit>],
+    room: Vec<Batch>,
 ) -> Result<Vec<Batch>, OutOfMemory>
     requires { course.old.next < 2 ^ 42 }
     ensures passed { IfOk result (λ made. HasPassed machine.now course.old course.new own.now made.items) }
@@ -45,7 +46,7 @@ fn pass(
 {
     let front = next_row(alloc, &mut course.ahead);
     let boards = machine.boards.len();
-    let batches = batches_of(alloc, boards, course.next, front.as_slice(), own)?;
+    let batches = batches_of(alloc, boards, course.next, front.as_slice(), own, room)?;
     course.next += 1;
     Ok(batches)
 }
@@ -59,7 +60,12 @@ fn goes_on(goes: bool, ready: u64, k: u64) -> bool
 }
 
 /// A turn in which no section goes on whose end is not known.
-fn pass_idle(alloc: Global, machine: &Machine, course: &mut Course) -> Result<Passed, OutOfMemory>
+fn pass_idle(
+    alloc: Global,
+    machine: &Machine,
+    course: &mut Course,
+    room: Vec<Batch>,
+) -> Result<Passed, OutOfMemory>
     requires idle { course.old.current ≡ opens.Nothing }
     requires small { course.old.next < 2 ^ 42 }
     ensures passed { IfOk result
@@ -70,7 +76,7 @@ fn pass_idle(alloc: Global, machine: &Machine, course: &mut Course) -> Result<Pa
     let k = course.next;
     let done = done_news(course.goes, course.ready, course.place, k);
     course.goes = goes_on(course.goes, course.ready, k);
-    let batches = pass(alloc, machine, course, &[])?;
+    let batches = pass(alloc, machine, course, &[], room)?;
     Ok(Passed { batches, done })
 }
 
@@ -81,6 +87,7 @@ fn pass_before(
     course: &mut Course,
     section: SectionStream,
     homes: bool,
+    room: Vec<Batch>,
 ) -> Result<Passed, OutOfMemory>
     requires small { course.old.next < 2 ^ 42 }
     requires before { course.old.next + 250 < course.old.start }
@@ -89,7 +96,7 @@ fn pass_before(
     ensures turn { IfOk result (λ p. AreOfTurn course.old.next (length machine.now.boards) p.batches.items) }
     ensures plain { IfOk result (λ p. IsPlain p.done) }
 {
-    let batches = pass(alloc, machine, course, &[])?;
+    let batches = pass(alloc, machine, course, &[], room)?;
     course.current = Open::Goes { section, homes };
     Ok(Passed {
         batches,
@@ -115,6 +122,7 @@ fn pass_section(
     course: &mut Course,
     section: SectionStream,
     homes: bool,
+    room: Vec<Batch>,
 ) -> Result<Passed, OutOfMemory>
     requires small { course.old.next < 2 ^ 42 }
     requires from { course.old.start ≤ course.old.next + 250 }
@@ -127,7 +135,7 @@ fn pass_section(
     let k = course.next;
     let mut section = section;
     let own = section.batches()?;
-    let batches = pass(alloc, machine, course, &own)?;
+    let batches = pass(alloc, machine, course, &own, room)?;
     if !is_over(&section, homes) {
         course.current = Open::Goes { section, homes };
         return Ok(Passed {
@@ -152,6 +160,7 @@ fn advance_open(
     alloc: Global,
     machine: &Machine,
     course: &mut Course,
+    room: Vec<Batch>,
 ) -> Result<Passed, OutOfMemory>
     requires sound { IsSoundBy machine.now course.old course.old.next }
     requires small { course.old.next < 2 ^ 42 }
@@ -162,18 +171,23 @@ fn advance_open(
 {
     let open = mem::replace(&mut course.current, Open::Nothing);
     match open {
-        Open::Nothing => pass_idle(alloc, machine, course),
+        Open::Nothing => pass_idle(alloc, machine, course, room),
         Open::Goes { section, homes } => {
             if course.next + LEAD < course.start {
-                return pass_before(alloc, machine, course, section, homes);
+                return pass_before(alloc, machine, course, section, homes, room);
             }
-            pass_section(alloc, machine, course, section, homes)
+            pass_section(alloc, machine, course, section, homes, room)
         }
     }
 }
 
-/// Goes on to the next turn: what is put in this one, but which section is begun.
-pub fn advance(alloc: Global, machine: &Machine, course: &mut Course) -> Result<Passed, OutOfMemory>
+/// Goes on to the next turn: what is put in this one, but which section is begun. The room of a list is used again.
+pub fn advance(
+    alloc: Global,
+    machine: &Machine,
+    course: &mut Course,
+    room: Vec<Batch>,
+) -> Result<Passed, OutOfMemory>
     requires sound { IsSoundBy machine.now course.old course.old.next }
     requires small { course.old.next < 2 ^ 42 }
     ensures passed { IfOk result
@@ -182,7 +196,7 @@ pub fn advance(alloc: Global, machine: &Machine, course: &mut Course) -> Result<
     ensures plain { IfOk result (λ p. IsPlain p.done) }
 {
     if let Open::Nothing = course.current {
-        return pass_idle(alloc, machine, course);
+        return pass_idle(alloc, machine, course, room);
     }
-    advance_open(alloc, machine, course)
+    advance_open(alloc, machine, course, room)
 }

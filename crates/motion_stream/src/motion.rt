@@ -4,10 +4,11 @@ use crate::OutOfMemory;
 use crate::course::{Course, can_turn, hungers, new_course, sated, waits_by};
 use crate::text::{take_text, take_word};
 use crate::turn::make_turn;
-use msg_code::{Made, WordMsg};
+use msg_code::{Batch, Made, WordMsg};
 use plan_types::Machine;
 use std::alloc::Global;
 use std::marker::Model;
+use std::mem;
 
 /// The turns by which words may come later than batches.
 const WORD_LEAD: u64 = 64;
@@ -23,6 +24,8 @@ pub struct Motion<'a> {
     course: Course,
     /// No call left it for want of memory.
     live: bool,
+    /// The list of an earlier turn, whose room the next one uses.
+    room: Vec<Batch>,
 }
 
 impl<'a> Model for Motion<'a> {
@@ -57,6 +60,7 @@ impl<'a> Motion<'a> {
             machine,
             course: new_course(alloc, machine),
             live: true,
+            room: Vec::new(alloc),
         }
     }
 
@@ -158,8 +162,16 @@ impl<'a> Motion<'a> {
             return Err(OutOfMemory);
         }
         self.live = false;
-        let made = make_turn(self.alloc, self.machine, &mut self.course, k)?;
+        let room = mem::replace(&mut self.room, Vec::new(self.alloc));
+        let made = make_turn(self.alloc, self.machine, &mut self.course, k, room)?;
         self.live = true;
         Ok(made)
+    }
+
+    /// Takes the list of a turn's batches back, whose room the next turn uses.
+    pub fn give_back(&mut self, room: Vec<Batch>)
+        ensures { self.new ≡ self.old }
+    {
+        self.room = room;
     }
 }

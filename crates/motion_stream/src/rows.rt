@@ -57,18 +57,21 @@ fn joined(
     Ok(row)
 }
 
-/// The batches of a turn for so many boards, with the units of two behind one another.
+/// The batches of a turn for so many boards, with the units of two behind one another, in a list whose room
+/// is used again.
 pub fn batches_of(
     alloc: Global,
     boards: usize,
     turn: u64,
     one: &[Listed<Unit>],
     two: &[Listed<Unit>],
+    room: Vec<Batch>,
 ) -> Result<Vec<Batch>, OutOfMemory>
     ensures value { IfOk result (λ made. made.items ≡ batches_of boards turn one.now two.now) }
     ensures turn { IfOk result (λ made. AreOfTurn turn boards made.items) }
 {
-    let mut made = Vec::new(alloc);
+    let mut made = room;
+    made.clear();
     for board in 0..boards {
         let units = units_of(alloc, one, two, board)?;
         made.push(Batch {

@@ -13,16 +13,17 @@ use crate::course::{Course, clear_turn};
 use crate::draw::{Passed, advance};
 use crate::news::{news_of, read_after, read_news, telling};
 use crate::uptake::take_up;
-use msg_code::{Made, Note};
+use msg_code::{Batch, Made, Note};
 use plan_types::Machine;
 use std::alloc::Global;
 
-/// Makes turn k.
+/// Makes turn k. Its batches stand in a list whose room is used again.
 pub fn make_turn(
     alloc: Global,
     machine: &Machine,
     course: &mut Course,
     k: u64,
+    room: Vec<Batch>,
 ) -> Result<Made, OutOfMemory>
     requires sound { IsSound machine.now course.old }
     requires next { course.old.next ≡ k }
@@ -36,7 +37,7 @@ pub fn make_turn(
     ensures batches { IfOk result (λ m. AreOfTurn k (length machine.now.boards) m.batches.items) }
 {
     let further = take_up(alloc, machine, course, k)?;
-    let Passed { batches, done } = advance(alloc, machine, course)?;
+    let Passed { batches, done } = advance(alloc, machine, course, room)?;
     let start = begin_next(alloc, machine, course, k)?;
     let end = telling(course, machine.boards.len());
     let read = read_news(course.read, end, course.place, &course.source.items);

@@ -11,6 +11,7 @@ use Rattle.session_work.specs.declared.machines.Outside.{Ghosts as Out}
 use Rattle.msg_code.specs.declared.unit.Batch.{Batch}
 use Rattle.msg_code.specs.declared.unit.Control.{Control}
 use Rattle.msg_code.specs.declared.talk.State.{State}
+use Rattle.session_work.specs.declared.ends.Lanes.{Lanes}
 use Rattle.session_work.specs.declared.head.Head.{Head}
 use Rattle.session_lanes.specs.declared.near.LinkLog.{LinkLog}
 use Rattle.session_lanes.specs.declared.near.Ran.{Ran}
@@ -81,18 +82,19 @@ module _ {M L A O : Type 0} (m : Motion M) (l : Link L) (a : Reactor A) (o : Out
         × Carried r.pieces (gather (λ t. t.pieces) (rs ++ end ∷ [])) (gather (λ t. t.pieces) ts)
 
     -- the passes of the boards below j show what was put and taken
-    abbrev pub Unsettled : ℕ → List (Lane Control) → List (Lane Batch) → List (Lane State) → Near A O → Type 0
-    Unsettled j cs bs ss x =
+    abbrev pub Unsettled : ℕ → Lanes → Near A O → Type 0
+    Unsettled j lanes x =
         (length x.control_sends.items ≡ j)
         × ((i : ℕ) (l : Lane Control) (p : SendPass Control) → i < length x.control_sends.items →
-        HasPut (gather (λ t. item i t.controls) rs ++ last_controls (length rs) n) (get_or cs i l)
+        HasPut (gather (λ t. item i t.controls) rs ++ last_controls (length rs) n) (get_or lanes.controls.now i l)
         (get_or x.control_sends.items i p))
         × (length x.batch_sends.items ≡ j)
         × ((i : ℕ) (l : Lane Batch) (p : SendPass Batch) → i < length x.batch_sends.items →
-        HasPut (gather (λ t. item i t.batches) ts) (get_or bs i l) (get_or x.batch_sends.items i p))
+        HasPut (gather (λ t. item i t.batches) ts) (get_or lanes.batches.now i l) (get_or x.batch_sends.items i p))
         × (length x.state_takes.items ≡ j)
         × ((i : ℕ) (l : Lane State) (p : TakePass State) → i < length x.state_takes.items →
-        HasTaken (gather (λ t. item i t.states) (rs ++ end ∷ [])) (get_or ss i l) (get_or x.state_takes.items i p))
+        HasTaken (gather (λ t. item i t.states) (rs ++ end ∷ [])) (get_or lanes.states.now i l)
+        (get_or x.state_takes.items i p))
         × (vec_len x.ran.links + j ≤ vec_capacity x.ran.links)
 
   -- A run from these machines: of turns of the motion worker and of the reactor.
@@ -102,9 +104,7 @@ module _ {M L A O : Type 0} (m : Motion M) (l : Link L) (a : Reactor A) (o : Out
       × Met ts rs end n (length ls) s h r × AreLogs ts rs end n 0 ls r.links.items
 
   -- the boards from j on are settled, of so many
-  abbrev pub IsNear : ℕ → ℕ → List (Lane Control) → List (Lane Batch) → List (Lane State) → M → List L → Head A O →
-      Near A O → Type 0
-  IsNear boards j cs bs ss s ls h x =
+  abbrev pub IsNear : ℕ → ℕ → Lanes → M → List L → Head A O → Near A O → Type 0
+  IsNear boards j lanes s ls h x =
       (ts : List MotionTurn) × (rs : List ReactorTurn) × (end : ReactorTurn) × (n : ℕ)
-      × Met ts rs end n boards s h x.ran × AreLogs ts rs end n j ls x.ran.links.items
-      × Unsettled ts rs end n j cs bs ss x
+      × Met ts rs end n boards s h x.ran × AreLogs ts rs end n j ls x.ran.links.items × Unsettled ts rs end n j lanes x

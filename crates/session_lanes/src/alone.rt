@@ -4,7 +4,7 @@ ghost use Rattle.std.specs.VecDeque.{deque_len, deque_capacity};
 ghost use Rattle.session_work.specs.Alone.{AreHands, OwesServing, OwesTurn, OwesWord};
 ghost use Rattle.session_work.specs.Lates.{AreLate};
 ghost use Rattle.session_lanes.specs.Levels.{IsFar, most_late};
-ghost use Rattle.session_work.specs.Motions.{IsHearing, IsHeard, IsFed, IsMotionAt};
+ghost use Rattle.session_work.specs.Motions.{IsHearing, IsHeard, IsFed, IsMotionAt, IsMotionDone};
 ghost use Rattle.session_work.specs.Reactors.{IsReactorDone};
 ghost use Rattle.session_lanes.specs.Runs.{IsNear};
 
@@ -13,252 +13,212 @@ use crate::lanes::LATE;
 use crate::near::{Far, LinkLog, Near};
 use crate::settle::add_link;
 use io_core::{Gate, Who};
-use lane_queue::Lane;
 use plan_types::Cause;
 use session_work::{
-    Ask, Batch, Control, Found, Hand, Head, Late, LinkMachine, MotionDone, MotionMachine, Note,
-    Outside, Piece, ReactorDone, ReactorMachine, State, WordMsg, flush, hands_turn, hear, keep,
-    order_here, put_piece,
+    Control, Found, Hand, Head, Lanes, Late, LinkMachine, MotionDone, MotionMachine, Outside,
+    ReactorDone, ReactorMachine, Row, State, WordMsg, flush, hands_turn, hear, keep, order_here,
+    put_piece,
 };
 use std::alloc::Global;
 use std::snapshot::Snapshot;
 use std::sync::Wait;
-use std::thread;
+use std::{mem, thread};
 
-// Reads behind word k the pieces of the file that the batches of turn n need.
+// The lanes of a run on one thread, and what its workers began with.
+#[derive(Drop)]
+pub struct Place<'a, M, A, O> {
+    pub lanes: Lanes<'a>,
+    pub start: &'a Snapshot<M>,
+    pub first: &'a Snapshot<Head<A, O>>,
+}
+
+// The motion worker and the reactor on one thread, the planner's next turn, and the controls that are still to be put.
+#[derive(Drop)]
+pub struct Both<M, A, O> {
+    pub motion: MotionDone<M>,
+    pub hand: ReactorDone<A, O>,
+    pub next: u64,
+    pub owed: Vec<Control>,
+}
+
+// Reads behind word k the pieces of the file that the batches of the planner's next turn need.
 fn feed_here<R: Wait, M: MotionMachine, A: ReactorMachine, O: Outside>(
     rt: &R,
     alloc: Global,
     k: u64,
-    n: u64,
-    start: &Snapshot<M>,
-    first: &Snapshot<Head<A, O>>,
-    words: &Lane<WordMsg>,
-    notes: &Lane<Note>,
-    asks: &Lane<Ask>,
-    pieces: &Lane<Piece>,
-    controls: &[Lane<Control>],
-    batches: &[Lane<Batch>],
-    states: &[Lane<State>],
-    owed: &[Control],
-    motion: &mut MotionDone<M>,
-    hand: &mut ReactorDone<A, O>,
+    place: &Place<'_, M, A, O>,
+    both: &mut Both<M, A, O>,
 )
-    requires motion { IsHeard M.MotionMachine words.now notes.now asks.now pieces.now batches.now n start.now.value
-        motion.old }
-    requires reactor { OwesServing A.ReactorMachine O.Outside words.now notes.now asks.now pieces.now controls.now
-        states.now k first.now.value owed.now hand.old }
-    ensures motion { IsFed M.MotionMachine words.now notes.now asks.now pieces.now batches.now n start.now.value
-        motion.new }
-    ensures late { motion.new.late ≡ motion.old.late }
-    ensures reactor { OwesServing A.ReactorMachine O.Outside words.now notes.now asks.now pieces.now controls.now
-        states.now k first.now.value owed.now hand.new }
+    requires motion { IsHeard M.MotionMachine place.now.lanes both.old.next place.now.start.now.value both.old.motion }
+    requires reactor { OwesServing A.ReactorMachine O.Outside place.now.lanes k place.now.first.now.value
+        both.old.owed.items both.old.hand }
+    ensures motion { IsFed M.MotionMachine place.now.lanes both.new.next place.now.start.now.value both.new.motion }
+    ensures next { both.new.next ≡ both.old.next }
+    ensures late { both.new.motion.late ≡ both.old.motion.late }
+    ensures reactor { OwesServing A.ReactorMachine O.Outside place.now.lanes k place.now.first.now.value
+        both.new.owed.items both.new.hand }
 {
     for _ in rt.forever() {
-        if !motion.seat.hungers(n) {
+        if !both.motion.seat.hungers(both.next) {
             return;
         }
         // A machine that was told that nothing comes asks no more.
-        if hand.head.stopped {
+        if both.hand.head.stopped {
             thread::yield_now();
             continue;
         }
-        let piece = hand.head.piece(alloc, k, hand.served);
-        put_piece(rt, pieces, &mut hand.piece_pass, &mut hand.served, piece);
-        let piece = pieces.take(rt, &mut motion.piece_pass);
-        motion.seat.piece(piece);
+        let piece = both.hand.head.piece(alloc, k, both.hand.served);
+        put_piece(
+            rt,
+            place.lanes.pieces,
+            &mut both.hand.piece_pass,
+            &mut both.hand.served,
+            piece,
+        );
+        let piece = place.lanes.pieces.take(rt, &mut both.motion.piece_pass);
+        both.motion.seat.piece(piece);
     }
 }
 
-// Makes the planner's turn n behind word k; its batches and its note wait.
+// Makes the planner's next turn behind word k; its batches and its note wait.
 fn plan_turn<R: Wait, G: Gate, M: MotionMachine, A: ReactorMachine, O: Outside>(
     rt: &R,
     gate: &G,
     alloc: Global,
     k: u64,
-    n: u64,
-    start: &Snapshot<M>,
-    first: &Snapshot<Head<A, O>>,
-    words: &Lane<WordMsg>,
-    notes: &Lane<Note>,
-    asks: &Lane<Ask>,
-    pieces: &Lane<Piece>,
-    controls: &[Lane<Control>],
-    batches: &[Lane<Batch>],
-    states: &[Lane<State>],
-    owed: &[Control],
-    motion: &mut MotionDone<M>,
-    hand: &mut ReactorDone<A, O>,
+    place: &Place<'_, M, A, O>,
+    both: &mut Both<M, A, O>,
 )
-    requires limit { n + 1 < 2 ^ 64 }
-    requires motion { IsHearing M.MotionMachine words.now notes.now asks.now pieces.now batches.now n start.now.value
-        motion.old }
-    requires late { AreLate (length batches.now) k motion.old.late.items × (n ≡ k + length motion.old.late.items) }
-    requires room { (deque_len motion.old.late < most_late) × (most_late ≤ deque_capacity motion.old.late) }
-    requires reactor { OwesServing A.ReactorMachine O.Outside words.now notes.now asks.now pieces.now controls.now
-        states.now k first.now.value owed.now hand.old }
-    ensures motion { IsMotionAt M.MotionMachine words.now notes.now asks.now pieces.now batches.now (n + 1)
-        start.now.value motion.new }
-    ensures late { AreLate (length batches.now) k motion.new.late.items × (n + 1 ≡ k + length motion.new.late.items) }
-    ensures room { most_late ≤ deque_capacity motion.new.late }
-    ensures reactor { OwesServing A.ReactorMachine O.Outside words.now notes.now asks.now pieces.now controls.now
-        states.now k first.now.value owed.now hand.new }
+    requires limit { both.old.next + 1 < 2 ^ 64 }
+    requires motion { IsHearing M.MotionMachine place.now.lanes both.old.next place.now.start.now.value
+        both.old.motion }
+    requires late { AreLate (length place.now.lanes.batches.now) k both.old.motion.late.items
+        × (both.old.next ≡ k + length both.old.motion.late.items) }
+    requires room { (deque_len both.old.motion.late < most_late) × (most_late ≤ deque_capacity both.old.motion.late) }
+    requires reactor { OwesServing A.ReactorMachine O.Outside place.now.lanes k place.now.first.now.value
+        both.old.owed.items both.old.hand }
+    ensures motion { IsMotionAt M.MotionMachine place.now.lanes both.new.next place.now.start.now.value
+        both.new.motion }
+    ensures next { both.new.next ≡ both.old.next + 1 }
+    ensures late { AreLate (length place.now.lanes.batches.now) k both.new.motion.late.items
+        × (both.new.next ≡ k + length both.new.motion.late.items) }
+    ensures room { most_late ≤ deque_capacity both.new.motion.late }
+    ensures reactor { OwesServing A.ReactorMachine O.Outside place.now.lanes k place.now.first.now.value
+        both.new.owed.items both.new.hand }
 {
+    let n = both.next;
     gate.pass(Who::Motion, n);
-    hear(rt, n, start, words, notes, asks, pieces, batches, motion);
-    feed_here(
-        rt, alloc, k, n, start, first, words, notes, asks, pieces, controls, batches, states, owed,
-        motion, hand,
-    );
-    keep(
-        rt, alloc, n, start, words, notes, asks, pieces, batches, motion,
-    );
+    hear(rt, n, place.start, &place.lanes, &mut both.motion);
+    feed_here(rt, alloc, k, place, both);
+    keep(rt, alloc, n, place.start, &place.lanes, &mut both.motion);
+    both.next = n + 1;
 }
 
-// Hands word k to the planner, where it takes it next for its turn n and may make that turn, or puts it.
+// Hands word k to the planner, where it takes it next for its next turn and may make that, or puts it.
 // Whether it was handed.
 fn say_here<R: Wait, M: MotionMachine, A: ReactorMachine, O: Outside>(
     rt: &R,
     k: u64,
-    n: u64,
     may: bool,
-    start: &Snapshot<M>,
-    first: &Snapshot<Head<A, O>>,
-    words: &Lane<WordMsg>,
-    notes: &Lane<Note>,
-    asks: &Lane<Ask>,
-    pieces: &Lane<Piece>,
-    controls: &[Lane<Control>],
-    batches: &[Lane<Batch>],
-    states: &[Lane<State>],
-    owed: &[Control],
+    place: &Place<'_, M, A, O>,
     word: WordMsg,
-    motion: &mut MotionDone<M>,
-    hand: &mut ReactorDone<A, O>,
+    both: &mut Both<M, A, O>,
 ) -> bool
     requires limit { k + 1 < 2 ^ 64 }
-    requires motion { IsMotionAt M.MotionMachine words.now notes.now asks.now pieces.now batches.now n start.now.value
-        motion.old }
-    requires reactor { OwesWord A.ReactorMachine O.Outside words.now notes.now asks.now pieces.now controls.now
-        states.now k first.now.value owed.now word hand.old }
+    requires motion { IsMotionAt M.MotionMachine place.now.lanes both.old.next place.now.start.now.value
+        both.old.motion }
+    requires reactor { OwesWord A.ReactorMachine O.Outside place.now.lanes k place.now.first.now.value
+        both.old.owed.items word both.old.hand }
     ensures heard { result ≡ true →
         (may ≡ true)
-        × IsHearing M.MotionMachine words.now notes.now asks.now pieces.now batches.now n start.now.value motion.new }
+        × IsHearing M.MotionMachine place.now.lanes both.new.next place.now.start.now.value both.new.motion }
     ensures at { result ≡ false →
-        IsMotionAt M.MotionMachine words.now notes.now asks.now pieces.now batches.now n start.now.value motion.new }
-    ensures late { motion.new.late ≡ motion.old.late }
-    ensures reactor { OwesServing A.ReactorMachine O.Outside words.now notes.now asks.now pieces.now controls.now
-        states.now k first.now.value owed.now hand.new }
+        IsMotionAt M.MotionMachine place.now.lanes both.new.next place.now.start.now.value both.new.motion }
+    ensures next { both.new.next ≡ both.old.next }
+    ensures late { both.new.motion.late ≡ both.old.motion.late }
+    ensures reactor { OwesServing A.ReactorMachine O.Outside place.now.lanes k place.now.first.now.value
+        both.new.owed.items both.new.hand }
 {
-    if may && motion.seat.heard == k && motion.seat.is_free(n, k) && motion.seat.needs(n) {
-        words.hand(&mut hand.word_pass, &mut motion.word_pass, &word);
-        motion.seat.word(word);
+    if may
+        && both.motion.seat.heard == k
+        && both.motion.seat.is_free(both.next, k)
+        && both.motion.seat.needs(both.next)
+    {
+        place.lanes.words.hand(&mut both.hand.word_pass, &mut both.motion.word_pass, &word);
+        both.motion.seat.word(word);
         return true;
     }
-    words.put(rt, &mut hand.word_pass, word);
+    place.lanes.words.put(rt, &mut both.hand.word_pass, word);
     false
 }
 
-// Says word k, and makes the planner's next turn, where the word is handed to it for that one. Then the next one.
+// Says word k, and makes the planner's next turn, where the word is handed to it for that one.
 fn begin_here<R: Wait, G: Gate, M: MotionMachine, A: ReactorMachine, O: Outside>(
     rt: &R,
     gate: &G,
     alloc: Global,
     k: u64,
-    from: u64,
-    start: &Snapshot<M>,
-    first: &Snapshot<Head<A, O>>,
-    words: &Lane<WordMsg>,
-    notes: &Lane<Note>,
-    asks: &Lane<Ask>,
-    pieces: &Lane<Piece>,
-    controls: &[Lane<Control>],
-    batches: &[Lane<Batch>],
-    states: &[Lane<State>],
-    owed: &[Control],
+    place: &Place<'_, M, A, O>,
     word: WordMsg,
-    motion: &mut MotionDone<M>,
-    hand: &mut ReactorDone<A, O>,
-) -> u64
+    both: &mut Both<M, A, O>,
+)
     requires limit { k + 1 < 2 ^ 64 }
-    requires motion { IsMotionAt M.MotionMachine words.now notes.now asks.now pieces.now batches.now from
-        start.now.value motion.old }
-    requires late { AreLate (length batches.now) k motion.old.late.items × (from ≡ k + length motion.old.late.items) }
-    requires room { most_late ≤ deque_capacity motion.old.late }
-    requires reactor { OwesWord A.ReactorMachine O.Outside words.now notes.now asks.now pieces.now controls.now
-        states.now k first.now.value owed.now word hand.old }
-    ensures motion { IsMotionAt M.MotionMachine words.now notes.now asks.now pieces.now batches.now result
-        start.now.value motion.new }
-    ensures late { AreLate (length batches.now) k motion.new.late.items × (result ≡ k + length motion.new.late.items) }
-    ensures room { most_late ≤ deque_capacity motion.new.late }
-    ensures reactor { OwesServing A.ReactorMachine O.Outside words.now notes.now asks.now pieces.now controls.now
-        states.now k first.now.value owed.now hand.new }
+    requires motion { IsMotionAt M.MotionMachine place.now.lanes both.old.next place.now.start.now.value
+        both.old.motion }
+    requires late { AreLate (length place.now.lanes.batches.now) k both.old.motion.late.items
+        × (both.old.next ≡ k + length both.old.motion.late.items) }
+    requires room { most_late ≤ deque_capacity both.old.motion.late }
+    requires reactor { OwesWord A.ReactorMachine O.Outside place.now.lanes k place.now.first.now.value
+        both.old.owed.items word both.old.hand }
+    ensures motion { IsMotionAt M.MotionMachine place.now.lanes both.new.next place.now.start.now.value
+        both.new.motion }
+    ensures late { AreLate (length place.now.lanes.batches.now) k both.new.motion.late.items
+        × (both.new.next ≡ k + length both.new.motion.late.items) }
+    ensures room { most_late ≤ deque_capacity both.new.motion.late }
+    ensures reactor { OwesServing A.ReactorMachine O.Outside place.now.lanes k place.now.first.now.value
+        both.new.owed.items both.new.hand }
 {
-    let may = from < u64::MAX && motion.late.len() < LATE;
-    let said = say_here(
-        rt, k, from, may, start, first, words, notes, asks, pieces, controls, batches, states,
-        owed, word, motion, hand,
-    );
+    let may = both.next < u64::MAX && both.motion.late.len() < LATE;
+    let said = say_here(rt, k, may, place, word, both);
     if !said {
-        return from;
+        return;
     }
-    plan_turn(
-        rt, gate, alloc, k, from, start, first, words, notes, asks, pieces, controls, batches,
-        states, owed, motion, hand,
-    );
-    from + 1
+    plan_turn(rt, gate, alloc, k, place, both);
 }
 
-// Says word k, and makes the planner's turns, the next one and those behind it, that need no word behind it;
-// then the next one.
+// Says word k, and makes the planner's turns, the next one and those behind it, that need no word behind it.
 fn plan_here<R: Wait, G: Gate, M: MotionMachine, A: ReactorMachine, O: Outside>(
     rt: &R,
     gate: &G,
     alloc: Global,
     k: u64,
-    from: u64,
-    start: &Snapshot<M>,
-    first: &Snapshot<Head<A, O>>,
-    words: &Lane<WordMsg>,
-    notes: &Lane<Note>,
-    asks: &Lane<Ask>,
-    pieces: &Lane<Piece>,
-    controls: &[Lane<Control>],
-    batches: &[Lane<Batch>],
-    states: &[Lane<State>],
-    owed: &[Control],
+    place: &Place<'_, M, A, O>,
     word: WordMsg,
-    motion: &mut MotionDone<M>,
-    hand: &mut ReactorDone<A, O>,
-) -> u64
+    both: &mut Both<M, A, O>,
+)
     requires limit { k + 1 < 2 ^ 64 }
-    requires motion { IsMotionAt M.MotionMachine words.now notes.now asks.now pieces.now batches.now from
-        start.now.value motion.old }
-    requires late { AreLate (length batches.now) k motion.old.late.items × (from ≡ k + length motion.old.late.items) }
-    requires room { most_late ≤ deque_capacity motion.old.late }
-    requires reactor { OwesWord A.ReactorMachine O.Outside words.now notes.now asks.now pieces.now controls.now
-        states.now k first.now.value owed.now word hand.old }
-    ensures motion { IsMotionAt M.MotionMachine words.now notes.now asks.now pieces.now batches.now result
-        start.now.value motion.new }
-    ensures late { AreLate (length batches.now) k motion.new.late.items × (result ≡ k + length motion.new.late.items) }
-    ensures room { most_late ≤ deque_capacity motion.new.late }
-    ensures reactor { OwesTurn A.ReactorMachine O.Outside words.now notes.now asks.now pieces.now controls.now
-        states.now k first.now.value owed.now hand.new }
+    requires motion { IsMotionAt M.MotionMachine place.now.lanes both.old.next place.now.start.now.value
+        both.old.motion }
+    requires late { AreLate (length place.now.lanes.batches.now) k both.old.motion.late.items
+        × (both.old.next ≡ k + length both.old.motion.late.items) }
+    requires room { most_late ≤ deque_capacity both.old.motion.late }
+    requires reactor { OwesWord A.ReactorMachine O.Outside place.now.lanes k place.now.first.now.value
+        both.old.owed.items word both.old.hand }
+    ensures motion { IsMotionAt M.MotionMachine place.now.lanes both.new.next place.now.start.now.value
+        both.new.motion }
+    ensures late { AreLate (length place.now.lanes.batches.now) k both.new.motion.late.items
+        × (both.new.next ≡ k + length both.new.motion.late.items) }
+    ensures room { most_late ≤ deque_capacity both.new.motion.late }
+    ensures reactor { OwesTurn A.ReactorMachine O.Outside place.now.lanes k place.now.first.now.value
+        both.new.owed.items both.new.hand }
 {
-    let next = begin_here(
-        rt, gate, alloc, k, from, start, first, words, notes, asks, pieces, controls, batches,
-        states, owed, word, motion, hand,
-    );
-    for n in next..u64::MAX {
-        if motion.late.len() >= LATE || !motion.seat.is_free(n, k) {
-            return n;
+    begin_here(rt, gate, alloc, k, place, word, both);
+    for n in both.next..u64::MAX {
+        if both.motion.late.len() >= LATE || !both.motion.seat.is_free(n, k) {
+            return;
         }
-        plan_turn(
-            rt, gate, alloc, k, n, start, first, words, notes, asks, pieces, controls, batches,
-            states, owed, motion, hand,
-        );
+        plan_turn(rt, gate, alloc, k, place, both);
     }
-    u64::MAX
 }
 
 // Settles the lanes of all links, the last board first.
@@ -266,23 +226,22 @@ fn settle_hands<M: MotionMachine, L: LinkMachine, A: ReactorMachine, O: Outside>
     motion: &Snapshot<M>,
     head: &Snapshot<Head<A, O>>,
     k: u64,
-    controls: &[Lane<Control>],
-    batches: &[Lane<Batch>],
-    states: &[Lane<State>],
+    lanes: &Lanes<'_>,
     hands: Vec<Hand<L>>,
     near: Near<A, O>,
 ) -> Near<A, O>
-    requires boards { (length controls.now ≡ length batches.now) × (length states.now ≡ length batches.now)
-        × (vec_len hands ≤ length batches.now) }
-    requires hands { AreHands L.LinkMachine k controls.now batches.now states.now hands.items }
+    requires boards { (length lanes.now.controls.now ≡ length lanes.now.batches.now)
+        × (length lanes.now.states.now ≡ length lanes.now.batches.now)
+        × (vec_len hands ≤ length lanes.now.batches.now) }
+    requires hands { AreHands L.LinkMachine k lanes.now hands.items }
     requires near { (ls : List L)
-        × IsNear M.MotionMachine L.LinkMachine A.ReactorMachine O.Outside (length batches.now) (vec_len hands)
-        controls.now batches.now states.now motion.now.value ls head.now.value near }
+        × IsNear M.MotionMachine L.LinkMachine A.ReactorMachine O.Outside (length lanes.now.batches.now) (vec_len hands)
+        lanes.now motion.now.value ls head.now.value near }
     ensures { (ls : List L) →
-        IsNear M.MotionMachine L.LinkMachine A.ReactorMachine O.Outside (length batches.now) (vec_len hands)
-        controls.now batches.now states.now motion.now.value ls head.now.value near →
-        IsNear M.MotionMachine L.LinkMachine A.ReactorMachine O.Outside (length batches.now) 0 controls.now batches.now
-        states.now motion.now.value (map (λ h. h.start.value) hands.items ++ ls) head.now.value result }
+        IsNear M.MotionMachine L.LinkMachine A.ReactorMachine O.Outside (length lanes.now.batches.now) (vec_len hands)
+        lanes.now motion.now.value ls head.now.value near →
+        IsNear M.MotionMachine L.LinkMachine A.ReactorMachine O.Outside (length lanes.now.batches.now) 0 lanes.now
+        motion.now.value (map (λ h. h.start.value) hands.items ++ ls) head.now.value result }
 {
     let mut hands = hands;
     let Some(hand) = hands.pop() else {
@@ -290,64 +249,50 @@ fn settle_hands<M: MotionMachine, L: LinkMachine, A: ReactorMachine, O: Outside>
     };
     let Hand { start, done } = hand;
     let at = hands.len();
-    let near = add_link(
-        motion, &start, head, controls, batches, states, at, near, done,
-    );
-    settle_hands(motion, head, k, controls, batches, states, hands, near)
+    let near = add_link(motion, &start, head, lanes, at, near, done);
+    settle_hands(motion, head, k, lanes, hands, near)
 }
 
-// The run has ended in turn k: what waits is put, and the lanes of all boards are settled.
-fn end_here<R: Wait, M: MotionMachine, L: LinkMachine, A: ReactorMachine, O: Outside>(
-    rt: &R,
-    alloc: Global,
+// The run has ended in turn k, and nothing waits: the lanes of all boards are settled.
+fn end_here<M: MotionMachine, L: LinkMachine, A: ReactorMachine, O: Outside>(
     k: u64,
-    next: u64,
-    start: &Snapshot<M>,
-    first: &Snapshot<Head<A, O>>,
-    words: &Lane<WordMsg>,
-    notes: &Lane<Note>,
-    asks: &Lane<Ask>,
-    pieces: &Lane<Piece>,
-    controls: &[Lane<Control>],
-    batches: &[Lane<Batch>],
-    states: &[Lane<State>],
+    place: &Place<'_, M, A, O>,
     hands: Vec<Hand<L>>,
-    motion: MotionDone<M>,
-    hand: ReactorDone<A, O>,
+    both: Both<M, A, O>,
     cause: Cause,
     logs: Vec<LinkLog>,
 ) -> Near<A, O>
-    requires boards { (length controls.now ≡ length batches.now) × (length states.now ≡ length batches.now)
-        × (vec_len hands ≡ length batches.now) }
-    requires hands { AreHands L.LinkMachine k controls.now batches.now states.now hands.items }
-    requires motion { IsMotionAt M.MotionMachine words.now notes.now asks.now pieces.now batches.now next
-        start.now.value motion }
-    requires late { AreLate (length batches.now) k motion.late.items × (next ≡ k + length motion.late.items) }
-    requires reactor { IsReactorDone A.ReactorMachine O.Outside words.now notes.now asks.now pieces.now controls.now
-        states.now cause first.now.value hand }
-    requires logs { (logs.items ≡ []) × (vec_len logs ≡ 0) × (length batches.now ≤ vec_capacity logs) }
-    ensures { IsNear M.MotionMachine L.LinkMachine A.ReactorMachine O.Outside (length batches.now) 0 controls.now
-        batches.now states.now start.now.value (map (λ h. h.start.value) hands.items) first.now.value result }
+    requires boards { (length place.now.lanes.controls.now ≡ length place.now.lanes.batches.now)
+        × (length place.now.lanes.states.now ≡ length place.now.lanes.batches.now)
+        × (vec_len hands ≡ length place.now.lanes.batches.now) }
+    requires hands { AreHands L.LinkMachine k place.now.lanes hands.items }
+    requires motion { IsMotionDone M.MotionMachine place.now.lanes place.now.start.now.value both.motion }
+    requires reactor { IsReactorDone A.ReactorMachine O.Outside place.now.lanes cause place.now.first.now.value
+        both.hand }
+    requires logs { (logs.items ≡ []) × (vec_len logs ≡ 0) × (length place.now.lanes.batches.now ≤ vec_capacity logs) }
+    ensures { IsNear M.MotionMachine L.LinkMachine A.ReactorMachine O.Outside (length place.now.lanes.batches.now) 0
+        place.now.lanes place.now.start.now.value (map (λ h. h.start.value) hands.items) place.now.first.now.value
+        result }
 {
-    let mut motion = motion;
-    flush(
-        rt,
-        alloc,
-        k,
-        next,
-        start,
-        words,
-        notes,
-        asks,
-        pieces,
-        batches,
-        &mut motion,
-    );
-    let near = close::<M, L, A, O>(
-        start, first, words, notes, asks, pieces, controls, batches, states, motion, hand, cause,
-        logs,
-    );
-    settle_hands(start, first, k, controls, batches, states, hands, near)
+    let Both { motion, hand, .. } = both;
+    let lanes = &place.lanes;
+    let near = close::<M, L, A, O>(place.start, place.first, lanes, motion, hand, cause, logs);
+    settle_hands(place.start, place.first, k, lanes, hands, near)
+}
+
+// Gives the lists of a turn back to those that made them.
+fn give_back<M: MotionMachine, A: ReactorMachine, O: Outside>(
+    alloc: Global,
+    row: Row,
+    both: &mut Both<M, A, O>,
+)
+    ensures motion { both.new.motion ≡ both.old.motion }
+    ensures hand { both.new.hand ≡ both.old.hand }
+    ensures next { both.new.next ≡ both.old.next }
+{
+    let made = mem::replace(&mut both.owed, Vec::new(alloc));
+    both.hand.head.give_back(made);
+    both.motion.seat.give_back(row);
 }
 
 /// Runs all machines by turns, on the calling thread, to the reactor's end. Behind each turn of the reactor
@@ -357,23 +302,19 @@ pub fn alone<R: Wait, G: Gate, M: MotionMachine, L: LinkMachine, A: ReactorMachi
     rt: &R,
     gate: &G,
     alloc: Global,
-    words: &Lane<WordMsg>,
-    notes: &Lane<Note>,
-    asks: &Lane<Ask>,
-    pieces: &Lane<Piece>,
-    controls: &[Lane<Control>],
-    batches: &[Lane<Batch>],
-    states: &[Lane<State>],
+    lanes: &Lanes<'_>,
     hands: Vec<Hand<L>>,
+    room: Vec<State>,
     far: Far<M, L, A, O>,
 ) -> Near<A, O>
-    requires boards { (length controls.now ≡ length batches.now) × (length states.now ≡ length batches.now)
-        × (vec_len hands ≡ length batches.now) }
-    requires hands { AreHands L.LinkMachine 0 controls.now batches.now states.now hands.items }
-    requires far { IsFar M.MotionMachine A.ReactorMachine O.Outside words.now notes.now asks.now pieces.now controls.now
-        batches.now states.now far }
-    ensures { IsNear M.MotionMachine L.LinkMachine A.ReactorMachine O.Outside (length batches.now) 0 controls.now
-        batches.now states.now far.motion.seat.machine (map (λ h. h.start.value) hands.items) far.hand.head result }
+    requires boards { (length lanes.now.controls.now ≡ length lanes.now.batches.now)
+        × (length lanes.now.states.now ≡ length lanes.now.batches.now)
+        × (vec_len hands ≡ length lanes.now.batches.now) }
+    requires hands { AreHands L.LinkMachine 0 lanes.now hands.items }
+    requires room { (room.items ≡ []) × (length lanes.now.states.now ≤ vec_capacity room) }
+    requires far { IsFar M.MotionMachine A.ReactorMachine O.Outside lanes.now far }
+    ensures { IsNear M.MotionMachine L.LinkMachine A.ReactorMachine O.Outside (length lanes.now.batches.now) 0 lanes.now
+        far.motion.seat.machine (map (λ h. h.start.value) hands.items) far.hand.head result }
 {
     let Far {
         motion,
@@ -383,76 +324,58 @@ pub fn alone<R: Wait, G: Gate, M: MotionMachine, L: LinkMachine, A: ReactorMachi
     } = far;
     let start = Snapshot::of(&motion.seat.machine);
     let first = Snapshot::of(&hand.head);
-    let mut motion = motion;
-    let mut hand = hand;
+    let place = Place {
+        lanes: *lanes,
+        start: &start,
+        first: &first,
+    };
+    let mut both = Both {
+        motion,
+        hand,
+        next: 0,
+        owed: Vec::new(alloc),
+    };
     let mut hands = hands;
-    let mut next = 0;
     let mut found = Found {
-        states: Vec::new(alloc),
+        states: room,
         note: None,
     };
     // Nothing is asked for: pieces are read where they are needed.
-    motion.closed = true;
+    both.motion.closed = true;
     for k in 0..u64::MAX {
         gate.pass(Who::Reactor, k);
-        let ordered = order_here(
-            rt, alloc, k, found, &first, words, notes, asks, pieces, controls, states, &mut hand,
-        );
-        let (made, word, room) = match ordered {
+        let ordered = order_here(rt, alloc, k, &found, &first, lanes, &mut both.hand);
+        let (made, word) = match ordered {
             Ok(ordered) => ordered,
             Err(cause) => {
-                return end_here(
-                    rt, alloc, k, next, &start, &first, words, notes, asks, pieces, controls,
-                    batches, states, hands, motion, hand, cause, logs,
-                );
+                flush(rt, alloc, k, both.next, &start, lanes, &mut both.motion);
+                return end_here(k, &place, hands, both, cause, logs);
             }
         };
-        next = plan_here(
-            rt,
-            gate,
-            alloc,
-            k,
-            next,
-            &start,
-            &first,
-            words,
-            notes,
-            asks,
-            pieces,
-            controls,
-            batches,
-            states,
-            made.as_slice(),
-            word,
-            &mut motion,
-            &mut hand,
-        );
+        both.owed = made;
+        plan_here(rt, gate, alloc, k, &place, word, &mut both);
         // The planner waits for what no one says.
-        let Some(late) = motion.late.pop_front() else {
+        let Some(late) = both.motion.late.pop_front() else {
             break;
         };
-        let Late { row, note } = late;
-        let found_states = hands_turn(
+        let Late { mut row, note } = late;
+        hands_turn(
             rt,
             gate,
             alloc,
             k,
-            controls,
-            batches,
-            states,
-            made,
-            row,
-            &mut hand.control_passes,
-            &mut motion.batch_passes,
-            &mut hand.state_passes,
+            lanes,
+            &mut both.owed,
+            &mut row,
+            &mut both.hand.control_passes,
+            &mut both.motion.batch_passes,
+            &mut both.hand.state_passes,
             &mut hands,
-            room,
+            &mut found.states,
         );
-        notes.hand(&mut motion.note_pass, &mut hand.note_pass, &note);
-        found = Found {
-            states: found_states,
-            note: Some(note),
-        };
+        lanes.notes.hand(&mut both.motion.note_pass, &mut both.hand.note_pass, &note);
+        found.note = Some(note);
+        give_back(alloc, row, &mut both);
     }
     for _ in rt.forever() {
         thread::yield_now();

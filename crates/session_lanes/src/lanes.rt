@@ -1,14 +1,14 @@
 //! The lanes of a run, and the machines at them before turn 0.
 ghost use Rattle.std.specs.Prelude.{◌≡◌, ◌+◌, ◌≤◌, ◌++◌, ℕ, Some, [], map, length, vec_len, vec_capacity, IfOk};
 ghost use Rattle.std.specs.VecDeque.{deque_len, deque_capacity};
-ghost use Rattle.session_lanes.specs.Lanes.{IsNewOne, IsNewRow, AreNewTakes, AreNewSends, IsPlaces, IsBegun};
+ghost use Rattle.session_lanes.specs.Lanes.{AreLanes, IsNewOne, IsNewRow, AreNewTakes, AreNewSends, IsPlaces, IsBegun};
 ghost use Rattle.session_lanes.specs.Levels.{AreLinks, most_late};
 
 use crate::near::{Far, LinkLog};
 use lane_queue::{Lane, SendPass, TakePass, lane};
 use plan_types::Numbered;
 use session_work::{
-    Ask, Batch, Control, Head, Late, LinkDone, LinkMachine, MotionDone, MotionMachine, Note,
+    Ask, Batch, Control, Head, Lanes, Late, LinkDone, LinkMachine, MotionDone, MotionMachine, Note,
     Outside, Piece, ReactorDone, ReactorMachine, Seat, State, WordMsg,
 };
 use std::alloc::{AllocError, Global};
@@ -166,9 +166,9 @@ pub fn make_places<L: LinkMachine>(alloc: Global, boards: usize) -> Result<Place
     })
 }
 
-// All lanes of a run.
+// All lanes of a run, with the memory that they stand in.
 #[derive(Drop)]
-pub struct Lanes {
+pub struct AllLanes {
     pub words: Lane<WordMsg>,
     pub notes: Lane<Note>,
     pub asks: Lane<Ask>,
@@ -178,19 +178,32 @@ pub struct Lanes {
     pub states: Vec<Lane<State>>,
 }
 
+// What the workers have of them.
+pub fn lanes_of(lanes: &AllLanes) -> Lanes<'_>
+    ensures { AreLanes lanes.now result }
+{
+    Lanes {
+        words: &lanes.words,
+        notes: &lanes.notes,
+        asks: &lanes.asks,
+        pieces: &lanes.pieces,
+        controls: lanes.controls.as_slice(),
+        batches: lanes.batches.as_slice(),
+        states: lanes.states.as_slice(),
+    }
+}
+
 // All machines of a run at its lanes, before turn 0.
 #[derive(Drop)]
 pub struct Begun<M, L, A, O> {
-    pub lanes: Lanes,
+    pub lanes: AllLanes,
     pub links: VecDeque<LinkDone<L>>,
     pub far: Far<M, L, A, O>,
 }
 
 // The links at their lanes, the last one first, before those that stand there.
 fn set_links<L: LinkMachine>(
-    control_lanes: &[Lane<Control>],
-    batch_lanes: &[Lane<Batch>],
-    state_lanes: &[Lane<State>],
+    lanes: &Lanes<'_>,
     controls: Vec<TakePass<Control>>,
     batches: Vec<TakePass<Batch>>,
     states: Vec<SendPass<State>>,
@@ -199,11 +212,11 @@ fn set_links<L: LinkMachine>(
 ) -> VecDeque<LinkDone<L>>
     requires counts { (vec_len controls ≡ vec_len links) × (vec_len batches ≡ vec_len links)
         × (vec_len states ≡ vec_len links) }
-    requires new { AreNewTakes control_lanes.now controls.items × AreNewTakes batch_lanes.now batches.items
-        × AreNewSends state_lanes.now states.items }
-    requires set { AreLinks L.LinkMachine (vec_len links) control_lanes.now batch_lanes.now state_lanes.now set.items }
+    requires new { AreNewTakes lanes.now.controls.now controls.items × AreNewTakes lanes.now.batches.now batches.items
+        × AreNewSends lanes.now.states.now states.items }
+    requires set { AreLinks L.LinkMachine (vec_len links) lanes.now set.items }
     requires room { deque_len set + vec_len links ≤ deque_capacity set }
-    ensures set { AreLinks L.LinkMachine 0 control_lanes.now batch_lanes.now state_lanes.now result.items }
+    ensures set { AreLinks L.LinkMachine 0 lanes.now result.items }
     ensures machines { map (λ d. d.machine) result.items ≡ links.items ++ map (λ d. d.machine) set.items }
     ensures count { deque_len result ≡ deque_len set + vec_len links }
 {
@@ -224,16 +237,7 @@ fn set_links<L: LinkMachine>(
         state_pass: states.remove(at),
     };
     match set.push_front(link) {
-        Ok(()) => set_links(
-            control_lanes,
-            batch_lanes,
-            state_lanes,
-            controls,
-            batches,
-            states,
-            links,
-            set,
-        ),
+        Ok(()) => set_links(lanes, controls, batches, states, links, set),
         Err(_) => unreachable!(),
     }
 }
@@ -304,10 +308,17 @@ pub fn begin<M: MotionMachine, L: LinkMachine, A: ReactorMachine, O: Outside>(
         sends: state_sends,
         takes: state_takes,
     } = states;
+    let lanes = AllLanes {
+        words,
+        notes,
+        asks,
+        pieces,
+        controls,
+        batches,
+        states,
+    };
     let links = set_links(
-        controls.as_slice(),
-        batches.as_slice(),
-        states.as_slice(),
+        &lanes_of(&lanes),
         control_takes,
         batch_takes,
         state_sends,
@@ -348,15 +359,6 @@ pub fn begin<M: MotionMachine, L: LinkMachine, A: ReactorMachine, O: Outside>(
         },
         logs,
         home,
-    };
-    let lanes = Lanes {
-        words,
-        notes,
-        asks,
-        pieces,
-        controls,
-        batches,
-        states,
     };
     Begun { lanes, links, far }
 }

@@ -4,7 +4,7 @@ ghost use Rattle.lane_queue.specs.Ends.{IsSendOf, IsTakeOf, next_put, put, taken
 ghost use Rattle.lane_queue.specs.Order.{IsPrefix};
 ghost use Rattle.session_work.specs.Bares.{bare_control, bare_word};
 ghost use Rattle.session_work.specs.Rows.{CanPut, RowPut, copies};
-ghost use Rattle.session_work.specs.Links.{IsLinkAt, IsLinkDone};
+ghost use Rattle.session_work.specs.Links.{IsBoard, IsLinkAt, IsLinkDone};
 ghost use Rattle.session_work.specs.Motions.{IsMotionAt, IsMotionDone};
 ghost use Rattle.session_work.specs.Reactors.{IsReactorAt};
 ghost use Rattle.session_lanes.specs.Levels.{AreLinks, IsFar, IsHome, IsReached};
@@ -12,14 +12,13 @@ ghost use Rattle.std.specs.VecDeque.{deque_len};
 
 use crate::close::close;
 use crate::home::{bring_home, join_link, machines_of};
-use crate::near::{Far, Home, Reached};
+use crate::near::{Far, Home, Reached, Rest};
 use crate::promise::{LinkOf, MotionOf};
 use io_core::Gate;
-use lane_queue::{Lane, SendPass};
+use lane_queue::SendPass;
 use session_work::{
-    Ask, Bare, Batch, Control, Head, LinkDone, LinkMachine, MotionDone, MotionMachine, Note,
-    Outside, Piece, ReactorDone, ReactorMachine, State, WordMsg, link_worker, motion_worker,
-    put_bare, reactor_worker,
+    Bare, Control, Head, Lanes, LinkDone, LinkMachine, MotionDone, MotionMachine, Outside,
+    ReactorDone, ReactorMachine, WordMsg, link_worker, motion_worker, put_bare, reactor_worker,
 };
 use std::alloc::Global;
 use std::collections::VecDeque;
@@ -39,18 +38,17 @@ struct Stopped<A, O> {
 fn stop<R: Wait, A: ReactorMachine, O: Outside>(
     rt: &R,
     alloc: Global,
-    words: &Lane<WordMsg>,
-    controls: &[Lane<Control>],
+    lanes: &Lanes<'_>,
     hand: ReactorDone<A, O>,
 ) -> Stopped<A, O>
-    requires word { IsSendOf words.now hand.word_pass × (next_put hand.word_pass ≡ 0) }
-    requires controls { (vec_len hand.control_passes ≡ length controls.now)
-        × CanPut 0 controls.now hand.control_passes.items }
+    requires word { IsSendOf lanes.now.words.now hand.word_pass × (next_put hand.word_pass ≡ 0) }
+    requires controls { (vec_len hand.control_passes ≡ length lanes.now.controls.now)
+        × CanPut 0 lanes.now.controls.now hand.control_passes.items }
     ensures head { result.head ≡ hand.head }
-    ensures lane { IsSendOf words.now result.word_pass }
+    ensures lane { IsSendOf lanes.now.words.now result.word_pass }
     ensures word { put result.word_pass ≡ put hand.word_pass ++ bare_word 0 true ∷ [] }
-    ensures controls { RowPut controls.now hand.control_passes.items result.control_passes.items
-        (copies (length controls.now) (bare_control 0 true)) }
+    ensures controls { RowPut lanes.now.controls.now hand.control_passes.items result.control_passes.items
+        (copies (length lanes.now.controls.now) (bare_control 0 true)) }
 {
     let ReactorDone {
         head,
@@ -58,8 +56,10 @@ fn stop<R: Wait, A: ReactorMachine, O: Outside>(
         mut control_passes,
         ..
     } = hand;
-    words.put(rt, &mut word_pass, WordMsg::bare(alloc, 0, true));
-    put_bare(rt, alloc, 0, true, controls, &mut control_passes);
+    lanes
+        .words
+        .put(rt, &mut word_pass, WordMsg::bare(alloc, 0, true));
+    put_bare(rt, alloc, 0, true, lanes.controls, &mut control_passes);
     Stopped {
         head,
         word_pass,
@@ -69,13 +69,13 @@ fn stop<R: Wait, A: ReactorMachine, O: Outside>(
 
 // The machines of a run whose planner got no thread: it took what it took of the words that were put.
 fn planner_home<M: MotionMachine, L: LinkMachine, A: ReactorMachine, O: Outside>(
-    words: &Lane<WordMsg>,
+    lanes: &Lanes<'_>,
     motion: MotionDone<M>,
     links: Vec<L>,
     stopped: Stopped<A, O>,
 ) -> Home<M, L, A, O>
-    requires put { IsSendOf words.now stopped.word_pass }
-    requires take { IsTakeOf words.now motion.word_pass }
+    requires put { IsSendOf lanes.now.words.now stopped.word_pass }
+    requires take { IsTakeOf lanes.now.words.now motion.word_pass }
     ensures words { IsPrefix (taken motion.word_pass) (put stopped.word_pass) }
     ensures home { result
         ≡ record {
@@ -90,7 +90,7 @@ fn planner_home<M: MotionMachine, L: LinkMachine, A: ReactorMachine, O: Outside>
         word_pass,
         control_passes,
     } = stopped;
-    let _settled = words.settle(word_pass, motion.word_pass);
+    let _settled = lanes.words.settle(word_pass, motion.word_pass);
     Home {
         motion: motion.seat.machine,
         links,
@@ -114,20 +114,14 @@ fn core<
     gate: &'s G,
     scope: &Scope<'s, E>,
     alloc: Global,
-    words: &'s Lane<WordMsg>,
-    notes: &'s Lane<Note>,
-    asks: &'s Lane<Ask>,
-    pieces: &'s Lane<Piece>,
-    controls: &'s [Lane<Control>],
-    batches: &'s [Lane<Batch>],
-    states: &'s [Lane<State>],
+    lanes: &'s Lanes<'s>,
     far: Far<M, L, A, O>,
 ) -> Reached<M, L, A, O>
-    requires boards { (length controls.now ≡ length batches.now) × (length states.now ≡ length batches.now) }
-    requires far { IsFar M.MotionMachine A.ReactorMachine O.Outside words.now notes.now asks.now pieces.now controls.now
-        batches.now states.now far }
-    ensures { IsReached M.MotionMachine L.LinkMachine A.ReactorMachine O.Outside (length batches.now)
-        (length batches.now) controls.now batches.now states.now far.motion.seat.machine [] far.hand.head result }
+    requires boards { (length lanes.now.controls.now ≡ length lanes.now.batches.now)
+        × (length lanes.now.states.now ≡ length lanes.now.batches.now) }
+    requires far { IsFar M.MotionMachine A.ReactorMachine O.Outside lanes.now far }
+    ensures { IsReached M.MotionMachine L.LinkMachine A.ReactorMachine O.Outside (length lanes.now.batches.now)
+        (length lanes.now.batches.now) lanes.now far.motion.seat.machine [] far.hand.head result }
 {
     let Far {
         motion,
@@ -139,47 +133,31 @@ fn core<
     let first = Snapshot::of(&hand.head);
     let promise = MotionOf {
         start: Snapshot::of(&motion.seat.machine),
-        words,
-        notes,
-        asks,
-        pieces,
-        batches,
+        lanes: *lanes,
     };
     let begun = Snapshot::of(&motion.seat.machine);
     let started = scope.spawn_with(
         promise,
         move || -> MotionDone<M>
-            requires { IsMotionAt M.MotionMachine words.now notes.now asks.now pieces.now batches.now 0 begun.value
-                motion
-                × (motion.late.items ≡ []) }
-            ensures { IsMotionDone M.MotionMachine words.entry.now notes.entry.now asks.entry.now pieces.entry.now
-                batches.entry.now begun.value result }
-        {
-            motion_worker(
-                rt, gate, alloc, begun, words, notes, asks, pieces, batches, motion,
-            )
-        },
+            requires { IsMotionAt M.MotionMachine lanes.now 0 begun.value motion × (motion.late.items ≡ []) }
+            ensures { IsMotionDone M.MotionMachine lanes.entry.now begun.value result }
+        { motion_worker(rt, gate, alloc, begun, lanes, motion) },
     );
     match started {
         Ok(handle) => {
-            let (hand, cause) = reactor_worker(
-                rt, gate, alloc, &first, words, notes, asks, pieces, controls, states, hand,
-            );
+            let (hand, cause) = reactor_worker(rt, gate, alloc, &first, lanes, hand);
             let motion = handle.join(rt);
-            Reached::Ran(close::<M, L, A, O>(
-                &start, &first, words, notes, asks, pieces, controls, batches, states, motion,
-                hand, cause, logs,
-            ))
+            Reached::Ran(close::<M, L, A, O>(&start, &first, lanes, motion, hand, cause, logs))
         }
         Err(refused) => {
-            let stopped = stop(rt, alloc, words, controls, hand);
+            let stopped = stop(rt, alloc, lanes, hand);
             let motion = (refused.value)();
-            Reached::Home(planner_home(words, motion, home, stopped))
+            Reached::Home(planner_home(lanes, motion, home, stopped))
         }
     }
 }
 
-// Starts the link of board `at`, goes on with the boards behind it, and takes the link in.
+// Starts the link of the first board of those that are left, goes on with the boards behind it, and takes the link in.
 pub fn level<
     's,
     E,
@@ -194,96 +172,49 @@ pub fn level<
     gate: &'s G,
     scope: &Scope<'s, E>,
     alloc: Global,
-    words: &'s Lane<WordMsg>,
-    notes: &'s Lane<Note>,
-    asks: &'s Lane<Ask>,
-    pieces: &'s Lane<Piece>,
-    controls: &'s [Lane<Control>],
-    batches: &'s [Lane<Batch>],
-    states: &'s [Lane<State>],
-    at: usize,
-    links: VecDeque<LinkDone<L>>,
+    lanes: &'s Lanes<'s>,
+    rest: Rest<L>,
     far: Far<M, L, A, O>,
 ) -> Reached<M, L, A, O>
-    requires boards { (length controls.now ≡ length batches.now) × (length states.now ≡ length batches.now)
-        × (at + deque_len links ≡ length batches.now) }
-    requires links { AreLinks L.LinkMachine at controls.now batches.now states.now links.items }
-    requires far { IsFar M.MotionMachine A.ReactorMachine O.Outside words.now notes.now asks.now pieces.now controls.now
-        batches.now states.now far }
-    ensures { IsReached M.MotionMachine L.LinkMachine A.ReactorMachine O.Outside (length batches.now) at controls.now
-        batches.now states.now far.motion.seat.machine (map (λ d. d.machine) links.items) far.hand.head result }
+    requires boards { (length lanes.now.controls.now ≡ length lanes.now.batches.now)
+        × (length lanes.now.states.now ≡ length lanes.now.batches.now)
+        × (rest.at + deque_len rest.links ≡ length lanes.now.batches.now) }
+    requires links { AreLinks L.LinkMachine rest.at lanes.now rest.links.items }
+    requires far { IsFar M.MotionMachine A.ReactorMachine O.Outside lanes.now far }
+    ensures { IsReached M.MotionMachine L.LinkMachine A.ReactorMachine O.Outside (length lanes.now.batches.now) rest.at
+        lanes.now far.motion.seat.machine (map (λ d. d.machine) rest.links.items) far.hand.head result }
 {
-    let mut links = links;
+    let Rest { at, mut links } = rest;
     let Some(link) = links.pop_front() else {
-        return core(
-            rt, gate, scope, alloc, words, notes, asks, pieces, controls, batches, states, far,
-        );
+        return core(rt, gate, scope, alloc, lanes, far);
     };
     let motion = Snapshot::of(&far.motion.seat.machine);
     let head = Snapshot::of(&far.hand.head);
     let start = Snapshot::of(&link.machine);
     let begun = Snapshot::of(&link.machine);
-    let board = u8::try_from(at).unwrap_or(u8::MAX);
-    let control_lane = &controls[at];
-    let batch_lane = &batches[at];
-    let state_lane = &states[at];
     let promise = LinkOf {
         start: Snapshot::of(&link.machine),
-        controls: control_lane,
-        batches: batch_lane,
-        states: state_lane,
+        lanes: *lanes,
+        at,
     };
     let started = scope.spawn_with(
         promise,
         move || -> LinkDone<L>
-            requires { IsLinkAt L.turns 0 control_lane.now batch_lane.now state_lane.now begun.value link }
-            ensures { IsLinkDone L.turns control_lane.entry.now batch_lane.entry.now state_lane.entry.now begun.value
-                result }
-        {
-            link_worker(
-                rt,
-                gate,
-                alloc,
-                board,
-                begun,
-                control_lane,
-                batch_lane,
-                state_lane,
-                link,
-            )
-        },
+            requires { IsBoard lanes.now at × IsLinkAt L.turns 0 lanes.now at begun.value link }
+            ensures { IsLinkDone L.turns lanes.entry.now at begun.value result }
+        { link_worker(rt, gate, alloc, at, begun, lanes, link) },
     );
     match started {
         Ok(handle) => {
-            let reached = level(
-                rt,
-                gate,
-                scope,
-                alloc,
-                words,
-                notes,
-                asks,
-                pieces,
-                controls,
-                batches,
-                states,
-                at + 1,
-                links,
-                far,
-            );
+            let rest = Rest { at: at + 1, links };
+            let reached = level(rt, gate, scope, alloc, lanes, rest, far);
             let done = handle.join(rt);
-            join_link(
-                &motion, &start, &head, controls, batches, states, at, reached, done,
-            )
+            join_link(&motion, &start, &head, lanes, at, reached, done)
         }
         Err(refused) => {
-            let home = turn_home::<R, M, L, A, O>(
-                rt, alloc, words, notes, asks, pieces, controls, batches, states, at, links, far,
-            );
+            let home = turn_home::<R, M, L, A, O>(rt, alloc, lanes, at, links, far);
             let done = (refused.value)();
-            Reached::Home(bring_home(
-                &motion, &start, &head, controls, batches, states, at, home, done,
-            ))
+            Reached::Home(bring_home(&motion, &start, &head, lanes, at, home, done))
         }
     }
 }
@@ -292,22 +223,16 @@ pub fn level<
 fn turn_home<R: Wait, M: MotionMachine, L: LinkMachine, A: ReactorMachine, O: Outside>(
     rt: &R,
     alloc: Global,
-    words: &Lane<WordMsg>,
-    notes: &Lane<Note>,
-    asks: &Lane<Ask>,
-    pieces: &Lane<Piece>,
-    controls: &[Lane<Control>],
-    batches: &[Lane<Batch>],
-    states: &[Lane<State>],
+    lanes: &Lanes<'_>,
     at: usize,
     links: VecDeque<LinkDone<L>>,
     far: Far<M, L, A, O>,
 ) -> Home<M, L, A, O>
-    requires boards { (length controls.now ≡ length batches.now) × (length states.now ≡ length batches.now)
-        × (at + 1 + deque_len links ≡ length batches.now) }
-    requires far { IsFar M.MotionMachine A.ReactorMachine O.Outside words.now notes.now asks.now pieces.now controls.now
-        batches.now states.now far }
-    ensures { IsHome (length batches.now) (at + 1) controls.now far.motion.seat.machine
+    requires boards { (length lanes.now.controls.now ≡ length lanes.now.batches.now)
+        × (length lanes.now.states.now ≡ length lanes.now.batches.now)
+        × (at + 1 + deque_len links ≡ length lanes.now.batches.now) }
+    requires far { IsFar M.MotionMachine A.ReactorMachine O.Outside lanes.now far }
+    ensures { IsHome (length lanes.now.batches.now) (at + 1) lanes.now far.motion.seat.machine
         (map (λ d. d.machine) links.items) far.hand.head result }
 {
     let Far {
@@ -321,7 +246,7 @@ fn turn_home<R: Wait, M: MotionMachine, L: LinkMachine, A: ReactorMachine, O: Ou
         mut control_passes,
         ..
     } = hand;
-    put_bare(rt, alloc, 0, true, controls, &mut control_passes);
+    put_bare(rt, alloc, 0, true, lanes.controls, &mut control_passes);
     control_passes.truncate(at + 1);
     Home {
         motion: motion.seat.machine,

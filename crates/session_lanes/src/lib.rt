@@ -14,5 +14,5 @@ mod promise;
 mod settle;
 mod whole;
 
-pub use near::{LinkLog, Ran, Told};
+pub use near::{LinkLog, Machines, Ran, Told};
 pub use whole::{run, run_alone, run_back};

@@ -1,7 +1,10 @@
 //! What a run tells, and what the parts of it hand on.
 use lane_queue::{SendPass, Settled, TakePass};
 use plan_types::Cause;
-use session_work::{Batch, Control, Head, MotionDone, Note, Piece, ReactorDone, State, WordMsg};
+use session_work::{
+    Batch, Control, Head, LinkDone, MotionDone, Note, Piece, ReactorDone, State, WordMsg,
+};
+use std::collections::VecDeque;
 
 /// What the lanes of a board carried.
 #[derive(Drop)]
@@ -32,6 +35,14 @@ pub struct Told<A> {
     pub machine: A,
     pub stopped: bool,
     pub cause: Cause,
+}
+
+/// The machines of a run: the planner, a link for each board, and the reactor.
+#[derive(Drop)]
+pub struct Machines<M, L, A> {
+    pub motion: M,
+    pub links: Vec<L>,
+    pub reactor: A,
 }
 
 // What came back: a run whose first boards are still to be settled.
@@ -66,4 +77,11 @@ pub struct Home<M, L, A, O> {
 pub enum Reached<M, L, A, O> {
     Ran(Near<A, O>),
     Home(Home<M, L, A, O>),
+}
+
+// The links of the boards from `at` on, which are still to be started.
+#[derive(Drop)]
+pub struct Rest<L> {
+    pub at: usize,
+    pub links: VecDeque<LinkDone<L>>,
 }

@@ -1,19 +1,18 @@
 //! A whole run: in threads, or, where one can't be started, on the calling thread.
-ghost use Rattle.std.specs.Prelude.{◌≡◌, ◌≤◌, Some, [], map, length, vec_len, IfOk, IfErr, IfSome, IfNone};
+ghost use Rattle.std.specs.Prelude.{◌≡◌, ◌≤◌, Some, [], map, length, vec_len, vec_capacity, IfOk, IfErr, IfSome, IfNone};
 ghost use Rattle.std.specs.VecDeque.{deque_len};
 ghost use Rattle.session_work.specs.Alone.{AreHands};
 ghost use Rattle.session_lanes.specs.Levels.{AreLinks, IsFar, IsReached};
 ghost use Rattle.session_lanes.specs.Runs.{IsRun, head_at, ran_at};
 
 use crate::alone::alone;
-use crate::lanes::{Begun, begin, make_places};
+use crate::lanes::{Begun, begin, lanes_of, make_places};
 use crate::levels::level;
-use crate::near::{Far, Ran, Reached, Told};
+use crate::near::{Far, Machines, Ran, Reached, Rest, Told};
 use io_core::Gate;
-use lane_queue::Lane;
 use session_work::{
-    Ask, Batch, Control, Hand, Head, LinkDone, LinkMachine, MotionMachine, Note, Outside, Piece,
-    ReactorDone, ReactorMachine, State, WordMsg,
+    Hand, Head, Lanes, LinkDone, LinkMachine, MotionMachine, Outside, ReactorDone, ReactorMachine,
+    State,
 };
 use std::alloc::{AllocError, Global};
 use std::collections::VecDeque;
@@ -34,60 +33,53 @@ fn in_scope<
     rt: &R,
     gate: &G,
     alloc: Global,
-    words: &Lane<WordMsg>,
-    notes: &Lane<Note>,
-    asks: &Lane<Ask>,
-    pieces: &Lane<Piece>,
-    controls: &[Lane<Control>],
-    batches: &[Lane<Batch>],
-    states: &[Lane<State>],
+    lanes: &Lanes<'_>,
     links: VecDeque<LinkDone<L>>,
     far: Far<M, L, A, O>,
 ) -> Reached<M, L, A, O>
-    requires boards { (length controls.now ≡ length batches.now) × (length states.now ≡ length batches.now)
-        × (deque_len links ≡ length batches.now) }
-    requires links { AreLinks L.LinkMachine 0 controls.now batches.now states.now links.items }
-    requires far { IsFar M.MotionMachine A.ReactorMachine O.Outside words.now notes.now asks.now pieces.now controls.now
-        batches.now states.now far }
-    ensures { IsReached M.MotionMachine L.LinkMachine A.ReactorMachine O.Outside (length batches.now) 0 controls.now
-        batches.now states.now far.motion.seat.machine (map (λ d. d.machine) links.items) far.hand.head result }
+    requires boards { (length lanes.now.controls.now ≡ length lanes.now.batches.now)
+        × (length lanes.now.states.now ≡ length lanes.now.batches.now)
+        × (deque_len links ≡ length lanes.now.batches.now) }
+    requires links { AreLinks L.LinkMachine 0 lanes.now links.items }
+    requires far { IsFar M.MotionMachine A.ReactorMachine O.Outside lanes.now far }
+    ensures { IsReached M.MotionMachine L.LinkMachine A.ReactorMachine O.Outside (length lanes.now.batches.now) 0
+        lanes.now far.motion.seat.machine (map (λ d. d.machine) links.items) far.hand.head result }
 {
     thread::scope(
         thread::scope_env(),
         rt,
         move |scope| -> Reached<M, L, A, O>
-            requires { (length controls.now ≡ length batches.now) × (length states.now ≡ length batches.now)
-                × (deque_len links ≡ length batches.now)
-                × AreLinks L.LinkMachine 0 controls.now batches.now states.now links.items
-                × IsFar M.MotionMachine A.ReactorMachine O.Outside words.now notes.now asks.now pieces.now controls.now
-                batches.now states.now far }
-            ensures { IsReached M.MotionMachine L.LinkMachine A.ReactorMachine O.Outside (length batches.entry.now) 0
-                controls.entry.now batches.entry.now states.entry.now far.motion.seat.machine
+            requires { (length lanes.now.controls.now ≡ length lanes.now.batches.now)
+                × (length lanes.now.states.now ≡ length lanes.now.batches.now)
+                × (deque_len links ≡ length lanes.now.batches.now) × AreLinks L.LinkMachine 0 lanes.now links.items
+                × IsFar M.MotionMachine A.ReactorMachine O.Outside lanes.now far }
+            ensures { IsReached M.MotionMachine L.LinkMachine A.ReactorMachine O.Outside
+                (length lanes.entry.now.batches.now) 0 lanes.entry.now far.motion.seat.machine
                 (map (λ d. d.machine) links.items) far.hand.head result }
         {
-            level(
-                rt, gate, scope, alloc, words, notes, asks, pieces, controls, batches, states, 0,
-                links, far,
-            )
+            let rest = Rest { at: 0, links };
+            level(rt, gate, scope, alloc, lanes, rest, far)
         },
     )
 }
 
-// The links, and the machines that they begin with.
+// The links, and the machines that they begin with; and room for their states.
 fn hands_of<L: LinkMachine>(
     alloc: Global,
     links: VecDeque<LinkDone<L>>,
-) -> Result<Vec<Hand<L>>, AllocError>
-    ensures starts { IfOk result (λ hs. map (λ h. h.start.value) hs.items ≡ map (λ d. d.machine) links.items) }
-    ensures links { IfOk result (λ hs. map (λ h. h.done) hs.items ≡ links.items) }
-    ensures count { IfOk result (λ hs. vec_len hs ≡ deque_len links) }
+) -> Result<(Vec<Hand<L>>, Vec<State>), AllocError>
+    ensures starts { IfOk result (λ r. map (λ h. h.start.value) r.0.items ≡ map (λ d. d.machine) links.items) }
+    ensures links { IfOk result (λ r. map (λ h. h.done) r.0.items ≡ links.items) }
+    ensures count { IfOk result (λ r. vec_len r.0 ≡ deque_len links) }
+    ensures room { IfOk result (λ r. (r.1.items ≡ []) × (deque_len links ≤ vec_capacity r.1)) }
 {
+    let room = Vec::with_capacity(alloc, links.len())?;
     let mut hands = Vec::new(alloc);
     for done in links {
         let start = Snapshot::of(&done.machine);
         hands.push(Hand { start, done })?;
     }
-    Ok(hands)
+    Ok((hands, room))
 }
 
 // The reactor of a run that was not begun, with what it reaches outside.
@@ -120,23 +112,10 @@ pub fn run_alone<R: Wait, G: Gate, M: MotionMachine, L: LinkMachine, A: ReactorM
         return Err(head);
     };
     let Begun { lanes, links, far } = begin(places, motion, links, head);
-    let Ok(hands) = hands_of(alloc, links) else {
+    let Ok((hands, room)) = hands_of(alloc, links) else {
         return Err(head_of(far));
     };
-    let near = alone(
-        rt,
-        gate,
-        alloc,
-        &lanes.words,
-        &lanes.notes,
-        &lanes.asks,
-        &lanes.pieces,
-        lanes.controls.as_slice(),
-        lanes.batches.as_slice(),
-        lanes.states.as_slice(),
-        hands,
-        far,
-    );
+    let near = alone(rt, gate, alloc, &lanes_of(&lanes), hands, room, far);
     Ok(near.ran)
 }
 
@@ -168,20 +147,7 @@ pub fn run<
         return Err(head);
     };
     let Begun { lanes, links, far } = begin(places, motion, links, head);
-    let reached = in_scope(
-        rt,
-        gate,
-        alloc,
-        &lanes.words,
-        &lanes.notes,
-        &lanes.asks,
-        &lanes.pieces,
-        lanes.controls.as_slice(),
-        lanes.batches.as_slice(),
-        lanes.states.as_slice(),
-        links,
-        far,
-    );
+    let reached = in_scope(rt, gate, alloc, &lanes_of(&lanes), links, far);
     match reached {
         Reached::Ran(near) => Ok(near.ran),
         Reached::Home(home) => run_alone(rt, gate, alloc, home.motion, home.links, home.head),
@@ -202,20 +168,24 @@ pub fn run_back<
     rt: &R,
     gate: &G,
     alloc: Global,
-    motion: M,
-    links: Vec<L>,
-    machine: A,
+    machines: Machines<M, L, A>,
     outside: O,
     told: &mut Option<Told<A>>,
 ) -> O
-    requires boards { (M.boards motion ≡ vec_len links) × (A.boards machine ≡ vec_len links) }
-    requires wants { M.wants motion 0 ≡ Some 0 }
-    ensures ran { IfSome told.new (λ t. IsRun M.MotionMachine L.LinkMachine A.ReactorMachine O.Outside motion
-        links.items (head_at machine outside) (ran_at t result)) }
+    requires boards { (M.boards machines.motion ≡ vec_len machines.links)
+        × (A.boards machines.reactor ≡ vec_len machines.links) }
+    requires wants { M.wants machines.motion 0 ≡ Some 0 }
+    ensures ran { IfSome told.new (λ t. IsRun M.MotionMachine L.LinkMachine A.ReactorMachine O.Outside machines.motion
+        machines.links.items (head_at machines.reactor outside) (ran_at t result)) }
     ensures back { IfNone told.new (result ≡ outside) }
 {
+    let Machines {
+        motion,
+        links,
+        reactor,
+    } = machines;
     let head = Head {
-        machine,
+        machine: reactor,
         outside,
         stopped: false,
     };

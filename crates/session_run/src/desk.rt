@@ -8,11 +8,12 @@ use crate::tell::{Kept, tell_lines};
 use io_core::{Files, Gate, Sink};
 use plan_types::{Cause, Listed, Machine};
 use report_text::{LinePrinter, ReportLine};
-use session_lanes::{Told, run_back};
+use session_lanes::{Machines, Told, run_back};
 use session_work::{LinkMachine, MotionMachine, Outside, Piece, ReactorMachine};
 use std::alloc::Global;
 use std::sync::Wait;
 use std::thread::Threads;
+use wire_scene::Scene;
 
 /// Borrowed files and a borrowed output, and what is kept of the run. All that the caller wants to know of
 /// afterwards is behind a reference.
@@ -108,6 +109,15 @@ impl<'a, 'm, F: Files, S: Sink> Outside for Desk<'a, 'm, F, S> {
     }
 }
 
+/// What is run: the file of a name, on a machine in a scene; and the memory for it.
+#[derive(Clone, Copy)]
+pub struct Job<'a> {
+    pub alloc: Global,
+    pub machine: &'a Machine,
+    pub scene: &'a Scene,
+    pub name: &'a str,
+}
+
 /// Runs machines over a borrowed file and a borrowed output, in threads or, where one can't be started, on
 /// the calling one: what there is to tell of it, nothing where memory was wanted before the first turn.
 pub fn run_with<
@@ -121,23 +131,21 @@ pub fn run_with<
 >(
     rt: &R,
     gate: &G,
-    alloc: Global,
-    motion: M,
-    links: Vec<L>,
-    reactor: A,
-    machine: &Machine,
-    name: &str,
+    job: &Job<'_>,
+    machines: Machines<M, L, A>,
     files: &mut F,
     out: &mut S,
     kept: &mut Kept,
 ) -> Option<Told<A>>
-    requires boards { (M.boards motion ≡ vec_len links) × (A.boards reactor ≡ vec_len links) }
-    requires wants { M.wants motion 0 ≡ Some 0 }
+    requires boards { (M.boards machines.motion ≡ vec_len machines.links)
+        × (A.boards machines.reactor ≡ vec_len machines.links) }
+    requires wants { M.wants machines.motion 0 ≡ Some 0 }
     ensures ran { IfSome result (λ t. IsToldRun M.MotionMachine L.LinkMachine A.ReactorMachine F.Files S.Sink
-        machine.now name.now motion links.items reactor files.old out.old kept.old t files.new out.new kept.new) }
+        job.now.machine.now job.now.name.now machines.motion machines.links.items machines.reactor files.old out.old
+        kept.old t files.new out.new kept.new) }
     ensures none { IfNone result ((files.new ≡ files.old) × (out.new ≡ out.old) × (kept.new ≡ kept.old)) }
 {
-    let Ok(printer) = LinePrinter::new(alloc, machine) else {
+    let Ok(printer) = LinePrinter::new(job.alloc, job.machine) else {
         return None;
     };
     let mut told = None;
@@ -146,10 +154,10 @@ pub fn run_with<
         out,
         kept,
         machine: &printer,
-        name,
-        alloc,
+        name: job.name,
+        alloc: job.alloc,
     };
-    let desk = run_back(rt, gate, alloc, motion, links, reactor, desk, &mut told);
+    let desk = run_back(rt, gate, job.alloc, machines, desk, &mut told);
     drop(desk);
     told
 }

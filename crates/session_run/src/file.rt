@@ -9,10 +9,10 @@ ghost use Rattle.wire_scene.specs.Valid.{IsValidScene};
 use crate::link::BoardLink;
 use crate::motion::Planning;
 use crate::reactor::Host;
-use crate::{Kept, run_with};
+use crate::{Job, Kept, run_with};
 use io_core::{Files, Gate, Sink};
 use plan_types::{BoardDef, Machine};
-use session_lanes::Told;
+use session_lanes::{Machines, Told};
 use std::alloc::{AllocError, Global};
 use std::sync::Wait;
 use std::thread::Threads;
@@ -63,26 +63,29 @@ fn first_links(
 pub fn run_file<'a, R: Threads + Wait + Sync, G: Gate + Sync, F: Files, S: Sink>(
     rt: &R,
     gate: &G,
-    alloc: Global,
-    machine: &'a Machine,
-    scene: &'a Scene,
-    name: &str,
+    job: &Job<'a>,
     files: &mut F,
     out: &mut S,
     kept: &mut Kept,
 ) -> Option<Told<Host<'a>>>
-    requires machine { IsValidMachine machine.now }
-    requires scene { IsValidScene machine.now scene.now }
-    ensures ran { IfSome result (λ t. RunsOver F.Files S.Sink machine.now scene.now name.now files.old out.old kept.old
-        t files.new out.new kept.new) }
+    requires machine { IsValidMachine job.now.machine.now }
+    requires scene { IsValidScene job.now.machine.now job.now.scene.now }
+    ensures ran { IfSome result (λ t. RunsOver F.Files S.Sink job.now.machine.now job.now.scene.now job.now.name.now
+        files.old out.old kept.old t files.new out.new kept.new) }
     ensures none { IfNone result ((files.new ≡ files.old) × (out.new ≡ out.old) × (kept.new ≡ kept.old)) }
 {
+    let alloc = job.alloc;
+    let machine = job.machine;
+    let scene = job.scene;
     let Ok(links) = first_links(alloc, machine.boards.as_slice(), scene) else {
         return None;
     };
     let motion = Planning::new(alloc, machine);
     let reactor = Host::new(alloc, machine, scene);
-    run_with(
-        rt, gate, alloc, motion, links, reactor, machine, name, files, out, kept,
-    )
+    let machines = Machines {
+        motion,
+        links,
+        reactor,
+    };
+    run_with(rt, gate, job, machines, files, out, kept)
 }

@@ -11,7 +11,7 @@ mod read;
 mod report;
 mod tell;
 
-pub use desk::{Desk, run_with};
+pub use desk::{Desk, Job, run_with};
 pub use ended::{Ended, Report, status_of};
 pub use file::run_file;
 pub use link::BoardLink;

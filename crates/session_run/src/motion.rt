@@ -5,7 +5,7 @@ ghost use Rattle.motion_stream.specs.Seen.{nothing_seen};
 ghost use Rattle.plan_types.specs.Machines.{IsValidMachine};
 
 use motion_stream::Motion;
-use msg_code::{Made, Piece, WordMsg};
+use msg_code::{Batch, Made, Piece, WordMsg};
 use plan_types::Machine;
 use session_work::MotionMachine;
 use std::alloc::{AllocError, Global};
@@ -73,5 +73,9 @@ impl<'a> MotionMachine for Planning<'a> {
 
     fn turn(&mut self, k: u64) -> Result<Made, AllocError> {
         self.motion.turn(k)
+    }
+
+    fn give_back(&mut self, room: Vec<Batch>) {
+        self.motion.give_back(room);
     }
 }

@@ -6,7 +6,7 @@ ghost use Rattle.plan_types.specs.Machines.{IsValidMachine};
 ghost use Rattle.session_run.specs.Reactors.{IsFreeFor};
 
 use host_reactor::{Reactor, orders_stand_in_rows};
-use msg_code::{Note, NoteNews, State};
+use msg_code::{Control, Note, NoteNews, State};
 use plan_types::{Cause, Machine};
 use session_work::{Ordered, ReactorMachine};
 use std::alloc::{AllocError, Global};
@@ -120,11 +120,11 @@ impl<'a> ReactorMachine for Host<'a> {
     fn turn(
         &mut self,
         k: u64,
-        states: Vec<State>,
-        note: Option<Note>,
+        states: &[State],
+        note: &Option<Note>,
     ) -> Result<Ordered, AllocError> {
         self.live = false;
-        let calm = is_calm(&note);
+        let calm = is_calm(note);
         let before = free_of(&self.reactor, self.free);
         self.free = None;
         let ordered = self.reactor.turn(k, states, note)?;
@@ -141,6 +141,10 @@ impl<'a> ReactorMachine for Host<'a> {
             lines: ordered.lines,
             end: ordered.end,
         })
+    }
+
+    fn give_back(&mut self, room: Vec<Control>) {
+        self.reactor.give_back(room);
     }
 
     fn stop(&mut self, cause: Cause) {

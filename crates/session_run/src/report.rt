@@ -8,9 +8,9 @@ ghost use Rattle.session_run.specs.Ends.{IsBare, status_of};
 ghost use Rattle.session_run.specs.Reported.{EndsOver, EndsShowing, GivenFor, IsOfRun, own_of, with_failure};
 ghost use Rattle.wire_scene.specs.Valid.{IsValidScene};
 
-use crate::Kept;
 use crate::ended::{Ended, Report, status_of};
 use crate::file::run_file;
+use crate::{Job, Kept};
 use io_core::{Files, Gate, Sink, SureSink};
 use plan_types::{Cause, Listed, Machine};
 use report_text::{ReportLine, Show, WriteStop, write_line};
@@ -123,20 +123,11 @@ fn not_begun<S: Sink>(alloc: Global, machine: &Machine, out: &mut S) -> Ended
     }
 }
 
-/// What is run: the file of a name, on a machine in a scene.
-#[derive(Clone, Copy)]
-struct Job<'a> {
-    machine: &'a Machine,
-    scene: &'a Scene,
-    name: &'a str,
-}
-
 /// Runs a file of G-code over an output, to the end of its report.
 fn run_over<R: Threads + Wait + Sync, G: Gate + Sync, F: Files, S: Sink>(
     rt: &R,
     gate: &G,
-    alloc: Global,
-    job: &Job,
+    job: &Job<'_>,
     files: &mut F,
     out: &mut S,
 ) -> Ended
@@ -154,16 +145,13 @@ fn run_over<R: Threads + Wait + Sync, G: Gate + Sync, F: Files, S: Sink>(
     ensures quiet_output { result.cause ≢ Cause.WriteFault → result.cause ≢ Cause.Memory →
         S.faults out.new ≡ S.faults out.old }
 {
-    let Job {
-        machine,
-        scene,
-        name,
-    } = *job;
+    let alloc = job.alloc;
+    let machine = job.machine;
     let Ok(counts) = no_pulses(alloc, machine.steppers.len()) else {
         return not_begun(alloc, machine, out);
     };
     let mut kept = nothing_kept(alloc, counts);
-    match run_file(rt, gate, alloc, machine, scene, name, files, out, &mut kept) {
+    match run_file(rt, gate, job, files, out, &mut kept) {
         Some(told) => {
             let Told { links, cause, .. } = told;
             let cause = end_report(machine, cause, &mut kept, out);
@@ -215,15 +203,16 @@ pub fn run<R: Threads + Wait + Sync, F: Files, S: Sink, G: Gate + Sync>(
         S.faults out.new ≡ S.faults out.old }
 {
     let job = Job {
+        alloc,
         machine,
         scene,
         name,
     };
     match show {
-        Show::Lines => run_over(rt, gate, alloc, &job, files, out),
+        Show::Lines => run_over(rt, gate, &job, files, out),
         Show::Counts => {
             let mut none = SureSink::new();
-            run_over(rt, gate, alloc, &job, files, &mut none)
+            run_over(rt, gate, &job, files, &mut none)
         }
     }
 }

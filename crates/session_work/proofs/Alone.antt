@@ -3,6 +3,7 @@ use Rattle.std.proofs.Common.{◌≡◌, ℕ, ◌+◌, ◌<◌, List, [], ◌∷
 use mathlib.Core.Logic.{inl, inr}
 use Rattle.std.specs.Global.{Vec}
 use Rattle.lane_queue.specs.declared.ends.Lane.{Lane}
+use Rattle.session_work.specs.declared.ends.Lanes.{Lanes}
 use Rattle.lane_queue.specs.declared.passes.SendPass.{SendPass}
 use Rattle.lane_queue.specs.declared.passes.TakePass.{TakePass}
 use Rattle.lane_queue.specs.Ends.{taken, take_first, next_take}
@@ -36,49 +37,49 @@ took_row k ls old new xs can row many j l p low =
     let f = now.1 in let more = ap length now.2 in let sum = length-append (taken (get_or old j p)) (item j xs) in let one = length_item xs j (omega arith) in let n = was.1 in
     (now.0, omega arith)
 
-module _ {A O : Type 0} (a : Reactor A) (o : Out O) (words : Lane WordMsg) (notes : Lane Note) (asks : Lane Ask) (pieces : Lane Piece) (controls : List (Lane Control)) (states : List (Lane State)) where
+module _ {A O : Type 0} (a : Reactor A) (o : Out O) (lanes : Lanes) where
   -- no end was ordered in turn k, and nothing is put ahead
   pub here_with : (k : ℕ) (s : Head A O) (d : ReactorDone A O) (t : ReactorTurn) (head : Head A O) (wp : SendPass WordMsg) (np : TakePass Note) (cps : Vec (SendPass Control)) (sps : Vec (TakePass State))
-      → IsReactorAt a o words notes asks pieces controls states k s d → d.next ≡ k → t.end ≡ None → t.pieces ≡ []
-      → Ordering a o (length controls) k d.head t head → Takes a o words notes asks pieces controls states t d np sps.items
-      → PutMore (t.word ∷ []) words d.word_pass wp → RowPut controls d.control_passes.items cps.items t.controls
+      → IsReactorAt a o lanes k s d → d.next ≡ k → t.end ≡ None → t.pieces ≡ []
+      → Ordering a o (length lanes.controls.now) k d.head t head → Takes a o lanes t d np sps.items
+      → PutMore (t.word ∷ []) lanes.words.now d.word_pass wp → RowPut lanes.controls.now d.control_passes.items cps.items t.controls
       → a.boards head.machine ≡ a.boards d.head.machine
-      → IsServing a o words notes asks pieces controls states k s (renewed a o words notes asks pieces controls states d head d.served (k + 1) wp np d.piece_pass cps sps)
+      → IsServing a o lanes k s (renewed a o lanes d head d.served (k + 1) wp np d.piece_pass cps sps)
   here_with k s d t head wp np cps sps h next none bare ordering takes word row boards =
       let w = h.4.3 in let x = h.4.1 in let here : h.4.0 ≡ 0 = omega (arith, x, next) in
-      on_with a o words notes asks pieces controls states k s d t head (k + 1) 0 wp np cps sps h none bare ordering takes (omega arith) (inl refl) (
-        row_put _ _ controls _ _ t.controls w.0 row (λ j. first_said (λ (u : ReactorTurn). item j u.controls) still_control h.0 t k h.4.0 here),
+      on_with a o lanes k s d t head (k + 1) 0 wp np cps sps h none bare ordering takes (omega arith) (inl refl) (
+        row_put _ _ lanes.controls.now _ _ t.controls w.0 row (λ j. first_said (λ (u : ReactorTurn). item j u.controls) still_control h.0 t k h.4.0 here),
         put_more _ (t.word ∷ []) _ _ _ _ w.2 word.0 word.1 word.2 (first_said (λ (u : ReactorTurn). u.word ∷ []) still_word h.0 t k h.4.0 here),
       )
       boards
 
   -- nothing is found in turn 0
-  pub first_found : (s : Head A O) (d : ReactorDone A O) (f : Found) → f.states.items ≡ [] → f.note ≡ None → IsReactorAt a o words notes asks pieces controls states 0 s d → d.next ≡ 0
-      → IsFound a o words notes asks pieces controls states 0 s f d
+  pub first_found : (s : Head A O) (d : ReactorDone A O) (f : Found) → f.states.items ≡ [] → f.note ≡ None → IsReactorAt a o lanes 0 s d → d.next ≡ 0
+      → IsFound a o lanes 0 s f d
   first_found s d f none bare h next =
       let w = h.4.3 in let no = nothing_yet h.0 h.1 in (
         d.note_pass,
         d.state_passes,
         h,
-        row_none states d.state_passes.items f.states.items (λ j l p low. (w.1.1 j l p low).0) none,
+        row_none lanes.states.now d.state_passes.items f.states.items (λ j l p low. (w.1.1 j l p low).0) none,
         (w.3.0, refl, sym (append-nil (taken d.note_pass)) ∙ ap (λ n. taken d.note_pass ++ option_items n) (sym bare)),
         inl (refl, none, bare),
         (λ j x low. absurd (let e = ap length none in omega (arith, low))),
         subst (λ n. IfSome n (λ x. x.turn + 1 ≡ 0)) (sym bare) tt,
         next,
         (
-          can_take (λ j. gather (λ (t : ReactorTurn). item j t.states) h.0) 0 states d.state_passes.items w.1 (λ j low. ap (λ ts. length (gather (λ (t : ReactorTurn). item j t.states) ts)) no),
+          can_take (λ j. gather (λ (t : ReactorTurn). item j t.states) h.0) 0 lanes.states.now d.state_passes.items w.1 (λ j low. ap (λ ts. length (gather (λ (t : ReactorTurn). item j t.states) ts)) no),
           w.1.0,
           w.3.0,
-          next_taken _ 0 notes _ w.3 (ap (λ ts. length (gather (λ (t : ReactorTurn). option_items t.note) ts)) no),
+          next_taken _ 0 lanes.notes.now _ w.3 (ap (λ ts. length (gather (λ (t : ReactorTurn). option_items t.note) ts)) no),
         ),
       )
 
   -- the controls of turn k were put, and its states and its note taken
   pub next_found : (k : ℕ) (s : Head A O) (made : List Control) (d : ReactorDone A O) (cps : Vec (SendPass Control)) (sps : Vec (TakePass State)) (np : TakePass Note) (f : Found) (note : Note)
-      → OwesTurn a o words notes asks pieces controls states k s made d → RowPut controls d.control_passes.items cps.items made → RowTaken states d.state_passes.items sps.items f.states.items
-      → TookMore (note ∷ []) notes d.note_pass np → f.note ≡ Some note → length f.states.items ≡ length states → AreOf (λ x. x.turn) k f.states.items → note.turn ≡ k
-      → IsFound a o words notes asks pieces controls states (k + 1) s f (with_takes (with_controls d cps) np sps)
+      → OwesTurn a o lanes k s made d → RowPut lanes.controls.now d.control_passes.items cps.items made → RowTaken lanes.states.now d.state_passes.items sps.items f.states.items
+      → TookMore (note ∷ []) lanes.notes.now d.note_pass np → f.note ≡ Some note → length f.states.items ≡ length lanes.states.now → AreOf (λ x. x.turn) k f.states.items → note.turn ≡ k
+      → IsFound a o lanes (k + 1) s f (with_takes (with_controls d cps) np sps)
   next_found k s made d cps sps np f note owes put row took is many numbers turn =
       let t = owes.takes in let size = t.1 in let at = t.3 in let first = took.1 in let more = ap length took.2 in let sum = length-append (taken d.note_pass) (note ∷ []) in (
         d.note_pass,
@@ -90,5 +91,5 @@ module _ {A O : Type 0} (a : Reactor A) (o : Out O) (words : Lane WordMsg) (note
         (λ j x low. ap (λ n. n + 1) (numbers j x low)),
         subst (λ n. IfSome n (λ x. x.turn + 1 ≡ k + 1)) (sym is) (ap (λ n. n + 1) turn),
         owes.next,
-        (took_row k states _ _ f.states.items t.0 row (many ∙ sym size), row.0 ∙ size, took.0, omega arith),
+        (took_row k lanes.states.now _ _ f.states.items t.0 row (many ∙ sym size), row.0 ∙ size, took.0, omega arith),
       )

@@ -43,3 +43,7 @@ module _ {A : Type 0} where
     λ j l p q low. let same = get_or_default ps j p q low in
         (all j l q low, ap take_first (sym same), ap taken (sym same) ∙ (sym (append-nil (taken (get_or ps j p))) ∙ ap (λ ys. taken (get_or ps j p) ++ item j ys) (sym e))),
   )
+
+-- what holds of the lane at a place, whatever stands there where none is, holds of it
+pub of_lane : {A : Type 0} (P : A → Type 0) (xs : List A) (j : ℕ) (r : A) → j < length xs → P (get_or xs j r) → (x : A) → P (get_or xs j x)
+of_lane P xs j r low h x = subst P (get_or_default xs j r x low) h

@@ -2,6 +2,7 @@
 use Rattle.std.proofs.Common.{◌≡◌, ℕ, zero, suc, ◌+◌, ◌<◌, List, [], ◌∷◌, ◌++◌, length, get_or, false, refl, sym, ap, subst, ◌∙◌, arith, append-nil, append_assoc, length-append}
 use Rattle.lane_queue.specs.declared.ends.Lane.{Lane}
 use Rattle.lane_queue.specs.declared.passes.SendPass.{SendPass}
+use Rattle.session_work.specs.declared.ends.Lanes.{Lanes}
 use Rattle.lane_queue.specs.Ends.{IsSendOf, put, put_first, next_put}
 use Rattle.msg_code.specs.declared.unit.Control.{Control}
 use Rattle.msg_code.specs.declared.talk.WordMsg.{WordMsg}
@@ -70,17 +71,17 @@ module _ {A : Type 0} where
   pub push_more : (f : ℕ → A) (k n i : ℕ) (l : Lane A) (old now new : SendPass A) → i ≡ k + n → PutMore (each_turn f k n) l old now → PutMore (f i ∷ []) l now new → PutMore (each_turn f k (n + 1)) l old new
   push_more f k n i l old now new at was is = (is.0, is.1 ∙ was.1, is.2 ∙ (ap (λ xs. xs ++ f i ∷ []) was.2 ∙ (append_assoc (put old) (each_turn f k n) (f i ∷ []) ∙ ap (λ xs. put old ++ xs) (each_push f k n i at))))
 
-module _ (words : Lane WordMsg) (controls : List (Lane Control)) (k n i : ℕ) (wp wq : SendPass WordMsg) (cps cqs : List (SendPass Control)) (at : i ≡ k + n) (led : HasLed words controls k n wp wq cps cqs) where
-  pub led_controls : CanPut k controls cps → CanPut i controls cqs
+module _ (lanes : Lanes) (k n i : ℕ) (wp wq : SendPass WordMsg) (cps cqs : List (SendPass Control)) (at : i ≡ k + n) (led : HasLed lanes k n wp wq cps cqs) where
+  pub led_controls : CanPut k lanes.controls.now cps → CanPut i lanes.controls.now cqs
   led_controls can j l p low = let s = led.0.0 in let x = led.0.1 j l p p low in let was = can j l p (omega (arith, s, low)) in
       (x.0, next_more still_control k n i _ _ was.1 x.1 x.2 at)
 
   pub led_words : next_put wp ≡ k → next_put wq ≡ i
   led_words was = next_more still_word k n i _ _ was led.1.1 led.1.2 at
 
-  pub led_more : (wr : SendPass WordMsg) (crs : List (SendPass Control)) → length cps ≡ length controls → RowPut controls cqs crs (copies (length controls) (bare_control i false)) → PutMore (bare_word i false ∷ []) words wq wr
-      → HasLed words controls k (n + 1) wp wr cps crs
-  led_more wr crs size row word = let one = copies_put controls cqs crs (bare_control i false) (led.0.0 ∙ size) row in (
+  pub led_more : (wr : SendPass WordMsg) (crs : List (SendPass Control)) → length cps ≡ length lanes.controls.now → RowPut lanes.controls.now cqs crs (copies (length lanes.controls.now) (bare_control i false)) → PutMore (bare_word i false ∷ []) lanes.words.now wq wr
+      → HasLed lanes k (n + 1) wp wr cps crs
+  led_more wr crs size row word = let one = copies_put lanes.controls.now cqs crs (bare_control i false) (led.0.0 ∙ size) row in (
     (one.0 ∙ led.0.0, λ j l p q low. let s = one.0 in push_more still_control k n i _ _ _ _ at (led.0.1 j l p p (omega (arith, s, low))) (one.1 j l p q low)),
     push_more still_word k n i _ _ _ _ at led.1 word,
   )

@@ -3,6 +3,7 @@ use Rattle.std.proofs.Common.{◌≡◌, ℕ, suc, ◌+◌, ◌<◌, List, [], �
 use Rattle.std.specs.Global.{Global, Vec}
 use Rattle.std.specs.declared.collections.VecDeque.{VecDeque}
 use Rattle.lane_queue.specs.declared.ends.Lane.{Lane}
+use Rattle.session_work.specs.declared.ends.Lanes.{Lanes}
 use Rattle.lane_queue.specs.declared.passes.SendPass.{SendPass}
 use Rattle.lane_queue.specs.Ends.{IsSendOf, put, put_first, next_put}
 use Rattle.session_work.specs.declared.machines.MotionMachine.{Ghosts}
@@ -81,30 +82,30 @@ module _ {M : Type 0} (m : Ghosts M) where
       let s = g.1 in let a = heard_in k 0 x s.0 t.words s.2 in let b = fed_in k 0 s.0 s.1 t.pieces s.4 in let made = s.6.0 in
       let rest = heard_by n (k + 1) g.0 y ts g.2 in let sum = length-append t.words (gather (λ (u : MotionTurn). u.words) ts) in omega arith
 
-  module _ (words : Lane WordMsg) (notes : Lane Note) (asks : Lane Ask) (pieces : Lane Piece) (batches : List (Lane Batch)) where
+  module _ (lanes : Lanes) where
     abbrev Fed : ℕ → M → MotionDone M → Type 0
-    Fed = IsFed m words notes asks pieces batches
+    Fed = IsFed m lanes
 
     -- how many batches a board has from these turns
-    length_made : (ts : List MotionTurn) (x : Seat M) (y : Seat M) → Goes (MotionStep m (length batches)) 0 x ts y → (j : ℕ) → j < length batches → length (gather (λ (t : MotionTurn). item j t.batches) ts) ≡ length ts
-    length_made ts x y g j low = gather_each (MotionStep m (length batches)) (λ (t : MotionTurn). item j t.batches) (one_batch (length batches) j low) 0 x y ts g
+    length_made : (ts : List MotionTurn) (x : Seat M) (y : Seat M) → Goes (MotionStep m (length lanes.batches.now)) 0 x ts y → (j : ℕ) → j < length lanes.batches.now → length (gather (λ (t : MotionTurn). item j t.batches) ts) ≡ length ts
+    length_made ts x y g j low = gather_each (MotionStep m (length lanes.batches.now)) (λ (t : MotionTurn). item j t.batches) (one_batch (length lanes.batches.now) j low) 0 x y ts g
 
-    pub fed_batches : (k : ℕ) (s : M) (d : MotionDone M) → Fed k s d → d.late.items ≡ [] → CanPut k batches d.batch_passes.items
+    pub fed_batches : (k : ℕ) (s : M) (d : MotionDone M) → Fed k s d → d.late.items ≡ [] → CanPut k lanes.batches.now d.batch_passes.items
     fed_batches k s d f none = let i = f.0 in let ts = i.0 in let w = i.10 in
-        can_put_but (late_batches (length batches) d.late.items) (λ j. gather (λ (t : MotionTurn). item j t.batches) ts) k batches _ w.3
-        (λ j low. let made = length_made ts (seated m s) i.3 i.6 j low in let long = i.5 in let no = ap (λ xs. length (late_batches (length batches) xs j)) none in omega arith)
+        can_put_but (late_batches (length lanes.batches.now) d.late.items) (λ j. gather (λ (t : MotionTurn). item j t.batches) ts) k lanes.batches.now _ w.3
+        (λ j low. let made = length_made ts (seated m s) i.3 i.6 j low in let long = i.5 in let no = ap (λ xs. length (late_batches (length lanes.batches.now) xs j)) none in omega arith)
 
     pub fed_note : (k : ℕ) (s : M) (d : MotionDone M) → Fed k s d → d.late.items ≡ [] → next_put d.note_pass ≡ k
     fed_note k s d f none = let i = f.0 in let ts = i.0 in let w = i.10 in
-        let made = gather_ones (λ (t : MotionTurn). t.note) ts in let long = i.5 in let no = ap (λ xs. length (late_notes xs)) none in next_but (late_notes d.late.items) _ k notes _ w.2 (omega arith)
+        let made = gather_ones (λ (t : MotionTurn). t.note) ts in let long = i.5 in let no = ap (λ xs. length (late_notes xs)) none in next_but (late_notes d.late.items) _ k lanes.notes.now _ w.2 (omega arith)
 
     -- the next batches and the next note that are put are those of the first turn that waits
-    pub late_first : (k n : ℕ) (s : M) (d : MotionDone M) → IsMotionAt m words notes asks pieces batches n s d → AreLate (length batches) k d.late.items → n ≡ k + length d.late.items → CanPut k batches d.batch_passes.items × (next_put d.note_pass ≡ k)
+    pub late_first : (k n : ℕ) (s : M) (d : MotionDone M) → IsMotionAt m lanes n s d → AreLate (length lanes.batches.now) k d.late.items → n ≡ k + length d.late.items → CanPut k lanes.batches.now d.batch_passes.items × (next_put d.note_pass ≡ k)
     late_first k n s d at all is =
         let ts = at.0 in let w = at.3 in let long = at.1 in (
-          can_put_but (late_batches (length batches) d.late.items) (λ j. gather (λ (t : MotionTurn). item j t.batches) ts) k batches _ w.3
-              (λ j low. let made = length_made ts (seated m s) d.seat at.2 j low in let late = length_late (length batches) k d.late.items all j low in omega arith),
-          (let made = gather_ones (λ (t : MotionTurn). t.note) ts in let late = gather_ones (λ (x : Late). x.note) d.late.items in next_but (late_notes d.late.items) _ k notes _ w.2 (omega arith)),
+          can_put_but (late_batches (length lanes.batches.now) d.late.items) (λ j. gather (λ (t : MotionTurn). item j t.batches) ts) k lanes.batches.now _ w.3
+              (λ j low. let made = length_made ts (seated m s) d.seat at.2 j low in let late = length_late (length lanes.batches.now) k d.late.items all j low in omega arith),
+          (let made = gather_ones (λ (t : MotionTurn). t.note) ts in let late = gather_ones (λ (x : Late). x.note) d.late.items in next_but (late_notes d.late.items) _ k lanes.notes.now _ w.2 (omega arith)),
         )
 
     abbrev pub remade : MotionDone M → Seat M → Vec (SendPass Batch) → SendPass Note → MotionDone M
@@ -115,23 +116,23 @@ module _ {M : Type 0} (m : Ghosts M) where
 
     -- the batches and the note of turn k were put
     pub motion_more : (k : ℕ) (s : M) (d : MotionDone M) (bs : List Batch) (note : Note) (y : Seat M) (bp : Vec (SendPass Batch)) (np : SendPass Note)
-        → Fed k s d → d.late.items ≡ [] → MakeStep (length batches) m.turns k d.seat bs note y → RowPut batches d.batch_passes.items bp.items bs
-        → IsSendOf notes np → put_first np ≡ put_first d.note_pass → put np ≡ put d.note_pass ++ note ∷ [] → m.boards y.machine ≡ length batches
-        → IsMotionAt m words notes asks pieces batches (k + 1) s (remade d y bp np)
+        → Fed k s d → d.late.items ≡ [] → MakeStep (length lanes.batches.now) m.turns k d.seat bs note y → RowPut lanes.batches.now d.batch_passes.items bp.items bs
+        → IsSendOf lanes.notes.now np → put_first np ≡ put_first d.note_pass → put np ≡ put d.note_pass ++ note ∷ [] → m.boards y.machine ≡ length lanes.batches.now
+        → IsMotionAt m lanes (k + 1) s (remade d y bp np)
     motion_more k s d bs note y bp np f none made row lane first more boards =
         let i = f.0 in let ts = i.0 in let ws = i.1 in let ps = i.2 in let w = i.10 in
         let t : MotionTurn = record { words = ws; pieces = ps; batches = bs; note = note } in
         let long = length-append ts (t ∷ []) in let n = i.5 in
         let no : late_notes d.late.items ≡ [] = ap late_notes none in
-        let nob : (j : ℕ) → late_batches (length batches) d.late.items j ≡ [] = λ j. ap (λ xs. late_batches (length batches) xs j) none in (
+        let nob : (j : ℕ) → late_batches (length lanes.batches.now) d.late.items j ≡ [] = λ j. ap (λ xs. late_batches (length lanes.batches.now) xs j) none in (
           ts ++ t ∷ [],
           omega arith,
-          goes_on (MotionStep m (length batches)) 0 k (seated m s) i.3 y ts t i.6 (omega arith) (i.4, d.seat, i.7, i.8, i.9, f.1, made),
+          goes_on (MotionStep m (length lanes.batches.now)) 0 k (seated m s) i.3 y ts t i.6 (omega arith) (i.4, d.seat, i.7, i.8, i.9, f.1, made),
           (
             taken_as _ _ _ _ w.0 (sym (append-nil _ ∙ gather_on (λ (u : MotionTurn). u.words) ts t)),
             taken_as _ _ _ _ w.1 (sym (append-nil _ ∙ gather_on (λ (u : MotionTurn). u.pieces) ts t)),
-            waits_none _ _ notes np no (put_more _ (note ∷ []) _ _ _ _ (none_waits _ _ notes d.note_pass no w.2) lane first more (gather_on (λ (u : MotionTurn). u.note ∷ []) ts t)),
-            none_rows_wait _ _ batches _ nob (row_put _ _ batches _ _ bs (rows_wait_none _ _ batches _ nob w.3) row (λ j. gather_on (λ (u : MotionTurn). item j u.batches) ts t)),
+            waits_none _ _ lanes.notes.now np no (put_more _ (note ∷ []) _ _ _ _ (none_waits _ _ lanes.notes.now d.note_pass no w.2) lane first more (gather_on (λ (u : MotionTurn). u.note ∷ []) ts t)),
+            none_rows_wait _ _ lanes.batches.now _ nob (row_put _ _ lanes.batches.now _ _ bs (rows_wait_none _ _ lanes.batches.now _ nob w.3) row (λ j. gather_on (λ (u : MotionTurn). item j u.batches) ts t)),
             w.4,
             w.5,
             boards,
@@ -140,20 +141,20 @@ module _ {M : Type 0} (m : Ghosts M) where
 
     -- the batches and the note of turn k wait
     pub motion_kept : (k : ℕ) (s : M) (d : MotionDone M) (x : Late) (y : Seat M) (late : VecDeque Late Global)
-        → Fed k s d → MakeStep (length batches) m.turns k d.seat (late_row (length batches) x) x.note y → late.items ≡ d.late.items ++ x ∷ [] → m.boards y.machine ≡ length batches
-        → IsMotionAt m words notes asks pieces batches (k + 1) s (kept d y late)
+        → Fed k s d → MakeStep (length lanes.batches.now) m.turns k d.seat (late_row (length lanes.batches.now) x) x.note y → late.items ≡ d.late.items ++ x ∷ [] → m.boards y.machine ≡ length lanes.batches.now
+        → IsMotionAt m lanes (k + 1) s (kept d y late)
     motion_kept k s d x y late f made is boards =
-        let i = f.0 in let ts = i.0 in let ws = i.1 in let ps = i.2 in let w = i.10 in let bs = late_row (length batches) x in
+        let i = f.0 in let ts = i.0 in let ws = i.1 in let ps = i.2 in let w = i.10 in let bs = late_row (length lanes.batches.now) x in
         let t : MotionTurn = record { words = ws; pieces = ps; batches = bs; note = x.note } in
         let long = length-append ts (t ∷ []) in let n = i.5 in (
           ts ++ t ∷ [],
           omega arith,
-          goes_on (MotionStep m (length batches)) 0 k (seated m s) i.3 y ts t i.6 (omega arith) (i.4, d.seat, i.7, i.8, i.9, f.1, made),
+          goes_on (MotionStep m (length lanes.batches.now)) 0 k (seated m s) i.3 y ts t i.6 (omega arith) (i.4, d.seat, i.7, i.8, i.9, f.1, made),
           (
             taken_as _ _ _ _ w.0 (sym (append-nil _ ∙ gather_on (λ (u : MotionTurn). u.words) ts t)),
             taken_as _ _ _ _ w.1 (sym (append-nil _ ∙ gather_on (λ (u : MotionTurn). u.pieces) ts t)),
-            waits_more _ _ _ (x.note ∷ []) _ notes d.note_pass w.2 (ap late_notes is ∙ gather_on (λ (u : Late). u.note ∷ []) d.late.items x) (gather_on (λ (u : MotionTurn). u.note ∷ []) ts t),
-            rows_wait _ _ _ _ batches _ bs w.3 (λ j. ap (λ xs. late_batches (length batches) xs j) is ∙ gather_on (λ (u : Late). item j (late_row (length batches) u)) d.late.items x) (λ j. gather_on (λ (u : MotionTurn). item j u.batches) ts t),
+            waits_more _ _ _ (x.note ∷ []) _ lanes.notes.now d.note_pass w.2 (ap late_notes is ∙ gather_on (λ (u : Late). u.note ∷ []) d.late.items x) (gather_on (λ (u : MotionTurn). u.note ∷ []) ts t),
+            rows_wait _ _ _ _ lanes.batches.now _ bs w.3 (λ j. ap (λ xs. late_batches (length lanes.batches.now) xs j) is ∙ gather_on (λ (u : Late). item j (late_row (length lanes.batches.now) u)) d.late.items x) (λ j. gather_on (λ (u : MotionTurn). item j u.batches) ts t),
             w.4,
             w.5,
             boards,
@@ -162,8 +163,8 @@ module _ {M : Type 0} (m : Ghosts M) where
 
     -- the first turn that waits was put
     pub motion_handed : (n : ℕ) (s : M) (d : MotionDone M) (x : Late) (bp : Vec (SendPass Batch)) (np : SendPass Note) (late : VecDeque Late Global)
-        → IsMotionAt m words notes asks pieces batches n s d → d.late.items ≡ x ∷ late.items → RowPut batches d.batch_passes.items bp.items (late_row (length batches) x) → PutMore (x.note ∷ []) notes d.note_pass np
-        → IsMotionAt m words notes asks pieces batches n s (with_puts d bp np late)
+        → IsMotionAt m lanes n s d → d.late.items ≡ x ∷ late.items → RowPut lanes.batches.now d.batch_passes.items bp.items (late_row (length lanes.batches.now) x) → PutMore (x.note ∷ []) lanes.notes.now d.note_pass np
+        → IsMotionAt m lanes n s (with_puts d bp np late)
     motion_handed n s d x bp np late at is row note =
         let w = at.3 in (
           at.0,
@@ -172,8 +173,8 @@ module _ {M : Type 0} (m : Ghosts M) where
           (
             w.0,
             w.1,
-            waits_less _ _ _ (x.note ∷ []) notes _ _ w.2 note.0 note.1 note.2 (ap late_notes is),
-            rows_handed _ _ _ batches _ _ (late_row (length batches) x) w.3 row (λ j. ap (λ xs. late_batches (length batches) xs j) is),
+            waits_less _ _ _ (x.note ∷ []) lanes.notes.now _ _ w.2 note.0 note.1 note.2 (ap late_notes is),
+            rows_handed _ _ _ lanes.batches.now _ _ (late_row (length lanes.batches.now) x) w.3 row (λ j. ap (λ xs. late_batches (length lanes.batches.now) xs j) is),
             w.4,
             w.5,
             w.6,

@@ -5,6 +5,7 @@ use Rattle.std.specs.Global.{Vec}
 use Rattle.plan_types.specs.declared.cause.Cause.{Cause}
 use Rattle.plan_types.specs.declared.cause.Cause.TheVariants as cause
 use Rattle.lane_queue.specs.declared.ends.Lane.{Lane}
+use Rattle.session_work.specs.declared.ends.Lanes.{Lanes}
 use Rattle.lane_queue.specs.declared.passes.SendPass.{SendPass}
 use Rattle.lane_queue.specs.declared.passes.TakePass.{TakePass}
 use Rattle.lane_queue.specs.Ends.{IsSendOf, IsTakeOf, put, put_first, taken, take_first, next_put, next_take}
@@ -93,34 +94,34 @@ module _ {A O : Type 0} (a : Reactor A) (o : Out O) where
   one_control : (n j : ℕ) → j < n → (k : ℕ) (x : Head A O) (t : ReactorTurn) (y : Head A O) → ReactorStep a o n k x t y → length (item j t.controls) ≡ 1
   one_control n j low k x t y s = let l = s.1.0 in length_item t.controls j (omega arith)
 
-  module _ (words : Lane WordMsg) (notes : Lane Note) (asks : Lane Ask) (pieces : Lane Piece) (controls : List (Lane Control)) (states : List (Lane State)) where
+  module _ (lanes : Lanes) where
     abbrev At : ℕ → Head A O → ReactorDone A O → Type 0
-    At = IsReactorAt a o words notes asks pieces controls states
+    At = IsReactorAt a o lanes
 
     module _ (k : ℕ) (s : Head A O) (d : ReactorDone A O) (h : At k s d) where
-      pub at_controls : CanPut d.next controls d.control_passes.items
-      at_controls = let n = length controls in can_put _ d.next controls _ h.4.3.0 (λ j low. let f : ReactorTurn → List Control = λ t. item j t.controls in
+      pub at_controls : CanPut d.next lanes.controls.now d.control_passes.items
+      at_controls = let n = length lanes.controls.now in can_put _ d.next lanes.controls.now _ h.4.3.0 (λ j low. let f : ReactorTurn → List Control = λ t. item j t.controls in
           let u = gather_each (ReactorStep a o n) f (one_control n j low) 0 s d.head h.0 h.3 in let v = length-append (gather f h.0) (each_turn still_control k h.4.0) in let w = length_each still_control k h.4.0 in
           let x = h.1 in let y = h.4.1 in omega arith)
 
       pub at_word : next_put d.word_pass ≡ d.next
       at_word = let f : ReactorTurn → List WordMsg = λ t. t.word ∷ [] in
           let u = gather_ones (λ (t : ReactorTurn). t.word) h.0 in let v = length-append (gather f h.0) (each_turn still_word k h.4.0) in let w = length_each still_word k h.4.0 in
-          let x = h.1 in let y = h.4.1 in next_of_put _ d.next words _ h.4.3.2 (omega arith)
+          let x = h.1 in let y = h.4.1 in next_of_put _ d.next lanes.words.now _ h.4.3.2 (omega arith)
 
-      pub at_states : (j : ℕ) → j + 1 ≡ k → CanTake j states d.state_passes.items
-      at_states j e = let n = length controls in let same = h.4.3.8 in
-          can_take _ j states _ h.4.3.1 (λ i low. but_first n (λ (t : ReactorTurn). item i t.states) (λ k t some r. later_states n k i t some (omega (arith, low, same)) r) (first_states n i) j s d.head h.0 (h.1 ∙ sym e) h.2 h.3)
+      pub at_states : (j : ℕ) → j + 1 ≡ k → CanTake j lanes.states.now d.state_passes.items
+      at_states j e = let n = length lanes.controls.now in let same = h.4.3.8 in
+          can_take _ j lanes.states.now _ h.4.3.1 (λ i low. but_first n (λ (t : ReactorTurn). item i t.states) (λ k t some r. later_states n k i t some (omega (arith, low, same)) r) (first_states n i) j s d.head h.0 (h.1 ∙ sym e) h.2 h.3)
 
       pub at_note : (j : ℕ) → j + 1 ≡ k → next_take d.note_pass ≡ j
-      at_note j e = let n = length controls in
-          next_taken _ j notes _ h.4.3.3 (but_first n (λ (t : ReactorTurn). option_items t.note) (later_note n) (first_note n) j s d.head h.0 (h.1 ∙ sym e) h.2 h.3)
+      at_note j e = let n = length lanes.controls.now in
+          next_taken _ j lanes.notes.now _ h.4.3.3 (but_first n (λ (t : ReactorTurn). option_items t.note) (later_note n) (first_note n) j s d.head h.0 (h.1 ∙ sym e) h.2 h.3)
 
     -- nothing is put yet
-    pub at_first : (s : Head A O) (d : ReactorDone A O) → At 0 s d → d.next ≡ 0 → HavePut (λ j. []) controls d.control_passes.items × HasPut [] words d.word_pass
+    pub at_first : (s : Head A O) (d : ReactorDone A O) → At 0 s d → d.next ≡ 0 → HavePut (λ j. []) lanes.controls.now d.control_passes.items × HasPut [] lanes.words.now d.word_pass
     at_first s d h next = let n = h.4.0 in let at = h.4.1 in let none : n ≡ 0 = omega (arith, next, at) in let no_turn = nothing_yet h.0 h.1 in (
-      put_as _ _ controls _ h.4.3.0 (λ j low. (λ i. gather (λ (t : ReactorTurn). item j t.controls) (no_turn i) ++ each_turn still_control 0 (none i))),
-      put_same _ _ words _ h.4.3.2 (λ i. gather (λ (t : ReactorTurn). t.word ∷ []) (no_turn i) ++ each_turn still_word 0 (none i)),
+      put_as _ _ lanes.controls.now _ h.4.3.0 (λ j low. (λ i. gather (λ (t : ReactorTurn). item j t.controls) (no_turn i) ++ each_turn still_control 0 (none i))),
+      put_same _ _ lanes.words.now _ h.4.3.2 (λ i. gather (λ (t : ReactorTurn). t.word ∷ []) (no_turn i) ++ each_turn still_word 0 (none i)),
     )
 
     abbrev pub renewed : ReactorDone A O → Head A O → ℕ → ℕ → SendPass WordMsg → TakePass Note → SendPass Piece → Vec (SendPass Control) → Vec (TakePass State) → ReactorDone A O
@@ -129,13 +130,13 @@ module _ {A O : Type 0} (a : Reactor A) (o : Out O) where
     -- what was said before, and then for turn k and n turns more
     abbrev pub SaidTo : List ReactorTurn → ℕ → ℕ → List (SendPass Control) → SendPass WordMsg → Type 0
     SaidTo ts k n cps wp =
-        HavePut (λ j. gather (λ (u : ReactorTurn). item j u.controls) ts ++ each_turn still_control k n) controls cps
-        × HasPut (gather (λ (u : ReactorTurn). u.word ∷ []) ts ++ each_turn still_word k n) words wp
+        HavePut (λ j. gather (λ (u : ReactorTurn). item j u.controls) ts ++ each_turn still_control k n) lanes.controls.now cps
+        × HasPut (gather (λ (u : ReactorTurn). u.word ∷ []) ts ++ each_turn still_word k n) lanes.words.now wp
 
     -- turn k was said, or it was put ahead
     pub has_said : (k : ℕ) (s : Head A O) (d : ReactorDone A O) (h : At k s d) (t : ReactorTurn) (m : A) (next : ℕ) (wp : SendPass WordMsg) (cps : List (SendPass Control))
-        → HasSaid words controls k t.word t.controls d.next next d.word_pass wp d.control_passes.items cps
-        → ((n : ℕ) → a.free d.head.machine k (n + 1) → (t.controls ≡ copies (length controls) (bare_control k false)) × (t.word ≡ bare_word k false) × a.free m (k + 1) n)
+        → HasSaid lanes k t.word t.controls d.next next d.word_pass wp d.control_passes.items cps
+        → ((n : ℕ) → a.free d.head.machine k (n + 1) → (t.controls ≡ copies (length lanes.controls.now) (bare_control k false)) × (t.word ≡ bare_word k false) × a.free m (k + 1) n)
         → (n : ℕ) × (next ≡ (k + 1) + n) × ((n ≡ 0) ⊎ a.free m (k + 1) n) × SaidTo (h.0 ++ t ∷ []) (k + 1) n cps wp
     has_said k s d h t m next wp cps said still = ⊎_elim
         (λ v. let x = h.4.1 in let y = v.0 in let y2 = v.1 in let none : h.4.0 ≡ 0 = omega (arith, x, y) in let w = h.4.3 in (
@@ -143,7 +144,7 @@ module _ {A O : Type 0} (a : Reactor A) (o : Out O) where
           omega (arith, y2),
           inl refl,
           (
-            row_put _ _ controls _ _ t.controls w.0 v.2 (λ j. first_said (λ (u : ReactorTurn). item j u.controls) still_control h.0 t k h.4.0 none),
+            row_put _ _ lanes.controls.now _ _ t.controls w.0 v.2 (λ j. first_said (λ (u : ReactorTurn). item j u.controls) still_control h.0 t k h.4.0 none),
             put_more _ (t.word ∷ []) _ _ _ _ w.2 v.3.0 v.3.1 v.3.2 (first_said (λ (u : ReactorTurn). u.word ∷ []) still_word h.0 t k h.4.0 none),
           ),
         ))
@@ -153,48 +154,48 @@ module _ {A O : Type 0} (a : Reactor A) (o : Out O) where
           omega (arith, x, y, y2, less),
           inr is.2,
           (
-            subst (λ ps. HavePut (λ j. gather (λ (u : ReactorTurn). item j u.controls) (h.0 ++ t ∷ []) ++ each_turn still_control (k + 1) (n - 1)) controls ps) v.3
-                (put_as _ _ controls _ w.0 (λ j low. still_said (λ (u : ReactorTurn). item j u.controls) still_control h.0 t k n (n - 1) (ap (item j) is.0 ∙ item_copies (length controls) (bare_control k false) j low) less)),
-            subst (λ p. HasPut (gather (λ (u : ReactorTurn). u.word ∷ []) (h.0 ++ t ∷ []) ++ each_turn still_word (k + 1) (n - 1)) words p) v.2
-                (put_same _ _ words _ w.2 (still_said (λ (u : ReactorTurn). u.word ∷ []) still_word h.0 t k n (n - 1) (ap (λ x. x ∷ []) is.1) less)),
+            subst (λ ps. HavePut (λ j. gather (λ (u : ReactorTurn). item j u.controls) (h.0 ++ t ∷ []) ++ each_turn still_control (k + 1) (n - 1)) lanes.controls.now ps) v.3
+                (put_as _ _ lanes.controls.now _ w.0 (λ j low. still_said (λ (u : ReactorTurn). item j u.controls) still_control h.0 t k n (n - 1) (ap (item j) is.0 ∙ item_copies (length lanes.controls.now) (bare_control k false) j low) less)),
+            subst (λ p. HasPut (gather (λ (u : ReactorTurn). u.word ∷ []) (h.0 ++ t ∷ []) ++ each_turn still_word (k + 1) (n - 1)) lanes.words.now p) v.2
+                (put_same _ _ lanes.words.now _ w.2 (still_said (λ (u : ReactorTurn). u.word ∷ []) still_word h.0 t k n (n - 1) (ap (λ x. x ∷ []) is.1) less)),
           ),
         ))
         said
 
     -- what is said next
     pub said_can : (k : ℕ) (s : Head A O) (d : ReactorDone A O) (h : At k s d) (t : ReactorTurn) (n next : ℕ) (wp : SendPass WordMsg) (cps : List (SendPass Control))
-        → length t.controls ≡ length controls → next ≡ (k + 1) + n → SaidTo (h.0 ++ t ∷ []) (k + 1) n cps wp → CanPut next controls cps × (IsSendOf words wp × (next_put wp ≡ next))
+        → length t.controls ≡ length lanes.controls.now → next ≡ (k + 1) + n → SaidTo (h.0 ++ t ∷ []) (k + 1) n cps wp → CanPut next lanes.controls.now cps × (IsSendOf lanes.words.now wp × (next_put wp ≡ next))
     said_can k s d h t n next wp cps size at said = (
-      can_put _ next controls cps said.0 (λ j low. let f : ReactorTurn → List Control = λ u. item j u.controls in
-          let u = gather_each (ReactorStep a o (length controls)) f (one_control (length controls) j low) 0 s d.head h.0 h.3 in
+      can_put _ next lanes.controls.now cps said.0 (λ j low. let f : ReactorTurn → List Control = λ u. item j u.controls in
+          let u = gather_each (ReactorStep a o (length lanes.controls.now)) f (one_control (length lanes.controls.now) j low) 0 s d.head h.0 h.3 in
           let v = ap length (gather_on f h.0 t) in let v2 = length-append (gather f h.0) (f t) in let one = length_item t.controls j (omega (arith, size, low)) in
           let v3 = length-append (gather f (h.0 ++ t ∷ [])) (each_turn still_control (k + 1) n) in let w = length_each still_control (k + 1) n in let x = h.1 in omega arith),
       (
         said.1.0,
         (let f : ReactorTurn → List WordMsg = λ u. u.word ∷ [] in let u = gather_ones (λ (u : ReactorTurn). u.word) h.0 in
             let v = ap length (gather_on f h.0 t) in let v2 = length-append (gather f h.0) (f t) in
-            let v3 = length-append (gather f (h.0 ++ t ∷ [])) (each_turn still_word (k + 1) n) in let w = length_each still_word (k + 1) n in let x = h.1 in next_of_put _ next words wp said.1 (omega arith)),
+            let v3 = length-append (gather f (h.0 ++ t ∷ [])) (each_turn still_word (k + 1) n) in let w = length_each still_word (k + 1) n in let x = h.1 in next_of_put _ next lanes.words.now wp said.1 (omega arith)),
       ),
     )
 
     -- and n turns more were put
-    pub has_led : (ts : List ReactorTurn) (k n i next : ℕ) (cps cqs : List (SendPass Control)) (wp wq : SendPass WordMsg) → next ≡ k + n → SaidTo ts k n cps wp → HasLed words controls next i wp wq cps cqs → SaidTo ts k (n + i) cqs wq
+    pub has_led : (ts : List ReactorTurn) (k n i next : ℕ) (cps cqs : List (SendPass Control)) (wp wq : SendPass WordMsg) → next ≡ k + n → SaidTo ts k n cps wp → HasLed lanes next i wp wq cps cqs → SaidTo ts k (n + i) cqs wq
     has_led ts k n i next cps cqs wp wq at w led = (
-      rows_put _ _ controls _ _ (each_turn still_control next i) w.0 led.0 (λ j. more_said (gather (λ (u : ReactorTurn). item j u.controls) ts) still_control k n i next at),
+      rows_put _ _ lanes.controls.now _ _ (each_turn still_control next i) w.0 led.0 (λ j. more_said (gather (λ (u : ReactorTurn). item j u.controls) ts) still_control k n i next at),
       put_more _ (each_turn still_word next i) _ _ _ _ w.1 led.1.0 led.1.1 led.1.2 (more_said (gather (λ (u : ReactorTurn). u.word ∷ []) ts) still_word k n i next at),
     )
 
     -- what a turn takes
     abbrev pub Takes : ReactorTurn → ReactorDone A O → TakePass Note → List (TakePass State) → Type 0
     Takes t d np sps =
-        RowTaken states d.state_passes.items sps t.states × IsTakeOf notes np × (take_first np ≡ take_first d.note_pass) × (taken np ≡ taken d.note_pass ++ option_items t.note)
+        RowTaken lanes.states.now d.state_passes.items sps t.states × IsTakeOf lanes.notes.now np × (take_first np ≡ take_first d.note_pass) × (taken np ≡ taken d.note_pass ++ option_items t.note)
 
     -- no end was ordered
     pub on_with : (k : ℕ) (s : Head A O) (d : ReactorDone A O) (t : ReactorTurn) (head : Head A O) (next n : ℕ) (wp : SendPass WordMsg) (np : TakePass Note) (cps : Vec (SendPass Control)) (sps : Vec (TakePass State))
-        → (h : At k s d) → t.end ≡ None → t.pieces ≡ [] → Ordering a o (length controls) k d.head t head → Takes t d np sps.items
+        → (h : At k s d) → t.end ≡ None → t.pieces ≡ [] → Ordering a o (length lanes.controls.now) k d.head t head → Takes t d np sps.items
         → next ≡ (k + 1) + n → (n ≡ 0) ⊎ a.free head.machine (k + 1) n → SaidTo (h.0 ++ t ∷ []) (k + 1) n cps.items wp
         → a.boards head.machine ≡ a.boards d.head.machine
-        → IsServing a o words notes asks pieces controls states k s (renewed d head d.served next wp np d.piece_pass cps sps)
+        → IsServing a o lanes k s (renewed d head d.served next wp np d.piece_pass cps sps)
     on_with k s d t head next n wp np cps sps h none bare ordering takes at free said boards =
         let ts = h.0 in let w = h.4.3 in let u = with_pieces t [] in (
           ts,
@@ -214,7 +215,7 @@ module _ {A O : Type 0} (a : Reactor A) (o : Out O) where
             free,
             (
               (said.0.0, λ j l q low. let x = said.0.1 j l q low in (x.0, x.1, x.2 ∙ ap (λ r. r ++ each_turn still_control (k + 1) n) (gather_same (λ (u : ReactorTurn). item j u.controls) ts t u refl))),
-              row_taken _ _ states _ _ t.states w.1 takes.0 (λ j. gather_on (λ (v : ReactorTurn). item j v.states) ts u),
+              row_taken _ _ lanes.states.now _ _ t.states w.1 takes.0 (λ j. gather_on (λ (v : ReactorTurn). item j v.states) ts u),
               (said.1.0, said.1.1, said.1.2 ∙ ap (λ r. r ++ each_turn still_word (k + 1) n) (gather_same (λ (u : ReactorTurn). u.word ∷ []) ts t u refl)),
               taken_more _ (option_items t.note) _ _ _ _ w.3 takes.1 takes.2 takes.3 (gather_on (λ (v : ReactorTurn). option_items v.note) ts u),
               (w.4.0, w.4.1, w.4.2 ∙ sym (gather_on (λ (v : ReactorTurn). v.pieces) ts u ∙ append-nil _)),
@@ -228,12 +229,12 @@ module _ {A O : Type 0} (a : Reactor A) (o : Out O) where
 
     -- the end was ordered
     pub end_with : (k : ℕ) (s : Head A O) (d : ReactorDone A O) (t : ReactorTurn) (c : Cause) (head : Head A O) (served : ℕ) (wp : SendPass WordMsg) (np : TakePass Note) (pp : SendPass Piece) (cps : Vec (SendPass Control)) (sps : Vec (TakePass State))
-        → At k s d → t.end ≡ Some c → t.pieces ≡ stop_piece k d.served ∷ [] → Ordering a o (length controls) k d.head t head → Takes t d np sps.items
-        → RowPut controls d.control_passes.items cps.items (copies (length controls) (bare_control d.next true))
-        → PutMore (bare_word d.next true ∷ []) words d.word_pass wp
-        → PutMore (stop_piece k d.served ∷ []) pieces d.piece_pass pp → next_put pp ≡ served
+        → At k s d → t.end ≡ Some c → t.pieces ≡ stop_piece k d.served ∷ [] → Ordering a o (length lanes.controls.now) k d.head t head → Takes t d np sps.items
+        → RowPut lanes.controls.now d.control_passes.items cps.items (copies (length lanes.controls.now) (bare_control d.next true))
+        → PutMore (bare_word d.next true ∷ []) lanes.words.now d.word_pass wp
+        → PutMore (stop_piece k d.served ∷ []) lanes.pieces.now d.piece_pass pp → next_put pp ≡ served
         → a.boards head.machine ≡ a.boards d.head.machine
-        → IsReactorDone a o words notes asks pieces controls states c s (renewed d head served d.next wp np pp cps sps)
+        → IsReactorDone a o lanes c s (renewed d head served d.next wp np pp cps sps)
     end_with k s d t c head served wp np pp cps sps h end stop ordering takes rp wput pput next boards =
         let ts = h.0 in let n = h.4.0 in let w = h.4.3 in let l = h.1 in let at = h.4.1 in
         let here : d.next ≡ length ts + n = omega (arith, l, at) in
@@ -243,10 +244,10 @@ module _ {A O : Type 0} (a : Reactor A) (o : Out O) where
           n,
           h.2,
           end,
-          goes_on (ReactorStep a o (length controls)) 0 k s d.head head ts t h.3 (omega (arith, l)) (head, ordering, ended),
+          goes_on (ReactorStep a o (length lanes.controls.now)) 0 k s d.head head ts t h.3 (omega (arith, l)) (head, ordering, ended),
           (
-            rows_put _ _ controls _ _ (bare_control d.next true ∷ []) w.0 (copies_put controls _ _ (bare_control d.next true) (h.4.3.0.0) rp) (λ j. last_said (gather (λ (u : ReactorTurn). item j u.controls) ts) still_control (λ i. bare_control i true) (length ts) k n d.next l here),
-            row_taken _ _ states _ _ t.states w.1 takes.0 (λ j. gather_on (λ (v : ReactorTurn). item j v.states) ts t),
+            rows_put _ _ lanes.controls.now _ _ (bare_control d.next true ∷ []) w.0 (copies_put lanes.controls.now _ _ (bare_control d.next true) (h.4.3.0.0) rp) (λ j. last_said (gather (λ (u : ReactorTurn). item j u.controls) ts) still_control (λ i. bare_control i true) (length ts) k n d.next l here),
+            row_taken _ _ lanes.states.now _ _ t.states w.1 takes.0 (λ j. gather_on (λ (v : ReactorTurn). item j v.states) ts t),
             put_more _ (bare_word d.next true ∷ []) _ _ _ _ w.2 wput.0 wput.1 wput.2 (last_said (gather (λ (u : ReactorTurn). u.word ∷ []) ts) still_word (λ i. bare_word i true) (length ts) k n d.next l here),
             taken_more _ (option_items t.note) _ _ _ _ w.3 takes.1 takes.2 takes.3 (gather_on (λ (v : ReactorTurn). option_items v.note) ts t),
             put_more _ (stop_piece k d.served ∷ []) _ _ _ _ w.4 pput.0 pput.1 pput.2 (gather_on (λ (v : ReactorTurn). v.pieces) ts t ∙ ap (λ r. gather (λ (v : ReactorTurn). v.pieces) ts ++ r) stop),
@@ -258,14 +259,14 @@ module _ {A O : Type 0} (a : Reactor A) (o : Out O) where
         )
 
     -- the pieces behind this turn's word are served
-    pub served_all : (k : ℕ) (s : Head A O) (d : ReactorDone A O) → IsServing a o words notes asks pieces controls states k s d → At (k + 1) s d
+    pub served_all : (k : ℕ) (s : Head A O) (d : ReactorDone A O) → IsServing a o lanes k s d → At (k + 1) s d
     served_all k s d h =
         let ts = h.0 in let t = h.1 in let ps = h.2 in let u = with_pieces t ps in let l = h.5 in let m = length-append ts (u ∷ []) in
         let served : Served a o k h.4 t.end ps d.head = subst (λ x. Served a o k h.4 x ps d.head) (sym h.8) h.10 in (
           ts ++ u ∷ [],
           omega arith,
           gather_on (λ (v : ReactorTurn). option_items v.end) ts u ∙ (λ i. h.6 i ++ option_items (h.8 i)),
-          goes_on (ReactorStep a o (length controls)) 0 k s h.3 d.head ts u h.7 (omega arith) (h.4, h.9, served),
+          goes_on (ReactorStep a o (length lanes.controls.now)) 0 k s h.3 d.head ts u h.7 (omega arith) (h.4, h.9, served),
           h.11,
         )
 
@@ -274,10 +275,10 @@ module _ {A O : Type 0} (a : Reactor A) (o : Out O) where
 
     -- one piece more
     pub served_more : (k : ℕ) (s : Head A O) (d : ReactorDone A O) (p : Piece) (head : Head A O) (n : ℕ) (b : Bool) (ap' : TakePass Ask) (pp : SendPass Piece)
-        → IsServing a o words notes asks pieces controls states k s d → ServeStep a.stops o.serves k d.head p head → a.boards head.machine ≡ a.boards d.head.machine
+        → IsServing a o lanes k s d → ServeStep a.stops o.serves k d.head p head → a.boards head.machine ≡ a.boards d.head.machine
         → ((i j : ℕ) → a.free d.head.machine i j → a.free head.machine i j)
-        → IsTakeOf asks ap' → IsSendOf pieces pp → put_first pp ≡ put_first d.piece_pass → put pp ≡ put d.piece_pass ++ p ∷ [] → next_put pp ≡ n
-        → IsServing a o words notes asks pieces controls states k s (reserved d head n b ap' pp)
+        → IsTakeOf lanes.asks.now ap' → IsSendOf lanes.pieces.now pp → put_first pp ≡ put_first d.piece_pass → put pp ≡ put d.piece_pass ++ p ∷ [] → next_put pp ≡ n
+        → IsServing a o lanes k s (reserved d head n b ap' pp)
     served_more k s d p head n b ap' pp h step boards keeps ask piece first more next =
         let ts = h.0 in let t = h.1 in let ps = h.2 in let w = h.11.3 in let i = h.11.0 in
         let f : ReactorTurn → List Piece = λ u. u.pieces in

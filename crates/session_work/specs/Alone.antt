@@ -2,7 +2,7 @@
 use Rattle.std.specs.Prelude.{◌≡◌, ℕ, ◌+◌, ◌<◌, List, [], ◌∷◌, length, get_or, IfSome}
 use Rattle.std.specs.Global.{Global, Vec}
 use Rattle.std.specs.declared.collections.VecDeque.{VecDeque}
-use Rattle.lane_queue.specs.declared.ends.Lane.{Lane}
+use Rattle.session_work.specs.declared.ends.Lanes.{Lanes}
 use Rattle.lane_queue.specs.declared.passes.SendPass.{SendPass}
 use Rattle.lane_queue.specs.declared.passes.TakePass.{TakePass}
 use Rattle.lane_queue.specs.Ends.{IsSendOf, IsTakeOf, next_put, next_take}
@@ -13,8 +13,6 @@ use Rattle.session_work.specs.declared.machines.ReactorMachine.{Ghosts as Reacto
 use Rattle.session_work.specs.declared.machines.Outside.{Ghosts as Out}
 use Rattle.msg_code.specs.declared.talk.WordMsg.{WordMsg}
 use Rattle.msg_code.specs.declared.talk.Note.{Note}
-use Rattle.msg_code.specs.declared.talk.Ask.{Ask}
-use Rattle.msg_code.specs.declared.talk.Piece.{Piece}
 use Rattle.session_work.specs.Heads.{IsRow}
 use Rattle.session_work.specs.Reactors.{IsReactorAt, IsServing}
 use Rattle.session_work.specs.Rows.{AreOf, CanPut, CanTake, PutMore, RowPut, RowTaken, TookMore, option_items}
@@ -29,13 +27,12 @@ use Rattle.session_work.specs.Links.{IsLinkAt}
 
 module _ {L : Type 0} (l : Link L) where
   -- the link of board j made k turns from its machine
-  abbrev pub IsHandAt : ℕ → List (Lane Control) → List (Lane Batch) → List (Lane State) → ℕ → Hand L → Type 0
-  IsHandAt k cs bs ss j h =
-      (c : Lane Control) (b : Lane Batch) (s : Lane State) →
-      IsLinkAt l.turns k (get_or cs j c) (get_or bs j b) (get_or ss j s) h.start.value h.done
+  abbrev pub IsHandAt : ℕ → Lanes → ℕ → Hand L → Type 0
+  IsHandAt k lanes j h = IsLinkAt l.turns k lanes j h.start.value h.done
 
-  abbrev pub AreHands : ℕ → List (Lane Control) → List (Lane Batch) → List (Lane State) → List (Hand L) → Type 0
-  AreHands k cs bs ss hs = (j : ℕ) (h : Hand L) → j < length hs → IsHandAt k cs bs ss j (get_or hs j h)
+  -- each of these links made k turns
+  abbrev pub AreHands : ℕ → Lanes → List (Hand L) → Type 0
+  AreHands k lanes hs = (j : ℕ) (h : Hand L) → j < length hs → IsHandAt k lanes j (get_or hs j h)
 
 module _ {M : Type 0} where
   -- the motion worker with these passes for its batches and notes, and these turns that wait
@@ -106,47 +103,46 @@ module _ {A O : Type 0} where
         state_passes = d.state_passes;
       }
 
-  module _ (a : Reactor A) (o : Out O) (words : Lane WordMsg) (notes : Lane Note) (asks : Lane Ask)
-      (pieces : Lane Piece) (controls : List (Lane Control)) (states : List (Lane State)) where
+  module _ (a : Reactor A) (o : Out O) (lanes : Lanes) where
     -- what is taken next of the states and notes is that of turn k
     abbrev pub IsTaking : ℕ → ReactorDone A O → Type 0
     IsTaking k d =
-        CanTake k states d.state_passes.items × (length d.state_passes.items ≡ length states)
-        × IsTakeOf notes d.note_pass × (next_take d.note_pass ≡ k)
+        CanTake k lanes.states.now d.state_passes.items × (length d.state_passes.items ≡ length lanes.states.now)
+        × IsTakeOf lanes.notes.now d.note_pass × (next_take d.note_pass ≡ k)
 
     -- the states and the note of the turn before were taken, which turn k begins with
     abbrev pub IsFound : ℕ → Head A O → Found → ReactorDone A O → Type 0
     IsFound k s f d =
-        (np : TakePass Note) × (sps : Vec (TakePass State))
-        × IsReactorAt a o words notes asks pieces controls states k s (with_takes d np sps)
-        × RowTaken states sps.items d.state_passes.items f.states.items
-        × TookMore (option_items f.note) notes np d.note_pass × IsRow (length states) k f.states.items f.note
-        × AreOf (λ x. x.turn + 1) k f.states.items × IfSome f.note (λ x. x.turn + 1 ≡ k) × (d.next ≡ k) × IsTaking k d
+        (np : TakePass Note) × (sps : Vec (TakePass State)) × IsReactorAt a o lanes k s (with_takes d np sps)
+        × RowTaken lanes.states.now sps.items d.state_passes.items f.states.items
+        × TookMore (option_items f.note) lanes.notes.now np d.note_pass
+        × IsRow (length lanes.states.now) k f.states.items f.note × AreOf (λ x. x.turn + 1) k f.states.items
+        × IfSome f.note (λ x. x.turn + 1 ≡ k) × (d.next ≡ k) × IsTaking k d
 
     -- P will hold of the reactor once these controls of turn k are put
     pub record Owes (P : ReactorDone A O → Type 0) (k : ℕ) (made : List Control) (d : ReactorDone A O) : Type 0 where
-      pub many : (length made ≡ length controls) × (length d.control_passes.items ≡ length controls)
-          × (length states ≡ length controls)
+      pub many : (length made ≡ length lanes.controls.now) × (length d.control_passes.items ≡ length lanes.controls.now)
+          × (length lanes.states.now ≡ length lanes.controls.now)
       pub numbers : AreOf (λ c. c.turn) k made
-      pub puts : CanPut k controls d.control_passes.items
+      pub puts : CanPut k lanes.controls.now d.control_passes.items
       pub takes : IsTaking k d
-      pub piece : IsSendOf pieces d.piece_pass × (next_put d.piece_pass ≡ d.served)
+      pub piece : IsSendOf lanes.pieces.now d.piece_pass × (next_put d.piece_pass ≡ d.served)
       pub next : d.next ≡ k + 1
-      pub behind : (cps : Vec (SendPass Control)) → RowPut controls d.control_passes.items cps.items made →
+      pub behind : (cps : Vec (SendPass Control)) → RowPut lanes.controls.now d.control_passes.items cps.items made →
           P (with_controls d cps)
 
     -- turn k orders no end, but its controls are still to be put
     abbrev pub OwesServing : ℕ → Head A O → List Control → ReactorDone A O → Type 0
-    OwesServing k s made d = Owes (IsServing a o words notes asks pieces controls states k s) k made d
+    OwesServing k s made d = Owes (IsServing a o lanes k s) k made d
 
     -- and its word too
     pub record OwesWord (k : ℕ) (s : Head A O) (made : List Control) (word : WordMsg) (d : ReactorDone A O)
         : Type 0 where
       pub number : word.turn ≡ k
-      pub can : IsSendOf words d.word_pass × (next_put d.word_pass ≡ k)
-      pub behind : (wp : SendPass WordMsg) → PutMore (word ∷ []) words d.word_pass wp →
+      pub can : IsSendOf lanes.words.now d.word_pass × (next_put d.word_pass ≡ k)
+      pub behind : (wp : SendPass WordMsg) → PutMore (word ∷ []) lanes.words.now d.word_pass wp →
           OwesServing k s made (with_words d wp)
 
     -- turn k is made, but its controls are still to be put
     abbrev pub OwesTurn : ℕ → Head A O → List Control → ReactorDone A O → Type 0
-    OwesTurn k s made d = Owes (IsReactorAt a o words notes asks pieces controls states (k + 1) s) k made d
+    OwesTurn k s made d = Owes (IsReactorAt a o lanes (k + 1) s) k made d

@@ -2,6 +2,7 @@
 use Rattle.std.specs.Prelude.{◌≡◌, ◌⊎◌, ℕ, zero, suc, ◌+◌, ◌<◌, true, false, List, [], ◌∷◌, ◌++◌, length, get_or}
 use Rattle.lane_queue.specs.declared.ends.Lane.{Lane}
 use Rattle.lane_queue.specs.declared.passes.SendPass.{SendPass}
+use Rattle.session_work.specs.declared.ends.Lanes.{Lanes}
 use Rattle.lane_queue.specs.Ends.{IsSendOf, put, put_first}
 use Rattle.msg_code.specs.declared.unit.Control.{Control}
 use Rattle.msg_code.specs.declared.talk.WordMsg.{WordMsg}
@@ -36,16 +37,18 @@ RowsPut {T} ls old new xs =
     × ((j : ℕ) (l : Lane T) (p q : SendPass T) → j < length new →
     PutMore xs (get_or ls j l) (get_or old j p) (get_or new j q))
 
-module _ (words : Lane WordMsg) (controls : List (Lane Control)) where
+module _ (lanes : Lanes) where
   -- bare controls and words were put for n turns from turn k on
   abbrev pub HasLed : ℕ → ℕ → SendPass WordMsg → SendPass WordMsg → List (SendPass Control) → List (SendPass Control) →
       Type 0
   HasLed k n wp wq cps cqs =
-      RowsPut controls cps cqs (each_turn still_control k n) × PutMore (each_turn still_word k n) words wp wq
+      RowsPut lanes.controls.now cps cqs (each_turn still_control k n)
+      × PutMore (each_turn still_word k n) lanes.words.now wp wq
 
   -- the controls and the word of turn k were put, or they were put before
   abbrev pub HasSaid : ℕ → WordMsg → List Control → ℕ → ℕ → SendPass WordMsg → SendPass WordMsg →
       List (SendPass Control) → List (SendPass Control) → Type 0
   HasSaid k word made next after wp wq cps cqs =
-      ((next ≡ k) × (after ≡ k + 1) × RowPut controls cps cqs made × PutMore (word ∷ []) words wp wq)
+      ((next ≡ k) × (after ≡ k + 1) × RowPut lanes.controls.now cps cqs made
+      × PutMore (word ∷ []) lanes.words.now wp wq)
       ⊎ ((k < next) × (after ≡ next) × (wp ≡ wq) × (cps ≡ cqs))

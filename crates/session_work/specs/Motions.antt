@@ -1,12 +1,10 @@
 -- What the motion worker took and put.
 use Rattle.std.specs.Prelude.{◌≡◌, ℕ, ◌+◌, Bool, true, false, Option, List, [], ◌∷◌, ◌++◌, length}
-use Rattle.lane_queue.specs.declared.ends.Lane.{Lane}
+use Rattle.session_work.specs.declared.ends.Lanes.{Lanes}
 use Rattle.lane_queue.specs.Ends.{IsSendOf, next_put}
 use Rattle.session_work.specs.declared.machines.MotionMachine.{Ghosts}
 use Rattle.msg_code.specs.declared.unit.Batch.{Batch}
 use Rattle.msg_code.specs.declared.talk.WordMsg.{WordMsg}
-use Rattle.msg_code.specs.declared.talk.Note.{Note}
-use Rattle.msg_code.specs.declared.talk.Ask.{Ask}
 use Rattle.msg_code.specs.declared.talk.Piece.{Piece}
 use Rattle.session_work.specs.declared.motion.MotionDone.{MotionDone}
 use Rattle.session_work.specs.declared.seat.Seat.{Seat}
@@ -37,29 +35,29 @@ module _ {M : Type 0} (m : Ghosts M) where
       × Feeding k a t.pieces b × (hungers m.hungry k b ≡ false)
       × MakeStep n m.turns k b t.batches t.note y
 
-  module _ (words : Lane WordMsg) (notes : Lane Note) (asks : Lane Ask) (pieces : Lane Piece)
-      (batches : List (Lane Batch)) where
+  module _ (lanes : Lanes) where
     -- these turns were made, and then these words and pieces were taken; the last batches and notes may wait
     abbrev pub MotionWent : List MotionTurn → List WordMsg → List Piece → MotionDone M → Type 0
     MotionWent ts ws ps d =
-        HasTaken (gather (λ t. t.words) ts ++ ws) words d.word_pass
-        × HasTaken (gather (λ t. t.pieces) ts ++ ps) pieces d.piece_pass
-        × HasPutBut (late_notes d.late.items) (gather (λ t. t.note ∷ []) ts) notes d.note_pass
-        × HavePutBut (late_batches (length batches) d.late.items) (λ j. gather (λ t. item j t.batches) ts) batches
-        d.batch_passes.items
-        × IsSendOf asks d.ask_pass × (next_put d.ask_pass ≡ d.asks) × (m.boards d.seat.machine ≡ length batches)
+        HasTaken (gather (λ t. t.words) ts ++ ws) lanes.words.now d.word_pass
+        × HasTaken (gather (λ t. t.pieces) ts ++ ps) lanes.pieces.now d.piece_pass
+        × HasPutBut (late_notes d.late.items) (gather (λ t. t.note ∷ []) ts) lanes.notes.now d.note_pass
+        × HavePutBut (late_batches (length lanes.batches.now) d.late.items) (λ j. gather (λ t. item j t.batches) ts)
+        lanes.batches.now d.batch_passes.items
+        × IsSendOf lanes.asks.now d.ask_pass × (next_put d.ask_pass ≡ d.asks)
+        × (m.boards d.seat.machine ≡ length lanes.batches.now)
 
     -- so many turns were made
     abbrev pub IsMotionAt : ℕ → M → MotionDone M → Type 0
     IsMotionAt k s d =
-        (ts : List MotionTurn) × (length ts ≡ k) × Goes (MotionStep (length batches)) 0 (seated s) ts d.seat
+        (ts : List MotionTurn) × (length ts ≡ k) × Goes (MotionStep (length lanes.batches.now)) 0 (seated s) ts d.seat
         × MotionWent ts [] [] d
 
     -- and words were taken for turn k
     abbrev pub IsHearing : ℕ → M → MotionDone M → Type 0
     IsHearing k s d =
         (ts : List MotionTurn) × (ws : List WordMsg) × (x : Seat M) × (length ts ≡ k)
-        × Goes (MotionStep (length batches)) 0 (seated s) ts x × Hearing k x ws d.seat × MotionWent ts ws [] d
+        × Goes (MotionStep (length lanes.batches.now)) 0 (seated s) ts x × Hearing k x ws d.seat × MotionWent ts ws [] d
 
     -- all words that are needed
     abbrev pub IsHeard : ℕ → M → MotionDone M → Type 0
@@ -69,8 +67,8 @@ module _ {M : Type 0} (m : Ghosts M) where
     abbrev pub IsFeeding : ℕ → M → MotionDone M → Type 0
     IsFeeding k s d =
         (ts : List MotionTurn) × (ws : List WordMsg) × (ps : List Piece) × (x : Seat M) × (a : Seat M) × (length ts ≡ k)
-        × Goes (MotionStep (length batches)) 0 (seated s) ts x × Hearing k x ws a × (needs m.wants k a ≡ false)
-        × Feeding k a ps d.seat × MotionWent ts ws ps d
+        × Goes (MotionStep (length lanes.batches.now)) 0 (seated s) ts x × Hearing k x ws a
+        × (needs m.wants k a ≡ false) × Feeding k a ps d.seat × MotionWent ts ws ps d
 
     -- all pieces that are needed
     abbrev pub IsFed : ℕ → M → MotionDone M → Type 0

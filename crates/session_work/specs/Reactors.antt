@@ -1,15 +1,12 @@
 -- What the reactor's thread took and put.
 use Rattle.std.specs.Prelude.{◌≡◌, ◌⊎◌, ℕ, ◌+◌, Option, Some, None, List, [], ◌∷◌, ◌++◌, length}
 use Rattle.plan_types.specs.declared.cause.Cause.{Cause}
-use Rattle.lane_queue.specs.declared.ends.Lane.{Lane}
+use Rattle.session_work.specs.declared.ends.Lanes.{Lanes}
 use Rattle.lane_queue.specs.Ends.{IsTakeOf, next_put}
 use Rattle.session_work.specs.declared.machines.ReactorMachine.{Ghosts as Reactor}
 use Rattle.session_work.specs.declared.machines.Outside.{Ghosts as Out}
 use Rattle.msg_code.specs.declared.unit.Control.{Control}
-use Rattle.msg_code.specs.declared.talk.State.{State}
 use Rattle.msg_code.specs.declared.talk.WordMsg.{WordMsg}
-use Rattle.msg_code.specs.declared.talk.Note.{Note}
-use Rattle.msg_code.specs.declared.talk.Ask.{Ask}
 use Rattle.msg_code.specs.declared.talk.Piece.{Piece}
 use Rattle.session_work.specs.declared.head.Head.{Head}
 use Rattle.session_work.specs.declared.reactor.ReactorDone.{ReactorDone}
@@ -37,21 +34,20 @@ with_pieces t ps =
     }
 
 module _ {A O : Type 0} (a : Reactor A) (o : Out O) where
-  module _ (words : Lane WordMsg) (notes : Lane Note) (asks : Lane Ask) (pieces : Lane Piece)
-      (controls : List (Lane Control)) (states : List (Lane State)) where
+  module _ (lanes : Lanes) where
     -- These turns were made. The controls and words of those were put, and behind them these for all boards.
     abbrev pub ReactorWent : List ReactorTurn → List ReactorTurn → List Control → List WordMsg → ReactorDone A O →
         Type 0
     ReactorWent ts said cs ws d =
-        HavePut (λ j. gather (λ t. item j t.controls) said ++ cs) controls d.control_passes.items
-        × HaveTaken (λ j. gather (λ t. item j t.states) ts) states d.state_passes.items
-        × HasPut (gather (λ t. t.word ∷ []) said ++ ws) words d.word_pass
-        × HasTaken (gather (λ t. option_items t.note) ts) notes d.note_pass
-        × HasPut (gather (λ t. t.pieces) ts) pieces d.piece_pass
+        HavePut (λ j. gather (λ t. item j t.controls) said ++ cs) lanes.controls.now d.control_passes.items
+        × HaveTaken (λ j. gather (λ t. item j t.states) ts) lanes.states.now d.state_passes.items
+        × HasPut (gather (λ t. t.word ∷ []) said ++ ws) lanes.words.now d.word_pass
+        × HasTaken (gather (λ t. option_items t.note) ts) lanes.notes.now d.note_pass
+        × HasPut (gather (λ t. t.pieces) ts) lanes.pieces.now d.piece_pass
         × (next_put d.piece_pass ≡ d.served)
-        × IsTakeOf asks d.ask_pass
-        × (a.boards d.head.machine ≡ length controls)
-        × (length states ≡ length controls)
+        × IsTakeOf lanes.asks.now d.ask_pass
+        × (a.boards d.head.machine ≡ length lanes.controls.now)
+        × (length lanes.states.now ≡ length lanes.controls.now)
 
     -- From turn k on bare controls and words were put for n turns, in which the machine says nothing.
     abbrev pub Ahead : ℕ → List ReactorTurn → ReactorDone A O → Type 0
@@ -63,14 +59,14 @@ module _ {A O : Type 0} (a : Reactor A) (o : Out O) where
     abbrev pub IsReactorAt : ℕ → Head A O → ReactorDone A O → Type 0
     IsReactorAt k s d =
         (ts : List ReactorTurn) × (length ts ≡ k) × (ends ts ≡ [])
-        × Goes (ReactorStep a o (length controls)) 0 s ts d.head × Ahead k ts d
+        × Goes (ReactorStep a o (length lanes.controls.now)) 0 s ts d.head × Ahead k ts d
 
     -- turn k orders no end, and these pieces were read behind it so far
     abbrev pub IsServing : ℕ → Head A O → ReactorDone A O → Type 0
     IsServing k s d =
         (ts : List ReactorTurn) × (t : ReactorTurn) × (ps : List Piece) × (x : Head A O) × (b : Head A O)
-        × (length ts ≡ k) × (ends ts ≡ []) × Goes (ReactorStep a o (length controls)) 0 s ts x
-        × (t.end ≡ None) × Ordering a o (length controls) k x t b
+        × (length ts ≡ k) × (ends ts ≡ []) × Goes (ReactorStep a o (length lanes.controls.now)) 0 s ts x
+        × (t.end ≡ None) × Ordering a o (length lanes.controls.now) k x t b
         × Goes (λ _. ServeStep a.stops o.serves k) 0 b ps d.head
         × Ahead (k + 1) (ts ++ with_pieces t ps ∷ []) d
 
@@ -78,5 +74,5 @@ module _ {A O : Type 0} (a : Reactor A) (o : Out O) where
     abbrev pub IsReactorDone : Cause → Head A O → ReactorDone A O → Type 0
     IsReactorDone c s d =
         (ts : List ReactorTurn) × (last : ReactorTurn) × (n : ℕ) × (ends ts ≡ []) × (last.end ≡ Some c)
-        × Goes (ReactorStep a o (length controls)) 0 s (ts ++ last ∷ []) d.head
+        × Goes (ReactorStep a o (length lanes.controls.now)) 0 s (ts ++ last ∷ []) d.head
         × ReactorWent (ts ++ last ∷ []) ts (last_controls (length ts) n) (last_words (length ts) n) d

@@ -5,7 +5,7 @@ ghost use Rattle.session_work.specs.Bares.{bare_control, bare_word};
 ghost use Rattle.session_work.specs.Rows.{AreOf, AllEnd, copies};
 
 use crate::machines::{Ordered, Outside, ReactorMachine};
-use crate::messages::{Bare, Note, Piece, State};
+use crate::messages::{Bare, Control, Note, Piece, State};
 use plan_types::{Cause, Listed};
 use report_text::ReportLine;
 use std::alloc::Global;
@@ -40,12 +40,12 @@ fn wants_memory(end: &Option<Cause>) -> bool
 impl<A: ReactorMachine, O: Outside> Head<A, O> {
     /// What the machine orders in turn k. None where memory was wanted, by the machine or by who found the
     /// row: then nothing of it is written.
-    pub fn turn<R: Wait>(&mut self, rt: &R, k: u64, found: Found) -> Option<Ordered>
-        requires found { IsRow (A.boards self.old.machine) k found.states.items found.note }
-        requires states { AreOf (λ s. s.turn + 1) k found.states.items }
-        requires note { IfSome found.note (λ n. n.turn + 1 ≡ k) }
-        ensures asked { IfSome result (λ o. A.turns self.old.machine k found.states.items found.note o.controls.items
-            o.word o.lines o.end self.new.machine) }
+    pub fn turn<R: Wait>(&mut self, rt: &R, k: u64, found: &Found) -> Option<Ordered>
+        requires found { IsRow (A.boards self.old.machine) k found.now.states.items found.now.note }
+        requires states { AreOf (λ s. s.turn + 1) k found.now.states.items }
+        requires note { IfSome found.now.note (λ n. n.turn + 1 ≡ k) }
+        ensures asked { IfSome result (λ o. A.turns self.old.machine k found.now.states.items found.now.note
+            o.controls.items o.word o.lines o.end self.new.machine) }
         ensures controls { IfSome result
             (λ o. (vec_len o.controls ≡ A.boards self.old.machine) × AreOf (λ c. c.turn) k o.controls.items) }
         ensures word { IfSome result (λ o. o.word.turn ≡ k) }
@@ -64,12 +64,21 @@ impl<A: ReactorMachine, O: Outside> Head<A, O> {
             }
             thread::yield_now();
         }
-        let Found { states, note } = found;
-        let ordered = self.machine.turn(k, states, note).ok()?;
+        let ordered = self
+            .machine
+            .turn(k, found.states.as_slice(), &found.note)
+            .ok()?;
         if wants_memory(&ordered.end) {
             return None;
         }
         Some(ordered)
+    }
+
+    /// Takes the list of a turn's controls back, whose room is used again.
+    pub fn give_back(&mut self, room: Vec<Control>)
+        ensures { self.new ≡ self.old }
+    {
+        self.machine.give_back(room);
     }
 
     /// Writes the lines of a turn. Where they don't go out, the machine is told.

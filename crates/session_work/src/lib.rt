@@ -3,6 +3,7 @@
 //! What the machines compute is not known here: they are traits, whose ghost relations say what a turn may give.
 #![tactic(auto)]
 
+mod ends;
 mod hands;
 mod head;
 mod late;
@@ -15,6 +16,7 @@ mod rows;
 mod seat;
 mod table;
 
+pub use ends::Lanes;
 pub use hands::{Hand, hands_turn};
 pub use head::{Found, Head};
 pub use late::{Late, Row};

@@ -1,12 +1,13 @@
 //! The thread of a link.
 ghost use Rattle.std.specs.Prelude.{◌≡◌, ◌+◌, true, false, []};
 ghost use Rattle.session_work.specs.declared.table.LinkTurn.{LinkTurn};
-ghost use Rattle.session_work.specs.Links.{LinkStep, link_turn_of, IsLinkAt, IsLinkDone, IsLinkEnded};
+ghost use Rattle.session_work.specs.Links.{IsBoard, LinkStep, link_turn_of, IsLinkAt, IsLinkDone, IsLinkEnded};
 
+use crate::ends::Lanes;
 use crate::machines::LinkMachine;
 use crate::messages::{Bare, Batch, Control, State};
 use io_core::{Gate, Who};
-use lane_queue::{Lane, SendPass, TakePass};
+use lane_queue::{SendPass, TakePass};
 use std::alloc::Global;
 use std::snapshot::Snapshot;
 use std::sync::Wait;
@@ -57,30 +58,28 @@ pub fn state_of<R: Wait, L: LinkMachine>(
     }
 }
 
-/// Turn k of a link: takes its control and its batch, and puts its state. False where the control ends the run.
-pub fn link_turn<R: Wait, G: Gate, L: LinkMachine>(
+/// Turn k of the link of board `at`: takes its control and its batch, and puts its state. False where the control ends
+/// the run.
+pub fn link_turn<R: Wait, L: LinkMachine>(
     rt: &R,
-    gate: &G,
     alloc: Global,
-    board: u8,
+    at: usize,
     k: u64,
     start: &Snapshot<L>,
-    controls: &Lane<Control>,
-    batches: &Lane<Batch>,
-    states: &Lane<State>,
+    lanes: &Lanes<'_>,
     link: &mut LinkDone<L>,
 ) -> bool
-    requires at { IsLinkAt L.turns k controls.now batches.now states.now start.now.value link.old }
-    ensures done { IsLinkDone L.turns controls.now batches.now states.now start.now.value link.new }
-    ensures at { result ≡ true → IsLinkAt L.turns (k + 1) controls.now batches.now states.now start.now.value link.new }
-    ensures end { result ≡ false → IsLinkEnded L.turns controls.now batches.now states.now start.now.value link.new }
+    requires board { IsBoard lanes.now at }
+    requires at { IsLinkAt L.turns k lanes.now at start.now.value link.old }
+    ensures done { IsLinkDone L.turns lanes.now at start.now.value link.new }
+    ensures at { result ≡ true → IsLinkAt L.turns (k + 1) lanes.now at start.now.value link.new }
+    ensures end { result ≡ false → IsLinkEnded L.turns lanes.now at start.now.value link.new }
 {
-    gate.pass(Who::Link(board), k);
-    let control = controls.take(rt, &mut link.control_pass);
+    let control = lanes.controls[at].take(rt, &mut link.control_pass);
     if control.end {
         return false;
     }
-    let batch = batches.take(rt, &mut link.batch_pass);
+    let batch = lanes.batches[at].take(rt, &mut link.batch_pass);
     let state = state_of(
         rt,
         alloc,
@@ -90,7 +89,7 @@ pub fn link_turn<R: Wait, G: Gate, L: LinkMachine>(
         &mut link.machine,
         &mut link.out,
     );
-    states.put(rt, &mut link.state_pass, state);
+    lanes.states[at].put(rt, &mut link.state_pass, state);
     true
 }
 
@@ -99,22 +98,21 @@ pub fn link_worker<R: Wait, G: Gate, L: LinkMachine>(
     rt: &R,
     gate: &G,
     alloc: Global,
-    board: u8,
+    at: usize,
     start: Snapshot<L>,
-    controls: &Lane<Control>,
-    batches: &Lane<Batch>,
-    states: &Lane<State>,
+    lanes: &Lanes<'_>,
     link: LinkDone<L>,
 ) -> LinkDone<L>
-    requires { IsLinkAt L.turns 0 controls.now batches.now states.now start.value link }
-    ensures done { IsLinkDone L.turns controls.entry.now batches.entry.now states.entry.now start.value result }
-    ensures end { IsLinkEnded L.turns controls.entry.now batches.entry.now states.entry.now start.value result }
+    requires board { IsBoard lanes.now at }
+    requires at { IsLinkAt L.turns 0 lanes.now at start.value link }
+    ensures done { IsLinkDone L.turns lanes.entry.now at start.value result }
+    ensures end { IsLinkEnded L.turns lanes.entry.now at start.value result }
 {
     let mut link = link;
+    let board = u8::try_from(at).unwrap_or(u8::MAX);
     for k in 0..u64::MAX {
-        let goes_on = link_turn(
-            rt, gate, alloc, board, k, &start, controls, batches, states, &mut link,
-        );
+        gate.pass(Who::Link(board), k);
+        let goes_on = link_turn(rt, alloc, at, k, &start, lanes, &mut link);
         if !goes_on {
             return link;
         }

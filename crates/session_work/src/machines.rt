@@ -89,6 +89,10 @@ pub trait MotionMachine: Drop {
         ensures batches { IfOk result
             (λ m. (vec_len m.batches ≡ boards self.old) × AreOf (λ b. b.turn) k m.batches.items) }
         ensures boards { boards self.new ≡ boards self.old };
+
+    /// Takes a list back, whose room a later turn may use again.
+    fn give_back(&mut self, room: Vec<Batch>)
+        ensures { self.new ≡ self.old };
 }
 
 /// What the reactor orders in a turn: a control for each board, a word, lines of the report, and the end where the run
@@ -131,19 +135,14 @@ pub trait ReactorMachine: Drop {
         ensures most { result ≤ most };
 
     /// Its turn k, over the states of the turn before, one of each board, and its note.
-    fn turn(
-        &mut self,
-        k: u64,
-        states: Vec<State>,
-        note: Option<Note>,
-    ) -> Result<Ordered, AllocError>
+    fn turn(&mut self, k: u64, states: &[State], note: &Option<Note>) -> Result<Ordered, AllocError>
         requires can { can self.old k }
-        requires states { AreOf (λ s. s.turn + 1) k states.items }
-        requires note { IfSome note (λ n. n.turn + 1 ≡ k) }
-        requires first { IfNone note ((k ≡ 0) × (vec_len states ≡ 0)) }
-        requires later { 0 < k → vec_len states ≡ boards self.old }
+        requires states { AreOf (λ s. s.turn + 1) k states.now }
+        requires note { IfSome note.now (λ n. n.turn + 1 ≡ k) }
+        requires first { IfNone note.now ((k ≡ 0) × (length states.now ≡ 0)) }
+        requires later { 0 < k → length states.now ≡ boards self.old }
         ensures ordered { IfOk result
-            (λ o. turns self.old k states.items note o.controls.items o.word o.lines o.end self.new) }
+            (λ o. turns self.old k states.now note.now o.controls.items o.word o.lines o.end self.new) }
         ensures controls { IfOk result
             (λ o. (vec_len o.controls ≡ boards self.old) × AreOf (λ c. c.turn) k o.controls.items) }
         ensures word { IfOk result (λ o. o.word.turn ≡ k) }
@@ -152,6 +151,10 @@ pub trait ReactorMachine: Drop {
             (o.controls.items ≡ copies (boards self.old) (bare_control k false)) × (o.word ≡ bare_word k false)
             × free self.new (k + 1) n) }
         ensures boards { boards self.new ≡ boards self.old };
+
+    /// Takes a list back, whose room a later turn may use again.
+    fn give_back(&mut self, room: Vec<Control>)
+        ensures { self.new ≡ self.old };
 
     /// The next turn answers this end, unless an earlier cause holds.
     fn stop(&mut self, cause: Cause)

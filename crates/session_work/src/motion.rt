@@ -6,6 +6,7 @@ ghost use Rattle.session_work.specs.Lates.{AreLate, IsLate, batches_of};
 ghost use Rattle.session_work.specs.Rows.{AreOf, CanPut, RowPut};
 ghost use Rattle.session_work.specs.Motions.{IsMotionAt, IsHearing, IsHeard, IsFed, IsMotionDone};
 
+use crate::ends::Lanes;
 use crate::late::{Late, Row, late_of};
 use crate::machines::MotionMachine;
 use crate::messages::{Ask, Bare, Batch, Made, Note, Piece, WordMsg};
@@ -65,22 +66,21 @@ fn put_ask<R: Wait>(
     *count += 1;
 }
 
-// Before the next word is taken: says that no more of the file is needed before the reactor's turn `until`, unless that
-// was said of the turn of the last word, or nothing is asked for.
+// Before the next word is taken: says, where that is needed, that no more of the file is before the reactor's
+// turn `until`.
 fn no_more<R: Wait>(
     rt: &R,
-    heard: u64,
+    needed: bool,
     until: u64,
     asks: &Lane<Ask>,
     pass: &mut SendPass<Ask>,
     count: &mut u64,
-    closed: bool,
     sated: &mut u64,
 )
     requires { IsSendOf asks.now pass.old × (next_put pass.old ≡ count.old) }
     ensures { IsSendOf asks.now pass.new × (next_put pass.new ≡ count.new) }
 {
-    if !closed && *sated < heard {
+    if needed {
         put_ask(rt, asks, pass, count, false, until);
         *sated = until;
     }
@@ -92,36 +92,30 @@ pub fn hear<R: Wait, M: MotionMachine>(
     rt: &R,
     k: u64,
     start: &Snapshot<M>,
-    words: &Lane<WordMsg>,
-    notes: &Lane<Note>,
-    asks: &Lane<Ask>,
-    pieces: &Lane<Piece>,
-    batches: &[Lane<Batch>],
+    lanes: &Lanes<'_>,
     motion: &mut MotionDone<M>,
 )
     requires limit { k + 1 < 2 ^ 64 }
-    requires at { IsHearing M.MotionMachine words.now notes.now asks.now pieces.now batches.now k start.now.value
-        motion.old }
-    ensures heard { IsHeard M.MotionMachine words.now notes.now asks.now pieces.now batches.now k start.now.value
-        motion.new }
+    requires at { IsHearing M.MotionMachine lanes.now k start.now.value motion.old }
+    ensures heard { IsHeard M.MotionMachine lanes.now k start.now.value motion.new }
     ensures late { motion.new.late ≡ motion.old.late }
 {
     for _ in rt.forever() {
         if !motion.seat.needs(k) {
             return;
         }
+        let needed = !motion.closed && motion.sated < motion.seat.heard;
         let until = motion.seat.sated(k);
         no_more(
             rt,
-            motion.seat.heard,
+            needed,
             until,
-            asks,
+            lanes.asks,
             &mut motion.ask_pass,
             &mut motion.asks,
-            motion.closed,
             &mut motion.sated,
         );
-        let word = words.take(rt, &mut motion.word_pass);
+        let word = lanes.words.take(rt, &mut motion.word_pass);
         motion.seat.word(word);
     }
 }
@@ -131,25 +125,26 @@ fn feed<R: Wait, M: MotionMachine>(
     rt: &R,
     k: u64,
     start: &Snapshot<M>,
-    words: &Lane<WordMsg>,
-    notes: &Lane<Note>,
-    asks: &Lane<Ask>,
-    pieces: &Lane<Piece>,
-    batches: &[Lane<Batch>],
+    lanes: &Lanes<'_>,
     motion: &mut MotionDone<M>,
 )
-    requires { IsHeard M.MotionMachine words.now notes.now asks.now pieces.now batches.now k start.now.value
-        motion.old }
-    ensures fed { IsFed M.MotionMachine words.now notes.now asks.now pieces.now batches.now k start.now.value
-        motion.new }
+    requires { IsHeard M.MotionMachine lanes.now k start.now.value motion.old }
+    ensures fed { IsFed M.MotionMachine lanes.now k start.now.value motion.new }
     ensures late { motion.new.late ≡ motion.old.late }
 {
     for _ in rt.forever() {
         if !motion.seat.hungers(k) {
             return;
         }
-        put_ask(rt, asks, &mut motion.ask_pass, &mut motion.asks, true, 0);
-        let piece = pieces.take(rt, &mut motion.piece_pass);
+        put_ask(
+            rt,
+            lanes.asks,
+            &mut motion.ask_pass,
+            &mut motion.asks,
+            true,
+            0,
+        );
+        let piece = lanes.pieces.take(rt, &mut motion.piece_pass);
         motion.closed = piece.end || piece.stop;
         motion.seat.piece(piece);
     }
@@ -161,18 +156,12 @@ fn make<R: Wait, M: MotionMachine>(
     alloc: Global,
     k: u64,
     start: &Snapshot<M>,
-    words: &Lane<WordMsg>,
-    notes: &Lane<Note>,
-    asks: &Lane<Ask>,
-    pieces: &Lane<Piece>,
-    batches: &[Lane<Batch>],
+    lanes: &Lanes<'_>,
     motion: &mut MotionDone<M>,
 )
-    requires fed { IsFed M.MotionMachine words.now notes.now asks.now pieces.now batches.now k start.now.value
-        motion.old }
+    requires fed { IsFed M.MotionMachine lanes.now k start.now.value motion.old }
     requires late { motion.old.late.items ≡ [] }
-    ensures at { IsMotionAt M.MotionMachine words.now notes.now asks.now pieces.now batches.now (k + 1) start.now.value
-        motion.new }
+    ensures at { IsMotionAt M.MotionMachine lanes.now (k + 1) start.now.value motion.new }
     ensures late { motion.new.late.items ≡ [] }
 {
     if let Some(made) = motion.seat.turn(rt, k) {
@@ -180,8 +169,8 @@ fn make<R: Wait, M: MotionMachine>(
             batches: made,
             note,
         } = made;
-        put_each(rt, k, batches, &mut motion.batch_passes, made);
-        notes.put(rt, &mut motion.note_pass, note);
+        put_each(rt, k, lanes.batches, &mut motion.batch_passes, made);
+        lanes.notes.put(rt, &mut motion.note_pass, note);
         return;
     }
     put_bare(
@@ -189,11 +178,11 @@ fn make<R: Wait, M: MotionMachine>(
         alloc,
         k,
         motion.seat.halted,
-        batches,
+        lanes.batches,
         &mut motion.batch_passes,
     );
     let note = Note::bare(alloc, k, motion.seat.out);
-    notes.put(rt, &mut motion.note_pass, note);
+    lanes.notes.put(rt, &mut motion.note_pass, note);
 }
 
 /// Makes turn k, whose batches and note wait.
@@ -202,20 +191,14 @@ pub fn keep<R: Wait, M: MotionMachine>(
     alloc: Global,
     k: u64,
     start: &Snapshot<M>,
-    words: &Lane<WordMsg>,
-    notes: &Lane<Note>,
-    asks: &Lane<Ask>,
-    pieces: &Lane<Piece>,
-    batches: &[Lane<Batch>],
+    lanes: &Lanes<'_>,
     motion: &mut MotionDone<M>,
 )
-    requires fed { IsFed M.MotionMachine words.now notes.now asks.now pieces.now batches.now k start.now.value
-        motion.old }
+    requires fed { IsFed M.MotionMachine lanes.now k start.now.value motion.old }
     requires room { deque_len motion.old.late + 1 ≤ deque_capacity motion.old.late }
-    ensures at { IsMotionAt M.MotionMachine words.now notes.now asks.now pieces.now batches.now (k + 1) start.now.value
-        motion.new }
+    ensures at { IsMotionAt M.MotionMachine lanes.now (k + 1) start.now.value motion.new }
     ensures late { (x : Late) × (motion.new.late.items ≡ motion.old.late.items ++ x ∷ [])
-        × IsLate (length batches.now) k x }
+        × IsLate (length lanes.now.batches.now) k x }
     ensures count { deque_len motion.new.late ≡ deque_len motion.old.late + 1 }
     ensures room { deque_capacity motion.old.late ≤ deque_capacity motion.new.late }
 {
@@ -255,26 +238,21 @@ pub fn flush<R: Wait, M: MotionMachine>(
     k: u64,
     n: u64,
     start: &Snapshot<M>,
-    words: &Lane<WordMsg>,
-    notes: &Lane<Note>,
-    asks: &Lane<Ask>,
-    pieces: &Lane<Piece>,
-    batches: &[Lane<Batch>],
+    lanes: &Lanes<'_>,
     motion: &mut MotionDone<M>,
 )
-    requires at { IsMotionAt M.MotionMachine words.now notes.now asks.now pieces.now batches.now n start.now.value
-        motion.old }
-    requires late { AreLate (length batches.now) k motion.old.late.items × (n ≡ k + length motion.old.late.items) }
-    ensures { IsMotionDone M.MotionMachine words.now notes.now asks.now pieces.now batches.now start.now.value
-        motion.new }
+    requires at { IsMotionAt M.MotionMachine lanes.now n start.now.value motion.old }
+    requires late { AreLate (length lanes.now.batches.now) k motion.old.late.items
+        × (n ≡ k + length motion.old.late.items) }
+    ensures { IsMotionDone M.MotionMachine lanes.now start.now.value motion.new }
 {
     for i in k..n {
         let Some(late) = motion.late.pop_front() else {
             return;
         };
         let Late { row, note } = late;
-        put_row(rt, alloc, i, batches, &mut motion.batch_passes, row);
-        notes.put(rt, &mut motion.note_pass, note);
+        put_row(rt, alloc, i, lanes.batches, &mut motion.batch_passes, row);
+        lanes.notes.put(rt, &mut motion.note_pass, note);
     }
 }
 
@@ -286,28 +264,20 @@ pub fn motion_turn<R: Wait, G: Gate, M: MotionMachine>(
     alloc: Global,
     k: u64,
     start: &Snapshot<M>,
-    words: &Lane<WordMsg>,
-    notes: &Lane<Note>,
-    asks: &Lane<Ask>,
-    pieces: &Lane<Piece>,
-    batches: &[Lane<Batch>],
+    lanes: &Lanes<'_>,
     motion: &mut MotionDone<M>,
 ) -> bool
     requires limit { k + 1 < 2 ^ 64 }
-    requires at { IsMotionAt M.MotionMachine words.now notes.now asks.now pieces.now batches.now k start.now.value
-        motion.old }
+    requires at { IsMotionAt M.MotionMachine lanes.now k start.now.value motion.old }
     requires late { motion.old.late.items ≡ [] }
-    ensures at { IsMotionAt M.MotionMachine words.now notes.now asks.now pieces.now batches.now (k + 1) start.now.value
-        motion.new }
+    ensures at { IsMotionAt M.MotionMachine lanes.now (k + 1) start.now.value motion.new }
     ensures late { motion.new.late.items ≡ [] }
     ensures end { result ≡ false → motion.new.seat.halted ≡ true }
 {
     gate.pass(Who::Motion, k);
-    hear(rt, k, start, words, notes, asks, pieces, batches, motion);
-    feed(rt, k, start, words, notes, asks, pieces, batches, motion);
-    make(
-        rt, alloc, k, start, words, notes, asks, pieces, batches, motion,
-    );
+    hear(rt, k, start, lanes, motion);
+    feed(rt, k, start, lanes, motion);
+    make(rt, alloc, k, start, lanes, motion);
     !motion.seat.halted
 }
 
@@ -318,34 +288,17 @@ pub fn motion_worker<R: Wait, G: Gate, M: MotionMachine>(
     gate: &G,
     alloc: Global,
     start: Snapshot<M>,
-    words: &Lane<WordMsg>,
-    notes: &Lane<Note>,
-    asks: &Lane<Ask>,
-    pieces: &Lane<Piece>,
-    batches: &[Lane<Batch>],
+    lanes: &Lanes<'_>,
     motion: MotionDone<M>,
 ) -> MotionDone<M>
-    requires at { IsMotionAt M.MotionMachine words.now notes.now asks.now pieces.now batches.now 0 start.value motion }
+    requires at { IsMotionAt M.MotionMachine lanes.now 0 start.value motion }
     requires late { motion.late.items ≡ [] }
-    ensures done { IsMotionDone M.MotionMachine words.entry.now notes.entry.now asks.entry.now pieces.entry.now
-        batches.entry.now start.value result }
+    ensures done { IsMotionDone M.MotionMachine lanes.entry.now start.value result }
     ensures end { result.seat.halted ≡ true }
 {
     let mut motion = motion;
     for k in 0..u64::MAX {
-        let goes_on = motion_turn(
-            rt,
-            gate,
-            alloc,
-            k,
-            &start,
-            words,
-            notes,
-            asks,
-            pieces,
-            batches,
-            &mut motion,
-        );
+        let goes_on = motion_turn(rt, gate, alloc, k, &start, lanes, &mut motion);
         if !goes_on {
             return motion;
         }

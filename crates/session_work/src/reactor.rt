@@ -4,10 +4,11 @@ ghost use Rattle.lane_queue.specs.Ends.{IsSendOf, IsTakeOf, next_put, next_take,
 ghost use Rattle.session_work.specs.Alone.{IsFound, OwesWord};
 ghost use Rattle.session_work.specs.Bares.{bare_control, bare_word, stop_piece};
 ghost use Rattle.session_work.specs.Heads.{IsRow};
-ghost use Rattle.session_work.specs.Rows.{Each, AreOf, CanPut, CanTake, RowPut, RowTaken, copies, option_items};
+ghost use Rattle.session_work.specs.Rows.{Each, AreOf, CanPut, CanTake, PutMore, RowPut, RowTaken, copies, option_items};
 ghost use Rattle.session_work.specs.Leads.{HasSaid, HasLed};
 ghost use Rattle.session_work.specs.Reactors.{IsReactorAt, IsServing, IsReactorDone};
 
+use crate::ends::Lanes;
 use crate::head::{Found, Head};
 use crate::machines::{Ordered, Outside, ReactorMachine};
 use crate::messages::{Ask, Bare, Control, Note, Piece, State, WordMsg};
@@ -77,34 +78,41 @@ fn find<R: Wait>(
     })
 }
 
-// Puts the end of turn k on all lanes, behind what was put ahead, and a piece that says that nothing comes.
-fn put_end<R: Wait>(
+// Puts the end behind what was put ahead, on the lanes of the words and of all boards' controls.
+fn put_last<R: Wait>(
+    rt: &R,
+    alloc: Global,
+    next: u64,
+    lanes: &Lanes<'_>,
+    word_pass: &mut SendPass<WordMsg>,
+    control_passes: &mut Vec<SendPass<Control>>,
+)
+    requires boards { vec_len control_passes.old ≡ length lanes.now.controls.now }
+    requires controls { CanPut next lanes.now.controls.now control_passes.old.items }
+    requires word { IsSendOf lanes.now.words.now word_pass.old × (next_put word_pass.old ≡ next) }
+    ensures controls { RowPut lanes.now.controls.now control_passes.old.items control_passes.new.items
+        (copies (length lanes.now.controls.now) (bare_control next true)) }
+    ensures word { PutMore (bare_word next true ∷ []) lanes.now.words.now word_pass.old word_pass.new }
+{
+    put_bare(rt, alloc, next, true, lanes.controls, control_passes);
+    lanes
+        .words
+        .put(rt, word_pass, WordMsg::bare(alloc, next, true));
+}
+
+// Puts in turn k a piece that says that nothing comes.
+fn put_stop<R: Wait>(
     rt: &R,
     alloc: Global,
     k: u64,
-    next: u64,
-    words: &Lane<WordMsg>,
-    word_pass: &mut SendPass<WordMsg>,
-    controls: &[Lane<Control>],
-    control_passes: &mut Vec<SendPass<Control>>,
     pieces: &Lane<Piece>,
-    piece_pass: &mut SendPass<Piece>,
+    pass: &mut SendPass<Piece>,
     served: &mut u64,
 )
-    requires boards { vec_len control_passes.old ≡ length controls.now }
-    requires controls { CanPut next controls.now control_passes.old.items }
-    requires word { IsSendOf words.now word_pass.old × (next_put word_pass.old ≡ next) }
-    requires piece { IsSendOf pieces.now piece_pass.old × (next_put piece_pass.old ≡ served.old) }
-    ensures controls { RowPut controls.now control_passes.old.items control_passes.new.items
-        (copies (length controls.now) (bare_control next true)) }
-    ensures word { IsSendOf words.now word_pass.new × (put_first word_pass.new ≡ put_first word_pass.old)
-        × (put word_pass.new ≡ put word_pass.old ++ bare_word next true ∷ []) }
-    ensures piece { IsSendOf pieces.now piece_pass.new × (put_first piece_pass.new ≡ put_first piece_pass.old)
-        × (put piece_pass.new ≡ put piece_pass.old ++ stop_piece k served.old ∷ []) }
-    ensures served { next_put piece_pass.new ≡ served.new }
+    requires pass { IsSendOf pieces.now pass.old × (next_put pass.old ≡ served.old) }
+    ensures piece { PutMore (stop_piece k served.old ∷ []) pieces.now pass.old pass.new }
+    ensures served { next_put pass.new ≡ served.new }
 {
-    put_bare(rt, alloc, next, true, controls, control_passes);
-    words.put(rt, word_pass, WordMsg::bare(alloc, next, true));
     let piece = Piece {
         number: *served,
         turn: k,
@@ -112,33 +120,33 @@ fn put_end<R: Wait>(
         end: false,
         stop: true,
     };
-    put_piece(rt, pieces, piece_pass, served, piece);
+    put_piece(rt, pieces, pass, served, piece);
 }
 
 // Puts what the machine ordered in turn k, unless that was put ahead.
 fn say<R: Wait>(
     rt: &R,
     k: u64,
-    words: &Lane<WordMsg>,
+    lanes: &Lanes<'_>,
     word_pass: &mut SendPass<WordMsg>,
-    controls: &[Lane<Control>],
     control_passes: &mut Vec<SendPass<Control>>,
     next: &mut u64,
-    made: Vec<Control>,
-    word: WordMsg,
+    said: (Vec<Control>, WordMsg),
 )
     requires limit { k + 1 < 2 ^ 64 }
     requires ahead { k ≤ next.old }
-    requires boards { (vec_len control_passes.old ≡ length controls.now) × (vec_len made ≡ length controls.now) }
-    requires numbers { AreOf (λ c. c.turn) k made.items × (word.turn ≡ k) }
-    requires controls { CanPut next.old controls.now control_passes.old.items }
-    requires word { IsSendOf words.now word_pass.old × (next_put word_pass.old ≡ next.old) }
-    ensures said { HasSaid words.now controls.now k word made.items next.old next.new word_pass.old word_pass.new
+    requires boards { (vec_len control_passes.old ≡ length lanes.now.controls.now)
+        × (vec_len said.0 ≡ length lanes.now.controls.now) }
+    requires numbers { AreOf (λ c. c.turn) k said.0.items × (said.1.turn ≡ k) }
+    requires controls { CanPut next.old lanes.now.controls.now control_passes.old.items }
+    requires word { IsSendOf lanes.now.words.now word_pass.old × (next_put word_pass.old ≡ next.old) }
+    ensures said { HasSaid lanes.now k said.1 said.0.items next.old next.new word_pass.old word_pass.new
         control_passes.old.items control_passes.new.items }
 {
     if *next <= k {
-        put_each(rt, k, controls, control_passes, made);
-        words.put(rt, word_pass, word);
+        let (made, word) = said;
+        put_each(rt, k, lanes.controls, control_passes, made);
+        lanes.words.put(rt, word_pass, word);
         *next = k + 1;
     }
 }
@@ -148,26 +156,24 @@ fn lead<R: Wait>(
     rt: &R,
     alloc: Global,
     to: u64,
-    words: &Lane<WordMsg>,
+    lanes: &Lanes<'_>,
     word_pass: &mut SendPass<WordMsg>,
-    controls: &[Lane<Control>],
     control_passes: &mut Vec<SendPass<Control>>,
     next: &mut u64,
 )
-    requires boards { vec_len control_passes.old ≡ length controls.now }
-    requires controls { CanPut next.old controls.now control_passes.old.items }
-    requires word { IsSendOf words.now word_pass.old × (next_put word_pass.old ≡ next.old) }
+    requires boards { vec_len control_passes.old ≡ length lanes.now.controls.now }
+    requires controls { CanPut next.old lanes.now.controls.now control_passes.old.items }
+    requires word { IsSendOf lanes.now.words.now word_pass.old × (next_put word_pass.old ≡ next.old) }
     ensures led { (n : ℕ) × (next.new ≡ next.old + n)
-        × HasLed words.now controls.now next.old n word_pass.old word_pass.new control_passes.old.items
-        control_passes.new.items }
+        × HasLed lanes.now next.old n word_pass.old word_pass.new control_passes.old.items control_passes.new.items }
     ensures to { ((next.new ≡ next.old) × (to ≤ next.old)) ⊎ (next.new ≡ to) }
 {
     let from = *next;
     if from >= to {
         return;
     }
-    put_each_ahead(rt, alloc, from, to, controls, control_passes);
-    put_ahead(rt, alloc, from, to, words, word_pass);
+    put_each_ahead(rt, alloc, from, to, lanes.controls, control_passes);
+    put_ahead(rt, alloc, from, to, lanes.words, word_pass);
     *next = to;
 }
 
@@ -196,58 +202,56 @@ fn order<R: Wait, A: ReactorMachine, O: Outside>(
     k: u64,
     most: u64,
     start: &Snapshot<Head<A, O>>,
-    words: &Lane<WordMsg>,
-    notes: &Lane<Note>,
-    asks: &Lane<Ask>,
-    pieces: &Lane<Piece>,
-    controls: &[Lane<Control>],
-    states: &[Lane<State>],
+    lanes: &Lanes<'_>,
     hand: &mut ReactorDone<A, O>,
 ) -> Option<Cause>
     requires limit { k + 1 < 2 ^ 64 }
-    requires at { IsReactorAt A.ReactorMachine O.Outside words.now notes.now asks.now pieces.now controls.now states.now
-        k start.now.value hand.old }
-    ensures on { IfNone result (IsServing A.ReactorMachine O.Outside words.now notes.now asks.now pieces.now
-        controls.now states.now k start.now.value hand.new) }
-    ensures end { IfSome result (λ c. IsReactorDone A.ReactorMachine O.Outside words.now notes.now asks.now pieces.now
-        controls.now states.now c start.now.value hand.new) }
+    requires at { IsReactorAt A.ReactorMachine O.Outside lanes.now k start.now.value hand.old }
+    ensures on { IfNone result (IsServing A.ReactorMachine O.Outside lanes.now k start.now.value hand.new) }
+    ensures end { IfSome result (λ c. IsReactorDone A.ReactorMachine O.Outside lanes.now c start.now.value hand.new) }
 {
     let found = find(
         rt,
         alloc,
         k,
-        notes,
+        lanes.notes,
         &mut hand.note_pass,
-        states,
+        lanes.states,
         &mut hand.state_passes,
     );
     let Some(found) = found else {
-        put_end(
+        put_last(
+            rt,
+            alloc,
+            hand.next,
+            lanes,
+            &mut hand.word_pass,
+            &mut hand.control_passes,
+        );
+        put_stop(
             rt,
             alloc,
             k,
-            hand.next,
-            words,
-            &mut hand.word_pass,
-            controls,
-            &mut hand.control_passes,
-            pieces,
+            lanes.pieces,
             &mut hand.piece_pass,
             &mut hand.served,
         );
         return Some(Cause::Memory);
     };
-    let Some(ordered) = hand.head.turn(rt, k, found) else {
-        put_end(
+    let Some(ordered) = hand.head.turn(rt, k, &found) else {
+        put_last(
+            rt,
+            alloc,
+            hand.next,
+            lanes,
+            &mut hand.word_pass,
+            &mut hand.control_passes,
+        );
+        put_stop(
             rt,
             alloc,
             k,
-            hand.next,
-            words,
-            &mut hand.word_pass,
-            controls,
-            &mut hand.control_passes,
-            pieces,
+            lanes.pieces,
             &mut hand.piece_pass,
             &mut hand.served,
         );
@@ -260,16 +264,19 @@ fn order<R: Wait, A: ReactorMachine, O: Outside>(
         end,
     } = ordered;
     if let Some(cause) = end {
-        put_end(
+        put_last(
+            rt,
+            alloc,
+            hand.next,
+            lanes,
+            &mut hand.word_pass,
+            &mut hand.control_passes,
+        );
+        put_stop(
             rt,
             alloc,
             k,
-            hand.next,
-            words,
-            &mut hand.word_pass,
-            controls,
-            &mut hand.control_passes,
-            pieces,
+            lanes.pieces,
             &mut hand.piece_pass,
             &mut hand.served,
         );
@@ -279,22 +286,19 @@ fn order<R: Wait, A: ReactorMachine, O: Outside>(
     say(
         rt,
         k,
-        words,
+        lanes,
         &mut hand.word_pass,
-        controls,
         &mut hand.control_passes,
         &mut hand.next,
-        made,
-        word,
+        (made, word),
     );
     let free = hand.head.machine.free(k + 1, ahead(k, hand.next, most));
     lead(
         rt,
         alloc,
         k + 1 + free,
-        words,
+        lanes,
         &mut hand.word_pass,
-        controls,
         &mut hand.control_passes,
         &mut hand.next,
     );
@@ -302,71 +306,37 @@ fn order<R: Wait, A: ReactorMachine, O: Outside>(
     None
 }
 
-// What the machine orders in turn k, and room for the states of that turn. None where memory was wanted.
-fn ask<R: Wait, A: ReactorMachine, O: Outside>(
-    rt: &R,
-    alloc: Global,
-    k: u64,
-    boards: usize,
-    head: &mut Head<A, O>,
-    found: Found,
-) -> Option<(Ordered, Vec<State>)>
-    requires found { IsRow (A.boards head.old.machine) k found.states.items found.note }
-    requires states { AreOf (λ s. s.turn + 1) k found.states.items }
-    requires note { IfSome found.note (λ n. n.turn + 1 ≡ k) }
-    ensures asked { IfSome result (λ r. A.turns head.old.machine k found.states.items found.note r.0.controls.items
-        r.0.word r.0.lines r.0.end head.new.machine) }
-    ensures controls { IfSome result
-        (λ r. (vec_len r.0.controls ≡ A.boards head.old.machine) × AreOf (λ c. c.turn) k r.0.controls.items) }
-    ensures word { IfSome result (λ r. r.0.word.turn ≡ k) }
-    ensures memory { IfSome result (λ r. r.0.end ≢ Some Cause.Memory) }
-    ensures room { IfSome result (λ r. (vec_len r.1 ≡ 0) × (boards ≤ vec_capacity r.1)) }
-    ensures boards { A.boards head.new.machine ≡ A.boards head.old.machine }
-    ensures outside { head.new.outside ≡ head.old.outside }
-    ensures stopped { head.new.stopped ≡ head.old.stopped }
-{
-    let ordered = head.turn(rt, k, found)?;
-    let room = Vec::with_capacity(alloc, boards).ok()?;
-    Some((ordered, room))
-}
-
-/// On one thread: what the machine orders in turn k over what was found. The controls and the word come back
-/// with room for the states, and nothing is put ahead. The end, where there is one.
+/// On one thread: what the machine orders in turn k over what was found. The controls and the word come back,
+/// and nothing is put ahead. The end, where there is one.
 pub fn order_here<R: Wait, A: ReactorMachine, O: Outside>(
     rt: &R,
     alloc: Global,
     k: u64,
-    found: Found,
+    found: &Found,
     start: &Snapshot<Head<A, O>>,
-    words: &Lane<WordMsg>,
-    notes: &Lane<Note>,
-    asks: &Lane<Ask>,
-    pieces: &Lane<Piece>,
-    controls: &[Lane<Control>],
-    states: &[Lane<State>],
+    lanes: &Lanes<'_>,
     hand: &mut ReactorDone<A, O>,
-) -> Result<(Vec<Control>, WordMsg, Vec<State>), Cause>
+) -> Result<(Vec<Control>, WordMsg), Cause>
     requires limit { k + 1 < 2 ^ 64 }
-    requires found { IsFound A.ReactorMachine O.Outside words.now notes.now asks.now pieces.now controls.now states.now
-        k start.now.value found hand.old }
-    ensures on { IfOk result (λ r. OwesWord A.ReactorMachine O.Outside words.now notes.now asks.now pieces.now
-        controls.now states.now k start.now.value r.0.items r.1 hand.new) }
-    ensures room { IfOk result (λ r. (vec_len r.2 ≡ 0) × (length states.now ≤ vec_capacity r.2)) }
-    ensures end { IfErr result (λ c. IsReactorDone A.ReactorMachine O.Outside words.now notes.now asks.now pieces.now
-        controls.now states.now c start.now.value hand.new) }
+    requires found { IsFound A.ReactorMachine O.Outside lanes.now k start.now.value found.now hand.old }
+    ensures on { IfOk result
+        (λ r. OwesWord A.ReactorMachine O.Outside lanes.now k start.now.value r.0.items r.1 hand.new) }
+    ensures end { IfErr result (λ c. IsReactorDone A.ReactorMachine O.Outside lanes.now c start.now.value hand.new) }
 {
-    let asked = ask(rt, alloc, k, states.len(), &mut hand.head, found);
-    let Some((ordered, room)) = asked else {
-        put_end(
+    let Some(ordered) = hand.head.turn(rt, k, found) else {
+        put_last(
+            rt,
+            alloc,
+            hand.next,
+            lanes,
+            &mut hand.word_pass,
+            &mut hand.control_passes,
+        );
+        put_stop(
             rt,
             alloc,
             k,
-            hand.next,
-            words,
-            &mut hand.word_pass,
-            controls,
-            &mut hand.control_passes,
-            pieces,
+            lanes.pieces,
             &mut hand.piece_pass,
             &mut hand.served,
         );
@@ -379,16 +349,19 @@ pub fn order_here<R: Wait, A: ReactorMachine, O: Outside>(
         end,
     } = ordered;
     if let Some(cause) = end {
-        put_end(
+        put_last(
+            rt,
+            alloc,
+            hand.next,
+            lanes,
+            &mut hand.word_pass,
+            &mut hand.control_passes,
+        );
+        put_stop(
             rt,
             alloc,
             k,
-            hand.next,
-            words,
-            &mut hand.word_pass,
-            controls,
-            &mut hand.control_passes,
-            pieces,
+            lanes.pieces,
             &mut hand.piece_pass,
             &mut hand.served,
         );
@@ -397,7 +370,7 @@ pub fn order_here<R: Wait, A: ReactorMachine, O: Outside>(
     }
     hand.next = k + 1;
     hand.head.write(lines);
-    Ok((made, word, room))
+    Ok((made, word))
 }
 
 // Reads the pieces of the file that the motion worker asks for behind word k.
@@ -406,31 +379,30 @@ fn serve<R: Wait, A: ReactorMachine, O: Outside>(
     alloc: Global,
     k: u64,
     start: &Snapshot<Head<A, O>>,
-    words: &Lane<WordMsg>,
-    notes: &Lane<Note>,
-    asks: &Lane<Ask>,
-    pieces: &Lane<Piece>,
-    controls: &[Lane<Control>],
-    states: &[Lane<State>],
+    lanes: &Lanes<'_>,
     hand: &mut ReactorDone<A, O>,
 )
-    requires { IsServing A.ReactorMachine O.Outside words.now notes.now asks.now pieces.now controls.now states.now k
-        start.now.value hand.old }
-    ensures { IsReactorAt A.ReactorMachine O.Outside words.now notes.now asks.now pieces.now controls.now states.now
-        (k + 1) start.now.value hand.new }
+    requires { IsServing A.ReactorMachine O.Outside lanes.now k start.now.value hand.old }
+    ensures { IsReactorAt A.ReactorMachine O.Outside lanes.now (k + 1) start.now.value hand.new }
 {
     for _ in rt.forever() {
         if hand.head.stopped || hand.closed || k < hand.sated {
             return;
         }
-        let ask = asks.take(rt, &mut hand.ask_pass);
+        let ask = lanes.asks.take(rt, &mut hand.ask_pass);
         if !ask.more {
             hand.sated = ask.until;
             return;
         }
         let piece = hand.head.piece(alloc, k, hand.served);
         hand.closed = piece.end;
-        put_piece(rt, pieces, &mut hand.piece_pass, &mut hand.served, piece);
+        put_piece(
+            rt,
+            lanes.pieces,
+            &mut hand.piece_pass,
+            &mut hand.served,
+            piece,
+        );
     }
 }
 
@@ -467,32 +439,20 @@ pub fn reactor_turn<R: Wait, G: Gate, A: ReactorMachine, O: Outside>(
     alloc: Global,
     k: u64,
     start: &Snapshot<Head<A, O>>,
-    words: &Lane<WordMsg>,
-    notes: &Lane<Note>,
-    asks: &Lane<Ask>,
-    pieces: &Lane<Piece>,
-    controls: &[Lane<Control>],
-    states: &[Lane<State>],
+    lanes: &Lanes<'_>,
     hand: &mut ReactorDone<A, O>,
 ) -> Option<Cause>
     requires limit { k + 1 < 2 ^ 64 }
-    requires at { IsReactorAt A.ReactorMachine O.Outside words.now notes.now asks.now pieces.now controls.now states.now
-        k start.now.value hand.old }
-    ensures on { IfNone result (IsReactorAt A.ReactorMachine O.Outside words.now notes.now asks.now pieces.now
-        controls.now states.now (k + 1) start.now.value hand.new) }
-    ensures end { IfSome result (λ c. IsReactorDone A.ReactorMachine O.Outside words.now notes.now asks.now pieces.now
-        controls.now states.now c start.now.value hand.new) }
+    requires at { IsReactorAt A.ReactorMachine O.Outside lanes.now k start.now.value hand.old }
+    ensures on { IfNone result (IsReactorAt A.ReactorMachine O.Outside lanes.now (k + 1) start.now.value hand.new) }
+    ensures end { IfSome result (λ c. IsReactorDone A.ReactorMachine O.Outside lanes.now c start.now.value hand.new) }
 {
     gate.pass(Who::Reactor, k);
-    let end = order(
-        rt, alloc, k, LEAD, start, words, notes, asks, pieces, controls, states, hand,
-    );
+    let end = order(rt, alloc, k, LEAD, start, lanes, hand);
     if let Some(cause) = end {
         return Some(cause);
     }
-    serve(
-        rt, alloc, k, start, words, notes, asks, pieces, controls, states, hand,
-    );
+    serve(rt, alloc, k, start, lanes, hand);
     None
 }
 
@@ -502,24 +462,15 @@ pub fn reactor_worker<R: Wait, G: Gate, A: ReactorMachine, O: Outside>(
     gate: &G,
     alloc: Global,
     start: &Snapshot<Head<A, O>>,
-    words: &Lane<WordMsg>,
-    notes: &Lane<Note>,
-    asks: &Lane<Ask>,
-    pieces: &Lane<Piece>,
-    controls: &[Lane<Control>],
-    states: &[Lane<State>],
+    lanes: &Lanes<'_>,
     hand: ReactorDone<A, O>,
 ) -> (ReactorDone<A, O>, Cause)
-    requires { IsReactorAt A.ReactorMachine O.Outside words.now notes.now asks.now pieces.now controls.now states.now 0
-        start.now.value hand }
-    ensures { IsReactorDone A.ReactorMachine O.Outside words.now notes.now asks.now pieces.now controls.now states.now
-        result.1 start.now.value result.0 }
+    requires { IsReactorAt A.ReactorMachine O.Outside lanes.now 0 start.now.value hand }
+    ensures { IsReactorDone A.ReactorMachine O.Outside lanes.now result.1 start.now.value result.0 }
 {
     let mut hand = hand;
     for k in 0..u64::MAX {
-        let end = reactor_turn(
-            rt, gate, alloc, k, start, words, notes, asks, pieces, controls, states, &mut hand,
-        );
+        let end = reactor_turn(rt, gate, alloc, k, start, lanes, &mut hand);
         if let Some(cause) = end {
             return (hand, cause);
         }

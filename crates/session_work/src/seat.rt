@@ -4,6 +4,7 @@ ghost use Rattle.session_work.specs.Seats.{needs, hungers, WordStep, PieceStep, 
 ghost use Rattle.session_work.specs.Rows.{copies, AreOf};
 ghost use Rattle.session_work.specs.Bares.{bare_batch, bare_note};
 
+use crate::late::Row;
 use crate::machines::MotionMachine;
 use crate::messages::{Made, Piece, WordMsg};
 use std::sync::Wait;
@@ -126,6 +127,15 @@ impl<M: MotionMachine> Seat<M> {
         self.quiet = true;
         self.out = true;
         None
+    }
+
+    /// Takes back what a turn was in: where it was a list, its room is used again.
+    pub fn give_back(&mut self, row: Row)
+        ensures { self.new ≡ self.old }
+    {
+        if let Row::Made(room) = row {
+            self.machine.give_back(room);
+        }
     }
 
     /// Takes the next piece of the file. One that says that nothing comes is of the turn of the last word

@@ -1,4 +1,4 @@
-use Rattle.std.proofs.Common.{◌≡◌, ◌+◌, length, subst, sym}
+use Rattle.std.proofs.Common.{◌≡◌, ◌+◌, ◌∙◌, length, subst, sym}
 use Rattle.session_work.specs.Lates.{AreLate}
 use Rattle.session_lanes.proofs.alone.begin_here.Goals as goal
 
@@ -12,7 +12,10 @@ pub say_here-said-requires-clause-reactor : goal.say_here-said-requires-clause-r
 say_here-said-requires-clause-reactor g c = c.requires.reactor
 
 pub plan_turn-requires-clause-late : goal.plan_turn-requires-clause-late
-plan_turn-requires-clause-late g c = subst (λ l. AreLate (length c.args.batches.now) c.args.k l.items × (c.args.from ≡ c.args.k + length l.items)) (sym c.say_here-said.ensures.late) c.requires.late
+plan_turn-requires-clause-late g c =
+    let k = c.args.k in let n = length c.args.place.now.lanes.batches.now in let new = c.say_here-said.new.both in
+    let at : new.next ≡ k + length c.args.both.now.motion.late.items = c.say_here-said.ensures.next ∙ c.requires.late.1 in
+    subst (λ l. AreLate n k l.items × (new.next ≡ k + length l.items)) (sym c.say_here-said.ensures.late) (c.requires.late.0, at)
 
 pub plan_turn-requires-clause-reactor : goal.plan_turn-requires-clause-reactor
 plan_turn-requires-clause-reactor g c = c.say_here-said.ensures.reactor

@@ -8,9 +8,10 @@ use Rattle.session_lanes.proofs.alone.plan_here.Given as goal
 
 abbrev pub invariant-loop-n : goal.invariant-loop-n
 invariant-loop-n g l = record {
-  motion : IsMotionAt g.M.MotionMachine l.words l.notes l.asks l.pieces l.batches l.n l.start.value l.motion;
-  late : AreLate (length l.batches) l.k l.motion.late.items;
-  count : l.n ≡ l.k + length l.motion.late.items;
-  room : most_late ≤ deque_capacity l.motion.late;
-  reactor : OwesServing g.A.ReactorMachine g.O.Outside l.words l.notes l.asks l.pieces l.controls l.states l.k l.first.value l.owed l.hand;
+  motion : IsMotionAt g.M.MotionMachine l.place.lanes l.both.next l.place.start.now.value l.both.motion;
+  late : AreLate (length l.place.lanes.batches.now) l.k l.both.motion.late.items;
+  at : l.both.next ≡ l.n;
+  count : l.both.next ≡ l.k + length l.both.motion.late.items;
+  room : most_late ≤ deque_capacity l.both.motion.late;
+  reactor : OwesServing g.A.ReactorMachine g.O.Outside l.place.lanes l.k l.place.first.now.value l.both.owed.items l.both.hand;
 }

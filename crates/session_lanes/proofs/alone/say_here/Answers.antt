@@ -10,10 +10,10 @@ use Rattle.session_lanes.proofs.alone.say_here.Goals as goal
 pub hand-requires-clause-empty : goal.hand-requires-clause-empty
 hand-requires-clause-empty g c =
     let m = g.M.MotionMachine in let at = c.requires.motion in let ts = at.0 in
-    let heard = heard_by m (length c.args.batches.now) 0 (seated m c.args.start.now.value) c.args.motion.now.seat ts at.2 in
-    let is : c.args.motion.now.seat.heard ≡ c.args.k = search rules in
+    let heard = heard_by m (length c.args.place.now.lanes.batches.now) 0 (seated m c.args.place.now.start.now.value) c.args.both.now.motion.seat ts at.2 in
+    let is : c.args.both.now.motion.seat.heard ≡ c.args.k = search rules in
     let sum = ap length (append-nil (gather (λ (t : MotionTurn). t.words) ts)) in
-    let taken : next_take c.args.motion.now.word_pass ≡ c.args.k = next_taken _ c.args.k c.args.words.now _ at.3.0 (omega arith) in
+    let taken : next_take c.args.both.now.motion.word_pass ≡ c.args.k = next_taken _ c.args.k c.args.place.now.lanes.words.now _ at.3.0 (omega arith) in
     c.requires.reactor.number ∙ sym taken
 
 pub returns-then-needs-clause-heard : goal.returns-then-needs-clause-heard
@@ -23,7 +23,7 @@ returns-then-needs-clause-heard g c = λ _.
       (
         ts,
         word ∷ [],
-        c.args.motion.now.seat,
+        c.args.both.now.motion.seat,
         at.1,
         at.2,
         (c.word.new.self, (search rules, c.word.ensures.step), refl),

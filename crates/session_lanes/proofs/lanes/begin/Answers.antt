@@ -1,22 +1,21 @@
-use Rattle.std.proofs.Common.{rules, arith, ◌≡◌, ◌+◌, ◌≤◌, ◌∙◌, [], ◌∷◌, ◌++◌, List, map, length, vec_len, vec_capacity, subst, sym, ap, refl, append-nil}
+use Rattle.std.proofs.Common.{rules, arith, ◌≡◌, ◌+◌, ◌≤◌, ◌∙◌, false, [], ◌++◌, map, length, vec_len, vec_capacity, subst, sym, ap, refl, append-nil}
 use mathlib.Core.Logic.{inl}
 use Rattle.std.specs.VecDeque.{deque_len}
-use Rattle.lane_queue.specs.declared.ends.Lane.{Lane}
-use Rattle.msg_code.specs.declared.unit.Batch.{Batch}
-use Rattle.msg_code.specs.declared.unit.Control.{Control}
-use Rattle.msg_code.specs.declared.talk.State.{State}
 use Rattle.session_work.specs.Lates.{late_batches, late_notes}
 use Rattle.session_work.proofs.Goes.{waits_none}
 use Rattle.session_work.proofs.Columns.{none_rows_wait}
 use Rattle.session_lanes.specs.Lanes.{AreNewSends, AreNewTakes}
-use Rattle.session_lanes.specs.Levels.{AreLinks}
+use Rattle.session_lanes.specs.declared.lanes.AllLanes.{AllLanes}
+use Rattle.session_lanes.specs.declared.near.Far.{Far}
+use Rattle.session_lanes.specs.Levels.{IsFar}
+use Rattle.session_lanes.proofs.NewRows.{links_at, same_lanes}
 use Rattle.session_lanes.proofs.lanes.begin.Goals as goal
 
 pub set_links-links-requires-clause-new : goal.set_links-links-requires-clause-new
 set_links-links-requires-clause-new g c = (
-  subst (λ ls. AreNewTakes ls c.args.places.rows.controls.takes.items) (sym c.as_slice.ensures.value) c.requires.places.controls.4,
-  subst (λ ls. AreNewTakes ls c.args.places.rows.batches.takes.items) (sym c.as_slice-2.ensures.value) c.requires.places.batches.4,
-  subst (λ ls. AreNewSends ls c.args.places.rows.states.sends.items) (sym c.as_slice-3.ensures.value) c.requires.places.states.3,
+  subst (λ ls. AreNewTakes ls c.args.places.rows.controls.takes.items) (sym c.lanes_of.ensures.4) c.requires.places.controls.4,
+  subst (λ ls. AreNewTakes ls c.args.places.rows.batches.takes.items) (sym c.lanes_of.ensures.5) c.requires.places.batches.4,
+  subst (λ ls. AreNewSends ls c.args.places.rows.states.sends.items) (sym c.lanes_of.ensures.6) c.requires.places.states.3,
 )
 
 pub returns : goal.returns
@@ -29,15 +28,23 @@ returns g c =
     let count = c.set_links-links.ensures.count in let none : deque_len c.args.places.room ≡ 0 = c.requires.places.room.1 in
     let bare : c.args.places.room.items ≡ [] = c.requires.places.room.0 in
     let late = c.requires.places.late.0 in let boards = length c.args.places.rows.batches.lanes.items in
+    let ones = c.args.places.ones in let rows = c.args.places.rows in
+    let own : AllLanes = record { words = ones.words.lane; notes = ones.notes.lane; asks = ones.asks.lane; pieces = ones.pieces.lane; controls = rows.controls.lanes; batches = rows.batches.lanes; states = rows.states.lanes } in
+    let far : Far g.row.M.Denot g.row.L.Denot g.row.A.Denot g.row.O.Denot = record {
+      motion = record { seat = record { machine = c.args.motion; halted = false; quiet = false; out = false; heard = 0 }; asks = 0; closed = false; sated = 0; word_pass = ones.words.take; note_pass = ones.notes.send; ask_pass = ones.asks.send; piece_pass = ones.pieces.take; batch_passes = rows.batches.sends; late = c.args.places.late };
+      hand = record { head = c.args.head; served = 0; next = 0; closed = false; sated = 0; word_pass = ones.words.send; note_pass = ones.notes.take; ask_pass = ones.asks.take; piece_pass = ones.pieces.send; control_passes = rows.controls.sends; state_passes = rows.states.takes };
+      logs = c.args.places.logs;
+      home = c.args.places.home;
+    } in
     let lr = c.requires.places.logs.2 in let hr = c.requires.places.home.2 in (
       omega arith,
       omega arith,
       omega arith,
-      subst (λ (y : List (Lane Control) × List (Lane Batch) × List (Lane State)). AreLinks g.L.LinkMachine 0 y.0 y.1 y.2 c.set_links-links.result.items) (λ i. (c.as_slice.ensures.value i, c.as_slice-2.ensures.value i, c.as_slice-3.ensures.value i)) c.set_links-links.ensures.set,
+      (λ lanes e. links_at g.L.LinkMachine c.lanes_of.result lanes c.set_links-links.result.items (c.lanes_of.ensures.4 ∙ sym e.4) (c.lanes_of.ensures.5 ∙ sym e.5) (c.lanes_of.ensures.6 ∙ sym e.6) c.set_links-links.ensures.set),
       c.set_links-links.ensures.machines ∙ (ap (λ xs. c.args.links.items ++ map (λ d. d.machine) xs) bare ∙ append-nil _),
       refl,
       refl,
-      (
+      (λ lanes e. same_lanes (λ x. IsFar g.M.MotionMachine g.A.ReactorMachine g.O.Outside x far) own lanes e (
         (
           [],
           refl,
@@ -61,5 +68,5 @@ returns g c =
         refl,
         late,
         c.requires.places.late.1,
-      ),
+      )),
     )

@@ -15,10 +15,10 @@ use Rattle.session_lanes.specs.declared.near.Reached.{Reached}
 use Rattle.session_lanes.proofs.whole.run.Goals as goal
 
 pub in_scope-reached-requires-clause-links : goal.in_scope-reached-requires-clause-links
-in_scope-reached-requires-clause-links g c κs within = subst (λ (y : List (Lane Control) × List (Lane Batch) × List (Lane State)). AreLinks g.L.LinkMachine 0 y.0 y.1 y.2 c.begin-lanes.result.links.items) (λ i. (sym c.as_slice.ensures.value i, sym c.as_slice-2.ensures.value i, sym c.as_slice-3.ensures.value i)) c.begin-lanes.ensures.3
+in_scope-reached-requires-clause-links g c κs within = c.begin-lanes.ensures.3 c.lanes_of.result c.lanes_of.ensures
 
 pub in_scope-reached-requires-clause-far : goal.in_scope-reached-requires-clause-far
-in_scope-reached-requires-clause-far g c κs within = subst (λ (y : List (Lane Control) × List (Lane Batch) × List (Lane State)). IsFar g.M.MotionMachine g.A.ReactorMachine g.O.Outside c.begin-lanes.result.lanes.words c.begin-lanes.result.lanes.notes c.begin-lanes.result.lanes.asks c.begin-lanes.result.lanes.pieces y.0 y.1 y.2 c.begin-lanes.result.far) (λ i. (sym c.as_slice.ensures.value i, sym c.as_slice-2.ensures.value i, sym c.as_slice-3.ensures.value i)) c.begin-lanes.ensures.7
+in_scope-reached-requires-clause-far g c κs within = c.begin-lanes.ensures.7 c.lanes_of.result c.lanes_of.ensures
 
 pub run_alone-requires-clause-boards : goal.run_alone-requires-clause-boards
 run_alone-requires-clause-boards g c =
@@ -35,8 +35,8 @@ returns-in-Ran-clause-ran g c =
     let b = c.begin-lanes.ensures in let ds = c.begin-lanes.result.links in
     let many : length ds.items ≡ deque_len ds = search rules in let same = ap length b.4 in let long : length (map (λ (d : LinkDone g.row.L.Denot). d.machine) ds.items) ≡ length ds.items = length-map ds.items (λ (d : LinkDone g.row.L.Denot). d.machine) in
     let count : deque_len ds ≡ length c.begin-lanes.result.lanes.batches.items = b.2 in
-    let seen : length c.as_slice-2.result.now ≡ length c.begin-lanes.result.lanes.batches.items = ap length c.as_slice-2.ensures.value in
-    run_of g.M.MotionMachine g.L.LinkMachine g.A.ReactorMachine g.O.Outside (length c.as_slice-2.result.now) c.as_slice.result.now c.as_slice-2.result.now c.as_slice-3.result.now c.begin-lanes.result.far.motion.seat.machine c.args.motion (map (λ d. d.machine) ds.items) c.args.links.items c.begin-lanes.result.far.hand.head c.args.head c.in-Ran.near
+    let seen : length c.lanes_of.result.batches.now ≡ length c.begin-lanes.result.lanes.batches.items = ap length c.lanes_of.ensures.5 in
+    run_of g.M.MotionMachine g.L.LinkMachine g.A.ReactorMachine g.O.Outside (length c.lanes_of.result.batches.now) c.lanes_of.result c.begin-lanes.result.far.motion.seat.machine c.args.motion (map (λ d. d.machine) ds.items) c.args.links.items c.begin-lanes.result.far.hand.head c.args.head c.in-Ran.near
     b.5 b.4 b.6 (omega arith) c.in-Ran.ensures
 
 pub returns-clause-ran : goal.returns-clause-ran

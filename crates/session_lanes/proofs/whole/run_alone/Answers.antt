@@ -14,17 +14,16 @@ use Rattle.session_lanes.proofs.WholeFacts.{hands_new, run_of}
 use Rattle.session_lanes.proofs.whole.run_alone.Goals as goal
 
 pub alone-near-requires-clause-hands : goal.alone-near-requires-clause-hands
-alone-near-requires-clause-hands g c = subst (λ (y : List (Lane Control) × List (Lane Batch) × List (Lane State)). AreHands g.L.LinkMachine 0 y.0 y.1 y.2 c.in-Ok-hands_of.hands.items) (λ i. (sym c.as_slice.ensures.value i, sym c.as_slice-2.ensures.value i, sym c.as_slice-3.ensures.value i))
-    (hands_new g.L.LinkMachine c.begin-lanes.result.lanes.controls.items c.begin-lanes.result.lanes.batches.items c.begin-lanes.result.lanes.states.items c.begin-lanes.result.links.items c.in-Ok-hands_of.hands.items c.begin-lanes.ensures.3 c.in-Ok-hands_of.ensures.links c.in-Ok-hands_of.ensures.starts)
+alone-near-requires-clause-hands g c = hands_new g.L.LinkMachine c.lanes_of.result c.begin-lanes.result.links.items c.in-Ok-hands_of.hands.items (c.begin-lanes.ensures.3 c.lanes_of.result c.lanes_of.ensures) c.in-Ok-hands_of.ensures.links c.in-Ok-hands_of.ensures.starts
 
 pub alone-near-requires-clause-far : goal.alone-near-requires-clause-far
-alone-near-requires-clause-far g c = subst (λ (y : List (Lane Control) × List (Lane Batch) × List (Lane State)). IsFar g.M.MotionMachine g.A.ReactorMachine g.O.Outside c.begin-lanes.result.lanes.words c.begin-lanes.result.lanes.notes c.begin-lanes.result.lanes.asks c.begin-lanes.result.lanes.pieces y.0 y.1 y.2 c.begin-lanes.result.far) (λ i. (sym c.as_slice.ensures.value i, sym c.as_slice-2.ensures.value i, sym c.as_slice-3.ensures.value i)) c.begin-lanes.ensures.7
+alone-near-requires-clause-far g c = c.begin-lanes.ensures.7 c.lanes_of.result c.lanes_of.ensures
 
 pub returns-clause-ran : goal.returns-clause-ran
 returns-clause-ran g c =
     let b = c.begin-lanes.ensures in let ds = c.begin-lanes.result.links in
     let many : length ds.items ≡ deque_len ds = search rules in let same = ap length b.4 in let long : length (map (λ (d : LinkDone g.row.L.Denot). d.machine) ds.items) ≡ length ds.items = length-map ds.items (λ (d : LinkDone g.row.L.Denot). d.machine) in
     let count : deque_len ds ≡ length c.begin-lanes.result.lanes.batches.items = b.2 in
-    let seen : length c.as_slice-2.result.now ≡ length c.begin-lanes.result.lanes.batches.items = ap length c.as_slice-2.ensures.value in
-    run_of g.M.MotionMachine g.L.LinkMachine g.A.ReactorMachine g.O.Outside (length c.as_slice-2.result.now) c.as_slice.result.now c.as_slice-2.result.now c.as_slice-3.result.now c.begin-lanes.result.far.motion.seat.machine c.args.motion (map (λ h. h.start.value) c.in-Ok-hands_of.hands.items) c.args.links.items c.begin-lanes.result.far.hand.head c.args.head c.alone-near.result
+    let seen : length c.lanes_of.result.batches.now ≡ length c.begin-lanes.result.lanes.batches.items = ap length c.lanes_of.ensures.5 in
+    run_of g.M.MotionMachine g.L.LinkMachine g.A.ReactorMachine g.O.Outside (length c.lanes_of.result.batches.now) c.lanes_of.result c.begin-lanes.result.far.motion.seat.machine c.args.motion (map (λ h. h.start.value) c.in-Ok-hands_of.hands.items) c.args.links.items c.begin-lanes.result.far.hand.head c.args.head c.alone-near.result
     b.5 (c.in-Ok-hands_of.ensures.starts ∙ b.4) b.6 (omega arith) c.alone-near.ensures

@@ -5,7 +5,7 @@ use Rattle.session_work.proofs.motion.flush.Given as goal
 
 abbrev pub invariant-loop-i : goal.invariant-loop-i
 invariant-loop-i g l = record {
-  at : IsMotionAt g.M.MotionMachine l.words l.notes l.asks l.pieces l.batches l.n l.start.value l.motion;
-  late : AreLate (length l.batches) l.i l.motion.late.items;
+  at : IsMotionAt g.M.MotionMachine l.lanes l.n l.start.value l.motion;
+  late : AreLate (length l.lanes.batches.now) l.i l.motion.late.items;
   count : l.n ≡ l.i + length l.motion.late.items;
 }

@@ -3,7 +3,7 @@ use Rattle.session_work.specs.Motions.{IsMotionAt}
 use Rattle.session_work.proofs.motion.motion_worker.Given as goal
 
 abbrev pub invariant-loop-k : goal.invariant-loop-k
-invariant-loop-k g l = IsMotionAt g.M.MotionMachine l.words l.notes l.asks l.pieces l.batches l.k l.start.value l.motion × (l.motion.late.items ≡ [])
+invariant-loop-k g l = IsMotionAt g.M.MotionMachine l.lanes l.k l.start.value l.motion × (l.motion.late.items ≡ [])
 
 abbrev pub invariant-loop : goal.invariant-loop
 invariant-loop g l =

@@ -1,4 +1,9 @@
 pub mod Resting
 pub mod Prepared
+pub mod Kept
+pub mod Keeping
+pub mod Reporting
+pub mod Nearing
+pub mod Waking
 pub mod Expired
 pub mod Told

@@ -140,7 +140,7 @@ all_keen oid base limit until q u sole there k i s at =
     let here : slot_at q oid ≡ Some s = subst (λ (n : ℕ). slot_at q n ≡ Some s) (sole i s at) at in
     subst (λ (v : Slot). IsKeen base limit until q.pins v) (one_slot (slot_at q oid) u s there here) k
 
-late_passes : (oid until report : ℕ) (q : Rig) (u : Slot) → slot_at q oid ≡ Some u → AreRegular q.triggers → q.controller.tick ≤ until → u.trigger.report ≡ Some report
+pub late_passes : (oid until report : ℕ) (q : Rig) (u : Slot) → slot_at q oid ≡ Some u → AreRegular q.triggers → q.controller.tick ≤ until → u.trigger.report ≡ Some report
     → (x : IsReported oid until report u.trigger.every u.trigger.can (passes q until).rig (passes q until).answers) × (until ≤ x.next)
 late_passes oid until report q u there regular tick is = elim (leb_tells q.controller.tick until) [
   | inl p ↦

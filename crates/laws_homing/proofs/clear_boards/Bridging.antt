@@ -54,7 +54,7 @@ pub record Found (oid can clock : ℕ) (cs : List Cmd) : Type 0 where
 state_same : (oid can reason clock other b told : ℕ) → other ≡ oid → b ≡ can → told ≡ clock → cmd.TrsyncState other b reason told ≡ cmd.TrsyncState oid can reason clock
 state_same oid can reason clock other b told e f g = cc
 
-can_found : (oid clock : ℕ) (cs : List Cmd) → TellCan oid clock cs → Found oid 1 clock cs
+pub can_found : (oid clock : ℕ) (cs : List Cmd) → TellCan oid clock cs → Found oid 1 clock cs
 can_found oid clock [] t = absurd t
 can_found oid clock (cmd.TrsyncState other can reason told ∷ cs) (inl t) = record { reason = reason; among = inl (state_same oid 1 reason clock other can told t.0 t.1 t.2) }
 can_found oid clock (c ∷ cs) (inl t) = absurd t
@@ -67,7 +67,7 @@ off_found oid clock (c ∷ cs) (inl t) = absurd t
 off_found oid clock (c ∷ cs) (inr t) = let f = off_found oid clock cs t in record { reason = f.reason; among = inr f.among }
 
 -- among the news
-able_among : (clocks : Clocks) (turn when oid reason clock n : ℕ) (ns : List News) → IsAmong (record { number = n; answer = cmd.TrsyncState oid 1 reason clock }) ns → turn_in_run clocks (nearest (turn_tick clocks turn) clock) ≡ Some when → TellAble clocks turn when ns
+pub able_among : (clocks : Clocks) (turn when oid reason clock n : ℕ) (ns : List News) → IsAmong (record { number = n; answer = cmd.TrsyncState oid 1 reason clock }) ns → turn_in_run clocks (nearest (turn_tick clocks turn) clock) ≡ Some when → TellAble clocks turn when ns
 able_among clocks turn when oid reason clock n [] among is = absurd among
 able_among clocks turn when oid reason clock n (x ∷ ns) (inl e) is =
     let can : IsAble clocks turn when (cmd.TrsyncState oid 1 reason clock) = ((λ z. let bad : 1 ≡ 0 = z in omega (arith, bad)), is) in

@@ -146,45 +146,45 @@ module _ (m : Machine) (switches : List Switch) (pins : ℕ → List (List Level
   abbrev TellsLate : ℕ → ℕ → Type 0
   TellsLate b n = (known : Clocks) → IsAlike (n + 277) known (lines b) → (when : ℕ) → TellExpiry known n when (j b).state.news → last < when
 
-  next_known : ((noted m c.note (known_by m switches (d ∷ past))).homing ≡ Some Next) × (answer_in K h.start G ≡ None)
+  pub next_known : ((noted m c.note (known_by m switches (d ∷ past))).homing ≡ Some Next) × (answer_in K h.start G ≡ None)
   next_known = homing_next m switches from start members c d past h s.homes s.begins.0 s.goes_on early is
 
-  now_of : (h.start ≡ start) × (h.group.start ≡ start) × (members_of h.group ≡ members)
+  pub now_of : (h.start ≡ start) × (h.group.start ≡ start) × (members_of h.group ≡ members)
   now_of = of_known start members (noted m d.note (known_by m switches past)).homing h (s.homes.1.0 early).1 is
 
-  next_of : (Next.start ≡ start) × (Next.group.start ≡ start) × (members_of Next.group ≡ members)
+  pub next_of : (Next.start ≡ start) × (Next.group.start ≡ start) × (members_of Next.group ≡ members)
   next_of = of_known start members (noted m c.note (known_by m switches (d ∷ past))).homing Next (s.homes.0 (omega (arith, early))).1 next_known.0
 
-  hears : Hears (after G K) N
+  pub hears : Hears (after G K) N
   hears = hears_keep All c.states Next
 
-  same_members : (after G K).members ≡ G.members
+  pub same_members : (after G K).members ≡ G.members
   same_members = after_members G K
 
-  are_members : members_of G ≡ members
+  pub are_members : members_of G ≡ members
   are_members = ap (λ (xs : List Seen). map (λ (x : Seen). x.member) xs) (sym same_members) ∙ next_of.2
 
   pub later_members : members_of N ≡ members
   later_members = members_states All 0 Next.start c.states Next.group ∙ next_of.2
 
-  unended : G.start ≡ start → G.start ≤ K → all_fired G.members ≡ false
+  pub unended : G.start ≡ start → G.start ≤ K → all_fired G.members ≡ false
   unended e l = (let same = now_of.0 in open_group K h.start G next_known.1 (omega (arith, l, e, same)))
 
   -- one of its boards
   module _ (b : ℕ) (on : IsMember b members) where
-    plain : IsOnward m switches (pins b) entries b from (d ∷ past) (turns_of b (j ∷ js))
+    pub plain : IsOnward m switches (pins b) entries b from (d ∷ past) (turns_of b (j ∷ js))
     plain = s.plain b on
 
-    within : b < length m.boards
+    pub within : b < length m.boards
     within = plain.run.board
 
-    long : K ≡ length (turns_of b js)
+    pub long : K ≡ length (turns_of b js)
     long = as_long m switches b past (turns_of b js) plain.run.both.2
 
-    rests : RestsOver (j b) (turns_of b js)
+    pub rests : RestsOver (j b) (turns_of b js)
     rests = plain.rests.0 (omega (arith, early, long))
 
-    seen : (x : Seen) × Contains G.members x × (x.member.board ≡ b)
+    pub seen : (x : Seen) × Contains G.members x × (x.member.board ≡ b)
     seen = member_seen b G.members (subst (IsMember b) (sym are_members) on)
 
     pub few : length (stands_after (first_state (board_at m b) (pins b) b entries) (turns_of b js)).core.board.triggers ≤ 256
@@ -199,20 +199,20 @@ module _ (m : Machine) (switches : List Switch) (pins : ℕ → List (List Level
         let range = plain.in_range in
         omega (arith, up, same, range)
 
-    past_it : (known_by m switches past).phase ≡ Connecting → ⊥
+    pub past_it : (known_by m switches past).phase ≡ Connecting → ⊥
     past_it = (s.homes.1.0 early).0
 
     -- the clock lines that are known
     abbrev Lines : Clocks
     Lines = clocks_at (noted m d.note (known_by m switches past)).clocks b
 
-    alike : IsAlike (K + 276) Lines (lines b)
+    pub alike : IsAlike (K + 276) Lines (lines b)
     alike = (s.knows.1.0 past_it h is now_of.0 b within).1
 
-    ordered : IsOrdered m Lines b h K G (Commands b)
+    pub ordered : IsOrdered m Lines b h K G (Commands b)
     ordered = turn_ordered m switches (pins b) entries b d past (j b) (turns_of b js) h plain.run is (λ e. past_it (sym (noted_phase m d.note (known_by m switches past)) ∙ e)) next_known.1
 
-    sent : G.start ≡ start → IsSent m Lines b K G (Commands b)
+    pub sent : G.start ≡ start → IsSent m Lines b K G (Commands b)
     sent e = sent_from m Lines b h K G (Commands b) ordered (omega (arith, e, far)) (unended e)
 
     abbrev Clock : ℕ
@@ -221,7 +221,7 @@ module _ (m : Machine) (switches : List Switch) (pins : ℕ → List (List Level
     pub clock_is : (after G K).sent ≤ K + 274 → Clock ≡ low (turn_tick (lines b) (after G K).sent)
     clock_is soon = ap low (turn_alike Lines (lines b) (K + 276) (after G K).sent alike (omega (arith, soon)))
 
-    taken : Later b ≡ After m b (pins b) entries (j b) (turns_of b js) rests plain.run.turns_are plain.none_shut.0 few in_range
+    pub taken : Later b ≡ After m b (pins b) entries (j b) (turns_of b js) rests plain.run.turns_are plain.none_shut.0 few in_range
     taken = takes_rested (board_at m b) (pins b) b entries (j b) (turns_of b js) rests plain.run.turns_are
 
     -- results in the turns' numbers

@@ -75,7 +75,7 @@ least_under : (start least : ℕ) (xs : List Seen) → least_heard start least x
 least_under start least [] = omega arith
 least_under start least (x ∷ xs) = let rest = least_under start (min least (heard_of start x.heard)) xs in omega (arith, rest)
 
-least_at : (start least : ℕ) (x : Seen) (xs : List Seen) → Contains xs x → least_heard start least xs ≤ heard_of start x.heard
+pub least_at : (start least : ℕ) (x : Seen) (xs : List Seen) → Contains xs x → least_heard start least xs ≤ heard_of start x.heard
 least_at start least x [] c = absurd (none_there x c)
 least_at start least x (y ∷ ys) c = elim (either y x ys c) [
   | inl e ↦
@@ -85,7 +85,7 @@ least_at start least x (y ∷ ys) c = elim (either y x ys c) [
   | inr k ↦ least_at start (min least (heard_of start y.heard)) x ys k
 ]
 
-heard_there : (start b most : ℕ) (x : Seen) (xs : List Seen) → Contains xs x → x.member.board ≡ b → HeardUntil start b most xs → heard_of start x.heard ≤ most
+pub heard_there : (start b most : ℕ) (x : Seen) (xs : List Seen) → Contains xs x → x.member.board ≡ b → HeardUntil start b most xs → heard_of start x.heard ≤ most
 heard_there start b most x [] c on k = absurd (none_there x c)
 heard_there start b most x (y ∷ ys) c on k = elim (either y x ys c) [
   | inl e ↦ (let low_so = k.0 (ap (λ (s : Seen). s.member.board) e ∙ on) in let same : heard_of start y.heard ≡ heard_of start x.heard = ap (λ (s : Seen). heard_of start s.heard) e in omega (arith, low_so, same))

@@ -1,5 +1,5 @@
 -- Links that are hindered, in any scene.
-use Rattle.std.specs.Prelude.{◌≡◌, ◌⊎◌, ◌<◌, ◌≤◌, ◌^◌, ℕ, false, List, [], ◌∷◌, length}
+use Rattle.std.specs.Prelude.{◌≡◌, ◌⊎◌, ◌+◌, ◌<◌, ◌≤◌, ◌^◌, ℕ, false, true, List, [], ◌∷◌, Some, length}
 use Rattle.plan_types.specs.declared.levels.Level.{Level}
 use Rattle.plan_types.specs.declared.machine.Machine.{Machine}
 use Rattle.plan_types.specs.Clock.{board_tick, clock_of}
@@ -8,12 +8,19 @@ use Rattle.wire_scene.specs.declared.scene.Entry.{Entry}
 use Rattle.wire_scene.specs.declared.scene.Switch.{Switch}
 use Rattle.link_work.specs.Ends.{is_quiet, none_wait}
 use Rattle.link_work.specs.Turn.{LinkState}
+use Rattle.board_asking.specs.Machine.{trigger_of}
+use Rattle.board_trig.specs.declared.sampling.Sampling.{Sampling}
+use Rattle.board_sim.specs.Rig.{Rig, Slot, slot_at}
 use Rattle.trigger_group.specs.declared.order.Member.{Member}
-use Rattle.host_reactor.specs.Runs.{Came}
+use Rattle.axis_homing.specs.declared.homing.Homing.{Homing}
+use Rattle.axis_homing.specs.Homing.{hears_all}
+use Rattle.host_reactor.specs.Notes.{noted}
+use Rattle.host_reactor.specs.Runs.{Came, known_by}
 use Rattle.laws_board.specs.turns.Turns.{BoardTurn}
 use Rattle.laws_board.specs.clocks.Runs.{IsInRun}
 use Rattle.laws_homing.specs.fired_runs.Since.{AllRead, AllReadTrue, AreBehind, ReadsSwitchTrue}
-use Rattle.laws_homing.specs.clear_groups.Sections.{ShutNone, turns_of}
+use Rattle.laws_homing.specs.clear_groups.Early.{HeardUntil}
+use Rattle.laws_homing.specs.clear_groups.Sections.{ShutNone, report_ticks, turns_of}
 
 -- A link is hindered as a turn ends: the turn wasn't quiet (something is held on its lines, or an entry was used in it
 -- or in the four turns before), or commands wait in the queue.
@@ -41,3 +48,33 @@ pub record IsGoingOn (m : Machine) (switches : List Switch) (pins : List (List L
   pub reads : AllReadTrue m switches b before turns
   pub reads_switch : AllRead (ReadsSwitchTrue m switches b) before turns
   pub behind : AreBehind m switches b before
+
+-- In each turn of the reactor from a section's start on the group of the homing section that is known has heard of a
+-- board as able to trigger in no turn behind this one.
+abbrev pub HeardByNow : Machine → List Switch → ℕ → ℕ → List Came → Type 0
+HeardByNow m switches b start [] = Unit {0}
+HeardByNow m switches b start (c ∷ before) =
+    (start ≤ length before → (h : Homing) → (noted m c.note (known_by m switches before)).homing ≡ Some h →
+    HeardUntil (hears_all (noted m c.note (known_by m switches before)).clocks c.states h).group.start b (length before)
+    (hears_all (noted m c.note (known_by m switches before)).clocks c.states h).group.members)
+    × HeardByNow m switches b start before
+
+-- As a turn begins a board's trigger is live: it can trigger and has a timeout, its readings trigger it for another
+-- reason than that (2), and it reports every five turns, the next time within them.
+pub record HasLiveTrigger (m : Machine) (b turn : ℕ) (r : Rig) : Type 0 where
+  pub slot : Slot
+  pub is : slot_at r (trigger_of m b) ≡ Some slot
+  pub can : slot.trigger.can ≡ true
+  pub timeout : ℕ
+  pub timed : slot.trigger.timeout ≡ Some timeout
+  pub reads : (y : Sampling) → slot.trigger.sampling ≡ Some y → y.reason ≡ 2 → ⊥
+  pub every : slot.trigger.every ≡ report_ticks m b
+  pub next : ℕ
+  pub report : slot.trigger.report ≡ Some next
+  pub due : board_tick (clock_of (board_at m b)) turn ≤ next
+  pub soon : next ≤ board_tick (clock_of (board_at m b)) turn + report_ticks m b
+
+-- so a board stood as its turn with this number began
+abbrev pub StoodAt : (Rig → Type 0) → ℕ → List BoardTurn → Type 0
+StoodAt P at [] = Unit {0}
+StoodAt P at (t ∷ before) = (length before + 1 ≡ at → P t.after.core.board) × StoodAt P at before

@@ -38,24 +38,25 @@ use Rattle.laws_board.specs.causes.Short.{HaveShortDictionaries}
 use Rattle.laws_board.specs.plans.Lines.{TookNotes}
 use Rattle.laws_board.specs.plans.Planned.{Plans, put_of}
 use Rattle.board_asking.specs.Machine.{trigger_of}
+use Rattle.board_sim.specs.Rig.{Rig}
 use Rattle.laws_homing.specs.switch_runs.Reports.{WasReported}
 use Rattle.laws_homing.proofs.clear_boards.Clocking.{line_ahead}
 use Rattle.laws_homing.proofs.hindered.Told.{Told as Told_so, read_more, stands_late, told_switch, told_true, was_told}
 use Rattle.laws_homing.specs.fired_runs.Since.{AllRead, AreBehind, AreRead, BeginsApart, IsFiredAt, ReadsAsTold, ReadsSwitchTrue, ReadsTrue}
-use Rattle.laws_homing.specs.hindered.Hindered.{HinderedIn, IsGoingOn, SomeHinderedIn}
+use Rattle.laws_homing.specs.hindered.Hindered.{HeardByNow, HinderedIn, IsGoingOn, HasLiveTrigger, SomeHinderedIn, StoodAt}
 use Rattle.laws_homing.specs.home_parts.Cuts.{cuts_on}
 use Rattle.laws_homing.specs.home_plans.Notes.{CameNotes}
-use Rattle.laws_homing.specs.home_runs.Sections.{HomesFrom}
+use Rattle.laws_homing.specs.home_runs.Guards.{HasFired}
 use Rattle.laws_homing.specs.home_runs.Told.{IsMember}
 use Rattle.laws_homing.specs.clear_groups.Runs.{BeginsWell, IsTracked}
-use Rattle.laws_homing.specs.clear_groups.Sections.{BeginsNoneFrom, IsFollowed, IsHomingSection, KnowsLines, turns_of}
+use Rattle.laws_homing.specs.clear_groups.Sections.{IsFollowed, IsHomingSection, KnowsLines, turns_of}
 use Rattle.laws_homing.specs.clear_groups.SetUp.{AllOfTurn, IsNewAt}
 use Rattle.laws_homing.proofs.clear_groups.Begun.{Began, began}
 use Rattle.laws_homing.proofs.clear_groups.Joined.{join, tracked_later}
 use Rattle.laws_homing.proofs.clear_groups.Newly.{new_later}
 use Rattle.laws_homing.proofs.clear_groups.Noted.{board_followed, states_of_turn}
-use Rattle.laws_homing.proofs.hindered.Expired.{stood}
-use Rattle.laws_run.specs.hindered_runs.Hindered.{HasHindered, IsHinderedIn}
+use Rattle.laws_homing.proofs.hindered.Expired.{begins_later, homes_later, stood, stood_lately}
+use Rattle.laws_run.specs.hindered_runs.Hindered.{AllStoodAt, HasHindered, IsHinderedIn}
 use Rattle.laws_run.specs.home_headline.Near.{AllReadAsTold, KeepsUp}
 use Rattle.laws_run.specs.home_wholes.Own.{AllSwitchesReadTrue}
 use Rattle.laws_run.specs.lanes.Boards.{IsInWhole, behind, states_of}
@@ -76,15 +77,6 @@ use Rattle.laws_run.proofs.lanes.Items.{item_state}
 use Rattle.laws_run.proofs.run_headline.Boarded.{Ready, came_cut, came_split, lines_renewed, ready, took, valid_at}
 use Rattle.laws_run.proofs.run_headline.Going.{Lasts, lasts}
 use Rattle.laws_run.proofs.run_headline.Showing.{Facts, came_long}
-
--- from a later turn on
-homes_later : (m : Machine) (switches : List Switch) (from at start : ℕ) (ms : List Member) (came : List Came) → from ≤ at → HomesFrom m switches from start ms came → HomesFrom m switches at start ms came
-homes_later m switches from at start ms [] l k = tt
-homes_later m switches from at start ms (c ∷ before) l k = ((λ late. k.0 (omega (arith, l, late))), homes_later m switches from at start ms before l k.1)
-
-begins_later : (from at : ℕ) (came : List Came) → from ≤ at → BeginsNoneFrom from came → BeginsNoneFrom at came
-begins_later from at [] l k = tt
-begins_later from at (c ∷ before) l k = ((λ late. k.0 (omega (arith, l, late))), begins_later from at before l k.1)
 
 -- sections that are begun well are begun apart
 well_apart : (m : Machine) (switches : List Switch) (lines : ℕ → ℕ → Clocks) (ready till : ℕ) (came : List Came) → BeginsWell m switches lines ready till came → BeginsApart m switches came
@@ -349,7 +341,7 @@ module _ (m : Machine) (v : IsValidMachine m) (s : Scene) (ts : List MotionTurn)
       so = was_told m v s.switches (Pins board) s.entries board x.from h.start h.group.last Till (Lines h.start) (From + 1) Members member (let soon = x.soon in omega (arith, soon)) (followed board member) (let far = x.far in omega (arith, far)) Report in_last
           (came_in end) Came_all (Turns board low) own_run (here board low) x.homes (lines_of h.start) (reads board low (Whole board low)) behind_last (omega arith) report
 
-      hindered : (later : List BoardTurn) (at : BoardTurn) (past : List BoardTurn) → Turns board low ≡ later ++ at ∷ past → IsFiredAt (trigger_of m board) 2 tick at.after.core.board → HasHindered m s ts first rest end h (length past)
+      hindered : (later : List BoardTurn) (at : BoardTurn) (past : List BoardTurn) → Turns board low ≡ later ++ at ∷ past → IsFiredAt (trigger_of m board) 2 tick at.after.core.board → HasHindered m s ts first rest end h Since (length past)
       hindered later at past are stands =
           let late = stands_late m v s.switches (Pins board) s.entries board x.from h.start h.group.last Till (Lines h.start) (From + 1) Members member (let soon = x.soon in omega (arith, soon)) (followed board member) (let far = x.far in omega (arith, far)) Report in_last
           Came_all later at past (Turns board low) own_run are stands so.late in
@@ -367,6 +359,33 @@ module _ (m : Machine) (v : IsValidMachine m) (s : Scene) (ts : List MotionTurn)
             hindered = subst (λ (turns : List BoardTurn). HinderedIn Since (length past) turns) (all.2 found.0 there) found.2;
           }
 
+      -- as its boards stood
+      stood_at : (P : ℕ → Rig → Type 0) (n : ℕ) → AllStoodAt m s ts first rest end h P n → (i : ℕ) → IsMember i Members → StoodAt (P i) n (turns_of i all.0)
+      stood_at P n k i on = subst (λ (turns : List BoardTurn). StoodAt (P i) n turns) (sym (all.2 i (x.within i on))) (k i on (Whole i (x.within i on)))
+
+      lately : (later : List BoardTurn) (t : BoardTurn) (past : List BoardTurn) → Turns board low ≡ later ++ t ∷ past → IsFiredAt (trigger_of m board) 2 tick t.after.core.board → h.start + 41 ≤ length past → length past ≤ h.group.last + 4
+          → HeardByNow m s.switches board h.start (came_in end ∷ Came_all) → AllStoodAt m s ts first rest end h (λ i. HasLiveTrigger m i (length past - 36)) (length past - 36)
+          → AllStoodAt m s ts first rest end h (λ i r. HasFired (trigger_of m i) r → ⊥) (length past - 12) → HasHindered m s ts first rest end h (length past - 37) (length past)
+      lately later t past are stands begun ends heard way cans =
+          let early = so.early in
+          let far = x.far in
+          let at : ℕ = length past - 36 in
+          let Can : ℕ → Rig → Type 0 = λ i r. HasFired (trigger_of m i) r → ⊥ in
+          let twelve : length past - 12 ≡ at + 24 = omega (arith, begun) in
+          let before : length past - 37 ≡ at - 1 = omega (arith, begun) in
+          let can_so : (i : ℕ) → IsMember i Members → StoodAt (Can i) (at + 24) (turns_of i all.0) = λ i on. subst (λ (n : ℕ). StoodAt (Can i) n (turns_of i all.0)) twelve (stood_at Can (length past - 12) cans i on) in
+          let found = some_of (at - 1) (length past) Members all.0
+          (stood_lately m v s.switches Pins s.entries (Lines h.start) (From + 1) Since h.start h.group.last Till Members followed (omega (arith, far)) soon_since.2 x.order (omega (arith, far)) at (omega (arith, begun)) (omega (arith, begun, ends)) board member tick (λ e. omega (arith, e, early)) later t past
+          (came_in end) Came_all all.0 section (omega arith) new heard (all.2 board low ∙ are) (omega (arith, begun)) (stood_at (λ i. HasLiveTrigger m i at) at way) can_so stands) in
+          let there = x.within found.0 found.1 in
+          record {
+            board = found.0;
+            member = found.1;
+            there = there;
+            w = Whole found.0 there;
+            hindered = subst (λ (n : ℕ). HinderedIn n (length past) (behind [] (Whole found.0 there).made)) (sym before) (subst (λ (turns : List BoardTurn). HinderedIn (at - 1) (length past) turns) (all.2 found.0 there) found.2);
+          }
+
       pub hindered_in : IsHinderedIn m s ts first rest end board turn
       hindered_in = record {
         homing = h;
@@ -377,4 +396,5 @@ module _ (m : Machine) (v : IsValidMachine m) (s : Scene) (ts : List MotionTurn)
         w = Whole board low;
         expired = so.was;
         hindered = hindered;
+        lately = lately;
       }

@@ -1,0 +1,352 @@
+-- A homing section over turns over which the links of its members' boards rest, in any scene: what its boards report is heard, and so timeouts are renewed.
+use Rattle.std.proofs.Common.{◌≡◌, ◌⊎◌, ℕ, ◌+◌, ◌-◌, ◌*◌, ◌<◌, ◌≤◌, inl, inr, false, List, [], ◌∷◌, length, Some, refl, ap, sym, ◌∙◌, subst, arith}
+use Rattle.std.specs.List.{Contains}
+use Rattle.std.proofs.lemmas.Bool.Decides.{leb_tells}
+use Rattle.plan_types.specs.declared.levels.Level.{Level}
+use Rattle.plan_types.specs.declared.machine.Machine.{Machine}
+use Rattle.plan_types.specs.declared.plan.BoardState.TheVariants.{Running}
+use Rattle.plan_types.specs.Board.{nearest}
+use Rattle.plan_types.specs.Clock.{board_tick, clock_of, turn_ns}
+use Rattle.plan_types.specs.Lines.{Clocks, lines_tick}
+use Rattle.plan_types.specs.Machines.{IsValidMachine, board_at}
+use Rattle.plan_types.specs.Sections.{clocks_at}
+use Rattle.wire_scene.specs.declared.scene.Entry.{Entry}
+use Rattle.wire_scene.specs.declared.scene.Switch.{Switch}
+use Rattle.msg_code.specs.declared.cmd.Cmd.{Cmd}
+use Rattle.board_asking.specs.Machine.{trigger_of}
+use Rattle.board_sim.specs.Board.{new_controller}
+use Rattle.board_sim.specs.Fair.{commands_of}
+use Rattle.board_sim.specs.Rig.{Rig, passes, takes_all}
+use Rattle.link_work.specs.Runs.{queued_in}
+use Rattle.link_work.specs.Stands.{first_state, orders}
+use Rattle.laws_board.specs.turns.Turns.{AreBoardTurns, BoardTurn, stands_after}
+use Rattle.laws_board.specs.clocks.Runs.{IsInRun}
+use Rattle.laws_board.proofs.clocks.Lines.{run_before}
+use Rattle.laws_board.proofs.sections.Boarding.{runs_on}
+use Rattle.laws_board.proofs.sections.Clocks.{ticks_rise}
+use Rattle.trigger_group.specs.declared.order.Member.{Member}
+use Rattle.trigger_group.specs.declared.seen.Seen.{Seen}
+use Rattle.trigger_group.specs.Group.{GroupState, after, all_fired}
+use Rattle.trigger_group.proofs.Answering.{first_there, there_more}
+use Rattle.axis_homing.specs.declared.homing.Homing.{Homing}
+use Rattle.axis_homing.specs.Homing.{hears_all, low}
+use Rattle.host_reactor.specs.Notes.{noted}
+use Rattle.host_reactor.specs.Runs.{Came, known_by}
+use Rattle.laws_homing.specs.home_runs.Guards.{HasFired, IsSole}
+use Rattle.laws_homing.specs.home_runs.Told.{IsMember}
+use Rattle.laws_homing.specs.clear_boards.Firing.{AllSmall}
+use Rattle.laws_homing.specs.clear_boards.Lately.{NearOn}
+use Rattle.laws_homing.specs.clear_boards.Limited.{IsLimited}
+use Rattle.laws_homing.specs.clear_boards.Renewed.{HeardFrom}
+use Rattle.laws_homing.specs.clear_boards.Rests.{RestsOver}
+use Rattle.laws_homing.specs.clear_boards.Turned.{SetsOne}
+use Rattle.laws_homing.specs.clear_groups.Sections.{IsAlike, IsFollowed, IsRestingSection, ShutNone, report_ticks, rig_at, turns_of}
+use Rattle.laws_homing.specs.switch_runs.Runs.{IsEndstop}
+use Rattle.laws_homing.proofs.switch_runs.Made.{AnyTick, whole_after}
+use Rattle.laws_homing.proofs.switch_runs.Ordering.{bring_fit}
+use Rattle.laws_homing.proofs.clear_boards.Clocking.{line_ahead, timeout_ahead}
+use Rattle.laws_homing.proofs.clear_boards.Lately.{near_so}
+use Rattle.laws_homing.proofs.clear_boards.Renewed.{after_is, renewed}
+use Rattle.laws_homing.proofs.clear_boards.Standing.{runs_rested, sound_at, tick_is}
+use Rattle.laws_homing.proofs.clear_boards.Taking.{takes_rested}
+use Rattle.laws_homing.proofs.clear_boards.Turned.{stays_fired, turn_ahead, turn_far}
+use Rattle.laws_homing.proofs.clear_groups.Groups as groups
+use Rattle.laws_homing.proofs.clear_groups.Known.{behind_turn, seen_member}
+use Rattle.laws_homing.proofs.clear_groups.Orders.{IsSent}
+use Rattle.laws_homing.proofs.clear_groups.Owning.{one_rested}
+use Rattle.laws_homing.proofs.hindered.Keeping.{AllTimed, limited_now, turn_timed}
+use Rattle.laws_homing.proofs.hindered.Reporting.{IsUp, up_step}
+
+-- of some boards one is so, or each is otherwise
+pub all_or : (P Q : ℕ → Type 0) (xs : List Member) → ((b : ℕ) → IsMember b xs → P b ⊎ Q b) → ((b : ℕ) × IsMember b xs × P b) ⊎ ((b : ℕ) → IsMember b xs → Q b)
+all_or P Q [] f = inr (λ b on. absurd on)
+all_or P Q (x ∷ xs) f = elim (f x.board (inl refl)) [
+  | inl p ↦ inl (x.board, inl refl, p)
+  | inr q ↦ elim (all_or P Q xs (λ b on. f b (inr on))) [
+    | inl k ↦ inl (k.0, inr k.1, k.2)
+    | inr rest ↦ inr (λ b on. elim on [ inl e ↦ subst Q e q | inr more ↦ rest b more ])
+  ]
+]
+
+-- all members were heard of lately
+heard_all : (start turn : ℕ) (xs : List Seen) → ((x : Seen) → Contains xs x → NearOn start x.member.board turn xs) → HeardFrom start (turn - 10) xs
+heard_all start turn [] f = tt
+heard_all start turn (x ∷ xs) f = ((let near = (f x (first_there x xs)).0 refl in omega (arith, near)), heard_all start turn xs (λ y c. (f y (there_more x y xs c)).1))
+
+module _ (m : Machine) (pins : List (List Level)) (entries : List Entry) (b : ℕ) where
+  abbrev Board : List BoardTurn → Rig
+  Board turns = (stands_after (first_state (board_at m b) pins b entries) turns).core.board
+
+  -- the reasons of its triggers fit
+  small_at : (switches : List Switch) (before : List Came) (turns : List BoardTurn) → IsInRun m switches pins entries b before turns → AllSmall (Board turns)
+  small_at switches before turns r oid s at =
+      let k = (whole_after (IsEndstop m b) (board_at m b) pins b entries turns 0 0 r.turns_are (omega arith) (bring_fit m switches pins entries b (λ now. AnyTick) before turns r (λ tick k. tt))).0.board.slots oid s at in
+      record { reason = k.reason; expire = k.expire; sampled = λ y is. (k.sampled y is).0 }
+
+  -- it runs while it tells of no shutdown
+  runs_shut : (turns : List BoardTurn) → AreBoardTurns (clock_of (board_at m b)) (first_state (board_at m b) pins b entries) turns → ShutNone turns → (Board turns).controller.state ≡ Running
+  unfolding new_controller
+  runs_shut [] are none = refl
+  runs_shut (t ∷ turns) are none = runs_on t.after.core.board.controller.state t.state.shut are.0.1.shut none.0
+
+module _ (m : Machine) (v : IsValidMachine m) (switches : List Switch) (pins : ℕ → List (List Level)) (entries : List Entry) (lines : ℕ → Clocks) (ready at start last till : ℕ) (members : List Member)
+    (followed : (b : ℕ) → IsMember b members → IsFollowed m b (lines b) ready start last till) (low_so : ready + 5 ≤ start) (begun : start + 5 ≤ at) (ends : at + 32 ≤ last) (y : ℕ) (on_y : IsMember y members) where
+  abbrev pub Own : ℕ → ℕ → ℕ
+  Own b = λ k. board_tick (clock_of (board_at m b)) k
+
+  abbrev pub Limit : ℕ → ℕ
+  Limit b = Own b at + report_ticks m b
+
+  -- the tick of the turn behind the section's last one
+  abbrev pub End : ℕ
+  End = lines_tick (lines y) ((last + 1) * turn_ns)
+
+  abbrev Timeout : ℕ → ℕ
+  Timeout sent = lines_tick (lines y) (sent * turn_ns)
+
+  abbrev Heard : Came → List Came → Homing → GroupState
+  Heard c before h = (hears_all (noted m c.note (known_by m switches before)).clocks c.states h).group
+
+  -- the timeout that a board has is the group's last one, and that is ahead
+  pub record IsExact (c : Came) (before : List Came) (all : List (ℕ → BoardTurn)) : Type 0 where
+    pub homing : Homing
+    pub known : (noted m c.note (known_by m switches before)).homing ≡ Some homing
+    pub exact : IsLimited (trigger_of m y) End (Timeout (Heard c before homing).sent) (rig_at m pins entries all y)
+    pub far : (at + 38 ≤ (Heard c before homing).sent) ⊎ ((Heard c before homing).sent ≡ last + 1)
+
+  -- each member's board can trigger and reports, and the board's timeout is the group's last one, or that is not far ahead of the first of these turns
+  pub record IsAwake (c : Came) (before : List Came) (all : List (ℕ → BoardTurn)) : Type 0 where
+    pub homing : Homing
+    pub known : (noted m c.note (known_by m switches before)).homing ≡ Some homing
+    pub begins : (Heard c before homing).start ≡ start
+    pub up : (b : ℕ) → IsMember b members → IsUp m b (Limit b) (Own b (length before)) start (Heard c before homing).members (rig_at m pins entries all b)
+    pub timed : AllTimed (trigger_of m y) (rig_at m pins entries all y)
+    pub exact : ((Heard c before homing).sent ≤ at + 32) ⊎ IsLimited (trigger_of m y) End (Timeout (Heard c before homing).sent) (rig_at m pins entries all y)
+    pub far : at + 8 ≤ length before → (length before + 14 ≤ (Heard c before homing).sent) ⊎ (last + 1 ≤ (Heard c before homing).sent)
+
+  abbrev pub SomeFired : List (ℕ → BoardTurn) → Type 0
+  SomeFired all = (b : ℕ) × IsMember b members × HasFired (trigger_of m b) (rig_at m pins entries all b)
+
+  -- a turn
+  module _ (c d : Came) (past : List Came) (j : ℕ → BoardTurn) (js : List (ℕ → BoardTurn)) (s : IsRestingSection m switches pins entries lines at start members c (d ∷ past) (j ∷ js)) (early : at ≤ length past) (reach : length past + 276 ≤ till) (h : Homing)
+      (is : (noted m d.note (known_by m switches past)).homing ≡ Some h) (begins : (Heard d past h).start ≡ start) (lasts : (Heard d past h).last ≡ last) where
+    abbrev K : ℕ
+    K = length past
+
+    abbrev G : GroupState
+    G = Heard d past h
+
+    abbrev Next : Homing
+    Next = behind_turn (hears_all (noted m d.note (known_by m switches past)).clocks d.states h) K
+
+    abbrev N : GroupState
+    N = Heard c (d ∷ past) Next
+
+    low_here : ready + 4 ≤ K
+    low_here = omega (arith, early, low_so, begun)
+
+    far_here : start ≤ K + 249
+    far_here = omega (arith, early, begun)
+
+    pub next_known : ((noted m c.note (known_by m switches (d ∷ past))).homing ≡ Some Next)
+    next_known = (groups.next_known m switches pins entries lines ready at start last till members followed c d past j js s early low_here far_here reach h is).0
+
+    now_of : (h.start ≡ start) × (h.group.start ≡ start)
+    now_of = (let of = groups.now_of m switches pins entries lines ready at start last till members followed c d past j js s early low_here far_here reach h is in (of.0, of.1))
+
+    next_of : (Next.start ≡ start) × (Next.group.start ≡ start)
+    next_of = (let of = groups.next_of m switches pins entries lines ready at start last till members followed c d past j js s early low_here far_here reach h is in (of.0, of.1))
+
+    sent_next : N.sent ≡ (after G K).sent
+    sent_next = (groups.hears m switches pins entries lines ready at start last till members followed c d past j js s early low_here far_here reach h is).sent
+
+    begins_next : N.start ≡ start
+    begins_next = (groups.hears m switches pins entries lines ready at start last till members followed c d past j js s early low_here far_here reach h is).start ∙ next_of.1
+
+    late_start : G.start ≤ K
+    late_start = omega (arith, begins, early, begun)
+
+    -- one of its boards
+    module _ (b : ℕ) (on : IsMember b members) where
+      abbrev Turns : List BoardTurn
+      Turns = turns_of b js
+
+      abbrev Commands : List Cmd
+      Commands = commands_of (queued_in (orders (j b).control (j b).batch))
+
+      abbrev Before : Rig
+      Before = rig_at m pins entries js b
+
+      abbrev Later : Rig
+      Later = rig_at m pins entries (j ∷ js) b
+
+      are : AreBoardTurns (clock_of (board_at m b)) (first_state (board_at m b) (pins b) b entries) (j b ∷ Turns)
+      are = (groups.plain m switches pins entries lines ready at start last till members followed c d past j js s early low_here far_here reach h is b on).run.turns_are
+
+      rests : RestsOver (j b) Turns
+      rests = groups.rests m switches pins entries lines ready at start last till members followed c d past j js s early low_here far_here reach h is b on
+
+      long : K ≡ length Turns
+      long = groups.long m switches pins entries lines ready at start last till members followed c d past j js s early low_here far_here reach h is b on
+
+      run_js : IsInRun m switches (pins b) entries b past Turns
+      run_js = run_before m switches (pins b) entries b d past (j b) Turns (groups.plain m switches pins entries lines ready at start last till members followed c d past j js s early low_here far_here reach h is b on).run
+
+      sent : IsSent m (clocks_at (noted m d.note (known_by m switches past)).clocks b) b K G Commands
+      sent = groups.sent m switches pins entries lines ready at start last till members followed c d past j js s early low_here far_here reach h is b on begins
+
+      taken : Later ≡ (passes (takes_all Before Commands).rig (Own b (length Turns + 1))).rig
+      taken = takes_rested (board_at m b) (pins b) b entries (j b) Turns rests are
+
+      -- results in the turns' numbers
+      out : (P : ℕ → Rig → Type 0) → P (length Turns) (passes (takes_all Before Commands).rig (Own b (length Turns + 1))).rig → P K Later
+      out P x = subst (λ (r : Rig). P K r) (sym taken) (subst (λ (n : ℕ). P n (passes (takes_all Before Commands).rig (Own b (length Turns + 1))).rig) (sym long) x)
+
+      pub fired_on : HasFired (trigger_of m b) Before → HasFired (trigger_of m b) Later
+      fired_on f = out (λ n r. HasFired (trigger_of m b) r) (stays_fired (trigger_of m b) _ (Own b (length Turns + 1)) Before Commands sent.behind f)
+
+      pub up_on : K ≤ last → IsUp m b (Limit b) (Own b K) start G.members Before → HasFired (trigger_of m b) Later ⊎ IsUp m b (Limit b) (Own b (K + 1)) start N.members Later
+      up_on soon up =
+          let past_next = (s.homes.0 (omega (arith, early))).0 in
+          let knows = s.knows.0 past_next Next next_known next_of.0 b (groups.within m switches pins entries lines ready at start last till members followed c d past j js s early low_here far_here reach h is b on) in
+          let same : length (d ∷ past) + 276 ≡ length Turns + 277 = (let l = long in omega (arith, l)) in
+          let Up : ℕ → ℕ → List Seen → Type 0 = λ now begin xs. IsUp m b (Limit b) now begin xs Before in
+          let was : Up (Own b (length Turns)) Next.group.start Next.group.members =
+          subst (λ (n : ℕ). Up (Own b n) Next.group.start Next.group.members) long (subst (λ (n : ℕ). Up (Own b K) n Next.group.members) (sym next_of.1) (subst (λ (xs : List Seen). Up (Own b K) start xs) (sym (groups.same_members m switches pins entries lines ready at start last till members followed c d past j js s early low_here far_here reach h is)) up)) in
+          let l = long in
+          let x = up_step m b (pins b) entries (j b) Turns rests are (noted m c.note (known_by m switches (d ∷ past))).clocks c.states Next (lines b) _ ready start last till (Limit b) (followed b on) (subst (λ (n : ℕ). IsAlike n (clocks_at (noted m c.note (known_by m switches (d ∷ past))).clocks b) (lines b)) same knows.1) knows.0 (s.states b on)
+          next_of.0 next_of.1 (let low = low_here in omega (arith, low, l)) (omega (arith, reach, l)) (omega (arith, early, begun, l)) (omega (arith, soon, l)) (groups.in_range m switches pins entries lines ready at start last till members followed c d past j js s early low_here far_here reach h is b on) sent.behind (small_at m (pins b) entries b switches past Turns run_js) was in
+          out (λ n r. HasFired (trigger_of m b) r ⊎ IsUp m b (Limit b) (Own b (n + 1)) start N.members r)
+          (elim x [
+            | inl f ↦ inl f
+            | inr u ↦ inr (subst (λ (n : ℕ). IsUp m b (Limit b) (Own b (length Turns + 1)) n N.members (passes (takes_all Before Commands).rig (Own b (length Turns + 1))).rig) next_of.1 u)
+          ])
+
+      pub timed_on : AllTimed (trigger_of m b) Before → AllTimed (trigger_of m b) Later
+      timed_on k = out (λ n r. AllTimed (trigger_of m b) r) (turn_timed (trigger_of m b) _ (Own b (length Turns + 1)) Before Commands sent.behind k)
+
+      pub sole_on : IsSole (trigger_of m b) Before
+      sole_on = (one_rested m switches (pins b) entries b past Turns v run_js rests.0 (groups.past_it m switches pins entries lines ready at start last till members followed c d past j js s early low_here far_here reach h is b on) (runs_shut m (pins b) entries b Turns are.1 (groups.plain m switches pins entries lines ready at start last till members followed c d past j js s early low_here far_here reach h is b on).none_shut.1)).0
+
+      runs : (takes_all Before Commands).rig.controller.state ≡ Running
+      runs = runs_rested (board_at m b) (pins b) b entries (j b) Turns rests are (groups.plain m switches pins entries lines ready at start last till members followed c d past j js s early low_here far_here reach h is b on).none_shut.0
+
+      -- one that is sent a timeout in time
+      pub ahead_on : (tick limit : ℕ) → IsLimited (trigger_of m b) tick limit Before → (limit ≡ lines_tick (lines b) ((after G K).sent * turn_ns)) ⊎ SetsOne Commands → K + 2 ≤ (after G K).sent → (after G K).sent ≤ last + 1 → (after G K).sent ≤ K + 274 → IsLimited (trigger_of m b) tick (lines_tick (lines b) (N.sent * turn_ns)) Later
+      ahead_on tick limit limited sets far most near =
+          let f = followed b on in
+          let next = (after G K).sent in
+          let l = long in
+          let to = f.ends in
+          let low = low_here in
+          let ahead = timeout_ahead (Own b) (lines b) ready (length Turns) next f.ticks f.tracked (omega (arith, low, l)) (omega (arith, most, near, reach, to)) (omega (arith, far, l)) (omega (arith, near, l)) (f.rises (length Turns)) (groups.in_range m switches pins entries lines ready at start last till members followed c d past j js s early low_here far_here reach h is b on) in
+          let until = line_ahead (Own b) (lines b) ready (length Turns + 1) next f.tracked (omega (arith, low, l)) (omega (arith, far, most, reach, to, l)) (omega (arith, far, l)) in
+          let clock = groups.clock_is m switches pins entries lines ready at start last till members followed c d past j js s early low_here far_here reach h is b on near in
+          let is : nearest (Own b (length Turns)) _ ≡ lines_tick (lines b) (next * turn_ns) = ap (nearest (Own b (length Turns))) clock ∙ ahead.is in
+          let x = turn_ahead (trigger_of m b) tick limit (lines_tick (lines b) (next * turn_ns)) _ (Own b (length Turns)) (Own b (length Turns + 1)) Before Commands (tick_is (board_at m b) (pins b) b entries Turns are.1) is ahead.later runs sent.behind sets (inl until) limited in
+          out (λ n r. IsLimited (trigger_of m b) tick (lines_tick (lines b) (N.sent * turn_ns)) r) (subst (λ (n : ℕ). IsLimited (trigger_of m b) tick (lines_tick (lines b) (n * turn_ns)) (passes (takes_all Before Commands).rig (Own b (length Turns + 1))).rig) (sym sent_next) x.limited)
+
+      -- one whose timeout is that behind the section's last turn
+      pub far_on : (tick : ℕ) → G.sent ≡ G.last + 1 → IsLimited (trigger_of m b) tick tick Before → IsLimited (trigger_of m b) tick tick Later
+      far_on tick end limited = out (λ n r. IsLimited (trigger_of m b) tick tick r) (turn_far (trigger_of m b) tick tick _ (Own b (length Turns + 1)) Before Commands runs sent.behind (sent.far end) (inr refl) limited).limited
+
+    -- all of its boards
+    members_up : K ≤ last → ((b : ℕ) → IsMember b members → IsUp m b (Limit b) (Own b K) start G.members (rig_at m pins entries js b))
+        → SomeFired (j ∷ js) ⊎ ((b : ℕ) → IsMember b members → IsUp m b (Limit b) (Own b (K + 1)) start N.members (rig_at m pins entries (j ∷ js) b))
+    members_up soon up =
+        all_or (λ b. HasFired (trigger_of m b) (rig_at m pins entries (j ∷ js) b)) (λ b. IsUp m b (Limit b) (Own b (K + 1)) start N.members (rig_at m pins entries (j ∷ js) b)) members (λ b on. up_on b on soon (up b on))
+
+    pub fired_next : SomeFired js → SomeFired (j ∷ js)
+    fired_next f = (f.0, f.1, fired_on f.0 f.1 f.2)
+
+    open_it : all_fired G.members ≡ false
+    open_it = groups.unended m switches pins entries lines ready at start last till members followed c d past j js s early low_here far_here reach h is begins late_start
+
+    grows : G.sent ≤ (after G K).sent
+    grows = (let e = after_is G K late_start open_it in omega (arith, e))
+
+    -- the group renews its timeout
+    near_at : at + 7 ≤ K → (b : ℕ) → IsMember b members → IsUp m b (Limit b) (Own b K) start G.members (rig_at m pins entries js b) → NearOn start b K G.members
+    near_at late b on u =
+        let f = followed b on in
+        let begin = f.begins in
+        let to = f.ends in
+        let ahead = f.tracked.ahead start (omega (arith, begin)) (omega (arith, to, reach, early, begun, ends)) in
+        let due = u.due in
+        elim u.heard [
+          | inl low ↦ absurd (let every = f.reports at in let up = ticks_rise (Own b) f.ticks (at + 6) K (omega (arith, late)) in omega (arith, low, every, up, due))
+          | inr z ↦ near_so (Own b) (lines_tick (lines b) (start * turn_ns)) (report_ticks m b) start b K u.next G.members f.ticks f.reports ahead due (inr z)
+        ]
+
+    renews : at + 7 ≤ K → ((b : ℕ) → IsMember b members → IsUp m b (Limit b) (Own b K) start G.members (rig_at m pins entries js b)) → (K + 15 ≤ (after G K).sent) ⊎ (last + 1 ≤ (after G K).sent)
+    renews late up =
+        let near : (x : Seen) → Contains G.members x → NearOn G.start x.member.board K G.members = (λ x k. (
+        let on = subst (IsMember x.member.board) (groups.are_members m switches pins entries lines ready at start last till members followed c d past j js s early low_here far_here reach h is) (seen_member x G.members k) in
+        subst (λ (n : ℕ). NearOn n x.member.board K G.members) (sym begins) (near_at late x.member.board on (up x.member.board on)))) in
+        elim (renewed G K (K - 10) late_start (heard_all G.start K G.members near) open_it) [ inl far ↦ inl (omega (arith, far, late)) | inr far ↦ inr (omega (arith, far, lasts)) ]
+
+    sets_on : (G.sent ≡ (after G K).sent) ⊎ SetsOne (Commands y on_y)
+    sets_on = (let seen = groups.seen m switches pins entries lines ready at start last till members followed c d past j js s early low_here far_here reach h is y on_y in (sent y on_y).sets seen.0 seen.1 seen.2)
+
+    -- where all were so, and its timeouts are in their bounds
+    pub awake_on : (w : IsAwake d past js) → w.homing ≡ h → N.sent ≤ K + 26 → N.sent ≤ last + 1 → K < at + 24 → SomeFired (j ∷ js) ⊎ IsAwake c (d ∷ past) (j ∷ js)
+    awake_on w same near_next most_next low_so_far = by (subst (λ (g : Homing). (b : ℕ) → IsMember b members → IsUp m b (Limit b) (Own b K) start (Heard d past g).members (rig_at m pins entries js b)) same w.up)
+        (subst (λ (g : Homing). ((Heard d past g).sent ≤ at + 32) ⊎ IsLimited (trigger_of m y) End (Timeout (Heard d past g).sent) (rig_at m pins entries js y)) same w.exact)
+      where
+        by : ((b : ℕ) → IsMember b members → IsUp m b (Limit b) (Own b K) start G.members (rig_at m pins entries js b)) → (G.sent ≤ at + 32) ⊎ IsLimited (trigger_of m y) End (Timeout G.sent) (rig_at m pins entries js y) → SomeFired (j ∷ js) ⊎ IsAwake c (d ∷ past) (j ∷ js)
+        by up exact = elim (members_up (omega (arith, low_so_far, ends)) up) [
+          | inl f ↦ inl f
+          | inr later ↦
+              let e : K + 1 ≡ length (d ∷ past) = omega arith in
+              let same_sent = sent_next in
+              inr (record {
+                homing = Next;
+                known = next_known;
+                begins = begins_next;
+                up = λ b on. subst (λ (n : ℕ). IsUp m b (Limit b) (Own b n) start N.members (rig_at m pins entries (j ∷ js) b)) e (later b on);
+                timed = timed_on y on_y w.timed;
+                exact = elim (leb_tells (at + 7) K) [ inl p ↦ exact_next p.1 | inr p ↦ (let soon = p.1 in inl (omega (arith, near_next, soon))) ];
+                far = λ late. elim (renews (omega (arith, late)) up) [ inl far ↦ inl (omega (arith, far, same_sent)) | inr far ↦ inr (omega (arith, far, same_sent)) ];
+              })
+        ]
+          where
+            exact_next : at + 7 ≤ K → (N.sent ≤ at + 32) ⊎ IsLimited (trigger_of m y) End (Timeout N.sent) (rig_at m pins entries (j ∷ js) y)
+            exact_next late =
+                let same_sent = sent_next in
+                let lower = renews late up in
+                let far : K + 2 ≤ (after G K).sent = elim lower [ inl l ↦ omega (arith, l) | inr l ↦ omega (arith, l, ends, low_so_far) ] in
+                let most : (after G K).sent ≤ last + 1 = omega (arith, most_next, same_sent) in
+                let near : (after G K).sent ≤ K + 274 = omega (arith, near_next, same_sent) in
+                elim exact [
+                  | inr limited ↦ inr (ahead_on y on_y End (Timeout G.sent) limited (elim sets_on [ inl still ↦ inl (ap Timeout still) | inr one ↦ inr one ]) far most near)
+                  | inl few ↦ elim sets_on [
+                    | inl still ↦ inl (omega (arith, few, still, same_sent))
+                    | inr one ↦
+                        let u = up y on_y in
+                        let x = limited_now (trigger_of m y) End (rig_at m pins entries js y) u.slot (sole_on y on_y) (sound_at (board_at m y) (pins y) y entries (turns_of y js) (are y on_y).1) w.timed u.is u.can in
+                        inr (ahead_on y on_y End x.0 x.1 (inr one) far most near)
+                  ]
+                ]
+
+    -- and behind that
+    pub exact_on : (e : IsExact d past js) → e.homing ≡ h → N.sent ≤ K + 26 → N.sent ≤ last + 1 → K ≤ at + 36 → IsExact c (d ∷ past) (j ∷ js)
+    exact_on x same near_next most_next soon = by (subst (λ (g : Homing). IsLimited (trigger_of m y) End (Timeout (Heard d past g).sent) (rig_at m pins entries js y)) same x.exact)
+        (subst (λ (g : Homing). (at + 38 ≤ (Heard d past g).sent) ⊎ ((Heard d past g).sent ≡ last + 1)) same x.far)
+      where
+        by : IsLimited (trigger_of m y) End (Timeout G.sent) (rig_at m pins entries js y) → (at + 38 ≤ G.sent) ⊎ (G.sent ≡ last + 1) → IsExact c (d ∷ past) (j ∷ js)
+        by limited (inl far) =
+            let same_sent = sent_next in
+            let more = grows in
+            record {
+              homing = Next;
+              known = next_known;
+              exact = ahead_on y on_y End (Timeout G.sent) limited (elim sets_on [ inl still ↦ inl (ap Timeout still) | inr one ↦ inr one ]) (omega (arith, far, more, soon)) (omega (arith, most_next, same_sent)) (omega (arith, near_next, same_sent));
+              far = inl (omega (arith, far, more, same_sent));
+            }
+        by limited (inr end) =
+            let same_sent = sent_next in
+            let more = grows in
+            let last_sent : N.sent ≡ last + 1 = omega (arith, end, more, same_sent, most_next) in
+            let at_end : IsLimited (trigger_of m y) End End (rig_at m pins entries js y) = subst (λ (n : ℕ). IsLimited (trigger_of m y) End (Timeout n) (rig_at m pins entries js y)) end limited in
+            let on = far_on y on_y End (omega (arith, end, lasts)) at_end in
+            record { homing = Next; known = next_known; exact = subst (λ (n : ℕ). IsLimited (trigger_of m y) End (Timeout n) (rig_at m pins entries (j ∷ js) y)) (sym last_sent) on; far = inr last_sent }

@@ -6,7 +6,7 @@ ghost use Rattle.plan_types.specs.declared.machine.BoardDef.{BoardDef};
 ghost use Rattle.plan_types.specs.declared.machine.Machine.{Machine};
 ghost use Rattle.plan_types.specs.Clock.{clock_of, turn_ns};
 ghost use Rattle.plan_types.specs.Lines.{Clocks, lines_tick};
-ghost use Rattle.plan_types.specs.Machines.{IsValidMachine};
+ghost use Rattle.plan_types.specs.Machines.{IsValidMachine, board_at};
 ghost use Rattle.wire_scene.specs.declared.scene.Entry.{Entry};
 ghost use Rattle.wire_scene.specs.declared.scene.Switch.{Switch};
 ghost use Rattle.link_work.specs.Limits.{AllKeepLimits};
@@ -17,12 +17,13 @@ ghost use Rattle.host_reactor.specs.Runs.{Came};
 ghost use Rattle.laws_board.specs.turns.Turns.{AreBoardTurns, BoardTurn};
 ghost use Rattle.laws_board.specs.clocks.Runs.{orders_in};
 ghost use Rattle.laws_homing.specs.home_runs.Guards.{HasFired};
+ghost use Rattle.laws_homing.specs.home_runs.Sections.{TakesSetUp};
 ghost use Rattle.laws_homing.specs.home_runs.Told.{IsMember};
 ghost use Rattle.laws_homing.specs.clear_boards.Rests.{RestsFrom};
 ghost use Rattle.laws_homing.specs.clear_groups.Sections.{IsFollowed, IsHomingSection, turns_of};
 ghost use Rattle.laws_homing.specs.clear_groups.SetUp.{AllOfTurn, IsNewAt};
 ghost use Rattle.laws_homing.specs.fired_runs.Since.{BeginsApart, IsFiredAt, ReadsAsTold, ReadsSwitchTrue, ReadsTrue};
-ghost use Rattle.laws_homing.specs.hindered.Hindered.{HeardByNow, HinderedIn, IsGoingOn, HasLiveTrigger, SomeHinderedIn, StoodAt};
+ghost use Rattle.laws_homing.specs.hindered.Hindered.{FellLately, HeardByNow, HinderedIn, IsGoingOn, SomeHinderedIn, StoodAt, TellsOn};
 
 /// The law of rest: in one of some turns, from a number on, a link was hindered, or it rests over each that begins
 /// behind the first of these; so the links of some boards.
@@ -63,23 +64,40 @@ pub fn boards_expire_where_links_are_hindered()
 /// The law of boards that expire lately, in any scene: where as a turn ends the trigger of a board stands expired (2),
 /// of a homing section of which it is a member, since a tick that isn't that of the turn behind the section's last one,
 /// the link of a member's board was hindered in this turn or in one of the 37 before it. What it takes is that 36 turns
-/// before each member's trigger was live (`HasLiveTrigger`), which is five turns behind the section's start or later,
-/// that 12 turns before each could still trigger, that the group heard of the board as able to trigger in no turn to
-/// come (`HeardByNow`), and what the law of boards that expire takes.
+/// before, which is five turns behind the section's start or later, each member's trigger was live or went on reporting
+/// that it had triggered (`TellsOn`), in the section and less than half a round of the clock before (`FellLately`);
+/// that 12 turns before the board's own could still trigger; that the group heard of the board as able to trigger in no
+/// turn to come (`HeardByNow`); and what the law of boards that expire takes.
 pub fn boards_expire_where_links_are_hindered_lately()
     ensures { (m : Machine) (switches : List Switch) (pins : ℕ → List (List Level)) (entries : List Entry)
         (lines : ℕ → Clocks) (ready since start last until : ℕ) (members : List Member) → IsValidMachine m →
         ((b : ℕ) → IsMember b members → IsFollowed m b (lines b) ready start last until) → ready + 255 ≤ start →
         since + 252 ≡ start → start ≤ last → (c : Came) (before : List Came) (all : List (ℕ → BoardTurn)) →
         IsHomingSection (λ b. IsGoingOn m switches (pins b) entries b) m switches lines (since + 1) start members c
-        before all → length before + 276 ≤ until → IsNewAt m switches start last members (since + 1) (c ∷ before) →
-        (b tick at : ℕ) → IsMember b members → HeardByNow m switches b start (c ∷ before) →
-        (tick ≡ lines_tick (lines b) ((last + 1) * turn_ns) → ⊥) → (later : List BoardTurn) (t : BoardTurn)
-        (past : List BoardTurn) → turns_of b all ≡ later ++ t ∷ past → length past ≡ at + 36 → start + 5 ≤ at →
-        at + 32 ≤ last →
-        ((x : ℕ) → IsMember x members → StoodAt (HasLiveTrigger m x at) at (turns_of x all)) →
-        ((x : ℕ) → IsMember x members → StoodAt (λ r. HasFired (trigger_of m x) r → ⊥) (at + 24) (turns_of x all)) →
+        before all → BeginsApart m switches (c ∷ before) → length before + 276 ≤ until →
+        IsNewAt m switches start last members (since + 1) (c ∷ before) → (b tick at : ℕ) → IsMember b members →
+        HeardByNow m switches b start (c ∷ before) → (tick ≡ lines_tick (lines b) ((last + 1) * turn_ns) → ⊥) →
+        (later : List BoardTurn) (t : BoardTurn) (past : List BoardTurn) → turns_of b all ≡ later ++ t ∷ past →
+        length past ≡ at + 36 → start + 5 ≤ at → at + 32 ≤ last →
+        ((x : ℕ) → IsMember x members → StoodAt (TellsOn m x at) at (turns_of x all)) →
+        ((x : ℕ) → IsMember x members →
+        StoodAt (FellLately m x (lines_tick (lines x) (start * turn_ns)) at) at (turns_of x all)) →
+        StoodAt (λ r. HasFired (trigger_of m b) r → ⊥) (at + 24) (turns_of b all) →
         IsFiredAt (trigger_of m b) 2 tick t.after.core.board → SomeHinderedIn (at - 1) (length past) members all }
+{}
+
+/// The law of triggers that tell on, in any scene: where a board of a homing section took the section's set-up in time
+/// (`TakesSetUp`), its trigger tells on as each of the board's turns begins, from five turns behind the section's start
+/// on (`TellsOn`): it reports every five turns, whether it is live or has triggered.
+pub fn triggers_set_up_in_time_tell_on()
+    ensures { (m : Machine) (switches : List Switch) (pins : ℕ → List (List Level)) (entries : List Entry)
+        (lines : ℕ → Clocks) (ready since start last until : ℕ) (members : List Member) → IsValidMachine m →
+        ((b : ℕ) → IsMember b members → IsFollowed m b (lines b) ready start last until) → ready + 255 ≤ start →
+        since + 252 ≡ start → (c : Came) (before : List Came) (all : List (ℕ → BoardTurn)) →
+        IsHomingSection (λ b. IsGoingOn m switches (pins b) entries b) m switches lines (since + 1) start members c
+        before all → BeginsApart m switches (c ∷ before) → length before ≤ until → (b at : ℕ) → IsMember b members →
+        TakesSetUp (first_state (board_at m b) (pins b) b entries) start (turns_of b all) → start + 5 ≤ at →
+        StoodAt (TellsOn m b at) at (turns_of b all) }
 {}
 
 /// The law of reports that are read as what they told (`ReadsAsTold`): they are read true, and so are those that

@@ -1,4 +1,4 @@
--- On a clear link all that a board answers to the commands that it takes in a turn is told of this turn.
+-- Over a turn over which its link rests, all that a board answers to the commands that it takes in a turn is told of this turn.
 use Rattle.std.proofs.Common.{◌≡◌, ◌⊎◌, ℕ, ◌+◌, ◌≤◌, Bool, true, false, cond, List, [], ◌∷◌, ◌++◌, length, map, take, drop, sym, ◌∙◌, subst, arith, inl, inr}
 use Rattle.std.specs.Prelude.{◌==◌, slice_index_or}
 use Rattle.std.proofs.lemmas.List.{append_cancel_left}
@@ -17,26 +17,25 @@ use Rattle.board_sim.specs.Rig.{Rig, takes_all}
 use Rattle.board_world.specs.declared.event.Event.TheVariants as event
 use Rattle.board_world.specs.World.{Core, Do, Step, block_of, does, happens, run, says, takes_in, text_of}
 use Rattle.link_work.specs.Answers.{IsAmong}
-use Rattle.link_work.specs.Limits.{AllKeepLimits}
 use Rattle.link_work.specs.Runs.{queued_in}
 use Rattle.link_work.specs.Stands.{first_state, orders}
 use Rattle.link_work.specs.Told.{heard_in}
 use Rattle.link_work.specs.Turn.{LinkState, after_board, after_host, after_replies, come}
 use Rattle.link_work.proofs.Answered.{begins}
 use Rattle.link_work.proofs.Draining.{IsSound}
-use Rattle.link_work.proofs.Late.{limits_split}
 use Rattle.link_work.proofs.Saying.{among_left, among_right}
 use Rattle.link_work.proofs.Sending.{run_append}
 use Rattle.link_work.proofs.Steps.{AllOf, all_come}
 use Rattle.laws_board.specs.turns.Turns.{AreBoardTurns, BoardTurn, stands_after}
 use Rattle.laws_board.specs.clocks.Runs.{orders_in}
 use Rattle.laws_board.proofs.clocks.Orders.{order_length, turns_in_order}
+use Rattle.laws_homing.specs.clear_boards.Rests.{RestsOver}
 use Rattle.laws_homing.proofs.home_runs.Resting.{rests_up}
 use Rattle.laws_homing.proofs.home_runs.Staging.{commands_both}
 use Rattle.laws_homing.proofs.clear_boards.Saying.{answers_both, taken_along, taken_is}
-use Rattle.laws_homing.proofs.clear_boards.Taking.{IsComing, clear_at, down_coming, down_taking, host_quiet_all}
+use Rattle.laws_homing.proofs.clear_boards.Taking.{IsComing, down_coming, down_taking, host_quiet_all}
 use Rattle.laws_homing.proofs.clear_boards.Telling.{all_heard, in_numbered, news_hold}
-use Rattle.laws_homing.proofs.clear_boards.Rests.{clear_over}
+use Rattle.laws_homing.proofs.clear_boards.Rests.{rests_calm, rests_none}
 
 -- a reply with the bytes of an answer is under way up
 abbrev UnderWay : Cmd → Link → Type 0
@@ -117,10 +116,10 @@ ups_hold c (Do event.Repeat ∷ steps) h k (inr m) =
     ups_hold c steps (happens h event.Repeat) k.1 (elim parts [ inl a ↦ inl (answered h h.link.down c a) | inr b ↦ inr b ])
 ups_hold c (s ∷ steps) h k u = absurd k.0
 
-pub told_to_commands : (b : BoardDef) (pins : List (List Level)) (board : ℕ) (entries : List Entry) (t : BoardTurn) (before : List BoardTurn) (c : Cmd) → entries ≡ [] → AreBoardTurns (clock_of b) (first_state b pins board entries) (t ∷ before)
-    → AllKeepLimits (orders_in (t ∷ before)) → IsAmong c (takes_all (stands_after (first_state b pins board entries) before).core.board (commands_of (queued_in (orders t.control t.batch)))).answers
+pub told_to_commands : (b : BoardDef) (pins : List (List Level)) (board : ℕ) (entries : List Entry) (t : BoardTurn) (before : List BoardTurn) (c : Cmd) → RestsOver t before → AreBoardTurns (clock_of b) (first_state b pins board entries) (t ∷ before)
+    → IsAmong c (takes_all (stands_after (first_state b pins board entries) before).core.board (commands_of (queued_in (orders t.control t.batch)))).answers
     → IsText own_formats c (text_of c) → (n : ℕ) × IsAmong (record { number = n; answer = c }) t.state.news
-told_to_commands b pins board entries t before c e are limits among text =
+told_to_commands b pins board entries t before c rest are among text =
     let first = first_state b pins board entries in
     let clock = clock_of b in
     let o = orders t.control t.batch in
@@ -128,10 +127,7 @@ told_to_commands b pins board entries t before c e are limits among text =
     let tick = board_tick clock (turn + 1) in
     let l = stands_after first before in
     let resent = are.0.0.resent in
-    let kept = (limits_split (orders_in before) (o ∷ []) limits).0 in
-    let old = clear_at b pins board entries before e are.1 kept in
-    let new = clear_at b pins board entries (t ∷ before) e are limits in
-    let empty = rests_up b pins board entries before are.1 old.1.none in
+    let empty = rests_up b pins board entries before are.1 (rests_none b pins board entries before rest.0) in
     let l1 : LinkState = after_host turn o resent l in
     let l2 : LinkState = after_board clock turn l1 in
     let l3 : LinkState = after_replies turn l2 in
@@ -139,7 +135,7 @@ told_to_commands b pins board entries t before c e are limits among text =
     let mid : Core = run down l1.core in
     let host = host_quiet_all turn o resent l.core in
     let coming = all_come IsComing Down down_coming turn l1.down.copies in
-    let x = down_taking b pins board entries t before (clear_over b pins board entries t before e are limits) are in
+    let x = down_taking b pins board entries t before rest are in
     let Taken : List Meant → Type 0 = λ ms. IsAmong c (takes_all l1.core.board (commands_of ms)).answers in
     let On : Rig → Type 0 = λ r. IsAmong c (takes_all r (commands_of (queued_in o))).answers in
     let meant : taken_along down l1.core ≡ queued_in o = append_cancel_left l1.core.taken (taken_along down l1.core) (queued_in o) (sym (taken_is down l1.core) ∙ x.0) in
@@ -151,7 +147,7 @@ told_to_commands b pins board entries t before c e are limits among text =
     let Sound : ℕ → Type 0 = λ k. IsSound l k in
     let sound = subst Sound (order_length before) (begins b pins board entries (orders_in before) l (turns_in_order clock first before are.1)).sound in
     let Up_of : LinkState → Type 0 = λ y. (y.up.calm ≤ turn + 4) × (y.up.copies ≡ []) in
-    let calm = new.1.calm in
-    let clear : Up_of l3 = subst Up_of are.0.0.becomes (omega (arith, calm), new.1.none) in
+    let calm = rests_calm t before rest.1 in
+    let clear : Up_of l3 = subst Up_of are.0.0.becomes (omega (arith, calm), rests_none b pins board entries (t ∷ before) rest.1) in
     let heard = all_heard clock turn o resent l reply sound empty clear.0 clear.1 there in
     (way.0, news_hold (heard_in (come Up turn l2.up.copies) l2.core) t.state.news reply c are.0.1.news heard text)

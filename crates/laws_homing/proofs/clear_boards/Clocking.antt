@@ -80,9 +80,9 @@ first_low clocks time kept = by clocks.held kept.held
         let up = tick_over-mono clocks.first 0 (h ∷ held) 0 time (omega arith) in
         omega (arith, z, e, up)
 
-pub report_counts : (own : ℕ → ℕ) (clocks : Clocks) (ready turn from tick : ℕ) → AreTicks own → (k : AreTracked own clocks ready) → ready + 4 ≤ from → from ≤ turn → turn ≤ from + 1_000 → turn + 1 ≤ k.until → k.until < run_turns → own turn < 2 ^ 63
+pub tick_counts : (own : ℕ → ℕ) (clocks : Clocks) (ready turn from tick : ℕ) → AreTicks own → (k : AreTracked own clocks ready) → ready + 4 ≤ from → from ≤ turn → own turn ≤ tick + 2_100_000_000 → turn + 1 ≤ k.until → k.until < run_turns → own turn < 2 ^ 63
     → own from ≤ tick → tick < own (turn + 1) → IsCounted clocks turn from tick
-report_counts own clocks ready turn from tick ticks k low behind_so near soon few small late before =
+tick_counts own clocks ready turn from tick ticks k low behind_so near soon few small late before =
     let start = from - 4 in
     let e : start + 4 ≡ from = omega (arith, low) in
     let ahead : lines_tick clocks (start * turn_ns) < own from = subst (λ (n : ℕ). lines_tick clocks (start * turn_ns) < own n) e (k.ahead start (omega (arith, low)) (omega (arith, soon, behind_so))) in
@@ -94,10 +94,8 @@ report_counts own clocks ready turn from tick ticks k low behind_so near soon fe
     let back : own (turn - 1) ≤ lines_tick clocks (turn * turn_ns) =
     subst (λ (n : ℕ). own (turn - 1) ≤ lines_tick clocks (n * turn_ns)) f (k.behind (turn - 1) (omega (arith, low, behind_so)) (omega (arith, soon))) in
     let one : own turn ≤ own (turn - 1) + 1_000_000 = subst (λ (n : ℕ). own n ≤ own (turn - 1) + 1_000_000) f (ticks.most (turn - 1)) in
-    let far_back = ticks_most own ticks 1_004 from in
-    let rise = ticks_rise own ticks (turn + 4) (from + 1_004) (omega (arith, near)) in
     let whole = tick_whole clocks turn (omega (arith, up, most, small)) in
-    let is : nearest (turn_tick clocks turn) (tick % 2 ^ 32) ≡ tick = near_there (turn_tick clocks turn) tick (omega (arith, whole, up, rise, far_back, late)) (omega (arith, whole, back, one, before, next)) in
+    let is : nearest (turn_tick clocks turn) (tick % 2 ^ 32) ≡ tick = near_there (turn_tick clocks turn) tick (omega (arith, whole, up, most, near)) (omega (arith, whole, back, one, before, next)) in
     let far = lines_up clocks (turn + 1 + 1) run_turns (omega (arith, soon, few)) in
     let behind_next = k.behind (turn + 1) (omega (arith, low, behind_so)) soon in
     let low_first = first_low clocks (start * turn_ns) k.kept in
@@ -112,6 +110,13 @@ report_counts own clocks ready turn from tick ticks k low behind_so near soon fe
       ends = λ end l. turn-below clocks tick end l;
       begun = λ begin l. turn_least own clocks ready begin tick k l;
     }
+
+pub report_counts : (own : ℕ → ℕ) (clocks : Clocks) (ready turn from tick : ℕ) → AreTicks own → (k : AreTracked own clocks ready) → ready + 4 ≤ from → from ≤ turn → turn ≤ from + 1_000 → turn + 1 ≤ k.until → k.until < run_turns → own turn < 2 ^ 63
+    → own from ≤ tick → tick < own (turn + 1) → IsCounted clocks turn from tick
+report_counts own clocks ready turn from tick ticks k low behind_so near soon few small late before =
+    let most = ticks_most own ticks 1_000 from in
+    let rise = ticks_rise own ticks turn (from + 1_000) near in
+    tick_counts own clocks ready turn from tick ticks k low behind_so (omega (arith, most, rise, late)) soon few small late before
 
 -- a board's clock goes on, and by so many ticks at least
 rate_low : (drift : ℤ) → ppm_size drift ≤ 200 → 999_800 ≤ rate drift

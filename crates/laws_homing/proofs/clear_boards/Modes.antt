@@ -18,7 +18,7 @@ use Rattle.laws_homing.specs.clear_boards.Renewed.{HeardFrom}
 use Rattle.laws_homing.proofs.clear_boards.Renewed.{after_is, orders_are, phase_goes, renewed}
 
 -- what a turn makes of a group
-relay_is : (g : GroupState) (turn : ℕ) → g.start ≤ turn → all_fired g.members ≡ false → (after g turn).relay ≡ relay_in g turn
+pub relay_is : (g : GroupState) (turn : ℕ) → g.start ≤ turn → all_fired g.members ≡ false → (after g turn).relay ≡ relay_in g turn
 relay_is g turn low fired =
     ap (λ (p : Phase). (after_in p g turn).relay) (phase_goes g.start g.last turn low)
     ∙ ap (λ (b : Bool). (if b then g else record g { sent = max g.sent (limit g); relay = relay_in g turn }).relay) fired
@@ -69,7 +69,7 @@ le_is a b l = elim (leb_tells a b) [ inl p ↦ p.0 | inr p ↦ absurd (omega (ar
 gt_is : (a b : ℕ) → b < a → nat_le a b ≡ false
 gt_is a b l = elim (leb_tells a b) [ inl p ↦ absurd (omega (arith, p.1, l)) | inr p ↦ p.0 ]
 
-begins_so : (g : GroupState) (turn : ℕ) → g.start + 4 ≤ turn → any_fired_by g.last g.members ≡ true → relay_begins g turn ≡ true
+pub begins_so : (g : GroupState) (turn : ℕ) → g.start + 4 ≤ turn → any_fired_by g.last g.members ≡ true → relay_begins g turn ≡ true
 begins_so g turn low some = ap (λ (b : Bool). b && (any_fired_by g.last g.members || nat_le (g.last + 5) turn)) (le_is (g.start + 4) turn low) ∙ either_first (any_fired_by g.last g.members) (nat_le (g.last + 5) turn) some
 
 begins_not : (g : GroupState) (turn : ℕ) → turn < g.start + 4 → relay_begins g turn ≡ false
@@ -83,7 +83,7 @@ begins_none : (g : GroupState) (turn : ℕ) → any_fired_by g.last g.members �
 begins_none g turn none low = neither (nat_le (g.start + 4) turn) (any_fired_by g.last g.members) (nat_le (g.last + 5) turn) none (gt_is (g.last + 5) turn low)
 
 -- the first one comes in its turn
-relays_now : (turn : ℕ) → relays_in (Some turn) turn ≡ true
+pub relays_now : (turn : ℕ) → relays_in (Some turn) turn ≡ true
 relays_now turn = let e : turn - turn ≡ 0 = omega arith in ap (λ (n : ℕ). n % 4 == 0) e
 
 in_relays : (x : Seen) (xs : List Seen) → Contains xs x → x.fired ≡ None → Contains (round_of Relays xs) (to_board x Trigger)
@@ -98,16 +98,19 @@ in_relays x (y ∷ ys) c none = elim (either y x ys c) [
   | inr k ↦ Contains-append_right (unless_fired y.fired (to_board y Trigger ∷ [])) (round_of Relays ys) (to_board x Trigger) (in_relays x ys k none)
 ]
 
-pub relayed : (g : GroupState) (turn : ℕ) (x : Seen) → g.start + 4 ≤ turn → all_fired g.members ≡ false → g.relay ≡ None → any_fired_by g.last g.members ≡ true → Contains g.members x → x.fired ≡ None
-    → Contains (orders g turn) (to_board x Trigger)
-relayed g turn x low fired relay some there none =
-    let are = orders_are g turn (omega (arith, low)) fired in
-    let is : relay_in g turn ≡ Some turn = ap (λ (o : Option ℕ). relay_from o (relay_begins g turn) turn) relay ∙ ap (λ (b : Bool). relay_from None b turn) (begins_so g turn low some) in
-    let now : relays_in (relay_in g turn) turn ≡ true = ap (λ (o : Option ℕ). relays_in o turn) is ∙ relays_now turn in
+pub relayed_in : (g : GroupState) (turn : ℕ) (x : Seen) → g.start ≤ turn → all_fired g.members ≡ false → relays_in (relay_in g turn) turn ≡ true → Contains g.members x → x.fired ≡ None → Contains (orders g turn) (to_board x Trigger)
+relayed_in g turn x low fired now there none =
+    let are = orders_are g turn low fired in
     let front = if nat_lt g.sent (limit g) then round_of (Timeouts (limit g)) g.members else [] in
     let same : goes g turn ≡ front ++ round_of Relays g.members = ap (λ (b : Bool). front ++ (if b then round_of Relays g.members else [])) now in
     let All : List Ctl → Type 0 = λ z. Contains z (to_board x Trigger) in
     subst All (sym (are ∙ same)) (Contains-append_right front (round_of Relays g.members) (to_board x Trigger) (in_relays x g.members there none))
+
+pub relayed : (g : GroupState) (turn : ℕ) (x : Seen) → g.start + 4 ≤ turn → all_fired g.members ≡ false → g.relay ≡ None → any_fired_by g.last g.members ≡ true → Contains g.members x → x.fired ≡ None
+    → Contains (orders g turn) (to_board x Trigger)
+relayed g turn x low fired relay some there none =
+    let is : relay_in g turn ≡ Some turn = ap (λ (o : Option ℕ). relay_from o (relay_begins g turn) turn) relay ∙ ap (λ (b : Bool). relay_from None b turn) (begins_so g turn low some) in
+    relayed_in g turn x (omega (arith, low)) fired (ap (λ (o : Option ℕ). relays_in o turn) is ∙ relays_now turn) there none
 
 -- the next turn
 none_fired : (a b : Bool) → (a || b) ≡ false → (a ≡ false) × (b ≡ false)

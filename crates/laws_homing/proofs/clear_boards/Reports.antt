@@ -37,7 +37,7 @@ record Stepped (oid until report : ℕ) (s : Slot) (a : trig.Advanced) : Type 0 
   stays : a.trigger.can ≡ true → s.trigger.can ≡ true
   tells : (next ≡ report) ⊎ ((at : ℕ) × (report ≤ at) × (at < until) × (at + s.trigger.every ≡ next) × (a.trigger.can ≡ true → TellCan oid (at % 2 ^ 32) (told oid a.event)))
 
-same_report : (o : Option ℕ) (a b : ℕ) → o ≡ Some a → o ≡ Some b → a ≡ b
+pub same_report : (o : Option ℕ) (a b : ℕ) → o ≡ Some a → o ≡ Some b → a ≡ b
 same_report None a b e f = cc
 same_report (Some n) a b e f = cc
 
@@ -95,18 +95,18 @@ sooner_none oid (Some moment) (Some rest) e = absurd (by (nat_le moment rest.0) 
     by true f = cc
     by false f = cc
 
-none_in : (r : Rig) (until p oid : ℕ) (xs : List (Option Slot)) (s : Slot) → earliest r until p xs ≡ None → get_or xs oid None ≡ Some s → moment_in r until (Some s) ≡ None
+pub none_in : (r : Rig) (until p oid : ℕ) (xs : List (Option Slot)) (s : Slot) → earliest r until p xs ≡ None → get_or xs oid None ≡ Some s → moment_in r until (Some s) ≡ None
 none_in r until p oid [] s e at = absurd (cc)
 none_in r until p zero (x ∷ xs) s e at = ap (λ (o : Option Slot). moment_in r until o) (sym at) ∙ (sooner_none p (moment_in r until x) (earliest r until (p + 1) xs) e).0
 none_in r until p (suc oid) (x ∷ xs) s e at = none_in r until (p + 1) oid xs s (sooner_none p (moment_in r until x) (earliest r until (p + 1) xs) e).1 at
 
-none_left : (levels : List Level) (until report : ℕ) (t : Trigger) (e : Happening) → moment_of e ≡ None → IsNextOf levels until t e → ReportsAt t report → until ≤ report
+pub none_left : (levels : List Level) (until report : ℕ) (t : Trigger) (e : Happening) → moment_of e ≡ None → IsNextOf levels until t e → ReportsAt t report → until ≤ report
 none_left levels until report t Nothing m next is = next.2 report is
 none_left levels until report t (Expires at) m next is = absurd (cc)
 none_left levels until report t (Switches at) m next is = absurd (cc)
 none_left levels until report t (Reports at) m next is = absurd (cc)
 
-regular_at : (i : ℕ) (xs : List (Option Slot)) → AreRegular xs → IsRegular (get_or xs i None)
+pub regular_at : (i : ℕ) (xs : List (Option Slot)) → AreRegular xs → IsRegular (get_or xs i None)
 regular_at i [] h = tt
 regular_at zero (x ∷ xs) h = h.0
 regular_at (suc i) (x ∷ xs) h = regular_at i xs h.1

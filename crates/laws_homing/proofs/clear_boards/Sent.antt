@@ -7,14 +7,14 @@ use Rattle.plan_types.specs.Machines.{axis_at}
 use Rattle.clock_line.specs.Early.{turn_tick}
 use Rattle.msg_code.specs.declared.cmd.Cmd.{Cmd}
 use Rattle.trigger_group.specs.declared.seen.Seen.{Seen}
-use Rattle.trigger_group.specs.Group.{GroupState, after, all_fired, any_fired_by, orders, relay_begins}
+use Rattle.trigger_group.specs.Group.{GroupState, after, all_fired, any_fired_by, orders, relay_begins, relay_in, relays_in}
 use Rattle.axis_homing.specs.declared.homing.Homing.{Homing}
 use Rattle.axis_homing.specs.Homing.{commands_to, low}
 use Rattle.board_asking.specs.Machine.{trigger_of}
 use Rattle.laws_homing.specs.clear_boards.Alive.{RelayNone}
 use Rattle.laws_homing.specs.clear_boards.Ordered.{IsOrdered}
 use Rattle.laws_homing.specs.clear_boards.Turned.{AreBehind, RelaysOne, SetsNone, SetsOne}
-use Rattle.laws_homing.proofs.clear_boards.Modes.{relayed}
+use Rattle.laws_homing.proofs.clear_boards.Modes.{relayed, relayed_in}
 use Rattle.laws_homing.proofs.clear_boards.Sending.{behind_both, none_both, ordered_behind, ordered_far, ordered_none, ordered_sets, relays_front, relays_there, sets_front, unset_all, unset_both}
 
 module _ (m : Machine) (clocks : Clocks) (b : ℕ) (h : Homing) (turn : ℕ) (g : GroupState) (commands : List Cmd) (o : IsOrdered m clocks b h turn g commands) (begun : g.start ≤ turn) (fired : all_fired g.members ≡ false) where
@@ -35,6 +35,11 @@ module _ (m : Machine) (clocks : Clocks) (b : ℕ) (h : Homing) (turn : ℕ) (g 
     | inl same ↦ inl same
     | inr one ↦ inr (subst SetsOne (sym o.are) (sets_front Front o.tail one))
   ]
+
+  pub sent_relays_in : (x : Seen) → Contains g.members x → x.member.board ≡ b → x.fired ≡ None → relays_in (relay_in g turn) turn ≡ true → RelaysOne commands
+  sent_relays_in x there on none now =
+      let ordered = relayed_in g turn x begun fired now there none in
+      subst RelaysOne (sym o.are) (relays_front Front o.tail (relays_there m clocks b h.start (axis_at m h.axis) x (orders g turn) on ordered))
 
   pub sent_relays : (x : Seen) → Contains g.members x → x.member.board ≡ b → x.fired ≡ None → g.start + 4 ≤ turn → g.relay ≡ None → any_fired_by g.last g.members ≡ true → RelaysOne commands
   sent_relays x there on none late relay some =

@@ -1,6 +1,6 @@
 -- A trigger that triggers while commands come behind a section's set-up, and time passes, tells so, of a tick that isn't before another.
 use Rattle.std.proofs.Common.{◌≡◌, ℕ, zero, suc, ◌+◌, ◌/◌, ◌%◌, ◌^◌, ◌<◌, ◌≤◌, Bool, true, false, List, [], ◌∷◌, ◌++◌, get_or, set, Option, Some, None, refl, ap, sym, ◌∙◌, subst, arith, ◌⊎◌, inl, inr, append_assoc}
-use Rattle.std.specs.Prelude.{if◌then◌else◌, slice_index_or, nat_le, nat_lt}
+use Rattle.std.specs.Prelude.{if◌then◌else◌, slice_index_or, nat_le}
 use Rattle.std.proofs.lemmas.Bool.Decides.{leb_tells}
 use Rattle.std.proofs.lemmas.List.{get_or-set_other, get_or-set_same}
 use Rattle.plan_types.specs.declared.levels.Level.{Level}
@@ -173,14 +173,25 @@ module _ (oid low until : ℕ) where
   -- commands: an order to trigger, and a timeout that is set, are of ticks that are in time
   module _ (clock now : ℕ) (soon : now < until) where
     abbrev Fits : (Type 0) → (Type 0) → Type 0
-    Fits relays sets = (relays → low ≤ now) × (sets → (now < nearest now clock) × (low ≤ nearest now clock))
+    Fits relays sets = (relays → low ≤ now) × (sets → ((now < nearest now clock) × (low ≤ nearest now clock)) ⊎ (low ≤ now))
 
     -- a timeout
     at_once : (r : Rig) (s : Slot) (t : Trigger) (o : Option ℕ) (xs : List Cmd) → slot_at r oid ≡ Some s → o ≡ None → So r.pins (record s { trigger = t }) xs → Stands (expires_at_once r oid s t o).rig (xs ++ (expires_at_once r oid s t o).answers)
     at_once r s t None xs there e k = more_stands (becomes r oid s t) xs [] (set_here r (becomes r oid s t) s (record s { trigger = t }) xs there refl refl k)
     at_once r s t (Some n) xs there e k = absurd (let bad : Some n ≡ None = e in cc)
 
-    limited_so : (r : Rig) (s : Slot) (xs : List Cmd) → slot_at r oid ≡ Some s → r.controller.tick ≡ now → (now < nearest now clock) × (low ≤ nearest now clock) → Keen low r.pins s
+    -- one that isn't ahead triggers it at once
+    late_so : (r : Rig) (s : Slot) (xs : List Cmd) → slot_at r oid ≡ Some s → low ≤ now
+        → let u : Trigger = record (trig.fired now s.trigger.expire s.trigger) { untold = Some now } in
+        Stands (expires_at_once r oid s u u.untold).rig (xs ++ (expires_at_once r oid s u u.untold).answers)
+    late_so r s xs there begun =
+        let u : Trigger = record (trig.fired now s.trigger.expire s.trigger) { untold = Some now } in
+        let t : Trigger = record u { untold = None } in
+        let ys = (expires_at_once r oid s u u.untold).answers in
+        set_here r (becomes r oid s t) s (record s { trigger = t }) (xs ++ ys) there refl refl
+        (inr (record { fired = refl; told = refl; idle = refl; moves = tt; begun = begun; early = soon; tells = off_behind oid (now % 2 ^ 32) xs ys (inl (refl, refl, refl)) }))
+
+    limited_so : (r : Rig) (s : Slot) (xs : List Cmd) → slot_at r oid ≡ Some s → r.controller.tick ≡ now → ((now < nearest now clock) × (low ≤ nearest now clock)) ⊎ (low ≤ now) → Keen low r.pins s
         → Stands (expires_at_once r oid s (trig.limited r.controller.tick (nearest r.controller.tick clock) s.trigger) (trig.limited r.controller.tick (nearest r.controller.tick clock) s.trigger).untold).rig
         (xs ++ (expires_at_once r oid s (trig.limited r.controller.tick (nearest r.controller.tick clock) s.trigger) (trig.limited r.controller.tick (nearest r.controller.tick clock) s.trigger).untold).answers)
     limited_so r s xs there at fit k =
@@ -188,9 +199,17 @@ module _ (oid low until : ℕ) where
         (xs ++ (expires_at_once r oid s (trig.limited n (nearest n clock) s.trigger) (trig.limited n (nearest n clock) s.trigger).untold).answers) in
         let t : Trigger = record s.trigger { timeout = Some (nearest now clock) } in
         let If : Bool → Type 0 = λ b. let u : Trigger = if b then t else record (trig.fired now s.trigger.expire s.trigger) { untold = Some now } in Stands (expires_at_once r oid s u u.untold).rig (xs ++ (expires_at_once r oid s u u.untold).answers) in
-        let yes : nat_lt now (nearest now clock) ≡ true = elim (leb_tells (suc now) (nearest now clock)) [ inl p ↦ p.0 | inr p ↦ absurd (let l = p.1 in let m = fit.0 in omega (arith, l, m)) ] in
-        let so : So r.pins (record s { trigger = t }) xs = inl (record { can = k.can; told = k.told; moves = k.moves; timed = λ x e. (let same : nearest now clock ≡ x = (cc) in let l = fit.1 in omega (arith, l, same)); sampled = k.sampled }) in
-        subst At (sym at) (subst If (sym yes) (at_once r s t t.untold xs there k.told so))
+        subst At (sym at) (elim (leb_tells (suc now) (nearest now clock)) [
+          | inl p ↦
+              let later = p.1 in
+              let least : low ≤ nearest now clock = elim fit [ inl f ↦ f.1 | inr l ↦ omega (arith, l, later) ] in
+              let so : So r.pins (record s { trigger = t }) xs = inl (record { can = k.can; told = k.told; moves = k.moves; timed = λ x e. (let same : nearest now clock ≡ x = (cc) in omega (arith, least, same)); sampled = k.sampled }) in
+              subst If (sym p.0) (at_once r s t t.untold xs there k.told so)
+          | inr p ↦
+              let past = p.1 in
+              let begun : low ≤ now = elim fit [ inl f ↦ absurd (let m = f.0 in omega (arith, past, m)) | inr l ↦ l ] in
+              subst If (sym p.0) (late_so r s xs there begun)
+        ])
 
     abbrev TimesOut : Rig → Slot → List Cmd → Bool → Type 0
     TimesOut r s xs b = let t : Trigger = if b then trig.limited r.controller.tick (nearest r.controller.tick clock) s.trigger else s.trigger in Stands (expires_at_once r oid s t t.untold).rig (xs ++ (expires_at_once r oid s t t.untold).answers)
@@ -198,7 +217,7 @@ module _ (oid low until : ℕ) where
     abbrev RelaysOut : Rig → Slot → List Cmd → Bool → Type 0
     RelaysOut r s xs b = let t : Trigger = if b then trig.fired r.controller.tick 3 s.trigger else s.trigger in Stands (becomes r oid s t) (xs ++ told oid (trig.told r.controller.tick t).event)
 
-    times_so : (r : Rig) (xs : List Cmd) → r.controller.tick ≡ now → (now < nearest now clock) × (low ≤ nearest now clock) → Stands r xs → Stands (acts r (cmd.TrsyncSetTimeout oid clock)).rig (xs ++ (acts r (cmd.TrsyncSetTimeout oid clock)).answers)
+    times_so : (r : Rig) (xs : List Cmd) → r.controller.tick ≡ now → ((now < nearest now clock) × (low ≤ nearest now clock)) ⊎ (low ≤ now) → Stands r xs → Stands (acts r (cmd.TrsyncSetTimeout oid clock)).rig (xs ++ (acts r (cmd.TrsyncSetTimeout oid clock)).answers)
     times_so r xs at fit d =
         let By : Option Slot → Type 0 = λ o. Stands (set_timeout r oid o clock).rig (xs ++ (set_timeout r oid o clock).answers) in
         subst By (sym d.is) (by d.so)

@@ -71,7 +71,7 @@ first_at now tick step early some =
     let all : (now - tick + (step - 1)) / step ≡ 0 = div-eq_of_lt (omega (arith, early, some)) in
     ap (λ (n : ℕ). tick + n * step) all ∙ omega arith
 
-report_at : (b : Bool) (now at base step : ℕ) → (step == 0) ≡ b → at ≡ base → now ≤ base → 0 < step → (if b then None else Some (trig.first_from now at step)) ≡ Some base
+pub report_at : (b : Bool) (now at base step : ℕ) → (step == 0) ≡ b → at ≡ base → now ≤ base → 0 < step → (if b then None else Some (trig.first_from now at step)) ≡ Some base
 report_at true now at base step e is early some = absurd (let zero_is : step ≡ 0 = eqb-true step 0 e in omega (arith, zero_is, some))
 report_at false now at base step e is early some = ap (λ (n : ℕ). Some (trig.first_from now n step)) is ∙ ap (λ (n : ℕ). Some n) (first_at now base step early some)
 

@@ -50,7 +50,7 @@ use Rattle.laws_homing.proofs.clear_boards.Clocking.{board_rises}
 use Rattle.laws_homing.proofs.clear_boards.Standing.{sound_at}
 use Rattle.laws_homing.specs.switch_runs.Reports.{IsReport, WasReported}
 use Rattle.laws_homing.specs.clear_groups.Resting.{EachTame}
-use Rattle.laws_homing.proofs.clear_groups.Known.{answered_late, behind_turn}
+use Rattle.laws_homing.proofs.clear_groups.Known.{behind_turn}
 use Rattle.laws_homing.proofs.clear_groups.Noted.{drift_small, noted_newly, some_or_none}
 use Rattle.laws_homing.proofs.clear_groups.Plain.{none_at, none_some}
 use Rattle.laws_homing.proofs.clear_groups.Resting.{Together, clash, known_together, newly_together, next_of, some_same, taken_tame, heard_together}
@@ -373,20 +373,34 @@ module _ (m : Machine) (v : IsValidMachine m) (switches : List Switch) (pins : L
       ⊎ (((known_by m switches before).phase ≡ Connecting → ⊥) × UnderWay before (known_by m switches before).homing turns)
 
   -- a section that is known answers
-  answers_fired : (c : Came) (before : List Came) (turns : List BoardTurn) → Run before turns → state_at b c.states ≡ latest_state turns → AreReadTrue m switches b (c ∷ before) turns → AreBehind m switches b (c ∷ before)
-      → ((noted m c.note (known_by m switches before)).phase ≡ Connecting → ⊥) → (u : UnderWay before (known_by m switches before).homing turns) → (noted m c.note (known_by m switches before)).homing ≡ Some u.homing → (e : End)
-      → answer_in (length before) u.homing.start (hears_all (noted m c.note (known_by m switches before)).clocks c.states u.homing).group ≡ Some e → HasFiredSince Oid u.homing.start First turns
-  answers_fired c before turns r latest reads behind open_it u still e ends =
+  reports_fired : (c : Came) (before : List Came) (turns : List BoardTurn) → Run before turns → state_at b c.states ≡ latest_state turns → AreReadTrue m switches b (c ∷ before) turns → AreBehind m switches b (c ∷ before)
+      → ((noted m c.note (known_by m switches before)).phase ≡ Connecting → ⊥) → (u : UnderWay before (known_by m switches before).homing turns) → (noted m c.note (known_by m switches before)).homing ≡ Some u.homing → (f : Fired)
+      → WasReported m switches b u.homing.start f (c ∷ before) → HasFiredSince Oid u.homing.start First turns
+  reports_fired c before turns r latest reads behind open_it u still f told =
       let h = u.homing in
       let ms = members_of h.group in
-      let told = member_told m switches b c before h e r.goes_on still ends u.member in
       let open_past : (known_by m switches before).phase ≡ Connecting → ⊥ = λ p. open_it (noted_phase m c.note (known_by m switches before) ∙ p) in
       let now : IsOf h.start ms (noted m c.note (known_by m switches before)).homing = subst (λ (o : Option Homing). IsOf h.start ms o) (sym still) (refl, u.together, refl) in
       let homes : HomesFrom m switches (length u.early) h.start ms (c ∷ before) = (λ l. (open_past, now), u.since) in
       let at = u.begun_is.at in
-      let read = fired_read m switches pins entries b (length u.early) h.start ms told.0 c before turns r latest homes (omega (arith, at)) u.member reads behind told.1 in
+      let read = fired_read m switches pins entries b (length u.early) h.start ms f c before turns r latest homes (omega (arith, at)) u.member reads behind told in
       subst (λ (z : List BoardTurn). HasFiredSince Oid h.start First z) (sym u.are)
-      (fired_since h.start before u.later u.early u.begun_is (subst (λ (z : List BoardTurn). Run before z) u.are r) read.was.0 told.0.tick read.late (subst (λ (z : List BoardTurn). WasFiredAt Oid read.was.0 told.0.tick z) u.are read.was.1))
+      (fired_since h.start before u.later u.early u.begun_is (subst (λ (z : List BoardTurn). Run before z) u.are r) read.was.0 f.tick read.late (subst (λ (z : List BoardTurn). WasFiredAt Oid read.was.0 f.tick z) u.are read.was.1))
+
+  -- a report that counts comes from the section's start on
+  report_late : (c : Came) (before : List Came) (turns : List BoardTurn) (start : ℕ) (f : Fired) → Run before turns → state_at b c.states ≡ latest_state turns → WasReported m switches b start f (c ∷ before) → start ≤ length before
+  report_late c before [] start f r latest (inl x) = absurd (let came = x.came in cc)
+  report_late c before (t ∷ earlier) start f r latest (inl x) =
+      let same : t.state ≡ x.state = sole_state t.state x.state (sym latest ∙ x.came) in
+      let turn : x.state.turn ≡ length earlier = ap (λ (s : State). s.turn) (sym same) ∙ r.turns_are.0.1.turn in
+      let counts = x.counts in
+      let long = as_long m switches b before (t ∷ earlier) r.both in
+      omega (arith, counts, turn, long)
+  report_late c [] turns start f r latest (inr old) = absurd old
+  report_late c (d ∷ past) [] start f r latest (inr old) = absurd r.both
+  report_late c (d ∷ past) (t ∷ earlier) start f r latest (inr old) =
+      let l = report_late d past earlier start f (run_before m switches pins entries b d past t earlier r) r.both.0 old in
+      omega (arith, l)
 
   module _ (d : Came) (past : List Came) (t : BoardTurn) (turns : List BoardTurn) (now : Run (d ∷ past) (t ∷ turns)) (apart : BeginsApart m switches (d ∷ past)) where
     abbrev K : ℕ
@@ -585,7 +599,8 @@ module _ (m : Machine) (v : IsValidMachine m) (switches : List Switch) (pins : L
             } in
             goes_way u.homing still open_it u.together (omega (arith, soon)) u.member (t ∷ u.later) u.early (ap (λ (z : List BoardTurn). t ∷ z) u.are) longer u.since e
         by tame still open_it (Some end) e =
-            let fired = answers_fired d past turns was now.both.0 reads behind open_it u still end e in
+            let told = member_told m switches b d past u.homing end was.goes_on still e u.member in
+            let fired = reports_fired d past turns was now.both.0 reads behind open_it u still told.0 told.1 in
             inl (rest_tame tame fired.at_rest, λ h is. absurd (clash (known_by m switches (d ∷ past)).homing h (answered_over u.homing still open_it end e) is))
 
   -- a whole run
@@ -612,13 +627,13 @@ module _ (m : Machine) (v : IsValidMachine m) (switches : List Switch) (pins : L
       let was_so = run_before m switches pins entries b d past t turns r in
       step d past t turns r apart reads behind (all_way past turns was_so apart.1 (earlier_reads (ReadsTrue m switches b) d past turns was_so reads) behind.1)
 
-  pub answered_fired : (c : Came) (before : List Came) (turns : List BoardTurn) (h : Homing) (e : End) → Run before turns → state_at b c.states ≡ latest_state turns → BeginsApart m switches (c ∷ before) → AreReadTrue m switches b (c ∷ before) turns
-      → AreBehind m switches b (c ∷ before) → (noted m c.note (known_by m switches before)).homing ≡ Some h
-      → answer_in (length before) h.start (hears_all (noted m c.note (known_by m switches before)).clocks c.states h).group ≡ Some e → IsMember b (members_of h.group) → HasFiredSince Oid h.start First turns
-  answered_fired c before turns h e r latest apart reads behind is ends member =
+  -- a member of the section that is known, where it told that its trigger has triggered
+  pub reported_fired : (c : Came) (before : List Came) (turns : List BoardTurn) (h : Homing) (f : Fired) → Run before turns → state_at b c.states ≡ latest_state turns → BeginsApart m switches (c ∷ before) → AreReadTrue m switches b (c ∷ before) turns
+      → AreBehind m switches b (c ∷ before) → (noted m c.note (known_by m switches before)).homing ≡ Some h → IsMember b (members_of h.group) → WasReported m switches b h.start f (c ∷ before) → HasFiredSince Oid h.start First turns
+  reported_fired c before turns h f r latest apart reads behind is member told =
       let known = known_by m switches before in
       let n = noted m c.note known in
-      let late = answered_late (length before) h.start (hears_all n.clocks c.states h).group e ends in
+      let late = report_late c before turns h.start f r latest told in
       elim (all_way before turns r apart.1 (earlier_reads (ReadsTrue m switches b) c before turns r reads) behind.1) [
         | inl x ↦ elim apart.0 [
           | inl none ↦ (let far = (x.1 h (sym (noted_none m c.note known none) ∙ is)).1 member in absurd (omega (arith, far, late)))
@@ -628,11 +643,17 @@ module _ (m : Machine) (v : IsValidMachine m) (switches : List Switch) (pins : L
             let u = x.1 in
             let still : n.homing ≡ Some u.homing = elim apart.0 [ inl none ↦ noted_none m c.note known none ∙ u.known | inr begun_now ↦ absurd (clash known.homing u.homing begun_now.0 u.known) ] in
             let same : u.homing ≡ h = some_same u.homing h (sym still ∙ is) in
-            let own_ends : answer_in (length before) u.homing.start (hears_all n.clocks c.states u.homing).group ≡ Some e =
-            subst (λ (g : Homing). answer_in (length before) g.start (hears_all n.clocks c.states g).group ≡ Some e) (sym same) ends in
+            let own_told : WasReported m switches b u.homing.start f (c ∷ before) = subst (λ (g : Homing). WasReported m switches b g.start f (c ∷ before)) (sym same) told in
             subst (λ (g : Homing). HasFiredSince Oid g.start First turns) same
-            (answers_fired c before turns r latest reads behind (λ p. x.0 (sym (noted_phase m c.note known) ∙ p)) u still e own_ends)
+            (reports_fired c before turns r latest reads behind (λ p. x.0 (sym (noted_phase m c.note known) ∙ p)) u still f own_told)
       ]
+
+  pub answered_fired : (c : Came) (before : List Came) (turns : List BoardTurn) (h : Homing) (e : End) → Run before turns → state_at b c.states ≡ latest_state turns → BeginsApart m switches (c ∷ before) → AreReadTrue m switches b (c ∷ before) turns
+      → AreBehind m switches b (c ∷ before) → (noted m c.note (known_by m switches before)).homing ≡ Some h
+      → answer_in (length before) h.start (hears_all (noted m c.note (known_by m switches before)).clocks c.states h).group ≡ Some e → IsMember b (members_of h.group) → HasFiredSince Oid h.start First turns
+  answered_fired c before turns h e r latest apart reads behind is ends member =
+      let told = member_told m switches b c before h e r.goes_on is ends member in
+      reported_fired c before turns h told.0 r latest apart reads behind is member told.1
 
   -- in a turn by which a section that is known hasn't started it
   pub rest_before : (c : Came) (before : List Came) (turns : List BoardTurn) (h : Homing) → Run before turns → BeginsApart m switches (c ∷ before) → AreReadTrue m switches b before (rest_of turns) → AreBehind m switches b before

@@ -1,17 +1,24 @@
 -- Where the trigger of a member's board stands expired in a homing section, the link of a member's board was hindered.
-use Rattle.std.proofs.Common.{◌≡◌, ◌⊎◌, ℕ, suc, ◌+◌, ◌-◌, ◌*◌, ◌≤◌, inl, inr, List, [], ◌∷◌, ◌++◌, length, Option, Some, ap, sym, ◌∙◌, subst, arith}
+use Rattle.std.proofs.Common.{◌≡◌, ◌⊎◌, ℕ, suc, ◌+◌, ◌-◌, ◌*◌, ◌≤◌, inl, inr, List, [], ◌∷◌, ◌++◌, length, Option, Some, refl, ap, sym, ◌∙◌, subst, arith}
 use Rattle.std.proofs.lemmas.Bool.Decides.{leb_tells}
 use Rattle.plan_types.specs.declared.levels.Level.{Level}
 use Rattle.plan_types.specs.declared.machine.Machine.{Machine}
 use Rattle.plan_types.specs.Clock.{board_tick, clock_of, turn_ns}
-use Rattle.plan_types.specs.Lines.{Clocks, lines_tick}
-use Rattle.plan_types.specs.Machines.{IsValidMachine, board_at}
+use Rattle.plan_types.specs.Lines.{Clocks, lines_tick, lines_turn}
+use Rattle.plan_types.specs.Machines.{IsValidMachine, axis_at, board_at}
+use Rattle.plan_types.specs.Sections.{clocks_at}
+use Rattle.clock_line.specs.Early.{is_in_run}
+use Rattle.clock_line.proofs.Turns.{turn-below}
 use Rattle.wire_scene.specs.declared.scene.Entry.{Entry}
 use Rattle.wire_scene.specs.declared.scene.Switch.{Switch}
+use Rattle.msg_code.specs.declared.talk.State.{State}
 use Rattle.trigger_group.specs.declared.order.Member.{Member}
+use Rattle.trigger_group.specs.declared.seen.Fired.{Fired}
+use Rattle.trigger_group.specs.declared.seen.Seen.{Seen}
 use Rattle.trigger_group.specs.Group.{GroupState}
 use Rattle.axis_homing.specs.declared.homing.Homing.{Homing}
 use Rattle.axis_homing.specs.Homing.{hears_all}
+use Rattle.axis_homing.specs.Rising.{members_of}
 use Rattle.board_asking.specs.Machine.{trigger_of}
 use Rattle.board_sim.specs.Rig.{Rig, Slot, slot_at}
 use Rattle.board_sim.proofs.Bound.{one_slot}
@@ -19,19 +26,28 @@ use Rattle.link_work.specs.Stands.{first_state}
 use Rattle.host_reactor.specs.Notes.{noted}
 use Rattle.host_reactor.specs.Runs.{Came, GoesOn, known_by}
 use Rattle.laws_board.specs.turns.Turns.{BoardTurn, stands_after}
+use Rattle.laws_board.specs.clocks.Runs.{IsInRun}
+use Rattle.laws_board.proofs.sections.Clocks.{ticks_rise}
 use Rattle.laws_board.proofs.sections.Lists.{cons_same}
 use Rattle.laws_board.proofs.clocks.Lines.{as_long, run_before}
 use Rattle.laws_homing.specs.home_runs.Guards.{HasFired}
 use Rattle.laws_homing.specs.home_runs.Sections.{HomesFrom}
 use Rattle.laws_homing.specs.home_runs.Told.{IsMember}
+use Rattle.laws_homing.specs.clear_boards.Hearing.{KnownOn, NoneOn}
 use Rattle.laws_homing.specs.clear_boards.Limited.{IsLimited}
 use Rattle.laws_homing.specs.clear_boards.Rests.{RestsBehind, RestsFrom}
 use Rattle.laws_homing.specs.clear_groups.Safe.{IsHeld}
 use Rattle.laws_homing.specs.clear_groups.Sections.{BeginsNoneFrom, IsFollowed, IsOnward, IsRestingSection, IsHomingSection, report_ticks, rig_at, turns_of}
 use Rattle.laws_homing.specs.clear_groups.SetUp.{AllOfTurn, ArePrepared, ArePreparedAt, IsNewAt}
-use Rattle.laws_homing.specs.fired_runs.Since.{AllRead, BeginsApart, IsFiredAt, ReadsSwitchTrue, ReadsTrue}
-use Rattle.laws_homing.specs.hindered.Hindered.{HeardByNow, IsGoingOn, HasLiveTrigger, SomeHinderedIn, StoodAt}
-use Rattle.laws_homing.proofs.clear_groups.Known.{of_known, some_known}
+use Rattle.laws_homing.specs.fired_runs.Since.{AllRead, AreReadTrue, BeginsApart, IsFiredAt, ReadsSwitchTrue, ReadsTrue}
+use Rattle.laws_homing.specs.hindered.Hindered.{FellLately, HeardByNow, IsGoingOn, HasLiveTrigger, HasTellingTrigger, SomeHinderedIn, StoodAt, TellsOn}
+use Rattle.laws_homing.specs.switch_runs.Reports.{IsReport, WasReported}
+use Rattle.laws_homing.proofs.clear_boards.Standing.{sound_at}
+use Rattle.laws_homing.proofs.fired_runs.Reported.{all_told, turn_if}
+use Rattle.laws_homing.proofs.fired_runs.Rested.{run_at, was_at}
+use Rattle.laws_homing.proofs.fired_runs.Under.{under_after}
+use Rattle.laws_homing.proofs.missed_groups.Fresh.{one_state}
+use Rattle.laws_homing.proofs.clear_groups.Known.{behind_turn, of_known, some_known}
 use Rattle.laws_homing.proofs.clear_groups.Newly.{safe_at}
 use Rattle.laws_homing.proofs.clear_groups.Sections.{rests_safe}
 use Rattle.laws_homing.proofs.hindered.Keeping.{Timed}
@@ -39,7 +55,8 @@ use Rattle.laws_homing.proofs.hindered.Nearing.{IsNear, near_at}
 use Rattle.laws_homing.proofs.hindered.Prepared.{prepared_in}
 use Rattle.laws_homing.proofs.hindered.Reporting.{IsUp}
 use Rattle.laws_homing.proofs.hindered.Resting.{some_more, some_or, turns_long}
-use Rattle.laws_homing.proofs.hindered.Waking.{IsAwake, IsExact, awake_on, exact_on, fired_next, next_known}
+use Rattle.laws_homing.proofs.hindered.Waking.{IsAsked, IsAwake, IsCalled, IsDone, IsExact, NoneKnown, all_or, asked_on, awake_on, called_on, done_on, exact_on, next_known}
+use Rattle.laws_homing.proofs.hindered.Unheard.{known_of, unheard_at}
 
 -- from a later turn on
 pub homes_later : (m : Machine) (switches : List Switch) (from at start : ℕ) (ms : List Member) (came : List Came) → from ≤ at → HomesFrom m switches from start ms came → HomesFrom m switches at start ms came
@@ -229,12 +246,16 @@ module _ (m : Machine) (v : IsValidMachine m) (switches : List Switch) (pins : �
         let end = x.ends in
         subst (λ (g : Homing). (Sent c before g ≤ length before + 25) × (Sent c before g ≤ last + 1)) same (omega (arith, near, late), omega (arith, most, end))
 
-    -- their triggers are live as that turn begins
+    -- their triggers are live as that turn begins, or report that they have triggered lately
     abbrev UnderWay : List (ℕ → BoardTurn) → Type 0
-    UnderWay all = (b : ℕ) → IsMember b members → StoodAt (HasLiveTrigger m b at) at (turns_of b all)
+    UnderWay all = (b : ℕ) → IsMember b members → StoodAt (TellsOn m b at) at (turns_of b all)
 
-    abbrev Cans : List (ℕ → BoardTurn) → Type 0
-    Cans all = (b : ℕ) → IsMember b members → StoodAt (λ r. HasFired (trigger_of m b) r → ⊥) (at + 24) (turns_of b all)
+    abbrev Fell : List (ℕ → BoardTurn) → Type 0
+    Fell all = (b : ℕ) → IsMember b members → StoodAt (FellLately m b (lines_tick (lines b) (start * turn_ns)) at) at (turns_of b all)
+
+    -- and the board's could trigger 24 turns behind
+    abbrev Could : List (ℕ → BoardTurn) → Type 0
+    Could all = StoodAt (λ r. HasFired (trigger_of m y) r → ⊥) (at + 24) (turns_of y all)
 
     first_awake : (c d : Came) (past : List Came) (j : ℕ → BoardTurn) (js : List (ℕ → BoardTurn)) → Near c (d ∷ past) → length (d ∷ past) ≡ at → ((b : ℕ) → IsMember b members → HasLiveTrigger m b at (rig_at m pins entries (j ∷ js) b))
         → IsAwake m v switches pins entries lines ready at start last till members followed low_five begun ends y on_y c (d ∷ past) (j ∷ js)
@@ -255,76 +276,210 @@ module _ (m : Machine) (v : IsValidMachine m) (switches : List Switch) (pins : �
             → IsUp m b (board_tick (clock_of (board_at m b)) at + report_ticks m b) (board_tick (clock_of (board_at m b)) at) start (hears_all (noted m c.note (known_by m switches (d ∷ past))).clocks c.states x.homing).group.members (rig_at m pins entries (j ∷ js) b)
         first_up b u = record { slot = u.slot; is = u.is; can = u.can; every_is = u.every; next = u.next; report = u.report; due = u.due; heard = inl u.soon }
 
-    abbrev Fired : List (ℕ → BoardTurn) → Type 0
-    Fired all = (b : ℕ) × IsMember b members × HasFired (trigger_of m b) (rig_at m pins entries all b)
-
     abbrev Awake : Came → List Came → List (ℕ → BoardTurn) → Type 0
     Awake c before all = IsAwake m v switches pins entries lines ready at start last till members followed low_five begun ends y on_y c before all
 
     abbrev Exact : Came → List Came → List (ℕ → BoardTurn) → Type 0
     Exact c before all = IsExact m v switches pins entries lines ready at start last till members followed low_five begun ends y on_y c before all
 
-    awake_at : (c : Came) (before : List Came) (all : List (ℕ → BoardTurn)) → Going c before all → RestAt all → NearAll (c ∷ before) → length before + 276 ≤ till → UnderWay all → at ≤ length before → length before ≤ at + 24 → Fired all ⊎ Awake c before all
-    awake_at c before [] s r near reach way low high = absurd (let size = s.long in omega (arith, size, low, begun))
-    awake_at c [] (j ∷ js) s r near reach way low high = absurd (omega (arith, low, begun))
-    awake_at c (d ∷ past) (j ∷ js) s r near reach way low high = elim (leb_tells at (length past)) [
-      | inl p ↦
-          let early = p.1 in
-          let x = near.1.0 (omega (arith, early, begun)) in
-          let next = near.0 (omega (arith, early, begun)) in
-          let section = resting_at c (d ∷ past) (j ∷ js) s r in
-          let far : length past + 276 ≤ till = omega (arith, reach) in
-          elim (awake_at d past js (cut_going c d past j js s) (λ b on. (r b on).1) near.1 far (λ b on. (way b on).1) early (omega (arith, high))) [
-            | inl f ↦ inl (fired_next m v switches pins entries lines ready at start last till members followed low_five begun ends y on_y c d past j js section early far x.homing x.known x.begins x.ends f)
-            | inr w ↦
-                let same = same_homing (noted m d.note (known_by m switches past)).homing w.homing x.homing w.known x.known in
-                awake_on m v switches pins entries lines ready at start last till members followed low_five begun ends y on_y c d past j js section early far x.homing x.known x.begins x.ends w same
-                (let z = near_as c (d ∷ past) next _ (next_known m v switches pins entries lines ready at start last till members followed low_five begun ends y on_y c d past j js section early far x.homing x.known x.begins x.ends) (omega (arith, early, begun)) in let l = z.0 in omega (arith, l))
-                (near_as c (d ∷ past) next _ (next_known m v switches pins entries lines ready at start last till members followed low_five begun ends y on_y c d past j js section early far x.homing x.known x.begins x.ends) (omega (arith, early, begun))).1 (omega (arith, high))
-          ]
-      | inr p ↦
-          let late = p.1 in
-          let size : length (d ∷ past) ≡ at = omega (arith, late, low) in
-          inr (first_awake c d past j js (near.0 (omega (arith, low, begun))) size (λ b on. (way b on).0 (let many = turns_long b js in let long = s.long in omega (arith, many, long, size))))
-    ]
+    abbrev None_known : Came → List Came → Homing → Type 0
+    None_known c before h = NoneKnown m v switches pins entries lines ready at start last till members followed low_five begun ends y on_y c before h
 
-    exact_at : (c : Came) (before : List Came) (all : List (ℕ → BoardTurn)) → Going c before all → RestAt all → NearAll (c ∷ before) → length before + 276 ≤ till → UnderWay all → Cans all → at + 24 ≤ length before → length before ≤ at + 37 → Exact c before all
-    exact_at c before [] s r near reach way cans low high = absurd (let size = s.long in omega (arith, size, low))
-    exact_at c [] (j ∷ js) s r near reach way cans low high = absurd (omega (arith, low))
-    exact_at c (d ∷ past) (j ∷ js) s r near reach way cans low high = elim (leb_tells (at + 24) (length past)) [
-      | inl p ↦
-          let early = p.1 in
-          let x = near.1.0 (omega (arith, early, begun)) in
-          let next = near.0 (omega (arith, early, begun)) in
-          let section = resting_at c (d ∷ past) (j ∷ js) s r in
-          let far : length past + 276 ≤ till = omega (arith, reach) in
-          let from_at : at ≤ length past = omega (arith, early) in
-          let w = exact_at d past js (cut_going c d past j js s) (λ b on. (r b on).1) near.1 far (λ b on. (way b on).1) (λ b on. (cans b on).1) early (omega (arith, high)) in
-          let same = same_homing (noted m d.note (known_by m switches past)).homing w.homing x.homing w.known x.known in
-          let z = near_as c (d ∷ past) next _ (next_known m v switches pins entries lines ready at start last till members followed low_five begun ends y on_y c d past j js section from_at far x.homing x.known x.begins x.ends) (omega (arith, early, begun)) in
-          exact_on m v switches pins entries lines ready at start last till members followed low_five begun ends y on_y c d past j js section from_at far x.homing x.known x.begins x.ends w same (let l = z.0 in omega (arith, l)) z.1 (omega (arith, high))
-      | inr p ↦
-          let late = p.1 in
-          let size : length (d ∷ past) ≡ at + 24 = omega (arith, late, low) in
-          elim (awake_at c (d ∷ past) (j ∷ js) s r near reach way (omega (arith, size)) (omega (arith, size))) [
-            | inl f ↦ absurd ((cans f.0 f.1).0 (let many = turns_long f.0 js in let long = s.long in omega (arith, many, long, size)) f.2)
-            | inr w ↦
-                let z = near_as c (d ∷ past) (near.0 (omega (arith, low, begun))) w.homing w.known (omega (arith, low, begun)) in
-                let most = z.1 in
-                let far = w.far (omega (arith, size)) in
-                record {
-                  homing = w.homing;
-                  known = w.known;
-                  exact = elim w.exact [ inr limited ↦ limited | inl few ↦ absurd (elim far [ inl l ↦ omega (arith, l, few, size) | inr l ↦ omega (arith, l, few, ends) ]) ];
-                  far = elim far [ inl l ↦ inl (omega (arith, l, size)) | inr l ↦ inr (omega (arith, l, most)) ];
-                }
-          ]
-    ]
+    abbrev Called : Came → List Came → List (ℕ → BoardTurn) → Type 0
+    Called c before all = IsCalled m v switches pins entries lines ready at start last till members followed low_five begun ends y on_y c before all
+
+    abbrev Done : List Came → List (ℕ → BoardTurn) → Type 0
+    Done before all = IsDone m v switches pins entries lines ready at start last till members followed low_five begun ends y on_y before all
+
+    abbrev Asked : Came → List Came → List (ℕ → BoardTurn) → Type 0
+    Asked c before all = IsAsked m v switches pins entries lines ready at start last till members followed low_five begun ends y on_y c before all
+
+    -- how far the section has come: all report that they can trigger, or a member that it has triggered, or the group calls, or the board has triggered; and 24 turns behind, its timeout is ahead
+    abbrev Stage : Came → List Came → List (ℕ → BoardTurn) → Type 0
+    Stage c before all = ((length before ≤ at + 24) × (w : Awake c before all) × None_known c before w.homing) ⊎ (Exact c before all ⊎ (Called c before all ⊎ (Done before all ⊎ Asked c before all)))
+
+    -- what the reactor read of a member that has triggered is of no turn to come
+    longer : (later xs : List BoardTurn) → length xs ≤ length (later ++ xs)
+    longer [] xs = omega arith
+    longer (t ∷ later) xs = let more = longer later xs in omega (arith, more)
+
+    read_early : (b : ℕ) → IsMember b members → (f : Fired) (c : Came) (before : List Came) (all : List (ℕ → BoardTurn)) → Going c before all → AreReadTrue m switches b (c ∷ before) (turns_of b all) → length before + 276 ≤ till → length before ≤ last
+        → WasReported m switches b start f (c ∷ before) → f.turn ≤ length before + 1
+    read_early b on f c before [] s reads reach low (inl x) = absurd (let none = s.states b on in let came = x.came in let bad = sym none ∙ came in cc)
+    read_early b on f c [] all s reads reach low (inr old) = absurd old
+    read_early b on f c (d ∷ past) [] s reads reach low (inr old) = absurd (let size = s.long in omega (arith, size))
+    read_early b on f c (d ∷ past) (j ∷ js) s reads reach low (inr old) =
+        let l = read_early b on f d past js (cut_going c d past j js s) reads.1 (omega (arith, reach)) (omega (arith, low)) old in
+        omega (arith, l)
+    read_early b on f c before (j ∷ js) s reads reach low (inl x) =
+        let fol = followed b on in
+        let run = (s.plain b on).run in
+        let turns = turns_of b (j ∷ js) in
+        let many = turns_long b (j ∷ js) in
+        let long = s.long in
+        let same : (j b).state ≡ x.state = one_state (j b).state x.state (sym (s.states b on) ∙ x.came) in
+        let turn : x.state.turn ≡ length (turns_of b js) = ap (λ (z : State). z.turn) (sym same) ∙ run.turns_are.0.1.turn in
+        let counts = x.counts in
+        let homes = s.homes.0 (omega (arith, counts, turn, many, long, exactly)) in
+        let known = some_known start members (noted m c.note (known_by m switches before)).homing homes.1 in
+        let of = of_known start members (noted m c.note (known_by m switches before)).homing known.0 homes.1 known.1 in
+        let read = reads.0 known.0 f known.1 (subst (IsMember b) (sym of.2) on) (subst (λ (n : ℕ). IsReport m switches b n f c before) (sym of.0) x) in
+        let was = was_at (first_state (board_at m b) (pins b) b entries) (trigger_of m b) read.0 f.tick turns read.1 in
+        let run_then = run_at m switches (pins b) entries b before was.0 was.1 (subst (λ (z : List BoardTurn). IsInRun m switches (pins b) entries b before z) was.2 run) in
+        let under = under_after m switches (pins b) entries b run_then.0 was.1 run_then.1 (trigger_of m b) was.3.slot was.3.is in
+        let tick = was.3.at in
+        let size : length turns ≡ length (was.0 ++ was.1) = ap length was.2 in
+        let more = longer was.0 was.1 in
+        let up = ticks_rise (λ k. board_tick (clock_of (board_at m b)) k) fol.ticks (length was.1) (length turns) (omega (arith, size, more)) in
+        let rises = fol.rises (length turns) in
+        let ends_so = fol.ends in
+        let next = fol.tracked.behind (length turns + 1) (omega (arith, low_five, counts, turn, many)) (omega (arith, ends_so, reach, low, many, long)) in
+        let alike = (s.knows.0 homes.0 known.0 known.1 of.0 b run.board).1.ticks (length turns + 1 + 1) (omega (arith, many, long)) in
+        let lines_now = clocks_at (noted m c.note (known_by m switches before)).clocks b in
+        let below = turn-below lines_now f.tick (length turns + 1) (omega (arith, under, tick, up, rises, next, alike)) in
+        let is = turn_if (is_in_run lines_now f.tick) (lines_turn lines_now f.tick) f.turn x.turn_is in
+        omega (arith, below, is, many, long)
+
+    -- as that turn begins
+    module _ (c d e : Came) (past : List Came) (j i : ℕ → BoardTurn) (js : List (ℕ → BoardTurn)) (s : Going c (d ∷ e ∷ past) (j ∷ i ∷ js)) (apart : BeginsApart m switches (d ∷ e ∷ past)) (size : length (e ∷ past) ≡ at) (reach : length (e ∷ past) + 276 ≤ till)
+        (x : Near d (e ∷ past)) where
+      was : Going d (e ∷ past) (i ∷ js)
+      was = cut_going c d (e ∷ past) j (i ∷ js) s
+
+      abbrev Then : List Seen
+      Then = (hears_all (noted m d.note (known_by m switches (e ∷ past))).clocks d.states x.homing).group.members
+
+      of_now : (x.homing.start ≡ start) × (x.homing.group.start ≡ start) × (members_of x.homing.group ≡ members)
+      of_now = of_known start members (noted m d.note (known_by m switches (e ∷ past))).homing x.homing (was.homes.0 (omega (arith, size, begun, exactly))).1 x.known
+
+      unheard : (b : ℕ) → IsMember b members → HasLiveTrigger m b at (rig_at m pins entries (i ∷ js) b) → NoneOn b Then
+      unheard b on u =
+          let p = s.plain b on in
+          unheard_at m v switches (pins b) entries b d (e ∷ past) (turns_of b (i ∷ js)) x.homing (was.plain b on).run (was.states b on) apart p.reads p.behind x.known (subst (IsMember b) (sym of_now.2) on) u.slot u.is u.can
+
+      read_by : (b : ℕ) → IsMember b members → KnownOn b last Then
+      read_by b on =
+          known_of (λ n f. WasReported m switches n x.homing.start f (d ∷ e ∷ past)) (axis_at m x.homing.axis).board b last Then (all_told m switches d (e ∷ past) x.homing was.goes_on x.known)
+          (λ f told. (
+          let l = read_early b on f d (e ∷ past) (i ∷ js) was (s.plain b on).reads reach (omega (arith, size, ends)) (subst (λ (n : ℕ). WasReported m switches b n f (d ∷ e ∷ past)) of_now.0 told) in
+          omega (arith, l, size, ends)))
+
+      asked_first : (b : ℕ) → IsMember b members → HasTellingTrigger m b at (rig_at m pins entries (i ∷ js) b) → FellLately m b (lines_tick (lines b) (start * turn_ns)) at (rig_at m pins entries (i ∷ js) b) → TellsOn m y at (rig_at m pins entries (i ∷ js) y) → Asked d (e ∷ past) (i ∷ js)
+      asked_first b on u fell tells_y =
+          let low_tick = fell u.slot u.is u.fired in
+          let many = turns_long b (i ∷ js) in
+          let long = was.long in
+          let sound = sound_at (board_at m b) (pins b) b entries (turns_of b (i ∷ js)) (was.plain b on).run.turns_are (trigger_of m b) u.slot u.is in
+          let under = under_after m switches (pins b) entries b (e ∷ past) (turns_of b (i ∷ js)) (was.plain b on).run (trigger_of m b) u.slot u.is in
+          record {
+            homing = x.homing;
+            known = x.known;
+            b = b;
+            on = on;
+            telling = record {
+              slot = u.slot;
+              is = u.is;
+              next = u.next;
+              tick = u.slot.trigger.tick;
+              silenced = record { off = u.fired; idle = sound.idle u.fired; same = refl; every_is = u.every; report_is = u.report };
+              due = subst (λ (n : ℕ). board_tick (clock_of (board_at m b)) n ≤ u.next) (sym size) u.due;
+              soon = u.soon;
+              base = low_tick.0;
+              late = low_tick.1;
+              early = subst (λ (n : ℕ). u.slot.trigger.tick ≤ board_tick (clock_of (board_at m b)) n) (omega (arith, many, long, size)) under;
+            };
+            knows = read_by b on;
+            own = elim tells_y [ inl live ↦ inr (live.slot, live.is, live.can, unheard y on_y live) | inr gone ↦ inl (record { slot = gone.slot; is = gone.is; fired = gone.fired }) ];
+          }
+
+      stage_first : ((b : ℕ) → IsMember b members → TellsOn m b at (rig_at m pins entries (i ∷ js) b)) → ((b : ℕ) → IsMember b members → FellLately m b (lines_tick (lines b) (start * turn_ns)) at (rig_at m pins entries (i ∷ js) b)) → Stage d (e ∷ past) (i ∷ js)
+      unfolding first_awake
+      stage_first tells fell = elim (all_or (λ b. HasTellingTrigger m b at (rig_at m pins entries (i ∷ js) b)) (λ b. HasLiveTrigger m b at (rig_at m pins entries (i ∷ js) b)) members (λ b on. elim (tells b on) [ inl live ↦ inr live | inr gone ↦ inl gone ])) [
+        | inl z ↦ inr (inr (inr (inr (asked_first z.0 z.1 z.2 (fell z.0 z.1) (tells y on_y)))))
+        | inr live ↦ (let w = first_awake d e past i js x size live in inl (omega (arith, size), w, λ b on. unheard b on (live b on)))
+      ]
+
+    first_stage : (c d : Came) (past : List Came) (j : ℕ → BoardTurn) (js : List (ℕ → BoardTurn)) → Going c (d ∷ past) (j ∷ js) → BeginsApart m switches (d ∷ past) → NearAll (d ∷ past) → length past + 276 ≤ till → UnderWay js → Fell js → length past ≡ at → Stage d past js
+    first_stage c d past j [] s apart near reach way fell size = absurd (let many = s.long in omega (arith, many, size, begun))
+    first_stage c d [] j (i ∷ js) s apart near reach way fell size = absurd (omega (arith, size, begun))
+    first_stage c d (e ∷ past) j (i ∷ js) s apart near reach way fell size =
+        let at_once : (b : ℕ) → IsMember b members → length (turns_of b js) + 1 ≡ at = (λ b on. (let many = turns_long b js in let long = s.long in omega (arith, many, long, size))) in
+        stage_first c d e past j i js s apart size reach (near.0 (omega (arith, size, begun))) (λ b on. (way b on).0 (at_once b on)) (λ b on. (fell b on).0 (at_once b on))
+
+    exact_of : (c : Came) (before : List Came) (all : List (ℕ → BoardTurn)) → Near c before → Awake c before all → length before ≡ at + 24 → Exact c before all
+    exact_of c before all near w size =
+        let most = (near_as c before near w.homing w.known (omega (arith, size, begun))).1 in
+        let far = w.far (omega (arith, size)) in
+        record {
+          homing = w.homing;
+          known = w.known;
+          exact = elim w.exact [ inr limited ↦ limited | inl few ↦ absurd (elim far [ inl l ↦ omega (arith, l, few, size) | inr l ↦ omega (arith, l, few, ends) ]) ];
+          far = elim far [ inl l ↦ inl (omega (arith, l, size)) | inr l ↦ inr (omega (arith, l, most)) ];
+        }
+
+    -- over a turn
+    module _ (c d : Came) (past : List Came) (j : ℕ → BoardTurn) (js : List (ℕ → BoardTurn)) (s : Going c (d ∷ past) (j ∷ js)) (r : RestAt (j ∷ js)) (near : NearAll (c ∷ d ∷ past)) (reach : length (d ∷ past) + 276 ≤ till) (low : at ≤ length past) (high : length past ≤ at + 36)
+        (could : length past ≡ at + 24 → HasFired (trigger_of m y) (rig_at m pins entries js y) → ⊥) where
+      near_d : Near d past
+      near_d = near.1.0 (omega (arith, low, begun))
+
+      section : IsRestingSection m switches pins entries lines at start members c (d ∷ past) (j ∷ js)
+      section = resting_at c (d ∷ past) (j ∷ js) s r
+
+      far : length past + 276 ≤ till
+      far = omega (arith, reach)
+
+      bounds : (Sent c (d ∷ past) (behind_turn (hears_all (noted m d.note (known_by m switches past)).clocks d.states near_d.homing) (length past)) ≤ length past + 26) × (Sent c (d ∷ past) (behind_turn (hears_all (noted m d.note (known_by m switches past)).clocks d.states near_d.homing) (length past)) ≤ last + 1)
+      bounds =
+          let z = near_as c (d ∷ past) (near.0 (omega (arith, low, begun))) _ (next_known m v switches pins entries lines ready at start last till members followed low_five begun ends y on_y c d past j js section low far near_d.homing near_d.known near_d.begins near_d.ends) (omega (arith, low, begun)) in
+          let l = z.0 in
+          (omega (arith, l), z.1)
+
+      same_as : (g : Homing) → (noted m d.note (known_by m switches past)).homing ≡ Some g → g ≡ near_d.homing
+      same_as g e = same_homing (noted m d.note (known_by m switches past)).homing g near_d.homing e near_d.known
+
+      exact_step : Exact d past js → Exact c (d ∷ past) (j ∷ js)
+      exact_step w = exact_on m v switches pins entries lines ready at start last till members followed low_five begun ends y on_y c d past j js section low far near_d.homing near_d.known near_d.begins near_d.ends w (same_as w.homing w.known) bounds.0 bounds.1 high
+
+      stage_on : Stage d past js → Stage c (d ∷ past) (j ∷ js)
+      stage_on (inl w) = elim (leb_tells (length past + 1) (at + 24)) [
+        | inl p ↦
+            let early = p.1 in
+            elim (awake_on m v switches pins entries lines ready at start last till members followed low_five begun ends y on_y c d past j js section low far near_d.homing near_d.known near_d.begins near_d.ends w.1 (same_as w.1.homing w.1.known) w.2 bounds.0 bounds.1 (omega (arith, early))) [
+              | inl x ↦ inr (inr (inl x))
+              | inr x ↦ inl (omega (arith, early), x.0, x.1)
+            ]
+        | inr p ↦ (let late = p.1 in let most = w.0 in inr (inl (exact_step (exact_of d past js near_d w.1 (omega (arith, late, most))))))
+      ]
+      stage_on (inr (inl w)) = inr (inl (exact_step w))
+      stage_on (inr (inr (inl x))) = elim (called_on m v switches pins entries lines ready at start last till members followed low_five begun ends y on_y c d past j js section low far near_d.homing near_d.known near_d.begins near_d.ends x (same_as x.homing x.known) bounds.0 bounds.1) [
+        | inl w ↦ inr (inr (inl w))
+        | inr w ↦ inr (inr (inr (inl w)))
+      ]
+      stage_on (inr (inr (inr (inl x)))) = inr (inr (inr (inl (done_on m v switches pins entries lines ready at start last till members followed low_five begun ends y on_y c d past j js section low far near_d.homing near_d.known near_d.begins near_d.ends x could))))
+      stage_on (inr (inr (inr (inr x)))) = elim (asked_on m v switches pins entries lines ready at start last till members followed low_five begun ends y on_y c d past j js section low far near_d.homing near_d.known near_d.begins near_d.ends x (same_as x.homing x.known)) [
+        | inl w ↦ inr (inr (inl w))
+        | inr w ↦ inr (inr (inr (inr w)))
+      ]
+
+    stage_at : (c : Came) (before : List Came) (all : List (ℕ → BoardTurn)) → Going c before all → BeginsApart m switches (c ∷ before) → RestAt all → NearAll (c ∷ before) → length before + 276 ≤ till → UnderWay all → Fell all → Could all → at + 1 ≤ length before → length before ≤ at + 37 → Stage c before all
+    stage_at c [] all s apart r near reach way fell could low high = absurd (omega (arith, low))
+    stage_at c (d ∷ past) [] s apart r near reach way fell could low high = absurd (let size = s.long in omega (arith, size))
+    stage_at c (d ∷ past) (j ∷ js) s apart r near reach way fell could low high =
+        stage_on c d past j js s r near reach (omega (arith, low)) (omega (arith, high)) (λ e. could_now js (let size = s.long in omega (arith, e, size)) could.1)
+        (elim (leb_tells (at + 1) (length past)) [
+          | inl p ↦ stage_at d past js (cut_going c d past j js s) apart.1 (λ b on. (r b on).1) near.1 (omega (arith, reach)) (λ b on. (way b on).1) (λ b on. (fell b on).1) could.1 p.1 (omega (arith, high))
+          | inr p ↦ (let late = p.1 in first_stage c d past j js s apart.1 near.1 (omega (arith, reach)) (λ b on. (way b on).1) (λ b on. (fell b on).1) (omega (arith, late, low)))
+        ])
+      where
+        could_now : (is : List (ℕ → BoardTurn)) → length is ≡ at + 24 → Could is → HasFired (trigger_of m y) (rig_at m pins entries is y) → ⊥
+        could_now [] e k = absurd (omega (arith, e))
+        could_now (i ∷ is) e k = k.0 (let many = turns_long y is in omega (arith, many, e))
 
     -- so its trigger doesn't expire in the 36th turn behind that one
-    pub stood_lately : (tick : ℕ) → (tick ≡ lines_tick (lines y) ((last + 1) * turn_ns) → ⊥) → (later : List BoardTurn) (t : BoardTurn) (past : List BoardTurn) (c : Came) (before : List Came) (all : List (ℕ → BoardTurn)) → Going c before all → length before + 276 ≤ till
-        → IsNewAt m switches start last members (since + 1) (c ∷ before) → HeardByNow m switches y start (c ∷ before) → turns_of y all ≡ later ++ t ∷ past → length past ≡ at + 36 → UnderWay all → Cans all → IsFiredAt (trigger_of m y) 2 tick t.after.core.board → SomeHinderedIn (at - 1) (length past) members all
-    stood_lately tick other [] t past c before all s reach new heard are late way cans x =
+    pub stood_lately : (tick : ℕ) → (tick ≡ lines_tick (lines y) ((last + 1) * turn_ns) → ⊥) → (later : List BoardTurn) (t : BoardTurn) (past : List BoardTurn) (c : Came) (before : List Came) (all : List (ℕ → BoardTurn)) → Going c before all → BeginsApart m switches (c ∷ before) → length before + 276 ≤ till
+        → IsNewAt m switches start last members (since + 1) (c ∷ before) → HeardByNow m switches y start (c ∷ before) → turns_of y all ≡ later ++ t ∷ past → length past ≡ at + 36 → UnderWay all → Fell all → Could all → IsFiredAt (trigger_of m y) 2 tick t.after.core.board → SomeHinderedIn (at - 1) (length past) members all
+    stood_lately tick other [] t past c before all s apart reach new heard are late way fell could x =
         let same = turns_long y all in
         let size = s.long in
         let long : length (turns_of y all) ≡ length (t ∷ past) = ap length are in
@@ -333,13 +488,26 @@ module _ (m : Machine) (v : IsValidMachine m) (switches : List Switch) (pins : �
           | inr r ↦
               let e : at - 1 + 1 ≡ at = omega (arith, begun) in
               let rest : RestAt all = (λ b on. subst (λ (n : ℕ). RestsFrom n (turns_of b all)) e (r b on)) in
-              let w = exact_at c before all s rest (near_all c before s.goes_on s.homes s.begins new heard) reach way cans (omega (arith, same, long, size, late)) (omega (arith, same, long, size, late)) in
+              let stage = stage_at c before all s apart rest (near_all c before s.goes_on s.homes s.begins new heard) reach way fell could (omega (arith, same, long, size, late)) (omega (arith, same, long, size, late)) in
               let here : IsFiredAt (trigger_of m y) 2 tick (rig_at m pins entries all y) = subst (λ (z : List BoardTurn). IsFiredAt (trigger_of m y) 2 tick (stands_after (first_state (board_at m y) (pins y) y entries) z).core.board) (sym are) x in
-              let once = (w.exact.held (trigger_of m y) here.slot here.is).expiry here.fired here.why in
-              absurd (other (sym here.at ∙ once))
+              let size_is : length before ≡ at + 37 = omega (arith, same, long, size, late) in
+              let not : (n : ℕ) → IsLimited (trigger_of m y) (lines_tick (lines y) ((last + 1) * turn_ns)) n (rig_at m pins entries all y) → ⊥ = (λ n k. other (sym here.at ∙ (k.held (trigger_of m y) here.slot here.is).expiry here.fired here.why)) in
+              absurd (elim stage [
+                | inl w ↦ (let l = w.0 in omega (arith, l, size_is))
+                | inr (inl w) ↦ not _ w.exact
+                | inr (inr (inl w)) ↦ (let l = w.soon in omega (arith, l, size_is))
+                | inr (inr (inr (inl w))) ↦ elim w.limited [ inl l ↦ omega (arith, l, size_is) | inr k ↦ not k.0 k.1 ]
+                | inr (inr (inr (inr w))) ↦
+                    let f = followed w.b w.on in
+                    let up = ticks_rise (λ k. board_tick (clock_of (board_at m w.b)) k) f.ticks (at + 6) (length before) (omega (arith, size_is)) in
+                    let every = f.reports at in
+                    let due = w.telling.due in
+                    let few = w.telling.soon in
+                    omega (arith, up, every, due, few)
+              ])
         ]
-    stood_lately tick other (l ∷ later) t past c before [] s reach new heard are late way cans x = absurd (let bad : [] ≡ l ∷ (later ++ t ∷ past) = are in cc)
-    stood_lately tick other (l ∷ later) t past c [] (j ∷ js) s reach new heard are late way cans x = absurd (let size = s.long in omega (arith, size))
-    stood_lately tick other (l ∷ later) t past c (d ∷ before) (j ∷ js) s reach new heard are late way cans x =
+    stood_lately tick other (l ∷ later) t past c before [] s apart reach new heard are late way fell could x = absurd (let bad : [] ≡ l ∷ (later ++ t ∷ past) = are in cc)
+    stood_lately tick other (l ∷ later) t past c [] (j ∷ js) s apart reach new heard are late way fell could x = absurd (let size = s.long in omega (arith, size))
+    stood_lately tick other (l ∷ later) t past c (d ∷ before) (j ∷ js) s apart reach new heard are late way fell could x =
         some_more (at - 1) (length past) members j js
-        (stood_lately tick other later t past d before js (cut_going c d before j js s) (omega (arith, reach)) new.1 heard.1 (cons_same (j y) l (turns_of y js) (later ++ t ∷ past) are).1 late (λ b on. (way b on).1) (λ b on. (cans b on).1) x)
+        (stood_lately tick other later t past d before js (cut_going c d before j js s) apart.1 (omega (arith, reach)) new.1 heard.1 (cons_same (j y) l (turns_of y js) (later ++ t ∷ past) are).1 late (λ b on. (way b on).1) (λ b on. (fell b on).1) could.1 x)

@@ -14,8 +14,6 @@ use Rattle.msg_code.specs.declared.cmd.Cmd.{Cmd}
 use Rattle.msg_code.specs.declared.cmd.Cmd.TheVariants as cmd
 use Rattle.msg_code.specs.declared.talk.State.{State}
 use Rattle.board_asking.specs.Machine.{trigger_of}
-use Rattle.board_trig.specs.declared.trigger.Trigger.{Trigger}
-use Rattle.board_trig.specs.Trigger as trig
 use Rattle.board_sim.specs.Fair.{commands_of}
 use Rattle.board_sim.specs.Rig.{Rig, Slot, passes, slot_at, takes_all}
 use Rattle.board_sim.specs.Turn.{says_shut}
@@ -51,21 +49,10 @@ use Rattle.laws_homing.proofs.clear_boards.Standing.{sound_at, tick_is}
 use Rattle.laws_homing.proofs.clear_boards.Telling.{told_at_once}
 use Rattle.laws_homing.proofs.clear_boards.Turned.{next_all}
 use Rattle.laws_homing.proofs.clear_groups.Alike.{tracked_alike}
+use Rattle.laws_homing.proofs.hindered.Holding.{Due, fired_due, timed_due}
 use Rattle.laws_homing.proofs.hindered.Kept.{takes_kept}
 
 -- its next report, and that it comes every so many ticks, is what no such command changes
-abbrev Due : ℕ → ℕ → Trigger → Type 0
-Due every next t = (t.every ≡ every) × (t.report ≡ Some next)
-
-timed_due : (every next : ℕ) (can early : Bool) (now at : ℕ) (t : Trigger) → Due every next t → Due every next (if can then (if early then record t { timeout = Some at } else record (trig.fired now t.expire t) { untold = Some now }) else t)
-timed_due every next true true now at t k = (k.0, k.1)
-timed_due every next true false now at t k = (k.0, k.1)
-timed_due every next false early now at t k = k
-
-fired_due : (every next : ℕ) (can : Bool) (now reason : ℕ) (t : Trigger) → Due every next t → Due every next (if can then trig.fired now reason t else t)
-fired_due every next true now reason t k = (k.0, k.1)
-fired_due every next false now reason t k = k
-
 pub takes_due : (j every next clock : ℕ) (r : Rig) (cs : List Cmd) (s u : Slot) → AreBehind j clock cs → slot_at r j ≡ Some s → slot_at (takes_all r cs).rig j ≡ Some u → Due every next s.trigger → Due every next u.trigger
 takes_due j every next clock r cs s u behind is there k =
     takes_kept j (Due every next) (λ now at t d. timed_due every next t.can (nat_lt now (nearest now at)) now (nearest now at) t d) (λ t d. (d.0, d.1)) (λ now reason t d. fired_due every next t.can now reason t d) j clock r cs behind

@@ -177,7 +177,7 @@ any_on b last (x ∷ xs) (inr k) f = right (fired_by last x.fired) (any_fired_by
     right false b e = e
 
 -- what news tell of triggers that can't trigger
-none_firing : (ns : List News) → ((oid reason clock : ℕ) → HasAnswer (cmd.TrsyncState oid 0 reason clock) ns → ⊥) → FiringNone ns
+pub none_firing : (ns : List News) → ((oid reason clock : ℕ) → HasAnswer (cmd.TrsyncState oid 0 reason clock) ns → ⊥) → FiringNone ns
 none_firing [] f = tt
 none_firing (n ∷ ns) f = (by n.answer refl, none_firing ns (λ o r k a. f o r k (inr a)))
   where
@@ -187,7 +187,7 @@ none_firing (n ∷ ns) f = (by n.answer refl, none_firing ns (λ o r k a. f o r 
         f o r k (inl (e ∙ ap (λ (i : ℕ). cmd.TrsyncState o i r k) none))
     by c e off = absurd (subst IsFiring e off)
 
-firing_in : (clocks : Clocks) (turn begin end : ℕ) (ns : List News)
+pub firing_in : (clocks : Clocks) (turn begin end : ℕ) (ns : List News)
     → ((oid reason clock : ℕ) → HasAnswer (cmd.TrsyncState oid 0 reason clock) ns → (when : ℕ) × (begin ≤ when) × (when ≤ end) × (turn_in_run clocks (nearest (turn_tick clocks turn) clock) ≡ Some when))
     → AllFiredIn clocks turn begin end ns
 firing_in clocks turn begin end [] f = tt
@@ -202,11 +202,11 @@ small_among c [] k among = absurd among
 small_among c (x ∷ xs) k (inl e) = subst IsSmall e k.0
 small_among c (x ∷ xs) k (inr m) = small_among c xs k.1 m
 
-small_parts : (xs ys : List Cmd) → AreSmall (xs ++ ys) → AreSmall xs × AreSmall ys
+pub small_parts : (xs ys : List Cmd) → AreSmall (xs ++ ys) → AreSmall xs × AreSmall ys
 small_parts [] ys k = (tt, k)
 small_parts (x ∷ xs) ys k = let r = small_parts xs ys k.1 in ((k.0, r.0), r.1)
 
-off_parts : (oid clock : ℕ) (xs ys : List Cmd) → TellOff oid clock (xs ++ ys) → TellOff oid clock xs ⊎ TellOff oid clock ys
+pub off_parts : (oid clock : ℕ) (xs ys : List Cmd) → TellOff oid clock (xs ++ ys) → TellOff oid clock xs ⊎ TellOff oid clock ys
 off_parts oid clock [] ys t = inr t
 off_parts oid clock (x ∷ xs) ys (inl t) = inl (inl t)
 off_parts oid clock (x ∷ xs) ys (inr t) = elim (off_parts oid clock xs ys t) [ inl a ↦ inl (inr a) | inr b ↦ inr b ]
@@ -229,7 +229,7 @@ still_on i oid tick r q x z =
     let fell = still_fired z.slot.trigger.can b.slot.trigger.can b.stays.can z.fired in
     record { slot = b.slot; is = b.is; fired = fell; idle = b.stays.quiet (λ e. z.idle) fell; same = (b.stays.same z.fired z.idle).1 ∙ z.same }
 
-one_state : (x y : State) → x ∷ [] ≡ y ∷ [] → x ≡ y
+pub one_state : (x y : State) → x ∷ [] ≡ y ∷ [] → x ≡ y
 one_state x y e = cc
 
 -- over a turn
@@ -479,7 +479,7 @@ module _ (m : Machine) (v : IsValidMachine m) (switches : List Switch) (pins : �
               | inl t ↦
                   let f = off_found Oid clock xs t in
                   let fits = small_among (cmd.TrsyncState Oid 0 f.reason clock) xs parts.0 f.among in
-                  let x = told_to_commands (board_at m b) (pins b) b entries (j b) (turns_of b js) (cmd.TrsyncState Oid 0 f.reason clock) none plain.run.turns_are plain.limits f.among (own_state Oid 0 f.reason clock small_oid (omega arith) fits.0 fits.1) in
+                  let x = told_to_commands (board_at m b) (pins b) b entries (j b) (turns_of b js) (cmd.TrsyncState Oid 0 f.reason clock) (clear_over (board_at m b) (pins b) b entries (j b) (turns_of b js) none plain.run.turns_are plain.limits) plain.run.turns_are f.among (own_state Oid 0 f.reason clock small_oid (omega arith) fits.0 fits.1) in
                   firing_among Oid f.reason clock x.0 (j b).state.news x.1
               | inr t ↦
                   let f = off_found Oid clock ys t in
@@ -587,7 +587,7 @@ module _ (m : Machine) (v : IsValidMachine m) (switches : List Switch) (pins : �
                 timed = λ y e. (let one = t.0 y e in let two = so.timeout y e in omega (arith, one, two, at));
                 sampled = λ y e z hit. (let one = able.sampled y e z hit in let two = so.switch y z e hit in omega (arith, one, two, at));
               } in
-              let st = turn_so Oid Low Until Clock Now ((followed b on).rises Turn) (Rigs b) (Commands b) at behind_so ((λ relays. low_relay (relay_begins G K) refl relays), λ sets. (let f = t.1 sets in let one = f.0 in let two = f.1 in (one, omega (arith, one, two)))) x.slot x.is keen in
+              let st = turn_so Oid Low Until Clock Now ((followed b on).rises Turn) (Rigs b) (Commands b) at behind_so ((λ relays. low_relay (relay_begins G K) refl relays), λ sets. (let f = t.1 sets in let one = f.0 in let two = f.1 in inl (one, omega (arith, one, two)))) x.slot x.is keen in
               let there : slot_at (Later b) Oid ≡ Some st.slot = subst (λ (r : Rig). slot_at r Oid ≡ Some st.slot) (sym taken) st.is in (
                 st.slot,
                 there,

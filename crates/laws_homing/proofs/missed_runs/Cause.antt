@@ -56,13 +56,13 @@ MeekIn Z from to [] = Unit {0}
 MeekIn Z from to (t ∷ before) = (from ≤ length before → length before < to → AllSo (IsMeek Z) (queued_in (orders t.control t.batch))) × MeekIn Z from to before
 
 -- a part of some turns
-record Cut (n : ℕ) (turns : List BoardTurn) : Type 0 where
-  up : List BoardTurn
-  early : List BoardTurn
-  are : turns ≡ up ++ early
-  long : length early ≡ n
+pub record Cut (n : ℕ) (turns : List BoardTurn) : Type 0 where
+  pub up : List BoardTurn
+  pub early : List BoardTurn
+  pub are : turns ≡ up ++ early
+  pub long : length early ≡ n
 
-cut_at : (n : ℕ) (turns : List BoardTurn) → n ≤ length turns → Cut n turns
+pub cut_at : (n : ℕ) (turns : List BoardTurn) → n ≤ length turns → Cut n turns
 cut_at n [] l = record { up = []; early = []; are = refl; long = omega (arith, l) }
 cut_at n (t ∷ turns) l = elim (leb_tells (length (t ∷ turns)) n) [
   | inl p ↦ (let low = p.1 in record { up = []; early = t ∷ turns; are = refl; long = omega (arith, l, low) })
@@ -111,7 +111,7 @@ module _ (m : Machine) (v : IsValidMachine m) (switches : List Switch) (pins : L
   Run before turns = IsInRun m switches pins entries b before turns
 
   -- a section that is known in a turn
-  of_some : (start : ℕ) (ms : List Member) (o : Option Homing) → IsOf start ms o → (h : Homing) × (o ≡ Some h) × (h.start ≡ start) × (h.group.start ≡ start) × (members_of h.group ≡ ms)
+  pub of_some : (start : ℕ) (ms : List Member) (o : Option Homing) → IsOf start ms o → (h : Homing) × (o ≡ Some h) × (h.start ≡ start) × (h.group.start ≡ start) × (members_of h.group ≡ ms)
   of_some start ms None k = absurd k
   of_some start ms (Some h) k = (h, refl, k.0, k.1, k.2)
 

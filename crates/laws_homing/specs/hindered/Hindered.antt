@@ -74,6 +74,28 @@ pub record HasLiveTrigger (m : Machine) (b turn : ℕ) (r : Rig) : Type 0 where
   pub due : board_tick (clock_of (board_at m b)) turn ≤ next
   pub soon : next ≤ board_tick (clock_of (board_at m b)) turn + report_ticks m b
 
+-- As a turn begins a board's trigger has triggered, and goes on reporting: every five turns, the next time within them.
+pub record HasTellingTrigger (m : Machine) (b turn : ℕ) (r : Rig) : Type 0 where
+  pub slot : Slot
+  pub is : slot_at r (trigger_of m b) ≡ Some slot
+  pub fired : slot.trigger.can ≡ false
+  pub every : slot.trigger.every ≡ report_ticks m b
+  pub next : ℕ
+  pub report : slot.trigger.report ≡ Some next
+  pub due : board_tick (clock_of (board_at m b)) turn ≤ next
+  pub soon : next ≤ board_tick (clock_of (board_at m b)) turn + report_ticks m b
+
+-- so it has, or it is live
+abbrev pub TellsOn : Machine → ℕ → ℕ → Rig → Type 0
+TellsOn m b turn r = HasLiveTrigger m b turn r ⊎ HasTellingTrigger m b turn r
+
+-- where a board's trigger has triggered as a turn begins, it did so at a tick from this one on, and no more than two
+-- billion ticks before, which is less than half a round of the clock's 32 bits
+abbrev pub FellLately : Machine → ℕ → ℕ → ℕ → Rig → Type 0
+FellLately m b base turn r =
+    (s : Slot) → slot_at r (trigger_of m b) ≡ Some s → s.trigger.can ≡ false →
+    (base ≤ s.trigger.tick) × (board_tick (clock_of (board_at m b)) turn ≤ s.trigger.tick + 2_000_000_000)
+
 -- so a board stood as its turn with this number began
 abbrev pub StoodAt : (Rig → Type 0) → ℕ → List BoardTurn → Type 0
 StoodAt P at [] = Unit {0}

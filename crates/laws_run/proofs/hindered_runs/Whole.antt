@@ -26,7 +26,7 @@ use Rattle.host_reactor.specs.Notes.{noted}
 use Rattle.host_reactor.specs.Runs.{Came, GoesOn, HaveStates, known_by, state_at}
 use Rattle.laws_board.specs.turns.Turns.{BoardTurn, latest_state}
 use Rattle.laws_board.specs.clocks.Runs.{IsInRun}
-use Rattle.laws_board.proofs.clocks.Lines.{run_before}
+use Rattle.laws_board.proofs.clocks.Lines.{as_long, run_before}
 use Rattle.motion_work.specs.Known.{lines_by}
 use Rattle.motion_work.specs.Seen.{Started}
 use Rattle.motion_work.specs.Told.{Told}
@@ -43,10 +43,11 @@ use Rattle.laws_homing.specs.switch_runs.Reports.{WasReported}
 use Rattle.laws_homing.proofs.clear_boards.Clocking.{line_ahead}
 use Rattle.laws_homing.proofs.hindered.Told.{Told as Told_so, read_more, stands_late, told_switch, told_true, was_told}
 use Rattle.laws_homing.specs.fired_runs.Since.{AllRead, AreBehind, AreRead, BeginsApart, IsFiredAt, ReadsAsTold, ReadsSwitchTrue, ReadsTrue}
-use Rattle.laws_homing.specs.hindered.Hindered.{HeardByNow, HinderedIn, IsGoingOn, HasLiveTrigger, SomeHinderedIn, StoodAt}
+use Rattle.laws_homing.specs.hindered.Hindered.{FellLately, HeardByNow, HinderedIn, IsGoingOn, SomeHinderedIn, StoodAt, TellsOn}
 use Rattle.laws_homing.specs.home_parts.Cuts.{cuts_on}
 use Rattle.laws_homing.specs.home_plans.Notes.{CameNotes}
 use Rattle.laws_homing.specs.home_runs.Guards.{HasFired}
+use Rattle.laws_homing.specs.home_runs.Sections.{TakesSetUp}
 use Rattle.laws_homing.specs.home_runs.Told.{IsMember}
 use Rattle.laws_homing.specs.clear_groups.Runs.{BeginsWell, IsTracked}
 use Rattle.laws_homing.specs.clear_groups.Sections.{IsFollowed, IsHomingSection, KnowsLines, turns_of}
@@ -56,7 +57,8 @@ use Rattle.laws_homing.proofs.clear_groups.Joined.{join, tracked_later}
 use Rattle.laws_homing.proofs.clear_groups.Newly.{new_later}
 use Rattle.laws_homing.proofs.clear_groups.Noted.{board_followed, states_of_turn}
 use Rattle.laws_homing.proofs.hindered.Expired.{begins_later, homes_later, stood, stood_lately}
-use Rattle.laws_run.specs.hindered_runs.Hindered.{AllStoodAt, HasHindered, IsHinderedIn}
+use Rattle.laws_homing.proofs.hindered.Telling.{tell_on}
+use Rattle.laws_run.specs.hindered_runs.Hindered.{AllStoodAt, AllTookSetUp, HasHindered, IsHinderedIn, known_start}
 use Rattle.laws_run.specs.home_headline.Near.{AllReadAsTold, KeepsUp}
 use Rattle.laws_run.specs.home_wholes.Own.{AllSwitchesReadTrue}
 use Rattle.laws_run.specs.lanes.Boards.{IsInWhole, behind, states_of}
@@ -305,6 +307,15 @@ module _ (m : Machine) (v : IsValidMachine m) (s : Scene) (ts : List MotionTurn)
     new : IsNewAt m s.switches h.start h.group.last Members (Since + 1) (came_in end ∷ Came_all)
     new = new_later m s.switches x.from h.start h.group.last Members x.soon (Since + 1) (came_in end) Came_all soon_since.0 soon_since.1 goes x.homes x.begins of_turn x.new
 
+    -- from five turns behind its start on the triggers of its boards tell on, where they took its set-up in time
+    tells : AllTookSetUp m s ts first rest end h → (at : ℕ) → h.start + 5 ≤ at → (i : ℕ) → IsMember i Members → StoodAt (TellsOn m i at) at (turns_of i all.0)
+    tells took at late i on =
+        let low = x.within i on in
+        let far = x.far in
+        let own : TakesSetUp (link_of m s i) h.start (turns_of i all.0) = subst (λ (turns : List BoardTurn). TakesSetUp (link_of m s i) h.start turns) (sym (all.2 i low)) (took i on (Whole i low)) in
+        tell_on m v s.switches (Pins i) s.entries i (Lines h.start) (From + 1) (Since + 1) h.start h.group.last Till Members (followed i on) (omega (arith, far)) (omega (arith, far)) on
+        (came_in end) Came_all (turns_of i all.0) (section.plain i on) section.homes section.knows apart (omega arith) own at late
+
     -- where a board told that it expired, in a turn that isn't past the section's last one
     module _ (board turn tick : ℕ) (member : IsMember board Members) (in_last : turn ≤ h.group.last) (report : WasReported m s.switches board h.start (record { reason = 2; tick = tick; turn = turn }) (came_in end ∷ Came_all)) where
       abbrev Own : ℕ → ℕ
@@ -364,19 +375,27 @@ module _ (m : Machine) (v : IsValidMachine m) (s : Scene) (ts : List MotionTurn)
       stood_at P n k i on = subst (λ (turns : List BoardTurn). StoodAt (P i) n turns) (sym (all.2 i (x.within i on))) (k i on (Whole i (x.within i on)))
 
       lately : (later : List BoardTurn) (t : BoardTurn) (past : List BoardTurn) → Turns board low ≡ later ++ t ∷ past → IsFiredAt (trigger_of m board) 2 tick t.after.core.board → h.start + 41 ≤ length past → length past ≤ h.group.last + 4
-          → HeardByNow m s.switches board h.start (came_in end ∷ Came_all) → AllStoodAt m s ts first rest end h (λ i. HasLiveTrigger m i (length past - 36)) (length past - 36)
-          → AllStoodAt m s ts first rest end h (λ i r. HasFired (trigger_of m i) r → ⊥) (length past - 12) → HasHindered m s ts first rest end h (length past - 37) (length past)
-      lately later t past are stands begun ends heard way cans =
+          → HeardByNow m s.switches board h.start (came_in end ∷ Came_all) → AllTookSetUp m s ts first rest end h
+          → AllStoodAt m s ts first rest end h (λ i. FellLately m i (known_start m s.switches h i (came_in end) Came_all) (length past - 36)) (length past - 36)
+          → StoodAt (λ r. HasFired (trigger_of m board) r → ⊥) (length past - 12) (Turns board low) → HasHindered m s ts first rest end h (length past - 37) (length past)
+      lately later t past are stands begun ends heard set_up fell could =
           let early = so.early in
           let far = x.far in
           let at : ℕ = length past - 36 in
-          let Can : ℕ → Rig → Type 0 = λ i r. HasFired (trigger_of m i) r → ⊥ in
+          let many = as_long m s.switches board Came_all (Turns board low) own_run.both in
+          let size : length (Turns board low) ≡ length (later ++ t ∷ past) = ap length are in
+          let more = length-append later (t ∷ past) in
+          let Fell : ℕ → ℕ → Type 0 = λ i base. StoodAt (FellLately m i base at) at (turns_of i all.0) in
+          let fell_so : (i : ℕ) → IsMember i Members → Fell i (lines_tick (Lines h.start i) (h.start * turn_ns)) = λ i on.
+          subst (Fell i) (((lines_of h.start).0 knows.0 h is refl i (x.within i on)).1.ticks h.start (omega (arith, many, size, more, begun)))
+          (stood_at (λ k. FellLately m k (known_start m s.switches h k (came_in end) Came_all) at) at fell i on) in
+          let Could : Rig → Type 0 = λ r. HasFired (trigger_of m board) r → ⊥ in
           let twelve : length past - 12 ≡ at + 24 = omega (arith, begun) in
           let before : length past - 37 ≡ at - 1 = omega (arith, begun) in
-          let can_so : (i : ℕ) → IsMember i Members → StoodAt (Can i) (at + 24) (turns_of i all.0) = λ i on. subst (λ (n : ℕ). StoodAt (Can i) n (turns_of i all.0)) twelve (stood_at Can (length past - 12) cans i on) in
+          let could_so : StoodAt Could (at + 24) (turns_of board all.0) = subst (λ (n : ℕ). StoodAt Could n (turns_of board all.0)) twelve (subst (λ (turns : List BoardTurn). StoodAt Could (length past - 12) turns) (sym (all.2 board low)) could) in
           let found = some_of (at - 1) (length past) Members all.0
           (stood_lately m v s.switches Pins s.entries (Lines h.start) (From + 1) Since h.start h.group.last Till Members followed (omega (arith, far)) soon_since.2 x.order (omega (arith, far)) at (omega (arith, begun)) (omega (arith, begun, ends)) board member tick (λ e. omega (arith, e, early)) later t past
-          (came_in end) Came_all all.0 section (omega arith) new heard (all.2 board low ∙ are) (omega (arith, begun)) (stood_at (λ i. HasLiveTrigger m i at) at way) can_so stands) in
+          (came_in end) Came_all all.0 section apart (omega arith) new heard (all.2 board low ∙ are) (omega (arith, begun)) (tells set_up at (omega (arith, begun))) fell_so could_so stands) in
           let there = x.within found.0 found.1 in
           record {
             board = found.0;

@@ -1,0 +1,58 @@
+-- In any scene a homing group knows of no member whose trigger can trigger that it has triggered.
+use Rattle.std.proofs.Common.{◌≡◌, ℕ, true, ◌≤◌, ◌⊎◌, inl, inr, List, [], ◌∷◌, Option, Some, None, refl, subst, arith}
+use Rattle.std.specs.Prelude.{nat_le}
+use Rattle.std.proofs.lemmas.Bool.Decides.{leb_tells}
+use Rattle.plan_types.specs.declared.levels.Level.{Level}
+use Rattle.plan_types.specs.declared.machine.Machine.{Machine}
+use Rattle.plan_types.specs.Machines.{IsValidMachine, axis_at, board_at}
+use Rattle.wire_scene.specs.declared.scene.Entry.{Entry}
+use Rattle.wire_scene.specs.declared.scene.Switch.{Switch}
+use Rattle.board_asking.specs.Machine.{trigger_of}
+use Rattle.board_sim.specs.Rig.{Slot, slot_at}
+use Rattle.link_work.specs.Stands.{first_state}
+use Rattle.trigger_group.specs.declared.seen.Fired.{Fired}
+use Rattle.trigger_group.specs.declared.seen.Seen.{Seen}
+use Rattle.trigger_group.specs.Group.{fired_by}
+use Rattle.axis_homing.specs.declared.homing.Homing.{Homing}
+use Rattle.axis_homing.specs.Homing.{hears_all}
+use Rattle.axis_homing.specs.Rising.{members_of}
+use Rattle.host_reactor.specs.Notes.{noted}
+use Rattle.host_reactor.specs.Runs.{Came, known_by, state_at}
+use Rattle.laws_board.specs.turns.Turns.{BoardTurn, latest_state, stands_after}
+use Rattle.laws_board.specs.clocks.Runs.{IsInRun}
+use Rattle.laws_homing.specs.home_runs.Told.{IsMember}
+use Rattle.laws_homing.specs.clear_boards.Hearing.{KnownOn, NoneOn}
+use Rattle.laws_homing.specs.fired_runs.Since.{AreBehind, AreReadTrue, BeginsApart}
+use Rattle.laws_homing.specs.switch_runs.Reports.{WasReported}
+use Rattle.laws_homing.proofs.fired_runs.Reported.{Each, all_told}
+use Rattle.laws_homing.proofs.fired_runs.Rested.{reported_fired}
+use Rattle.laws_homing.proofs.hindered.Falling.{no_both}
+
+none_of : (W : ℕ → Fired → Type 0) (own b : ℕ) (xs : List Seen) → Each W own xs → ((f : Fired) → W b f → ⊥) → NoneOn b xs
+none_of W own b [] given never = tt
+none_of W own b (x ∷ xs) given never = ((λ on. by on x.fired refl), none_of W own b xs given.1 never)
+  where
+    by : x.member.board ≡ b → (o : Option Fired) → x.fired ≡ o → o ≡ None
+    by on None e = refl
+    by on (Some f) e = absurd (never f (subst (λ (n : ℕ). W n f) on (given.0.0 f e)))
+
+le_is : (a b : ℕ) → a ≤ b → nat_le a b ≡ true
+le_is a b l = elim (leb_tells a b) [ inl p ↦ p.0 | inr p ↦ absurd (omega (arith, p.1, l)) ]
+
+pub known_of : (W : ℕ → Fired → Type 0) (own b last : ℕ) (xs : List Seen) → Each W own xs → ((f : Fired) → W b f → f.turn ≤ last) → KnownOn b last xs
+known_of W own b last [] given early = tt
+known_of W own b last (x ∷ xs) given early = ((λ on. by on x.fired refl), known_of W own b last xs given.1 early)
+  where
+    by : x.member.board ≡ b → (o : Option Fired) → x.fired ≡ o → (fired_by last o ≡ true) ⊎ (o ≡ None)
+    by on None e = inr refl
+    by on (Some f) e = inl (le_is f.turn last (early f (subst (λ (n : ℕ). W n f) on (given.0.0 f e))))
+
+module _ (m : Machine) (v : IsValidMachine m) (switches : List Switch) (pins : List (List Level)) (entries : List Entry) (b : ℕ) where
+  pub unheard_at : (c : Came) (before : List Came) (turns : List BoardTurn) (h : Homing) → IsInRun m switches pins entries b before turns → state_at b c.states ≡ latest_state turns → BeginsApart m switches (c ∷ before) → AreReadTrue m switches b (c ∷ before) turns
+      → AreBehind m switches b (c ∷ before) → (noted m c.note (known_by m switches before)).homing ≡ Some h → IsMember b (members_of h.group) → (u : Slot) → slot_at (stands_after (first_state (board_at m b) pins b entries) turns).core.board (trigger_of m b) ≡ Some u
+      → u.trigger.can ≡ true → NoneOn b (hears_all (noted m c.note (known_by m switches before)).clocks c.states h).group.members
+  unheard_at c before turns h r latest apart reads behind is member u there can =
+      none_of (λ n f. WasReported m switches n h.start f (c ∷ before)) (axis_at m h.axis).board b (hears_all (noted m c.note (known_by m switches before)).clocks c.states h).group.members (all_told m switches c before h r.goes_on is)
+      (λ f told. (
+      let since = reported_fired m v switches pins entries b c before turns h f r latest apart reads behind is member told in
+      no_both u.trigger.can can (since.at_rest.off u there)))

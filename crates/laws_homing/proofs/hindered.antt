@@ -3,13 +3,15 @@ pub mod Prepared
 pub mod Kept
 pub mod Holding
 pub mod Crossing
+pub mod Since
 pub mod Setting
-pub mod Telling
 pub mod Keeping
 pub mod Running
 pub mod Reporting
 pub mod Repeating
 pub mod Nearing
+pub mod Aiming
+pub mod Telling
 pub mod Calling
 pub mod Falling
 pub mod Unheard

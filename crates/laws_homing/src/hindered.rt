@@ -23,7 +23,7 @@ ghost use Rattle.laws_homing.specs.clear_boards.Rests.{RestsFrom};
 ghost use Rattle.laws_homing.specs.clear_groups.Sections.{IsFollowed, IsHomingSection, turns_of};
 ghost use Rattle.laws_homing.specs.clear_groups.SetUp.{AllOfTurn, IsNewAt};
 ghost use Rattle.laws_homing.specs.fired_runs.Since.{BeginsApart, IsFiredAt, ReadsAsTold, ReadsSwitchTrue, ReadsTrue};
-ghost use Rattle.laws_homing.specs.hindered.Hindered.{FellLately, HeardByNow, HinderedIn, IsGoingOn, SomeHinderedIn, StoodAt, TellsOn};
+ghost use Rattle.laws_homing.specs.hindered.Hindered.{HaveRoundAhead, HeardByNow, HinderedIn, IsGoingOn, SomeHinderedIn, StoodAt, TellsOn};
 
 /// The law of rest: in one of some turns, from a number on, a link was hindered, or it rests over each that begins
 /// behind the first of these; so the links of some boards.
@@ -64,10 +64,11 @@ pub fn boards_expire_where_links_are_hindered()
 /// The law of boards that expire lately, in any scene: where as a turn ends the trigger of a board stands expired (2),
 /// of a homing section of which it is a member, since a tick that isn't that of the turn behind the section's last one,
 /// the link of a member's board was hindered in this turn or in one of the 37 before it. What it takes is that 36 turns
-/// before, which is five turns behind the section's start or later, each member's trigger was live or went on reporting
-/// that it had triggered (`TellsOn`), in the section and less than half a round of the clock before (`FellLately`);
-/// that 12 turns before the board's own could still trigger; that the group heard of the board as able to trigger in no
-/// turn to come (`HeardByNow`); and what the law of boards that expire takes.
+/// before, which is five turns behind the section's start or later, each member's trigger was live, or went on
+/// reporting that it had triggered in the section (`TellsOn`); that 12 turns before the board's own could still
+/// trigger; that the group heard of the board as able to trigger in no turn to come (`HeardByNow`); that by the known
+/// clock lines a round of the 32-bit clock fits before a run's last turn (`HaveRoundAhead`); and what the law of boards
+/// that expire takes.
 pub fn boards_expire_where_links_are_hindered_lately()
     ensures { (m : Machine) (switches : List Switch) (pins : ℕ → List (List Level)) (entries : List Entry)
         (lines : ℕ → Clocks) (ready since start last until : ℕ) (members : List Member) → IsValidMachine m →
@@ -79,25 +80,29 @@ pub fn boards_expire_where_links_are_hindered_lately()
         HeardByNow m switches b start (c ∷ before) → (tick ≡ lines_tick (lines b) ((last + 1) * turn_ns) → ⊥) →
         (later : List BoardTurn) (t : BoardTurn) (past : List BoardTurn) → turns_of b all ≡ later ++ t ∷ past →
         length past ≡ at + 36 → start + 5 ≤ at → at + 32 ≤ last →
-        ((x : ℕ) → IsMember x members → StoodAt (TellsOn m x at) at (turns_of x all)) →
         ((x : ℕ) → IsMember x members →
-        StoodAt (FellLately m x (lines_tick (lines x) (start * turn_ns)) at) at (turns_of x all)) →
+        StoodAt (TellsOn m x (lines_tick (lines x) (start * turn_ns)) at) at (turns_of x all)) →
         StoodAt (λ r. HasFired (trigger_of m b) r → ⊥) (at + 24) (turns_of b all) →
+        ((x : ℕ) → IsMember x members → HaveRoundAhead m switches x start last (c ∷ before)) →
         IsFiredAt (trigger_of m b) 2 tick t.after.core.board → SomeHinderedIn (at - 1) (length past) members all }
 {}
 
 /// The law of triggers that tell on, in any scene: where a board of a homing section took the section's set-up in time
 /// (`TakesSetUp`), its trigger tells on as each of the board's turns begins, from five turns behind the section's start
-/// on (`TellsOn`): it reports every five turns, whether it is live or has triggered.
+/// on (`TellsOn`): it is live, or it has triggered, at a tick from the section's start on, and either way it reports
+/// every five turns. What it takes besides is that the section's group is new as its boards are started, and has heard
+/// of one of its members as able to trigger in no turn to come (`HeardByNow`): so its timeouts are near.
 pub fn triggers_set_up_in_time_tell_on()
     ensures { (m : Machine) (switches : List Switch) (pins : ℕ → List (List Level)) (entries : List Entry)
         (lines : ℕ → Clocks) (ready since start last until : ℕ) (members : List Member) → IsValidMachine m →
         ((b : ℕ) → IsMember b members → IsFollowed m b (lines b) ready start last until) → ready + 255 ≤ start →
         since + 252 ≡ start → (c : Came) (before : List Came) (all : List (ℕ → BoardTurn)) →
         IsHomingSection (λ b. IsGoingOn m switches (pins b) entries b) m switches lines (since + 1) start members c
-        before all → BeginsApart m switches (c ∷ before) → length before ≤ until → (b at : ℕ) → IsMember b members →
+        before all → BeginsApart m switches (c ∷ before) → length before + 23 ≤ until →
+        IsNewAt m switches start last members (since + 1) (c ∷ before) → (b y at : ℕ) → IsMember b members →
+        IsMember y members → HeardByNow m switches y start (c ∷ before) →
         TakesSetUp (first_state (board_at m b) (pins b) b entries) start (turns_of b all) → start + 5 ≤ at →
-        StoodAt (TellsOn m b at) at (turns_of b all) }
+        StoodAt (TellsOn m b (lines_tick (lines b) (start * turn_ns)) at) at (turns_of b all) }
 {}
 
 /// The law of reports that are read as what they told (`ReadsAsTold`): they are read true, and so are those that

@@ -19,10 +19,9 @@ use plan_types::Cause;
 /// board's trigger stood expired since the tick that was told as some of its turns ended; and by each of
 /// these the link of a board of the homing section that was under way was hindered, in a turn from 252 turns
 /// before the section's start on. It was so in one of these or in one of the 37 turns before it, where the
-/// section's boards took its set-up in time, the triggers of those that had triggered 36 turns before it did
-/// so lately, and the board's own could still trigger 12 turns before it (`HasHinderedLink` has all that it
-/// takes). What the law takes is that each board takes all near, and that what boards tell of their triggers
-/// is read as what it told (`AllReadAsTold`).
+/// section's boards took its set-up in time and the board's own trigger could still trigger 12 turns before it
+/// (`HasHinderedLink` has all that it takes). What the law takes is that each board takes all near, and that what
+/// boards tell of their triggers is read as what it told (`AllReadAsTold`).
 pub fn runs_expire_where_links_are_hindered<F: Files, S: Sink>()
     ensures { (m : Machine) (s : Scene) (name : List ℕ) (files files' : F) (out out' : S) (kept kept' : Kept)
         (t : Told Run) → (r : RunsOver F.Files S.Sink m s name files out kept t files' out' kept') → IsValidMachine m →

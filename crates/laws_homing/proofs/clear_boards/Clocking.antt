@@ -6,7 +6,7 @@ use Rattle.std.proofs.lemmas.Bool.Decides.{leb_tells, nat_tests}
 use Rattle.plan_types.specs.declared.clock.BoardClock.{BoardClock}
 use Rattle.plan_types.specs.declared.plan.Held.{Held}
 use Rattle.plan_types.specs.declared.plan.Line.{Line}
-use Rattle.plan_types.specs.Board.{nearest}
+use Rattle.plan_types.specs.Board.{ahead, nearest}
 use Rattle.plan_types.specs.Clock.{board_tick, own_tick, rate, tick, turn_ns}
 use Rattle.plan_types.specs.Lines.{AreHeld, Clocks, lines_tick, lines_turn, tick_over}
 use Rattle.plan_types.specs.Machines.{IsValidFreq}
@@ -31,10 +31,10 @@ line_ahead own clocks ready turn timeout k low soon far =
     let up = lines_up clocks (turn + 1) timeout far in
     omega (arith, behind, up)
 
-tick_whole : (clocks : Clocks) (turn : ℕ) → lines_tick clocks (turn * turn_ns) < 2 ^ 64 → turn_tick clocks turn ≡ lines_tick clocks (turn * turn_ns)
+pub tick_whole : (clocks : Clocks) (turn : ℕ) → lines_tick clocks (turn * turn_ns) < 2 ^ 64 → turn_tick clocks turn ≡ lines_tick clocks (turn * turn_ns)
 tick_whole clocks turn small = omega (arith, small)
 
-near_there : (now t : ℕ) → now < t + 2 ^ 31 → t ≤ now + 2 ^ 31 → nearest now (t % 2 ^ 32) ≡ t
+pub near_there : (now t : ℕ) → now < t + 2 ^ 31 → t ≤ now + 2 ^ 31 → nearest now (t % 2 ^ 32) ≡ t
 near_there now t low high = nearest_is now (t % 2 ^ 32) t (low, high) (omega arith)
 
 pub timeout_ahead : (own : ℕ → ℕ) (clocks : Clocks) (ready turn timeout : ℕ) → AreTicks own → (k : AreTracked own clocks ready) → ready ≤ turn → timeout ≤ k.until → turn + 2 ≤ timeout → timeout ≤ turn + 1_000
@@ -80,43 +80,76 @@ first_low clocks time kept = by clocks.held kept.held
         let up = tick_over-mono clocks.first 0 (h ∷ held) 0 time (omega arith) in
         omega (arith, z, e, up)
 
-pub tick_counts : (own : ℕ → ℕ) (clocks : Clocks) (ready turn from tick : ℕ) → AreTicks own → (k : AreTracked own clocks ready) → ready + 4 ≤ from → from ≤ turn → own turn ≤ tick + 2_100_000_000 → turn + 1 ≤ k.until → k.until < run_turns → own turn < 2 ^ 63
+-- a tick from a time on that the run comes to is in one of its turns
+in_run_at : (clocks : Clocks) (time tick : ℕ) → AreKept clocks → lines_tick clocks time ≤ tick → tick < 2 ^ 64 → tick < lines_tick clocks (run_turns * turn_ns) → turn_in_run clocks tick ≡ Some (lines_turn clocks tick)
+in_run_at clocks time tick kept late small soon =
+    let first = first_low clocks time kept in
+    run_if (is_in_run clocks tick) (lines_turn clocks tick)
+    (all_three (nat_lt tick (2 ^ 64)) (nat_le clocks.first.clock tick) (nat_lt tick (lines_tick clocks (run_turns * turn_ns))) (lt_is tick (2 ^ 64) small) (le_is clocks.first.clock tick (omega (arith, first, late))) (lt_is tick (lines_tick clocks (run_turns * turn_ns)) soon))
+
+-- the tick of a turn by the lines, beside the board's own one
+tick_near : (own : ℕ → ℕ) (clocks : Clocks) (ready turn : ℕ) → AreTicks own → (k : AreTracked own clocks ready) → ready + 1 ≤ turn → turn ≤ k.until → own turn < 2 ^ 63
+    → (turn_tick clocks turn ≡ lines_tick clocks (turn * turn_ns)) × (own turn ≤ turn_tick clocks turn + 1_000_000) × (turn_tick clocks turn ≤ own turn + 4_000_000)
+tick_near own clocks ready turn ticks k low soon small =
+    let up = k.ahead turn (omega (arith, low)) soon in
+    let most = ticks_most own ticks 4 turn in
+    let f : turn - 1 + 1 ≡ turn = omega (arith, low) in
+    let back : own (turn - 1) ≤ lines_tick clocks (turn * turn_ns) = subst (λ (n : ℕ). own (turn - 1) ≤ lines_tick clocks (n * turn_ns)) f (k.behind (turn - 1) (omega (arith, low)) (omega (arith, soon))) in
+    let one : own turn ≤ own (turn - 1) + 1_000_000 = subst (λ (n : ℕ). own n ≤ own (turn - 1) + 1_000_000) f (ticks.most (turn - 1)) in
+    let whole = tick_whole clocks turn (omega (arith, up, most, small)) in
+    (whole, omega (arith, whole, back, one), omega (arith, whole, up, most))
+
+pub report_counts : (own : ℕ → ℕ) (clocks : Clocks) (ready turn from tick : ℕ) → AreTicks own → (k : AreTracked own clocks ready) → ready + 4 ≤ from → from ≤ turn → turn ≤ from + 1_000 → turn + 1 ≤ k.until → k.until < run_turns → own turn < 2 ^ 63
     → own from ≤ tick → tick < own (turn + 1) → IsCounted clocks turn from tick
-tick_counts own clocks ready turn from tick ticks k low behind_so near soon few small late before =
+report_counts own clocks ready turn from tick ticks k low behind_so near soon few small late before =
     let start = from - 4 in
     let e : start + 4 ≡ from = omega (arith, low) in
     let ahead : lines_tick clocks (start * turn_ns) < own from = subst (λ (n : ℕ). lines_tick clocks (start * turn_ns) < own n) e (k.ahead start (omega (arith, low)) (omega (arith, soon, behind_so))) in
     let least = turn_least own clocks ready start tick k (omega (arith, ahead, late)) in
-    let up = k.ahead turn (omega (arith, low, behind_so)) (omega (arith, soon)) in
-    let most = ticks_most own ticks 4 turn in
+    let most = ticks_most own ticks 1_000 from in
+    let rise = ticks_rise own ticks turn (from + 1_000) near in
     let next = ticks_most own ticks 1 turn in
-    let f : turn - 1 + 1 ≡ turn = omega (arith, low, behind_so) in
-    let back : own (turn - 1) ≤ lines_tick clocks (turn * turn_ns) =
-    subst (λ (n : ℕ). own (turn - 1) ≤ lines_tick clocks (n * turn_ns)) f (k.behind (turn - 1) (omega (arith, low, behind_so)) (omega (arith, soon))) in
-    let one : own turn ≤ own (turn - 1) + 1_000_000 = subst (λ (n : ℕ). own n ≤ own (turn - 1) + 1_000_000) f (ticks.most (turn - 1)) in
-    let whole = tick_whole clocks turn (omega (arith, up, most, small)) in
-    let is : nearest (turn_tick clocks turn) (tick % 2 ^ 32) ≡ tick = near_there (turn_tick clocks turn) tick (omega (arith, whole, up, most, near)) (omega (arith, whole, back, one, before, next)) in
+    let now = tick_near own clocks ready turn ticks k (omega (arith, low, behind_so)) (omega (arith, soon)) small in
+    let now_low = now.1 in
+    let now_high = now.2 in
+    let is : nearest (turn_tick clocks turn) (tick % 2 ^ 32) ≡ tick = near_there (turn_tick clocks turn) tick (omega (arith, now_high, most, rise, late)) (omega (arith, now_low, before, next)) in
     let far = lines_up clocks (turn + 1 + 1) run_turns (omega (arith, soon, few)) in
     let behind_next = k.behind (turn + 1) (omega (arith, low, behind_so)) soon in
-    let low_first = first_low clocks (start * turn_ns) k.kept in
-    let in_run : is_in_run clocks tick ≡ true =
-    all_three (nat_lt tick (2 ^ 64)) (nat_le clocks.first.clock tick) (nat_lt tick (lines_tick clocks (run_turns * turn_ns))) (lt_is tick (2 ^ 64) (omega (arith, before, next, small)))
-    (le_is clocks.first.clock tick (omega (arith, low_first, ahead, late))) (lt_is tick (lines_tick clocks (run_turns * turn_ns)) (omega (arith, before, behind_next, far))) in
     record {
       is = is;
       when = lines_turn clocks tick;
-      in_run = ap (turn_in_run clocks) is ∙ run_if (is_in_run clocks tick) (lines_turn clocks tick) in_run;
+      in_run = ap (turn_in_run clocks) is ∙ in_run_at clocks (start * turn_ns) tick k.kept (omega (arith, ahead, late)) (omega (arith, before, next, small)) (omega (arith, before, behind_next, far));
       late = omega (arith, least);
       ends = λ end l. turn-below clocks tick end l;
       begun = λ begin l. turn_least own clocks ready begin tick k l;
     }
 
-pub report_counts : (own : ℕ → ℕ) (clocks : Clocks) (ready turn from tick : ℕ) → AreTicks own → (k : AreTracked own clocks ready) → ready + 4 ≤ from → from ≤ turn → turn ≤ from + 1_000 → turn + 1 ≤ k.until → k.until < run_turns → own turn < 2 ^ 63
-    → own from ≤ tick → tick < own (turn + 1) → IsCounted clocks turn from tick
-report_counts own clocks ready turn from tick ticks k low behind_so near soon few small late before =
-    let most = ticks_most own ticks 1_000 from in
-    let rise = ticks_rise own ticks turn (from + 1_000) near in
-    tick_counts own clocks ready turn from tick ticks k low behind_so (omega (arith, most, rise, late)) soon few small late before
+-- the tick nearest to another one is less than half a round before it, and less than a round behind it
+near_within : (now clock : ℕ) → (now < nearest now clock + 2 ^ 31) × (nearest now clock < now + 2 ^ 32)
+near_within now clock = elim (leb_tells (ahead now clock) (2 ^ 31)) [
+  | inl p ↦ rw p.0 (omega (arith, p.1), omega (arith, p.1))
+  | inr p ↦ rw p.0 (elim (leb_tells (2 ^ 32) (now + ahead now clock)) [ inl q ↦ rw q.0 (omega (arith, p.1, q.1), omega (arith, p.1, q.1)) | inr q ↦ rw q.0 (omega (arith, p.1, q.1), omega (arith, p.1, q.1)) ])
+]
+
+-- a tick that the board has come to, from a turn's beginning on, is read as one of a turn of the run from that turn on, where a round of the clock is still ahead
+pub read_counts : (own : ℕ → ℕ) (clocks : Clocks) (ready turn start tick : ℕ) → AreTicks own → (k : AreTracked own clocks ready) → ready + 1 ≤ turn → turn ≤ k.until → own turn < 2 ^ 63 → lines_tick clocks (turn * turn_ns) + 2 ^ 32 ≤ lines_tick clocks (run_turns * turn_ns)
+    → tick ≤ own turn → lines_tick clocks (start * turn_ns) ≤ tick
+    → (start ≤ lines_turn clocks (nearest (turn_tick clocks turn) (tick % 2 ^ 32))) × (turn_in_run clocks (nearest (turn_tick clocks turn) (tick % 2 ^ 32)) ≡ Some (lines_turn clocks (nearest (turn_tick clocks turn) (tick % 2 ^ 32))))
+read_counts own clocks ready turn start tick ticks k low soon small far early base =
+    let now = turn_tick clocks turn in
+    let at = nearest now (tick % 2 ^ 32) in
+    let near = tick_near own clocks ready turn ticks k low soon small in
+    let whole = near.0 in
+    let now_low = near.1 in
+    let now_high = near.2 in
+    let within = near_within now (tick % 2 ^ 32) in
+    let at_low = within.0 in
+    let at_high = within.1 in
+    let least : lines_tick clocks (start * turn_ns) ≤ at = elim (leb_tells (suc now) (tick + 2 ^ 31)) [
+      | inl p ↦ (let lately = p.1 in let is = near_there now tick (omega (arith, lately)) (omega (arith, early, now_low)) in omega (arith, is, base))
+      | inr p ↦ (let old = p.1 in omega (arith, old, at_low, base))
+    ] in
+    (turn_least own clocks ready start at k least, in_run_at clocks (start * turn_ns) at k.kept least (omega (arith, at_high, now_high, small)) (omega (arith, at_high, whole, far)))
 
 -- a board's clock goes on, and by so many ticks at least
 rate_low : (drift : ℤ) → ppm_size drift ≤ 200 → 999_800 ≤ rate drift

@@ -72,7 +72,7 @@ gt_is a b l = elim (leb_tells a b) [ inl p ↦ absurd (omega (arith, p.1, l)) | 
 pub begins_so : (g : GroupState) (turn : ℕ) → g.start + 4 ≤ turn → any_fired_by g.last g.members ≡ true → relay_begins g turn ≡ true
 begins_so g turn low some = ap (λ (b : Bool). b && (any_fired_by g.last g.members || nat_le (g.last + 5) turn)) (le_is (g.start + 4) turn low) ∙ either_first (any_fired_by g.last g.members) (nat_le (g.last + 5) turn) some
 
-begins_not : (g : GroupState) (turn : ℕ) → turn < g.start + 4 → relay_begins g turn ≡ false
+pub begins_not : (g : GroupState) (turn : ℕ) → turn < g.start + 4 → relay_begins g turn ≡ false
 begins_not g turn low = ap (λ (b : Bool). b && (any_fired_by g.last g.members || nat_le (g.last + 5) turn)) (gt_is (g.start + 4) turn low)
 
 neither : (a b c : Bool) → b ≡ false → c ≡ false → (a && (b || c)) ≡ false

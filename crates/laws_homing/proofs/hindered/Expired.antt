@@ -4,14 +4,10 @@ use Rattle.std.proofs.lemmas.Bool.Decides.{leb_tells}
 use Rattle.plan_types.specs.declared.levels.Level.{Level}
 use Rattle.plan_types.specs.declared.machine.Machine.{Machine}
 use Rattle.plan_types.specs.Clock.{board_tick, clock_of, turn_ns}
-use Rattle.plan_types.specs.Lines.{Clocks, lines_tick, lines_turn}
+use Rattle.plan_types.specs.Lines.{Clocks, lines_tick}
 use Rattle.plan_types.specs.Machines.{IsValidMachine, axis_at, board_at}
-use Rattle.plan_types.specs.Sections.{clocks_at}
-use Rattle.clock_line.specs.Early.{is_in_run}
-use Rattle.clock_line.proofs.Turns.{turn-below}
 use Rattle.wire_scene.specs.declared.scene.Entry.{Entry}
 use Rattle.wire_scene.specs.declared.scene.Switch.{Switch}
-use Rattle.msg_code.specs.declared.talk.State.{State}
 use Rattle.trigger_group.specs.declared.order.Member.{Member}
 use Rattle.trigger_group.specs.declared.seen.Fired.{Fired}
 use Rattle.trigger_group.specs.declared.seen.Seen.{Seen}
@@ -26,7 +22,6 @@ use Rattle.link_work.specs.Stands.{first_state}
 use Rattle.host_reactor.specs.Notes.{noted}
 use Rattle.host_reactor.specs.Runs.{Came, GoesOn, known_by}
 use Rattle.laws_board.specs.turns.Turns.{BoardTurn, stands_after}
-use Rattle.laws_board.specs.clocks.Runs.{IsInRun}
 use Rattle.laws_board.proofs.sections.Clocks.{ticks_rise}
 use Rattle.laws_board.proofs.sections.Lists.{cons_same}
 use Rattle.laws_board.proofs.clocks.Lines.{as_long, run_before}
@@ -40,13 +35,11 @@ use Rattle.laws_homing.specs.clear_groups.Safe.{IsHeld}
 use Rattle.laws_homing.specs.clear_groups.Sections.{BeginsNoneFrom, IsFollowed, IsOnward, IsRestingSection, IsHomingSection, report_ticks, rig_at, turns_of}
 use Rattle.laws_homing.specs.clear_groups.SetUp.{AllOfTurn, ArePrepared, ArePreparedAt, IsNewAt}
 use Rattle.laws_homing.specs.fired_runs.Since.{AllRead, AreReadTrue, BeginsApart, IsFiredAt, ReadsSwitchTrue, ReadsTrue}
-use Rattle.laws_homing.specs.hindered.Hindered.{FellLately, HeardByNow, IsGoingOn, HasLiveTrigger, HasTellingTrigger, SomeHinderedIn, StoodAt, TellsOn}
-use Rattle.laws_homing.specs.switch_runs.Reports.{IsReport, WasReported}
+use Rattle.laws_homing.specs.hindered.Hindered.{HaveRoundAhead, HeardByNow, IsGoingOn, HasLiveTrigger, HasTellingTrigger, SomeHinderedIn, StoodAt, TellsOn}
+use Rattle.laws_homing.specs.switch_runs.Reports.{WasReported}
 use Rattle.laws_homing.proofs.clear_boards.Standing.{sound_at}
-use Rattle.laws_homing.proofs.fired_runs.Reported.{all_told, turn_if}
-use Rattle.laws_homing.proofs.fired_runs.Rested.{run_at, was_at}
+use Rattle.laws_homing.proofs.fired_runs.Reported.{all_told}
 use Rattle.laws_homing.proofs.fired_runs.Under.{under_after}
-use Rattle.laws_homing.proofs.missed_groups.Fresh.{one_state}
 use Rattle.laws_homing.proofs.clear_groups.Known.{behind_turn, of_known, some_known}
 use Rattle.laws_homing.proofs.clear_groups.Newly.{safe_at}
 use Rattle.laws_homing.proofs.clear_groups.Sections.{rests_safe}
@@ -54,6 +47,7 @@ use Rattle.laws_homing.proofs.hindered.Keeping.{Timed}
 use Rattle.laws_homing.proofs.hindered.Nearing.{IsNear, near_at}
 use Rattle.laws_homing.proofs.hindered.Prepared.{prepared_in}
 use Rattle.laws_homing.proofs.hindered.Reporting.{IsUp}
+use Rattle.laws_homing.proofs.hindered.Told.{report_early}
 use Rattle.laws_homing.proofs.hindered.Resting.{some_more, some_or, turns_long}
 use Rattle.laws_homing.proofs.hindered.Waking.{IsAsked, IsAwake, IsCalled, IsDone, IsExact, NoneKnown, all_or, asked_on, awake_on, called_on, done_on, exact_on, next_known}
 use Rattle.laws_homing.proofs.hindered.Unheard.{known_of, unheard_at}
@@ -246,12 +240,19 @@ module _ (m : Machine) (v : IsValidMachine m) (switches : List Switch) (pins : �
         let end = x.ends in
         subst (λ (g : Homing). (Sent c before g ≤ length before + 25) × (Sent c before g ≤ last + 1)) same (omega (arith, near, late), omega (arith, most, end))
 
-    -- their triggers are live as that turn begins, or report that they have triggered lately
-    abbrev UnderWay : List (ℕ → BoardTurn) → Type 0
-    UnderWay all = (b : ℕ) → IsMember b members → StoodAt (TellsOn m b at) at (turns_of b all)
+    -- their triggers are live as that turn begins, or report that they have triggered in the section
+    abbrev Base : ℕ → ℕ
+    Base b = lines_tick (lines b) (start * turn_ns)
 
-    abbrev Fell : List (ℕ → BoardTurn) → Type 0
-    Fell all = (b : ℕ) → IsMember b members → StoodAt (FellLately m b (lines_tick (lines b) (start * turn_ns)) at) at (turns_of b all)
+    abbrev UnderWay : List (ℕ → BoardTurn) → Type 0
+    UnderWay all = (b : ℕ) → IsMember b members → StoodAt (TellsOn m b (Base b) at) at (turns_of b all)
+
+    -- what they tell is read true, and a round of the clock is ahead
+    abbrev Read : Came → List Came → List (ℕ → BoardTurn) → Type 0
+    Read c before all = length before ≤ at + 36 → (b : ℕ) → IsMember b members → AreReadTrue m switches b (c ∷ before) (turns_of b all)
+
+    abbrev Ahead : List Came → Type 0
+    Ahead came = (b : ℕ) → IsMember b members → HaveRoundAhead m switches b start last came
 
     -- and the board's could trigger 24 turns behind
     abbrev Could : List (ℕ → BoardTurn) → Type 0
@@ -299,10 +300,6 @@ module _ (m : Machine) (v : IsValidMachine m) (switches : List Switch) (pins : �
     Stage c before all = ((length before ≤ at + 24) × (w : Awake c before all) × None_known c before w.homing) ⊎ (Exact c before all ⊎ (Called c before all ⊎ (Done before all ⊎ Asked c before all)))
 
     -- what the reactor read of a member that has triggered is of no turn to come
-    longer : (later xs : List BoardTurn) → length xs ≤ length (later ++ xs)
-    longer [] xs = omega arith
-    longer (t ∷ later) xs = let more = longer later xs in omega (arith, more)
-
     read_early : (b : ℕ) → IsMember b members → (f : Fired) (c : Came) (before : List Came) (all : List (ℕ → BoardTurn)) → Going c before all → AreReadTrue m switches b (c ∷ before) (turns_of b all) → length before + 276 ≤ till → length before ≤ last
         → WasReported m switches b start f (c ∷ before) → f.turn ≤ length before + 1
     read_early b on f c before [] s reads reach low (inl x) = absurd (let none = s.states b on in let came = x.came in let bad = sym none ∙ came in cc)
@@ -311,34 +308,7 @@ module _ (m : Machine) (v : IsValidMachine m) (switches : List Switch) (pins : �
     read_early b on f c (d ∷ past) (j ∷ js) s reads reach low (inr old) =
         let l = read_early b on f d past js (cut_going c d past j js s) reads.1 (omega (arith, reach)) (omega (arith, low)) old in
         omega (arith, l)
-    read_early b on f c before (j ∷ js) s reads reach low (inl x) =
-        let fol = followed b on in
-        let run = (s.plain b on).run in
-        let turns = turns_of b (j ∷ js) in
-        let many = turns_long b (j ∷ js) in
-        let long = s.long in
-        let same : (j b).state ≡ x.state = one_state (j b).state x.state (sym (s.states b on) ∙ x.came) in
-        let turn : x.state.turn ≡ length (turns_of b js) = ap (λ (z : State). z.turn) (sym same) ∙ run.turns_are.0.1.turn in
-        let counts = x.counts in
-        let homes = s.homes.0 (omega (arith, counts, turn, many, long, exactly)) in
-        let known = some_known start members (noted m c.note (known_by m switches before)).homing homes.1 in
-        let of = of_known start members (noted m c.note (known_by m switches before)).homing known.0 homes.1 known.1 in
-        let read = reads.0 known.0 f known.1 (subst (IsMember b) (sym of.2) on) (subst (λ (n : ℕ). IsReport m switches b n f c before) (sym of.0) x) in
-        let was = was_at (first_state (board_at m b) (pins b) b entries) (trigger_of m b) read.0 f.tick turns read.1 in
-        let run_then = run_at m switches (pins b) entries b before was.0 was.1 (subst (λ (z : List BoardTurn). IsInRun m switches (pins b) entries b before z) was.2 run) in
-        let under = under_after m switches (pins b) entries b run_then.0 was.1 run_then.1 (trigger_of m b) was.3.slot was.3.is in
-        let tick = was.3.at in
-        let size : length turns ≡ length (was.0 ++ was.1) = ap length was.2 in
-        let more = longer was.0 was.1 in
-        let up = ticks_rise (λ k. board_tick (clock_of (board_at m b)) k) fol.ticks (length was.1) (length turns) (omega (arith, size, more)) in
-        let rises = fol.rises (length turns) in
-        let ends_so = fol.ends in
-        let next = fol.tracked.behind (length turns + 1) (omega (arith, low_five, counts, turn, many)) (omega (arith, ends_so, reach, low, many, long)) in
-        let alike = (s.knows.0 homes.0 known.0 known.1 of.0 b run.board).1.ticks (length turns + 1 + 1) (omega (arith, many, long)) in
-        let lines_now = clocks_at (noted m c.note (known_by m switches before)).clocks b in
-        let below = turn-below lines_now f.tick (length turns + 1) (omega (arith, under, tick, up, rises, next, alike)) in
-        let is = turn_if (is_in_run lines_now f.tick) (lines_turn lines_now f.tick) f.turn x.turn_is in
-        omega (arith, below, is, many, long)
+    read_early b on f c before (j ∷ js) s reads reach low (inl x) = report_early m v switches (pins b) entries _ lines ready (since + 1) start last till members b on (followed b on) low_five c before j js s (s.plain b on).run (λ l. omega (arith, l, exactly)) low (omega (arith, reach)) reads.0 f x
 
     -- as that turn begins
     module _ (c d e : Came) (past : List Came) (j i : ℕ → BoardTurn) (js : List (ℕ → BoardTurn)) (s : Going c (d ∷ e ∷ past) (j ∷ i ∷ js)) (apart : BeginsApart m switches (d ∷ e ∷ past)) (size : length (e ∷ past) ≡ at) (reach : length (e ∷ past) + 276 ≤ till)
@@ -364,9 +334,8 @@ module _ (m : Machine) (v : IsValidMachine m) (switches : List Switch) (pins : �
           let l = read_early b on f d (e ∷ past) (i ∷ js) was (s.plain b on).reads reach (omega (arith, size, ends)) (subst (λ (n : ℕ). WasReported m switches b n f (d ∷ e ∷ past)) of_now.0 told) in
           omega (arith, l, size, ends)))
 
-      asked_first : (b : ℕ) → IsMember b members → HasTellingTrigger m b at (rig_at m pins entries (i ∷ js) b) → FellLately m b (lines_tick (lines b) (start * turn_ns)) at (rig_at m pins entries (i ∷ js) b) → TellsOn m y at (rig_at m pins entries (i ∷ js) y) → Asked d (e ∷ past) (i ∷ js)
-      asked_first b on u fell tells_y =
-          let low_tick = fell u.slot u.is u.fired in
+      asked_first : (b : ℕ) → IsMember b members → HasTellingTrigger m b (Base b) at (rig_at m pins entries (i ∷ js) b) → TellsOn m y (Base y) at (rig_at m pins entries (i ∷ js) y) → Asked d (e ∷ past) (i ∷ js)
+      asked_first b on u tells_y =
           let many = turns_long b (i ∷ js) in
           let long = was.long in
           let sound = sound_at (board_at m b) (pins b) b entries (turns_of b (i ∷ js)) (was.plain b on).run.turns_are (trigger_of m b) u.slot u.is in
@@ -384,27 +353,26 @@ module _ (m : Machine) (v : IsValidMachine m) (switches : List Switch) (pins : �
               silenced = record { off = u.fired; idle = sound.idle u.fired; same = refl; every_is = u.every; report_is = u.report };
               due = subst (λ (n : ℕ). board_tick (clock_of (board_at m b)) n ≤ u.next) (sym size) u.due;
               soon = u.soon;
-              base = low_tick.0;
-              late = low_tick.1;
-              early = subst (λ (n : ℕ). u.slot.trigger.tick ≤ board_tick (clock_of (board_at m b)) n) (omega (arith, many, long, size)) under;
+              base = u.since;
+              early = subst (λ (n : ℕ). u.slot.trigger.tick ≤ board_tick (clock_of (board_at m b)) n) (omega (arith, many, long)) under;
             };
             knows = read_by b on;
             own = elim tells_y [ inl live ↦ inr (live.slot, live.is, live.can, unheard y on_y live) | inr gone ↦ inl (record { slot = gone.slot; is = gone.is; fired = gone.fired }) ];
           }
 
-      stage_first : ((b : ℕ) → IsMember b members → TellsOn m b at (rig_at m pins entries (i ∷ js) b)) → ((b : ℕ) → IsMember b members → FellLately m b (lines_tick (lines b) (start * turn_ns)) at (rig_at m pins entries (i ∷ js) b)) → Stage d (e ∷ past) (i ∷ js)
+      stage_first : ((b : ℕ) → IsMember b members → TellsOn m b (Base b) at (rig_at m pins entries (i ∷ js) b)) → Stage d (e ∷ past) (i ∷ js)
       unfolding first_awake
-      stage_first tells fell = elim (all_or (λ b. HasTellingTrigger m b at (rig_at m pins entries (i ∷ js) b)) (λ b. HasLiveTrigger m b at (rig_at m pins entries (i ∷ js) b)) members (λ b on. elim (tells b on) [ inl live ↦ inr live | inr gone ↦ inl gone ])) [
-        | inl z ↦ inr (inr (inr (inr (asked_first z.0 z.1 z.2 (fell z.0 z.1) (tells y on_y)))))
+      stage_first tells = elim (all_or (λ b. HasTellingTrigger m b (Base b) at (rig_at m pins entries (i ∷ js) b)) (λ b. HasLiveTrigger m b at (rig_at m pins entries (i ∷ js) b)) members (λ b on. elim (tells b on) [ inl live ↦ inr live | inr gone ↦ inl gone ])) [
+        | inl z ↦ inr (inr (inr (inr (asked_first z.0 z.1 z.2 (tells y on_y)))))
         | inr live ↦ (let w = first_awake d e past i js x size live in inl (omega (arith, size), w, λ b on. unheard b on (live b on)))
       ]
 
-    first_stage : (c d : Came) (past : List Came) (j : ℕ → BoardTurn) (js : List (ℕ → BoardTurn)) → Going c (d ∷ past) (j ∷ js) → BeginsApart m switches (d ∷ past) → NearAll (d ∷ past) → length past + 276 ≤ till → UnderWay js → Fell js → length past ≡ at → Stage d past js
-    first_stage c d past j [] s apart near reach way fell size = absurd (let many = s.long in omega (arith, many, size, begun))
-    first_stage c d [] j (i ∷ js) s apart near reach way fell size = absurd (omega (arith, size, begun))
-    first_stage c d (e ∷ past) j (i ∷ js) s apart near reach way fell size =
+    first_stage : (c d : Came) (past : List Came) (j : ℕ → BoardTurn) (js : List (ℕ → BoardTurn)) → Going c (d ∷ past) (j ∷ js) → BeginsApart m switches (d ∷ past) → NearAll (d ∷ past) → length past + 276 ≤ till → UnderWay js → length past ≡ at → Stage d past js
+    first_stage c d past j [] s apart near reach way size = absurd (let many = s.long in omega (arith, many, size, begun))
+    first_stage c d [] j (i ∷ js) s apart near reach way size = absurd (omega (arith, size, begun))
+    first_stage c d (e ∷ past) j (i ∷ js) s apart near reach way size =
         let at_once : (b : ℕ) → IsMember b members → length (turns_of b js) + 1 ≡ at = (λ b on. (let many = turns_long b js in let long = s.long in omega (arith, many, long, size))) in
-        stage_first c d e past j i js s apart size reach (near.0 (omega (arith, size, begun))) (λ b on. (way b on).0 (at_once b on)) (λ b on. (fell b on).0 (at_once b on))
+        stage_first c d e past j i js s apart size reach (near.0 (omega (arith, size, begun))) (λ b on. (way b on).0 (at_once b on))
 
     exact_of : (c : Came) (before : List Came) (all : List (ℕ → BoardTurn)) → Near c before → Awake c before all → length before ≡ at + 24 → Exact c before all
     exact_of c before all near w size =
@@ -419,7 +387,7 @@ module _ (m : Machine) (v : IsValidMachine m) (switches : List Switch) (pins : �
 
     -- over a turn
     module _ (c d : Came) (past : List Came) (j : ℕ → BoardTurn) (js : List (ℕ → BoardTurn)) (s : Going c (d ∷ past) (j ∷ js)) (r : RestAt (j ∷ js)) (near : NearAll (c ∷ d ∷ past)) (reach : length (d ∷ past) + 276 ≤ till) (low : at ≤ length past) (high : length past ≤ at + 36)
-        (could : length past ≡ at + 24 → HasFired (trigger_of m y) (rig_at m pins entries js y) → ⊥) where
+        (could : length past ≡ at + 24 → HasFired (trigger_of m y) (rig_at m pins entries js y) → ⊥) (reads : Read c (d ∷ past) (j ∷ js)) (round : Ahead (c ∷ d ∷ past)) where
       near_d : Near d past
       near_d = near.1.0 (omega (arith, low, begun))
 
@@ -457,19 +425,20 @@ module _ (m : Machine) (v : IsValidMachine m) (switches : List Switch) (pins : �
         | inr w ↦ inr (inr (inr (inl w)))
       ]
       stage_on (inr (inr (inr (inl x)))) = inr (inr (inr (inl (done_on m v switches pins entries lines ready at start last till members followed low_five begun ends y on_y c d past j js section low far near_d.homing near_d.known near_d.begins near_d.ends x could))))
-      stage_on (inr (inr (inr (inr x)))) = elim (asked_on m v switches pins entries lines ready at start last till members followed low_five begun ends y on_y c d past j js section low far near_d.homing near_d.known near_d.begins near_d.ends x (same_as x.homing x.known)) [
+      stage_on (inr (inr (inr (inr x)))) = elim (asked_on m v switches pins entries lines ready at start last till members followed low_five begun ends y on_y c d past j js section low far near_d.homing near_d.known near_d.begins near_d.ends x (same_as x.homing x.known) (λ l b on. ((reads (omega (arith, l)) b on).0, (round b on).0 (omega (arith, low, begun)) (omega (arith, l, ends))))) [
         | inl w ↦ inr (inr (inl w))
         | inr w ↦ inr (inr (inr (inr w)))
       ]
 
-    stage_at : (c : Came) (before : List Came) (all : List (ℕ → BoardTurn)) → Going c before all → BeginsApart m switches (c ∷ before) → RestAt all → NearAll (c ∷ before) → length before + 276 ≤ till → UnderWay all → Fell all → Could all → at + 1 ≤ length before → length before ≤ at + 37 → Stage c before all
-    stage_at c [] all s apart r near reach way fell could low high = absurd (omega (arith, low))
-    stage_at c (d ∷ past) [] s apart r near reach way fell could low high = absurd (let size = s.long in omega (arith, size))
-    stage_at c (d ∷ past) (j ∷ js) s apart r near reach way fell could low high =
-        stage_on c d past j js s r near reach (omega (arith, low)) (omega (arith, high)) (λ e. could_now js (let size = s.long in omega (arith, e, size)) could.1)
+    stage_at : (c : Came) (before : List Came) (all : List (ℕ → BoardTurn)) → Going c before all → BeginsApart m switches (c ∷ before) → RestAt all → NearAll (c ∷ before) → length before + 276 ≤ till → UnderWay all → Could all → Read c before all → Ahead (c ∷ before) → at + 1 ≤ length before → length before ≤ at + 37
+        → Stage c before all
+    stage_at c [] all s apart r near reach way could reads round low high = absurd (omega (arith, low))
+    stage_at c (d ∷ past) [] s apart r near reach way could reads round low high = absurd (let size = s.long in omega (arith, size))
+    stage_at c (d ∷ past) (j ∷ js) s apart r near reach way could reads round low high =
+        stage_on c d past j js s r near reach (omega (arith, low)) (omega (arith, high)) (λ e. could_now js (let size = s.long in omega (arith, e, size)) could.1) reads round
         (elim (leb_tells (at + 1) (length past)) [
-          | inl p ↦ stage_at d past js (cut_going c d past j js s) apart.1 (λ b on. (r b on).1) near.1 (omega (arith, reach)) (λ b on. (way b on).1) (λ b on. (fell b on).1) could.1 p.1 (omega (arith, high))
-          | inr p ↦ (let late = p.1 in first_stage c d past j js s apart.1 near.1 (omega (arith, reach)) (λ b on. (way b on).1) (λ b on. (fell b on).1) (omega (arith, late, low)))
+          | inl p ↦ stage_at d past js (cut_going c d past j js s) apart.1 (λ b on. (r b on).1) near.1 (omega (arith, reach)) (λ b on. (way b on).1) could.1 (λ l b on. (s.plain b on).reads) (λ b on. (round b on).1) p.1 (omega (arith, high))
+          | inr p ↦ (let late = p.1 in first_stage c d past j js s apart.1 near.1 (omega (arith, reach)) (λ b on. (way b on).1) (omega (arith, late, low)))
         ])
       where
         could_now : (is : List (ℕ → BoardTurn)) → length is ≡ at + 24 → Could is → HasFired (trigger_of m y) (rig_at m pins entries is y) → ⊥
@@ -478,8 +447,8 @@ module _ (m : Machine) (v : IsValidMachine m) (switches : List Switch) (pins : �
 
     -- so its trigger doesn't expire in the 36th turn behind that one
     pub stood_lately : (tick : ℕ) → (tick ≡ lines_tick (lines y) ((last + 1) * turn_ns) → ⊥) → (later : List BoardTurn) (t : BoardTurn) (past : List BoardTurn) (c : Came) (before : List Came) (all : List (ℕ → BoardTurn)) → Going c before all → BeginsApart m switches (c ∷ before) → length before + 276 ≤ till
-        → IsNewAt m switches start last members (since + 1) (c ∷ before) → HeardByNow m switches y start (c ∷ before) → turns_of y all ≡ later ++ t ∷ past → length past ≡ at + 36 → UnderWay all → Fell all → Could all → IsFiredAt (trigger_of m y) 2 tick t.after.core.board → SomeHinderedIn (at - 1) (length past) members all
-    stood_lately tick other [] t past c before all s apart reach new heard are late way fell could x =
+        → IsNewAt m switches start last members (since + 1) (c ∷ before) → HeardByNow m switches y start (c ∷ before) → turns_of y all ≡ later ++ t ∷ past → length past ≡ at + 36 → UnderWay all → Could all → Ahead (c ∷ before) → IsFiredAt (trigger_of m y) 2 tick t.after.core.board → SomeHinderedIn (at - 1) (length past) members all
+    stood_lately tick other [] t past c before all s apart reach new heard are late way could round x =
         let same = turns_long y all in
         let size = s.long in
         let long : length (turns_of y all) ≡ length (t ∷ past) = ap length are in
@@ -487,10 +456,10 @@ module _ (m : Machine) (v : IsValidMachine m) (switches : List Switch) (pins : �
           | inl some ↦ some
           | inr r ↦
               let e : at - 1 + 1 ≡ at = omega (arith, begun) in
-              let rest : RestAt all = (λ b on. subst (λ (n : ℕ). RestsFrom n (turns_of b all)) e (r b on)) in
-              let stage = stage_at c before all s apart rest (near_all c before s.goes_on s.homes s.begins new heard) reach way fell could (omega (arith, same, long, size, late)) (omega (arith, same, long, size, late)) in
-              let here : IsFiredAt (trigger_of m y) 2 tick (rig_at m pins entries all y) = subst (λ (z : List BoardTurn). IsFiredAt (trigger_of m y) 2 tick (stands_after (first_state (board_at m y) (pins y) y entries) z).core.board) (sym are) x in
               let size_is : length before ≡ at + 37 = omega (arith, same, long, size, late) in
+              let rest : RestAt all = (λ b on. subst (λ (n : ℕ). RestsFrom n (turns_of b all)) e (r b on)) in
+              let stage = stage_at c before all s apart rest (near_all c before s.goes_on s.homes s.begins new heard) reach way could (λ l. absurd (omega (arith, l, size_is))) round (omega (arith, same, long, size, late)) (omega (arith, same, long, size, late)) in
+              let here : IsFiredAt (trigger_of m y) 2 tick (rig_at m pins entries all y) = subst (λ (z : List BoardTurn). IsFiredAt (trigger_of m y) 2 tick (stands_after (first_state (board_at m y) (pins y) y entries) z).core.board) (sym are) x in
               let not : (n : ℕ) → IsLimited (trigger_of m y) (lines_tick (lines y) ((last + 1) * turn_ns)) n (rig_at m pins entries all y) → ⊥ = (λ n k. other (sym here.at ∙ (k.held (trigger_of m y) here.slot here.is).expiry here.fired here.why)) in
               absurd (elim stage [
                 | inl w ↦ (let l = w.0 in omega (arith, l, size_is))
@@ -506,8 +475,8 @@ module _ (m : Machine) (v : IsValidMachine m) (switches : List Switch) (pins : �
                     omega (arith, up, every, due, few)
               ])
         ]
-    stood_lately tick other (l ∷ later) t past c before [] s apart reach new heard are late way fell could x = absurd (let bad : [] ≡ l ∷ (later ++ t ∷ past) = are in cc)
-    stood_lately tick other (l ∷ later) t past c [] (j ∷ js) s apart reach new heard are late way fell could x = absurd (let size = s.long in omega (arith, size))
-    stood_lately tick other (l ∷ later) t past c (d ∷ before) (j ∷ js) s apart reach new heard are late way fell could x =
+    stood_lately tick other (l ∷ later) t past c before [] s apart reach new heard are late way could round x = absurd (let bad : [] ≡ l ∷ (later ++ t ∷ past) = are in cc)
+    stood_lately tick other (l ∷ later) t past c [] (j ∷ js) s apart reach new heard are late way could round x = absurd (let size = s.long in omega (arith, size))
+    stood_lately tick other (l ∷ later) t past c (d ∷ before) (j ∷ js) s apart reach new heard are late way could round x =
         some_more (at - 1) (length past) members j js
-        (stood_lately tick other later t past d before js (cut_going c d before j js s) apart.1 (omega (arith, reach)) new.1 heard.1 (cons_same (j y) l (turns_of y js) (later ++ t ∷ past) are).1 late (λ b on. (way b on).1) (λ b on. (fell b on).1) could.1 x)
+        (stood_lately tick other later t past d before js (cut_going c d before j js s) apart.1 (omega (arith, reach)) new.1 heard.1 (cons_same (j y) l (turns_of y js) (later ++ t ∷ past) are).1 late (λ b on. (way b on).1) could.1 (λ b on. (round b on).1) x)

@@ -4,10 +4,10 @@ use Rattle.plan_types.specs.declared.levels.Level.{Level}
 use Rattle.plan_types.specs.declared.machine.Machine.{Machine}
 use Rattle.plan_types.specs.Board.{nearest}
 use Rattle.plan_types.specs.Clock.{board_tick, clock_of, turn_ns}
-use Rattle.plan_types.specs.Lines.{Clocks, lines_tick}
+use Rattle.plan_types.specs.Lines.{Clocks, lines_tick, lines_turn}
 use Rattle.plan_types.specs.Machines.{IsValidMachine, board_at}
 use Rattle.plan_types.specs.Sections.{clocks_at}
-use Rattle.clock_line.specs.Early.{turn_in_run, turn_tick}
+use Rattle.clock_line.specs.Early.{run_turns, turn_in_run, turn_tick}
 use Rattle.wire_scene.specs.declared.scene.Entry.{Entry}
 use Rattle.wire_scene.specs.declared.scene.Switch.{Switch}
 use Rattle.msg_code.specs.declared.cmd.Cmd.{Cmd}
@@ -26,8 +26,10 @@ use Rattle.link_work.specs.Stands.{first_state, orders}
 use Rattle.laws_board.specs.turns.Turns.{AreBoardTurns, BoardTurn, stands_after}
 use Rattle.laws_board.specs.clocks.Runs.{IsInRun}
 use Rattle.laws_board.proofs.clocks.Lines.{run_before}
-use Rattle.laws_board.proofs.sections.Clocks.{ticks_most, ticks_rise}
+use Rattle.laws_board.proofs.sections.Clocks.{ticks_rise}
+use Rattle.laws_board.specs.sections.Parts.{AreTracked}
 use Rattle.trigger_group.specs.declared.order.Member.{Member}
+use Rattle.trigger_group.specs.declared.seen.Fired.{Fired}
 use Rattle.trigger_group.specs.declared.seen.Seen.{Seen}
 use Rattle.trigger_group.specs.Group.{GroupState, after, relay_in, relays_in}
 use Rattle.axis_homing.specs.declared.homing.Homing.{Homing}
@@ -48,7 +50,7 @@ use Rattle.laws_homing.specs.clear_boards.Rests.{RestsOver}
 use Rattle.laws_homing.specs.clear_groups.Sections.{IsAlike, IsFollowed, IsOnward, IsRestingSection, report_ticks, rig_at, turns_of}
 use Rattle.laws_homing.proofs.clear_boards.Answering.{told_to_commands}
 use Rattle.laws_homing.proofs.clear_boards.Bridging.{among_front, firing_among, off_found}
-use Rattle.laws_homing.proofs.clear_boards.Clocking.{lines_up, tick_counts}
+use Rattle.laws_homing.proofs.clear_boards.Clocking.{lines_up, read_counts, report_counts}
 use Rattle.laws_homing.proofs.clear_boards.Ending.{small_among}
 use Rattle.laws_homing.proofs.clear_boards.Knowing.{hears_fired, hears_known, hears_none, none_known}
 use Rattle.laws_homing.proofs.clear_boards.Member.{all_sound}
@@ -68,9 +70,13 @@ use Rattle.laws_homing.proofs.clear_groups.Orders.{IsSent}
 use Rattle.laws_homing.proofs.clear_groups.Owning.{one_rested}
 use Rattle.laws_homing.proofs.missed_groups.Fresh.{firing_in, none_firing, off_parts, one_state, small_parts}
 use Rattle.laws_homing.proofs.missed_groups.Stepping.{calm_meant}
+use Rattle.laws_homing.specs.fired_runs.Since.{ReadsTrue}
+use Rattle.laws_homing.specs.hindered.Hindered.{HasRoundAhead}
+use Rattle.laws_homing.specs.switch_runs.Reports.{IsReport}
 use Rattle.laws_homing.proofs.hindered.Repeating.{IsSilenced, repeats}
 use Rattle.laws_homing.proofs.hindered.Reporting.{takes_due}
 use Rattle.laws_homing.proofs.hindered.Running.{runs_shut, small_at}
+use Rattle.laws_homing.proofs.hindered.Told.{report_early}
 
 pub no_both : (b : Bool) → b ≡ true → b ≡ false → ⊥
 no_both true e f = cc
@@ -84,8 +90,8 @@ still_off : (could can : Bool) → (can ≡ true → could ≡ true) → could �
 still_off could true f off = absurd (no_both could (f refl) off)
 still_off could false f off = refl
 
--- A board's trigger at a tick: it has triggered, from a section's start on, by a turn and less than half a round of its clock's 32 bits before it; and it reports so often, the next time at the tick or later, and that is no later than a limit.
-pub record IsTelling (m : Machine) (b limit turn start : ℕ) (lines : Clocks) (now : ℕ) (r : Rig) : Type 0 where
+-- A board's trigger at a tick: it has triggered, from a section's start on and by then; and it reports so often, the next time at the tick or later, and that is no later than a limit.
+pub record IsTelling (m : Machine) (b limit start : ℕ) (lines : Clocks) (now : ℕ) (r : Rig) : Type 0 where
   pub slot : Slot
   pub is : slot_at r (trigger_of m b) ≡ Some slot
   pub next : ℕ
@@ -94,8 +100,7 @@ pub record IsTelling (m : Machine) (b limit turn start : ℕ) (lines : Clocks) (
   pub due : now ≤ next
   pub soon : next ≤ limit
   pub base : lines_tick lines (start * turn_ns) ≤ tick
-  pub late : board_tick (clock_of (board_at m b)) turn ≤ tick + 2_000_000_000
-  pub early : tick ≤ board_tick (clock_of (board_at m b)) turn
+  pub early : tick ≤ now
 
 module _ (m : Machine) (v : IsValidMachine m) (switches : List Switch) (pins : ℕ → List (List Level)) (entries : List Entry) (lines : ℕ → Clocks) (ready at start last till : ℕ) (members : List Member)
     (followed : (b : ℕ) → IsMember b members → IsFollowed m b (lines b) ready start last till) (low_so : ready + 5 ≤ start) (begun : start + 5 ≤ at) (c d : Came) (past : List Came) (j : ℕ → BoardTurn) (js : List (ℕ → BoardTurn))
@@ -211,42 +216,33 @@ module _ (m : Machine) (v : IsValidMachine m) (switches : List Switch) (pins : �
       let e : length (d ∷ past) + 276 ≡ K + 276 + 1 = omega arith in
       (k.0, subst (λ (n : ℕ). IsAlike n Known (lines b)) e k.1)
 
-  -- a tick since which the board's trigger can't trigger is told of the section
-  counted : (from tick : ℕ) → K + 1 ≤ last → ready + 4 ≤ from → from ≤ Turn → Own (length (turns_of b js)) ≤ tick + 2_100_000_000 → Own from ≤ tick → lines_tick (lines b) (start * turn_ns) ≤ tick → tick < Until
-      → (when : ℕ) × (start ≤ when) × (when ≤ last) × (turn_in_run Known (nearest (turn_tick Known Turn) (tick % 2 ^ 32)) ≡ Some when)
-  counted from tick soon ready_from order near late base to =
+  -- they follow the board
+  known_to : (x : AreTracked Own Known ready) × ((n : ℕ) → n ≤ last + 1 → n ≤ K + 276 → n ≤ x.until) × (x.until < run_turns)
+  known_to =
       let f = followed b on in
-      let size = long in
       let ends_so = f.ends in
       let run_so = f.in_run in
-      let before = low_here in
       let k = tracked_alike Own Known (lines b) ready (K + 276) f.tracked knows.1 in
-      let until_is = k.1 in
-      let until : Turn + 1 ≤ k.0.until = omega (arith, until_is, ends_so, soon, reach, size) in
-      let x = tick_counts Own Known ready Turn from tick f.ticks k.0 ready_from order near until (omega (arith, until_is, run_so))
-      (groups.in_range m switches pins entries lines ready at start last till members followed c d past j js s early low_here far_here reach h is b on) late to in
-      let same_start = knows.1.ticks start (omega (arith, far_here)) in
-      let next = k.0.behind (Turn + 1) (omega (arith, before, size)) until in
-      let over = lines_up Known (Turn + 1 + 1) (last + 1) (omega (arith, soon, size)) in
-      (x.when, x.begun start (omega (arith, same_start, base)), x.ends last (omega (arith, next, over, to)), x.in_run)
+      let until = k.1 in
+      (k.0, λ n soon near. omega (arith, until, ends_so, soon, near, reach), omega (arith, until, run_so))
 
-  all_fired : (u : Slot) → slot_at Later Oid ≡ Some u → (when : ℕ) × (start ≤ when) × (when ≤ last) × (turn_in_run Known (nearest (turn_tick Known Turn) (u.trigger.tick % 2 ^ 32)) ≡ Some when)
-      → AllFiredIn Known (j b).state.turn Next.group.start last (j b).state.news
-  all_fired u there cnt =
+  -- a clock that the board told in the turn is read as that of a tick of the section
+  abbrev ReadIn : ℕ → Type 0
+  ReadIn clock = (when : ℕ) × (start ≤ when) × (when ≤ last) × (turn_in_run Known (nearest (turn_tick Known Turn) clock) ≡ Some when)
+
+  all_fired : (u : Slot) → slot_at Later Oid ≡ Some u → ((oid reason : ℕ) → HasAnswer (cmd.TrsyncState oid 0 reason (u.trigger.tick % 2 ^ 32)) (j b).state.news → ReadIn (u.trigger.tick % 2 ^ 32)) → AllFiredIn Known (j b).state.turn Next.group.start last (j b).state.news
+  all_fired u there counts =
       let news = (j b).state.news in
       let turn_is : (j b).state.turn ≡ Turn = are.0.1.turn in
-      let least = cnt.1 in
       let group_start = next_of.1 in
       let all : AllFiredIn Known Turn Next.group.start last news =
       firing_in Known Turn Next.group.start last news (λ o r k told. (
-        cnt.0,
-        omega (arith, least, group_start),
-        cnt.2,
-        (let st = told_so o r k told in
-            let same : st.slot ≡ u = one_slot (slot_at Later Oid) st.slot u st.is there in
-            let clock : u.trigger.tick % 2 ^ 32 ≡ k = ap (λ (z : Slot). z.trigger.tick % 2 ^ 32) (sym same) ∙ st.clock_is in
-            subst (λ (i : ℕ). turn_in_run Known (nearest (turn_tick Known Turn) i) ≡ Some cnt.0) clock cnt.3),
-      )) in
+      let st = told_so o r k told in
+      let same : st.slot ≡ u = one_slot (slot_at Later Oid) st.slot u st.is there in
+      let clock : u.trigger.tick % 2 ^ 32 ≡ k = ap (λ (z : Slot). z.trigger.tick % 2 ^ 32) (sym same) ∙ st.clock_is in
+      let cnt = subst ReadIn clock (counts o r (subst (λ (i : ℕ). HasAnswer (cmd.TrsyncState o 0 r i) news) (sym clock) told)) in
+      let least = cnt.1 in
+      (cnt.0, omega (arith, least, group_start), cnt.2, cnt.3))) in
       subst (λ (i : ℕ). AllFiredIn Known i Next.group.start last news) (sym turn_is) all
 
   in_time : Next.start ≤ (j b).state.turn + 1
@@ -294,68 +290,92 @@ module _ (m : Machine) (v : IsValidMachine m) (switches : List Switch) (pins : �
         let before = low_here in
         let ends_so = f.ends in
         let from = gone.begun in
+        let to = gone.early in
         let begin = f.begins in
         let ahead = f.tracked.ahead start (omega (arith, begin)) (omega (arith, ends_so, soon, reach, early, begun)) in
         let up = ticks_rise Own f.ticks (start + 4) Turn (omega (arith, early, begun, size)) in
-        let cnt = counted Turn u.trigger.tick soon (omega (arith, before, size)) (omega arith) (omega (arith, from)) from (omega (arith, ahead, up, from)) gone.early in
-        hears_fired b last All c.states (j b).state Next knows.0 (s.states b on) in_time (all_fired u there cnt) tells (known_next (none_known b last G.members none_before))
+        let k = known_to in
+        let until = k.1 (Turn + 1) (omega (arith, soon, size)) (omega (arith, size)) in
+        let x = report_counts Own Known ready Turn Turn u.trigger.tick f.ticks k.0 (omega (arith, before, size)) (omega arith) (omega arith) until k.2
+        (groups.in_range m switches pins entries lines ready at start last till members followed c d past j js s early low_here far_here reach h is b on) from to in
+        let same_start = knows.1.ticks start (omega (arith, far_here)) in
+        let next = k.0.behind (Turn + 1) (omega (arith, before, size)) until in
+        let over = lines_up Known (Turn + 1 + 1) (last + 1) (omega (arith, soon, size)) in
+        let cnt : ReadIn (u.trigger.tick % 2 ^ 32) = (x.when, x.begun start (omega (arith, same_start, ahead, up, from)), x.ends last (omega (arith, next, over, to)), x.in_run) in
+        hears_fired b last All c.states (j b).state Next knows.0 (s.states b on) in_time (all_fired u there (λ o r told. cnt)) tells (known_next (none_known b last G.members none_before))
 
-  -- one that has triggered, and reports
-  pub telling_on : K + 1 ≤ last → K ≤ at + 8 → (limit : ℕ) → IsTelling m b limit at start (lines b) (Own K) Before → KnownOn b last G.members → FiredOn b last N.members ⊎ (IsTelling m b limit at start (lines b) (Own (K + 1)) Later × KnownOn b last N.members)
-  telling_on soon near limit x known =
-      let behind = sent.behind in
-      let u = (next_all Oid Clock Before Commands behind).slots x.slot x.is in
-      let kept = u.stays.same x.silenced.off x.silenced.idle in
-      let off = still_off x.slot.trigger.can u.slot.trigger.can u.stays.can x.silenced.off in
-      let due = takes_due Oid (report_ticks m b) x.next Clock Before Commands x.slot u.slot behind x.is u.is (x.silenced.every_is, x.silenced.report_is) in
-      let silenced : IsSilenced x.next (report_ticks m b) x.tick u.slot = record { off = off; idle = u.stays.quiet (λ e. x.silenced.idle) off; same = kept.1 ∙ x.silenced.same; every_is = due.0; report_is = due.1 } in
-      let regular = sound_regular Taken (all_sound Before Commands (sound_at (board_at m b) (pins b) b entries Turns are.1)) in
-      let at_tick = all_tick Before Commands ∙ tick_is (board_at m b) (pins b) b entries Turns are.1 in
-      let rises = (followed b on).rises Turn in
-      let z = repeats Oid Until x.next (report_ticks m b) x.tick Taken u.slot u.is regular (omega (arith, at_tick, rises)) silenced in
-      let there : slot_at Later Oid ≡ Some z.0.slot = subst (λ (r : Rig). slot_at r Oid ≡ Some z.0.slot) (sym taken) z.0.is in
-      let old : (x.tick ≤ Own at) × (Own at ≤ Own (length (turns_of b js))) = (x.early, ticks_rise Own (followed b on).ticks at Turn (omega (arith, early, long))) in
-      let cnt = count x (omega (arith, old, rises)) in
-      let own_tick : (z.0.slot.trigger.tick ≡ x.tick) = z.0.silenced.same in
-      let all = all_fired z.0.slot there (cnt.0, cnt.1, cnt.2, subst (λ (n : ℕ). turn_in_run Known (nearest (turn_tick Known Turn) (n % 2 ^ 32)) ≡ Some cnt.0) (sym own_tick) cnt.3) in
-      elim z.0.told [
-        | inr w ↦ inl (hears_fired b last All c.states (j b).state Next knows.0 (s.states b on) in_time all (said_off (x.tick % 2 ^ 32) w.4) (known_next known))
-        | inl same ↦
-            let far = z.1 in
-            let few = x.soon in
-            inr (
-              record {
-                slot = z.0.slot;
-                is = there;
-                next = z.0.next;
-                tick = x.tick;
-                silenced = z.0.silenced;
-                due = subst (λ (n : ℕ). Own (n + 1) ≤ z.0.next) (sym long) far;
-                soon = omega (arith, same, few);
-                base = x.base;
-                late = x.late;
-                early = x.early;
-              },
-              hears_known b last All c.states Next (λ y at_it behind_it. subst (λ (w : State). AllFiredIn Known w.turn Next.group.start last w.news) (one_state (j b).state y (sym (s.states b on) ∙ at_it)) all) (known_next known),
-            )
-      ]
-    where
-      Taken : Rig
-      Taken = (takes_all Before Commands).rig
+  -- one that has triggered, and reports: as what it tells is read true, it is read as a tick that the board has come to
+  module _ (reads : ReadsTrue m switches b c (d ∷ past) (turns_of b (j ∷ js))) (round : HasRoundAhead m switches b c (d ∷ past)) (soon : K + 2 ≤ last) where
+    read_in : (oid reason tick : ℕ) → tick ≤ Own Turn → lines_tick (lines b) (start * turn_ns) ≤ tick → HasAnswer (cmd.TrsyncState oid 0 reason (tick % 2 ^ 32)) (j b).state.news → ReadIn (tick % 2 ^ 32)
+    read_in oid reason tick by base told =
+        let f = followed b on in
+        let size = long in
+        let before = low_here in
+        let turn : (j b).state.turn ≡ Turn = are.0.1.turn in
+        let k = known_to in
+        let same_start = knows.1.ticks start (omega (arith, far_here)) in
+        let up = lines_up Known Turn (length (d ∷ past)) (omega (arith, size)) in
+        let far : lines_tick Known (length (d ∷ past) * turn_ns) + 2 ^ 32 ≤ lines_tick Known (run_turns * turn_ns) = round in
+        let x = read_counts Own Known ready Turn start tick f.ticks k.0 (omega (arith, before, size)) (k.1 Turn (omega (arith, soon, size)) (omega (arith, size)))
+        (groups.in_range m switches pins entries lines ready at start last till members followed c d past j js s early low_here far_here reach h is b on) (omega (arith, up, far)) by (omega (arith, same_start, base)) in
+        let read_at = nearest (turn_tick Known Turn) (tick % 2 ^ 32) in
+        let fired : Fired = record { reason = reason; tick = read_at; turn = lines_turn Known read_at } in
+        let report : IsReport m switches b start fired c (d ∷ past) = record {
+          state = (j b).state;
+          came = s.states b on;
+          counts = omega (arith, turn, size, early, begun);
+          oid = oid;
+          clock = tick % 2 ^ 32;
+          told = told;
+          tick_is = ap (λ (n : ℕ). nearest (turn_tick Known n) (tick % 2 ^ 32)) (sym turn);
+          turn_is = x.1;
+          late = x.0;
+        } in
+        let by_last = report_early m v switches (pins b) entries _ lines ready at start last till members b on f low_so c (d ∷ past) j js s plain.run (λ l. omega (arith, early)) (omega (arith, soon)) (omega (arith, reach)) reads fired report in
+        (lines_turn Known read_at, x.0, omega (arith, by_last, soon), x.1)
 
-      count : (x : IsTelling m b limit at start (lines b) (Own K) Before) → x.tick < Until → (when : ℕ) × (start ≤ when) × (when ≤ last) × (turn_in_run Known (nearest (turn_tick Known Turn) (x.tick % 2 ^ 32)) ≡ Some when)
-      count x to =
-          let f = followed b on in
-          let size = long in
-          let ends_so = f.ends in
-          let e : start - 1 + 1 ≡ start = omega (arith, low_so) in
-          let behind : Own (start - 1) ≤ lines_tick (lines b) (start * turn_ns) =
-          subst (λ (n : ℕ). Own (start - 1) ≤ lines_tick (lines b) (n * turn_ns)) e (f.tracked.behind (start - 1) (omega (arith, low_so)) (omega (arith, ends_so, soon, reach, early, begun))) in
-          let base = x.base in
-          let late = x.late in
-          let most = ticks_most Own f.ticks 8 at in
-          let up = ticks_rise Own f.ticks Turn (at + 8) (omega (arith, near, size)) in
-          counted (start - 1) x.tick soon (omega (arith, low_so)) (omega (arith, early, begun, size)) (omega (arith, most, up, late)) (omega (arith, behind, base)) base to
+    pub telling_on : (limit : ℕ) → IsTelling m b limit start (lines b) (Own K) Before → KnownOn b last G.members → FiredOn b last N.members ⊎ (IsTelling m b limit start (lines b) (Own (K + 1)) Later × KnownOn b last N.members)
+    telling_on limit x known =
+        let behind = sent.behind in
+        let u = (next_all Oid Clock Before Commands behind).slots x.slot x.is in
+        let kept = u.stays.same x.silenced.off x.silenced.idle in
+        let off = still_off x.slot.trigger.can u.slot.trigger.can u.stays.can x.silenced.off in
+        let due = takes_due Oid (report_ticks m b) x.next Clock Before Commands x.slot u.slot behind x.is u.is (x.silenced.every_is, x.silenced.report_is) in
+        let silenced : IsSilenced x.next (report_ticks m b) x.tick u.slot = record { off = off; idle = u.stays.quiet (λ e. x.silenced.idle) off; same = kept.1 ∙ x.silenced.same; every_is = due.0; report_is = due.1 } in
+        let regular = sound_regular Taken (all_sound Before Commands (sound_at (board_at m b) (pins b) b entries Turns are.1)) in
+        let at_tick = all_tick Before Commands ∙ tick_is (board_at m b) (pins b) b entries Turns are.1 in
+        let rises = (followed b on).rises Turn in
+        let z = repeats Oid Until x.next (report_ticks m b) x.tick Taken u.slot u.is regular (omega (arith, at_tick, rises)) silenced in
+        let there : slot_at Later Oid ≡ Some z.0.slot = subst (λ (r : Rig). slot_at r Oid ≡ Some z.0.slot) (sym taken) z.0.is in
+        let tick = z.0.silenced.same in
+        let base = x.base in
+        let old : x.tick ≤ Own Turn = subst (λ (n : ℕ). x.tick ≤ Own n) long x.early in
+        let all = all_fired z.0.slot there (λ oid reason told. read_in oid reason z.0.slot.trigger.tick (omega (arith, tick, old)) (omega (arith, tick, base)) told) in
+        elim z.0.told [
+          | inr w ↦ inl (hears_fired b last All c.states (j b).state Next knows.0 (s.states b on) in_time all (said_off (x.tick % 2 ^ 32) w.4) (known_next known))
+          | inl same ↦
+              let far = z.1 in
+              let few = x.soon in
+              let up = (followed b on).rises K in
+              let by = x.early in
+              inr (
+                record {
+                  slot = z.0.slot;
+                  is = there;
+                  next = z.0.next;
+                  tick = x.tick;
+                  silenced = z.0.silenced;
+                  due = subst (λ (n : ℕ). Own (n + 1) ≤ z.0.next) (sym long) far;
+                  soon = omega (arith, same, few);
+                  base = base;
+                  early = omega (arith, by, up);
+                },
+                hears_known b last All c.states Next (λ y at_it behind_it. subst (λ (w : State). AllFiredIn Known w.turn Next.group.start last w.news) (one_state (j b).state y (sym (s.states b on) ∙ at_it)) all) (known_next known),
+              )
+        ]
+      where
+        Taken : Rig
+        Taken = (takes_all Before Commands).rig
 
   -- one that can trigger
   pub falls : K + 1 ≤ last → (u : Slot) → slot_at Before Oid ≡ Some u → u.trigger.can ≡ true → NoneOn b G.members

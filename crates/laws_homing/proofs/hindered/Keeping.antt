@@ -58,7 +58,7 @@ turn_timed j clock until r cs behind k =
     let set_it : (now at : ℕ) (t : Trigger) → Timed t → Timed (trig.with_timeout now at t) = (λ now at t d. timed_it t.can (nat_lt now (nearest now at)) now (nearest now at) t d) in
     let calm : (t : Trigger) → Timed t → Timed (record t { untold = None }) = (λ t d. (d.0, d.1)) in
     let fire : (now reason : ℕ) (t : Trigger) → Timed t → Timed (trig.triggered now reason t) = (λ now reason t d. fired_it t.can now reason t d) in
-    passes_kept j Timed set_it calm fire (λ levels u t d. tells_it t.untold levels u t d) (λ levels u t d. rests_it levels u t d) (takes_all r cs).rig until
+    passes_kept j Timed (λ levels u t d. tells_it t.untold levels u t d) (λ levels u t d. rests_it levels u t d) (takes_all r cs).rig until
     (takes_kept j Timed set_it calm fire j clock r cs behind k)
 
 clash : (b : Bool) → b ≡ true → b ≡ false → ⊥

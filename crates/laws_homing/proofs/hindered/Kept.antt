@@ -15,9 +15,8 @@ use Rattle.board_sim.proofs.Bound.{map_at, same_or_not}
 use Rattle.laws_homing.specs.clear_boards.Turned.{AreBehind, IsBehind}
 use Rattle.laws_homing.proofs.clear_boards.Held.{at_set, rested_is}
 
--- of the trigger with this object id something holds that no timeout and no order to trigger takes from it
-module _ (j : ℕ) (M : Trigger → Type 0) (timed : (now clock : ℕ) (t : Trigger) → M t → M (trig.with_timeout now clock t)) (calmed : (t : Trigger) → M t → M (record t { untold = None }))
-    (told : (now reason : ℕ) (t : Trigger) → M t → M (trig.triggered now reason t)) where
+-- of the trigger with this object id something holds
+module _ (j : ℕ) (M : Trigger → Type 0) where
   abbrev pub At : Rig → Type 0
   At r = (oid : ℕ) (s : Slot) → oid ≡ j → slot_at r oid ≡ Some s → M s.trigger
 
@@ -34,42 +33,44 @@ module _ (j : ℕ) (M : Trigger → Type 0) (timed : (now clock : ℕ) (t : Trig
   same_kept : (r q : Rig) → q.triggers ≡ r.triggers → At r → At q
   same_kept r q e all oid s own at = all oid s own (subst (λ (xs : List (Option Slot)). get_or xs oid None ≡ Some s) e at)
 
-  once_kept : (o : Option ℕ) (r : Rig) (oid : ℕ) (s : Slot) (t : Trigger) → At r → (oid ≡ j → M t) → At (expires_at_once r oid s t o).rig
-  once_kept None r oid s t all k = set_kept r (becomes r oid s t) oid (record s { trigger = t }) refl all k
-  once_kept (Some at) r oid s t all k = set_kept r (becomes r oid s (record t { untold = None })) oid (record s { trigger = record t { untold = None } }) refl all (λ own. calmed t (k own))
+  -- that no timeout and no order to trigger takes from it
+  module _ (timed : (now clock : ℕ) (t : Trigger) → M t → M (trig.with_timeout now clock t)) (calmed : (t : Trigger) → M t → M (record t { untold = None })) (told : (now reason : ℕ) (t : Trigger) → M t → M (trig.triggered now reason t)) where
+    once_kept : (o : Option ℕ) (r : Rig) (oid : ℕ) (s : Slot) (t : Trigger) → At r → (oid ≡ j → M t) → At (expires_at_once r oid s t o).rig
+    once_kept None r oid s t all k = set_kept r (becomes r oid s t) oid (record s { trigger = t }) refl all k
+    once_kept (Some at) r oid s t all k = set_kept r (becomes r oid s (record t { untold = None })) oid (record s { trigger = record t { untold = None } }) refl all (λ own. calmed t (k own))
 
-  timeout_kept : (r : Rig) (oid clock : ℕ) (o : Option Slot) → slot_at r oid ≡ o → At r → At (set_timeout r oid o clock).rig
-  timeout_kept r oid clock None e all = all
-  timeout_kept r oid clock (Some s) e all =
-      let t = trig.with_timeout r.controller.tick clock s.trigger in
-      once_kept t.untold r oid s t all (λ own. timed r.controller.tick clock s.trigger (all oid s own e))
+    timeout_kept : (r : Rig) (oid clock : ℕ) (o : Option Slot) → slot_at r oid ≡ o → At r → At (set_timeout r oid o clock).rig
+    timeout_kept r oid clock None e all = all
+    timeout_kept r oid clock (Some s) e all =
+        let t = trig.with_timeout r.controller.tick clock s.trigger in
+        once_kept t.untold r oid s t all (λ own. timed r.controller.tick clock s.trigger (all oid s own e))
 
-  trigger_kept : (r : Rig) (oid reason : ℕ) (o : Option Slot) → slot_at r oid ≡ o → At r → At (trigger r oid o reason).rig
-  trigger_kept r oid reason None e all = all
-  trigger_kept r oid reason (Some s) e all =
-      let t = trig.triggered r.controller.tick reason s.trigger in
-      set_kept r (becomes r oid s t) oid (record s { trigger = t }) refl all (λ own. told r.controller.tick reason s.trigger (all oid s own e))
+    trigger_kept : (r : Rig) (oid reason : ℕ) (o : Option Slot) → slot_at r oid ≡ o → At r → At (trigger r oid o reason).rig
+    trigger_kept r oid reason None e all = all
+    trigger_kept r oid reason (Some s) e all =
+        let t = trig.triggered r.controller.tick reason s.trigger in
+        set_kept r (becomes r oid s t) oid (record s { trigger = t }) refl all (λ own. told r.controller.tick reason s.trigger (all oid s own e))
 
-  acts_kept : (oid clock : ℕ) (r : Rig) (c : Cmd) → IsBehind oid clock c → At r → At (acts r c).rig
-  acts_kept oid clock r (cmd.TrsyncSetTimeout other at) k all = timeout_kept r other at (slot_at r other) refl all
-  acts_kept oid clock r (cmd.TrsyncTrigger other reason) k all = trigger_kept r other reason (slot_at r other) refl all
-  acts_kept oid clock r (cmd.ConfigTrsync other) k all = absurd k
-  acts_kept oid clock r (cmd.TrsyncStart other at every reason) k all = absurd k
-  acts_kept oid clock r (cmd.StepperStopOnTrigger stepper other) k all = absurd k
-  acts_kept oid clock r (cmd.ConfigEndstop other pin pull) k all = absurd k
-  acts_kept oid clock r (cmd.EndstopHome other at sample count rest value t reason) k all = absurd k
-  acts_kept oid clock r c k all = same_kept r (acts r c).rig refl all
+    acts_kept : (oid clock : ℕ) (r : Rig) (c : Cmd) → IsBehind oid clock c → At r → At (acts r c).rig
+    acts_kept oid clock r (cmd.TrsyncSetTimeout other at) k all = timeout_kept r other at (slot_at r other) refl all
+    acts_kept oid clock r (cmd.TrsyncTrigger other reason) k all = trigger_kept r other reason (slot_at r other) refl all
+    acts_kept oid clock r (cmd.ConfigTrsync other) k all = absurd k
+    acts_kept oid clock r (cmd.TrsyncStart other at every reason) k all = absurd k
+    acts_kept oid clock r (cmd.StepperStopOnTrigger stepper other) k all = absurd k
+    acts_kept oid clock r (cmd.ConfigEndstop other pin pull) k all = absurd k
+    acts_kept oid clock r (cmd.EndstopHome other at sample count rest value t reason) k all = absurd k
+    acts_kept oid clock r c k all = same_kept r (acts r c).rig refl all
 
-  running_kept : (o : BoardState) (oid clock : ℕ) (r : Rig) (c : Cmd) → IsBehind oid clock c → At r → At (acts_running o r c).rig
-  running_kept Running oid clock r c k all = acts_kept oid clock r c k all
-  running_kept (Shut reason at first) oid clock r c k all = same_kept r (acts_running (Shut reason at first) r c).rig refl all
+    running_kept : (o : BoardState) (oid clock : ℕ) (r : Rig) (c : Cmd) → IsBehind oid clock c → At r → At (acts_running o r c).rig
+    running_kept Running oid clock r c k all = acts_kept oid clock r c k all
+    running_kept (Shut reason at first) oid clock r c k all = same_kept r (acts_running (Shut reason at first) r c).rig refl all
 
-  -- so over commands
-  pub takes_kept : (oid clock : ℕ) (r : Rig) (cs : List Cmd) → AreBehind oid clock cs → At r → At (takes_all r cs).rig
-  takes_kept oid clock r [] k all = all
-  takes_kept oid clock r (c ∷ cs) k all = takes_kept oid clock (takes r c).rig cs k.1 (running_kept r.controller.state oid clock r c k.0 all)
+    -- so over commands
+    pub takes_kept : (oid clock : ℕ) (r : Rig) (cs : List Cmd) → AreBehind oid clock cs → At r → At (takes_all r cs).rig
+    takes_kept oid clock r [] k all = all
+    takes_kept oid clock r (c ∷ cs) k all = takes_kept oid clock (takes r c).rig cs k.1 (running_kept r.controller.state oid clock r c k.0 all)
 
-  -- and time takes it from none either
+  -- that time takes from it neither
   module _ (tells : (levels : List Level) (until : ℕ) (t : Trigger) → M t → M (trig.tells t.untold levels until t).trigger) (rests : (levels : List Level) (until : ℕ) (t : Trigger) → M t → M (trig.happened levels until Nothing t).trigger) where
     happens_kept : (oid until : ℕ) (r : Rig) (o : Option Slot) → slot_at r oid ≡ o → At r → At (happens_to r until oid o).rig
     happens_kept oid until r None e all = all

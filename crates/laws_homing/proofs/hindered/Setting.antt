@@ -1,5 +1,5 @@
 -- A member's board, in any scene, from the turn on in which it takes the command that starts its trigger, and the one that sets its timeout.
-use Rattle.std.proofs.Common.{◌≡◌, ◌⊎◌, inl, inr, ℕ, ◌+◌, ◌-◌, ◌*◌, ◌^◌, ◌<◌, ◌≤◌, true, List, [], ◌∷◌, ◌++◌, length, refl, ap, sym, ◌∙◌, subst, arith}
+use Rattle.std.proofs.Common.{◌≡◌, ◌⊎◌, inl, inr, ℕ, ◌+◌, ◌-◌, ◌*◌, ◌^◌, ◌<◌, ◌≤◌, true, List, Some, [], ◌∷◌, ◌++◌, length, refl, ap, sym, ◌∙◌, subst, arith}
 use Rattle.plan_types.specs.declared.levels.Level.{Level}
 use Rattle.plan_types.specs.declared.machine.Machine.{Machine}
 use Rattle.plan_types.specs.declared.plan.BoardState.TheVariants.{Running}
@@ -8,14 +8,16 @@ use Rattle.plan_types.specs.Clock.{board_tick, clock_of, turn_ns}
 use Rattle.plan_types.specs.Lines.{Clocks, lines_tick}
 use Rattle.plan_types.specs.Machines.{board_at}
 use Rattle.clock_line.specs.Early.{turn_tick}
+use Rattle.board_trig.specs.declared.sampling.Sampling.{Sampling}
 use Rattle.wire_scene.specs.declared.scene.Entry.{Entry}
 use Rattle.msg_code.specs.declared.cmd.Cmd.{Cmd}
 use Rattle.msg_code.specs.declared.cmd.Cmd.TheVariants as cmd
 use Rattle.axis_homing.specs.Homing.{low}
 use Rattle.board_asking.specs.Machine.{trigger_of}
 use Rattle.board_sim.specs.Fair.{Meant, commands_of}
-use Rattle.board_sim.specs.Rig.{Rig, passes, takes, takes_all}
+use Rattle.board_sim.specs.Rig.{Rig, Slot, passes, slot_at, takes, takes_all}
 use Rattle.board_sim.proofs.RigStates.{all_tick, passes_state}
+use Rattle.board_sim.proofs.RigTicks.{takes_rig_tick}
 use Rattle.link_work.specs.Stands.{first_state}
 use Rattle.link_work.specs.Turn.{LinkState}
 use Rattle.laws_board.specs.turns.Turns.{AreBoardTurns, BoardTurn, stands_after}
@@ -30,7 +32,8 @@ use Rattle.laws_homing.proofs.clear_boards.Member.{all_sound}
 use Rattle.laws_homing.proofs.clear_boards.Standing.{sound_at, tick_is}
 use Rattle.laws_homing.proofs.clear_boards.Taking.{takes_both}
 use Rattle.laws_homing.proofs.fired_runs.Once.{SetsFirst}
-use Rattle.laws_homing.proofs.hindered.Holding.{Due, Holds, Limits, Reports, passes_limits, passes_reports, set_holds_limits, start_holds, takes_due, takes_limits}
+use Rattle.laws_homing.proofs.hindered.Holding.{AllFit, Due, Holds, Limits, Reports, passes_limits, passes_reports, set_holds_limits, start_holds, takes_due, takes_limits}
+use Rattle.laws_homing.proofs.hindered.Since.{Fits, Since, passes_since, start_since, takes_since}
 
 module _ (m : Machine) (pins : List (List Level)) (entries : List Entry) (b : ℕ) (lines : Clocks) (ready start last till : ℕ) (f : IsFollowed m b lines ready start last till) (few : trigger_of m b < 256) where
   abbrev First : LinkState
@@ -103,6 +106,15 @@ module _ (m : Machine) (pins : List (List Level)) (entries : List Entry) (b : �
   keeps_limited t z are took tame board s =
       next_turn Limited took t z board (passes_limits Oid (takes_all (Board z) (commands_of took)).rig (Own (length z + 1)) (takes_limits Oid (Board z) (commands_of took) tame s))
 
+  -- it triggers at no tick before the section's start
+  abbrev pub Later : Rig → Type 0
+  Later r = Holds Oid (Since Base) r
+
+  pub keeps_later : (t : BoardTurn) (z : List BoardTurn) → Are (t ∷ z) → (took : List Meant) → EachTame (commands_of took) → AllFit (Fits Base) (Own (length z)) (commands_of took) → Turns_to took t z → Later (Board z) → Later t.after.core.board
+  keeps_later t z are took tame fit board s =
+      let fit_now = subst (λ (n : ℕ). AllFit (Fits Base) n (commands_of took)) (sym (tick_is (board_at m b) pins b entries z are.1)) fit in
+      next_turn (λ k r. Later r) took t z board (passes_since Base Oid (takes_all (Board z) (commands_of took)).rig (Own (length z + 1)) (takes_since Base Oid (Board z) (commands_of took) tame fit_now s))
+
   -- as it takes a command, with all that was queued before
   module _ (front : List Meant) (only : Only Oid (commands_of front)) (has : Has Oid (commands_of front)) where
     slot_there : (z : List BoardTurn) (fr : List Meant) → Are z → Taken z ++ fr ≡ front → (Front z fr).controller.state ≡ Running → HasSlot Oid (Front z fr)
@@ -126,6 +138,17 @@ module _ (m : Machine) (pins : List (List Level)) (entries : List Entry) (b : �
         let begun = start_holds Oid Base (low (turn_tick lines start)) Every 2 (Front z fr) ran (slot_there z fr are.1 e ran) near (omega (arith, tick, later)) f.spaced in
         let done = takes_due Oid Every Base (takes (Front z fr) begin.command).rig (commands_of mo) tame (subst (λ (c : Cmd). Holds Oid (Due Every Base) (takes (Front z fr) c).rig) (sym is) begun) in
         pass_on t z are (fr ++ begin ∷ mo) board Base (subst (Holds Oid (Due Every Base)) (sym cut) done) (inl (omega arith))
+
+    pub enters_later : (clock every reason : ℕ) (begin : Meant) → begin.command ≡ cmd.TrsyncStart Oid clock every reason → (t : BoardTurn) (z : List BoardTurn) → Are (t ∷ z) → ShutNone (t ∷ z) → (fr mo : List Meant) → Taken z ++ fr ≡ front
+        → ((s : Slot) → slot_at (Front z fr) Oid ≡ Some s → (y : Sampling) → s.trigger.sampling ≡ Some y → ⊥) → EachTame (commands_of mo) → AllFit (Fits Base) (Own (length z)) (commands_of mo) → Turns_to (fr ++ begin ∷ mo) t z → Later t.after.core.board
+    enters_later clock every reason begin is t z are shut fr mo e none tame fit board =
+        let runs = runs_then t z (fr ++ begin ∷ mo) are shut board in
+        let cut = cut_rig z fr begin mo in
+        let ran : (Front z fr).controller.state ≡ Running = ran_before (Front z fr) (begin.command ∷ commands_of mo) (ap (λ (r : Rig). r.controller.state) (sym cut) ∙ runs) in
+        let begun : Later (takes (Front z fr) begin.command).rig = subst (λ (c : Cmd). Later (takes (Front z fr) c).rig) (sym is) (start_since Base Oid clock every reason (Front z fr) ran (slot_there z fr are.1 e ran) none) in
+        let tick = takes_rig_tick (Front z fr) begin.command ∙ all_tick (Board z) (commands_of fr) ∙ tick_is (board_at m b) pins b entries z are.1 in
+        let done = takes_since Base Oid (takes (Front z fr) begin.command).rig (commands_of mo) tame (subst (λ (n : ℕ). AllFit (Fits Base) n (commands_of mo)) (sym tick) fit) begun in
+        next_turn (λ k r. Later r) (fr ++ begin ∷ mo) t z board (passes_since Base Oid (takes_all (Board z) (commands_of (fr ++ begin ∷ mo))).rig (Own (length z + 1)) (subst Later (sym cut) done))
 
     pub enters_limited : (begin : Meant) → SetsFirst Oid (begin.command ∷ []) → (t : BoardTurn) (z : List BoardTurn) → Are (t ∷ z) → ShutNone (t ∷ z) → (fr mo : List Meant) → Taken z ++ fr ≡ front → EachTame (commands_of mo) → Turns_to (fr ++ begin ∷ mo) t z
         → Limited (length (t ∷ z)) t.after.core.board

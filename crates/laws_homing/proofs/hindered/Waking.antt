@@ -41,6 +41,8 @@ use Rattle.laws_homing.specs.clear_boards.Renewed.{HeardFrom}
 use Rattle.laws_homing.specs.clear_boards.Rests.{RestsOver}
 use Rattle.laws_homing.specs.clear_boards.Turned.{SetsOne}
 use Rattle.laws_homing.specs.clear_groups.Sections.{IsAlike, IsFollowed, IsRestingSection, report_ticks, rig_at, turns_of}
+use Rattle.laws_homing.specs.fired_runs.Since.{ReadsTrue}
+use Rattle.laws_homing.specs.hindered.Hindered.{HasRoundAhead}
 use Rattle.laws_homing.proofs.clear_boards.Clocking.{line_ahead, timeout_ahead}
 use Rattle.laws_homing.proofs.clear_boards.Lately.{any_on, near_so}
 use Rattle.laws_homing.proofs.clear_boards.Renewed.{after_is, renewed}
@@ -130,7 +132,7 @@ module _ (m : Machine) (v : IsValidMachine m) (switches : List Switch) (pins : �
     pub known : (noted m c.note (known_by m switches before)).homing ≡ Some homing
     pub b : ℕ
     pub on : IsMember b members
-    pub telling : IsTelling m b (Limit b) at start (lines b) (Own b (length before)) (rig_at m pins entries all b)
+    pub telling : IsTelling m b (Limit b) start (lines b) (Own b (length before)) (rig_at m pins entries all b)
     pub knows : KnownOn b last (Heard c before homing).members
     pub own : IsPlainly m y (Heard c before homing).members (rig_at m pins entries all y)
 
@@ -406,26 +408,27 @@ module _ (m : Machine) (v : IsValidMachine m) (switches : List Switch) (pins : �
                   ];
                 }
 
-    -- where a member that has triggered reports
-    pub asked_on : (x : IsAsked d past js) → x.homing ≡ h → IsCalled c (d ∷ past) (j ∷ js) ⊎ IsAsked c (d ∷ past) (j ∷ js)
-    asked_on x same =
+    -- where a member that has triggered reports, and what it tells is read true
+    pub asked_on : (x : IsAsked d past js) → x.homing ≡ h → (K ≤ at + 5 → (b : ℕ) → IsMember b members → ReadsTrue m switches b c (d ∷ past) (turns_of b (j ∷ js)) × HasRoundAhead m switches b c (d ∷ past)) → IsCalled c (d ∷ past) (j ∷ js) ⊎ IsAsked c (d ∷ past) (j ∷ js)
+    asked_on x same told =
         let f = followed x.b x.on in
         let few = x.telling.soon in
         let due = x.telling.due in
-        let soon : K < at + 6 = elim (leb_tells (at + 6) K) [
+        let soon : K ≤ at + 5 = elim (leb_tells (at + 6) K) [
           | inl p ↦ absurd (let up = ticks_rise (Own x.b) f.ticks (at + 6) K p.1 in let every = f.reports at in omega (arith, up, every, few, due))
           | inr p ↦ (let l = p.1 in omega (arith, l))
         ] in
+        let reads = told soon x.b x.on in
         let own = plainly_on y on_y (omega (arith, soon, ends)) (subst (λ (g : Homing). IsPlainly m y (Heard d past g).members (rig_at m pins entries js y)) same x.own) in
         let e : K + 1 ≡ length (d ∷ past) = omega arith in
-        elim (falling.telling_on m v switches pins entries lines ready at start last till members followed low_so begun c d past j js s early reach h is begins x.b x.on (omega (arith, soon, ends)) (omega (arith, soon)) (Limit x.b) x.telling
+        elim (falling.telling_on m v switches pins entries lines ready at start last till members followed low_so begun c d past j js s early reach h is begins x.b x.on reads.0 reads.1 (omega (arith, soon, ends)) (Limit x.b) x.telling
         (subst (λ (g : Homing). KnownOn x.b last (Heard d past g).members) same x.knows)) [
           | inr z ↦ inr (record {
             homing = Next;
             known = next_known;
             b = x.b;
             on = x.on;
-            telling = subst (λ (n : ℕ). IsTelling m x.b (Limit x.b) at start (lines x.b) (Own x.b n) (rig_at m pins entries (j ∷ js) x.b)) e z.0;
+            telling = subst (λ (n : ℕ). IsTelling m x.b (Limit x.b) start (lines x.b) (Own x.b n) (rig_at m pins entries (j ∷ js) x.b)) e z.0;
             knows = z.1;
             own = own;
           })

@@ -282,7 +282,7 @@ ceiling a step some =
     let one : ((a + (step - 1)) / step + 1) * step ≡ (a + (step - 1)) / step * step + step = omega arith in
     omega (arith, less, one, some)
 
-report_from : (b : Bool) (now clock every y : ℕ) → (every == 0) ≡ b
+pub report_from : (b : Bool) (now clock every y : ℕ) → (every == 0) ≡ b
     → (if b then None else Some (trig.first_from now (nearest now clock) every)) ≡ Some y → now ≤ y
 report_from true now clock every y e is = absurd (cc)
 report_from false now clock every y e is =

@@ -46,14 +46,13 @@ use Rattle.laws_homing.proofs.fired_runs.Seeing.{unread_before}
 use Rattle.laws_homing.proofs.fired_runs.Sight.{blind_both, reads_either}
 use Rattle.laws_homing.proofs.fired_runs.Under.{under_after}
 use Rattle.laws_homing.proofs.missed_runs.Known.{Now, known_since}
-use Rattle.laws_homing.proofs.missed_runs.Meek.{AllSo, IsMeek, IsMild, MeekAt, Stage, Waiting, so_both, so_parts, staged_meek, turns_staged}
+use Rattle.laws_homing.proofs.missed_runs.Meek.{AllSo, IsMeek, IsMild, MeekAt, SoIn, Stage, Waiting, in_are, in_part, so_both, so_parts, so_queue, staged_meek, turns_staged}
 use Rattle.laws_homing.proofs.missed_runs.Missing.{Ordered, ordered}
 use Rattle.laws_homing.proofs.missed_runs.Orders.{turn_is}
 
 -- what a board is sent in some turns, from a number on and before another one, is meek
 abbrev pub MeekIn : Type 0 → ℕ → ℕ → List BoardTurn → Type 0
-MeekIn Z from to [] = Unit {0}
-MeekIn Z from to (t ∷ before) = (from ≤ length before → length before < to → AllSo (IsMeek Z) (queued_in (orders t.control t.batch))) × MeekIn Z from to before
+MeekIn Z from to turns = SoIn (IsMeek Z) from to turns
 
 -- a part of some turns
 pub record Cut (n : ℕ) (turns : List BoardTurn) : Type 0 where
@@ -79,17 +78,6 @@ mild_one Z c k = tt
 all_mild : (Z : Type 0) (ms : List Meant) → AllSo (IsMeek Z) ms → AllSo (IsMild Z) ms
 all_mild Z [] k = tt
 all_mild Z (m ∷ ms) k = (mild_one Z m.command k.0, all_mild Z ms k.1)
-
-meek_part : (Z : Type 0) (from to : ℕ) (later past : List BoardTurn) → MeekIn Z from to (later ++ past) → MeekIn Z from to past
-meek_part Z from to [] past k = k
-meek_part Z from to (t ∷ later) past k = meek_part Z from to later past k.1
-
-meek_queue : (Z : Type 0) (from to : ℕ) (later past : List BoardTurn) → from ≤ length past → length (later ++ past) ≤ to → MeekIn Z from to (later ++ past) → AllSo (IsMeek Z) (queue_later later past).0
-unfolding queue_later
-meek_queue Z from to [] past low high k = tt
-meek_queue Z from to (t ∷ later) past low high k =
-    let size = length-append later past in
-    so_both (IsMeek Z) (queue_later later past).0 (queued_in (orders t.control t.batch)) (meek_queue Z from to later past low (omega (arith, high)) k.1) (k.0 (omega (arith, low, size)) (omega (arith, high)))
 
 module _ (m : Machine) (v : IsValidMachine m) (switches : List Switch) (pins : List (List Level)) (entries : List Entry) (b : ℕ) where
   abbrev First : LinkState
@@ -319,10 +307,10 @@ module _ (m : Machine) (v : IsValidMachine m) (switches : List Switch) (pins : L
         let left = left_of m v switches pins entries b (later ++ Early) are in
         let took = taken_later (clock_of (board_at m b)) First later Early are in
         let at = starts.long in
-        let meek_y : MeekIn Z (h.start - 251) to (later ++ Early) = subst (MeekIn Z (h.start - 251) to) (sym own) (meek_part Z (h.start - 251) to (l ++ k) y (subst (MeekIn Z (h.start - 251) to) whole_y meek)) in
+        let meek_y : MeekIn Z (h.start - 251) to (later ++ Early) = subst (MeekIn Z (h.start - 251) to) (sym own) (in_part (IsMeek Z) (h.start - 251) to (l ++ k) y (subst (MeekIn Z (h.start - 251) to) whole_y meek)) in
         let size = ap length own in
         let queue = queue_later later Early in
-        let all_meek = meek_queue Z (h.start - 251) to later Early (omega (arith, at)) (omega (arith, size, low)) meek_y in
+        let all_meek = so_queue (IsMeek Z) later Early (in_are (IsMeek Z) (h.start - 251) to later Early (omega (arith, at)) (omega (arith, size, low)) meek_y) in
         let q = queue_later w (Order ∷ Early) in
         let queue_is : queue.0 ≡ New ++ q.0 =
         append_cancel_left (queued_by Early) queue.0 (New ++ q.0) (sym queue.1 ∙ ap queued_by own ∙ q.1 ∙ append_assoc (queued_by Early) New q.0) in

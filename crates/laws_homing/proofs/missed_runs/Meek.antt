@@ -1,5 +1,5 @@
 -- Why a board's trigger can't trigger in a homing section: its timeout passed, its readings triggered it, or the host told it to.
-use Rattle.std.proofs.Common.{◌≡◌, ◌≢◌, ℕ, zero, suc, ◌+◌, ◌/◌, ◌<◌, ◌≤◌, Bool, true, false, List, [], ◌∷◌, ◌++◌, length, get_or, set, Option, Some, None, refl, ap, sym, ◌∙◌, subst, arith, append_assoc, append-nil, ◌⊎◌, inl, inr}
+use Rattle.std.proofs.Common.{◌≡◌, ◌≢◌, ℕ, zero, suc, ◌+◌, ◌/◌, ◌<◌, ◌≤◌, Bool, true, false, List, [], ◌∷◌, ◌++◌, length, get_or, set, Option, Some, None, refl, ap, sym, ◌∙◌, subst, arith, append_assoc, append-nil, length-append, ◌⊎◌, inl, inr}
 use Rattle.std.specs.Prelude.{slice_index_or, nat_le, nat_lt, ◌==◌, if◌then◌else◌}
 use Rattle.std.proofs.lemmas.List.{append_cancel_left, get_or-set_other}
 use Rattle.plan_types.specs.declared.clock.BoardClock.{BoardClock}
@@ -22,6 +22,8 @@ use Rattle.board_sim.specs.Fair.{Meant, commands_of}
 use Rattle.board_sim.specs.Rig.{Passed, Rig, Slot, acts, acts_running, all_left, at_of, becomes, bind, earliest, expires_at_once, goes_on, happens, happens_to, home, make_endstop, make_trigger, pass, passes, passes_by, rested, rests_to, runs_to, set_timeout, slot_at, start, takes, takes_all, trigger}
 use Rattle.board_sim.proofs.Bound.{map_at, same_or_not}
 use Rattle.board_sim.proofs.RigTicks.{takes_rig_tick}
+use Rattle.link_work.specs.Runs.{queued_in}
+use Rattle.link_work.specs.Stands.{orders}
 use Rattle.link_work.specs.Turn.{LinkState}
 use Rattle.laws_board.specs.turns.Turns.{AreBoardTurns, BoardTurn, stands_after}
 use Rattle.laws_board.proofs.sections.Lists.{cuts}
@@ -34,6 +36,7 @@ use Rattle.laws_homing.specs.switch_runs.Taken.{AreBlind, IsBlind}
 use Rattle.laws_homing.proofs.switch_runs.Firing.{begun_reason, read_true}
 use Rattle.laws_homing.proofs.fired_runs.Blind.{blind_parts}
 use Rattle.laws_homing.proofs.fired_runs.Old.{OldAt, clash, passes_old, takes_old, tame_parts}
+use Rattle.laws_homing.proofs.fired_runs.Rested.{queue_later}
 use Rattle.laws_homing.proofs.missed_runs.Boarded.{turned}
 
 -- It triggered before a tick; or as its timeout passed (2); or by its readings (1), where Z is so; or from another tick on. While it can trigger, its timeout
@@ -68,6 +71,34 @@ so_parts P (x ∷ xs) ys k = let p = so_parts P xs ys k.1 in ((k.0, p.0), p.1)
 pub so_both : (P : Cmd → Type 0) (xs ys : List Meant) → AllSo P xs → AllSo P ys → AllSo P (xs ++ ys)
 so_both P [] ys a k = k
 so_both P (x ∷ xs) ys a k = (a.0, so_both P xs ys a.1 k)
+
+-- so what is queued in each of some turns, and in each from a number on and before another one
+abbrev pub AreSo : (Cmd → Type 0) → List BoardTurn → Type 0
+AreSo P [] = Unit {0}
+AreSo P (t ∷ before) = AllSo P (queued_in (orders t.control t.batch)) × AreSo P before
+
+abbrev pub SoIn : (Cmd → Type 0) → ℕ → ℕ → List BoardTurn → Type 0
+SoIn P from to [] = Unit {0}
+SoIn P from to (t ∷ before) = (from ≤ length before → length before < to → AllSo P (queued_in (orders t.control t.batch))) × SoIn P from to before
+
+pub are_part : (P : Cmd → Type 0) (later past : List BoardTurn) → AreSo P (later ++ past) → AreSo P past
+are_part P [] past k = k
+are_part P (t ∷ later) past k = are_part P later past k.1
+
+pub in_part : (P : Cmd → Type 0) (from to : ℕ) (later past : List BoardTurn) → SoIn P from to (later ++ past) → SoIn P from to past
+in_part P from to [] past k = k
+in_part P from to (t ∷ later) past k = in_part P from to later past k.1
+
+pub in_are : (P : Cmd → Type 0) (from to : ℕ) (later past : List BoardTurn) → from ≤ length past → length (later ++ past) ≤ to → SoIn P from to (later ++ past) → AreSo P later
+in_are P from to [] past low high k = tt
+in_are P from to (t ∷ later) past low high k =
+    let size = length-append later past in
+    (k.0 (omega (arith, low, size)) (omega (arith, high)), in_are P from to later past low (omega (arith, high)) k.1)
+
+pub so_queue : (P : Cmd → Type 0) (later past : List BoardTurn) → AreSo P later → AllSo P (queue_later later past).0
+unfolding queue_later
+so_queue P [] past k = tt
+so_queue P (t ∷ later) past k = so_both P (queue_later later past).0 (queued_in (orders t.control t.batch)) (so_queue P later past k.1) k.0
 
 module _ (Z : Type 0) (n late j : ℕ) (some : 0 < n) where
   abbrev M : Trigger → Type 0
@@ -234,7 +265,7 @@ module _ (Z : Type 0) (n late j : ℕ) (some : 0 < n) where
   running_meek (Shut reason at first) r c k to all = same_meek r (acts_running (Shut reason at first) r c).rig refl all
 
   -- commands that come late or tell none to trigger
-  takes_meek : (r : Rig) (ms : List Meant) → AllSo (IsMild Z) ms → (late ≤ r.controller.tick) ⊎ AllSo (IsMeek Z) ms → MeekAt r → MeekAt (takes_all r (commands_of ms)).rig
+  pub takes_meek : (r : Rig) (ms : List Meant) → AllSo (IsMild Z) ms → (late ≤ r.controller.tick) ⊎ AllSo (IsMeek Z) ms → MeekAt r → MeekAt (takes_all r (commands_of ms)).rig
   takes_meek r [] k to all = all
   takes_meek r (m ∷ ms) k to all =
       let one : Told r ⊎ IsMeek Z m.command = elim to [ inl l ↦ inl (inl l) | inr x ↦ inr x.0 ] in

@@ -1,18 +1,20 @@
 -- What a board is sent while a homing section is known: no order to trigger but the relays of the section's group, and readings of the endstop alone.
-use Rattle.std.proofs.Common.{◌≡◌, ℕ, ◌+◌, ◌-◌, ◌*◌, ◌==◌, inl, inr, Bool, true, false, cond, List, [], ◌∷◌, ◌++◌, map, take, drop, length, Option, Some, None, refl, sym, ◌∙◌, subst}
+use Rattle.std.proofs.Common.{◌≡◌, ℕ, ◌+◌, ◌-◌, ◌*◌, ◌%◌, ◌^◌, ◌==◌, ◌≤◌, inl, inr, Bool, true, false, cond, List, [], ◌∷◌, ◌++◌, map, take, drop, length, Option, Some, None, refl, sym, ◌∙◌, subst, arith}
 use Rattle.std.specs.Prelude.{nat_lt}
+use Rattle.std.proofs.lemmas.Bool.{eqb-true}
 use Rattle.std.proofs.lemmas.Bool.Decides.{eqb_tells}
 use Rattle.plan_types.specs.declared.levels.Level.{Level}
 use Rattle.plan_types.specs.declared.machine.AxisDef.{AxisDef}
 use Rattle.plan_types.specs.declared.machine.Machine.{Machine}
 use Rattle.plan_types.specs.Lines.{Clocks}
 use Rattle.plan_types.specs.Machines.{axis_at, board_at}
+use Rattle.plan_types.specs.Sections.{clocks_at}
 use Rattle.msg_code.specs.declared.cmd.Cmd.{Cmd}
 use Rattle.msg_code.specs.declared.cmd.Cmd.TheVariants as cmd
 use Rattle.msg_code.specs.declared.talk.State.{State}
 use Rattle.msg_code.specs.declared.unit.Control.{Control}
 use Rattle.msg_code.specs.declared.unit.Unit.{Unit as StepUnit}
-use Rattle.msg_code.specs.Units.{dir_commands, reset_commands, step_command}
+use Rattle.msg_code.specs.Units.{dir_commands, dir_number, reset_commands, step_command}
 use Rattle.wire_scene.specs.declared.scene.Entry.{Entry}
 use Rattle.wire_scene.specs.declared.scene.Switch.{Switch}
 use Rattle.board_world.specs.Orders.{plain, unit_orders, unit_ticks, units_orders}
@@ -49,17 +51,26 @@ use Rattle.laws_board.proofs.clocks.Turning.{Asks, BoardTurned, Ends, Runs}
 use Rattle.laws_homing.proofs.home_runs.Grouped.{members_states}
 use Rattle.laws_homing.proofs.clear_groups.Starting.{MembersOf}
 use Rattle.laws_homing.specs.missed_groups.Ticks.{IsReader}
+use Rattle.laws_homing.proofs.switch_runs.Ordering.{lines_at}
 use Rattle.laws_homing.proofs.missed_runs.Meek.{AllSo, IsOf, so_both}
 
-module _ (Z R : Type 0) (b : ℕ) where
-  abbrev OrderOf : Order → Type 0
-  OrderOf order.Home = Z
-  OrderOf order.Trigger = R
-  OrderOf what = Unit {0}
+-- a command starts, times and tells no trigger, and begins no readings
+abbrev pub IsFree : Cmd → Type 0
+IsFree (cmd.TrsyncStart oid clock every reason) = ⊥
+IsFree (cmd.TrsyncSetTimeout oid clock) = ⊥
+IsFree (cmd.TrsyncTrigger oid reason) = ⊥
+IsFree (cmd.EndstopHome oid clock sample count rest value other reason) = ⊥
+IsFree c = Unit {0}
 
+-- the group of a section that is known, as it has heard what came
+abbrev pub heard_group : Known → List State → Homing → GroupState
+heard_group r states h = (hears_all r.clocks states h).group
+
+-- by what holds of a group's orders to a board, what holds of all that comes to it
+module _ (O : Order → Type 0) (C : Cmd → Type 0) (b : ℕ) (frees : (c : Cmd) → IsFree c → C c) (resets_so : (i : ℕ) → O (order.Reset i)) (stops_so : (i : ℕ) → O (order.Stop i)) (start_so : O order.Start) where
   abbrev CtlsOf : List Ctl → Type 0
   CtlsOf [] = Unit {0}
-  CtlsOf (c ∷ cs) = (c.board ≡ b → OrderOf c.what) × CtlsOf cs
+  CtlsOf (c ∷ cs) = (c.board ≡ b → O c.what) × CtlsOf cs
 
   ctls_both : (xs ys : List Ctl) → CtlsOf xs → CtlsOf ys → CtlsOf (xs ++ ys)
   ctls_both [] ys a k = k
@@ -75,60 +86,158 @@ module _ (Z R : Type 0) (b : ℕ) where
 
   resets_are : (x : Seen) (ks : List ℕ) → CtlsOf (map (reset x) ks)
   resets_are x [] = tt
-  resets_are x (k ∷ ks) = (λ e. tt, resets_are x ks)
+  resets_are x (k ∷ ks) = (λ e. resets_so k, resets_are x ks)
 
   stops_are : (x : Seen) (ks : List ℕ) → CtlsOf (map (stop x) ks)
   stops_are x [] = tt
-  stops_are x (k ∷ ks) = (λ e. tt, stops_are x ks)
+  stops_are x (k ∷ ks) = (λ e. stops_so k, stops_are x ks)
 
   fired_are : (o : Option Fired) (xs : List Ctl) → CtlsOf xs → CtlsOf (unless_fired o xs)
   fired_are None xs a = a
   fired_are (Some f) xs a = tt
 
   abbrev RoundOf : Round → Type 0
-  RoundOf Relays = R
+  RoundOf (Starts timeout) = O (order.Timeout timeout)
+  RoundOf (Timeouts turn) = O (order.Timeout turn)
+  RoundOf Relays = O order.Trigger
   RoundOf round = Unit {0}
 
-  to_are : (round : Round) (x : Seen) → (x.member.board ≡ b → x.member.endstop ≡ true → Z) → RoundOf round → CtlsOf (orders_to round x)
+  to_are : (round : Round) (x : Seen) → (x.member.board ≡ b → x.member.endstop ≡ true → O order.Home) → RoundOf round → CtlsOf (orders_to round x)
   to_are (Resets row) x f k = resets_are x (take 6 (drop (row * 6) (steppers x)))
-  to_are (Starts timeout) x f k = (λ e. tt, (λ e. tt, stops_are x (take 8 (steppers x))))
+  to_are (Starts timeout) x f k = (λ e. start_so, (λ e. k, stops_are x (take 8 (steppers x))))
   to_are Homes x f k =
       ctls_both (map (stop x) (drop 8 (steppers x))) (cond x.member.endstop (to_board x order.Home ∷ []) []) (stops_are x (drop 8 (steppers x)))
       (ctls_if x.member.endstop (to_board x order.Home ∷ []) (λ is. (λ e. f e is, tt)))
-  to_are (Timeouts turn) x f k = (λ e. tt, tt)
+  to_are (Timeouts turn) x f k = (λ e. k, tt)
   to_are Relays x f k = fired_are x.fired (to_board x order.Trigger ∷ []) (λ e. k, tt)
 
-  round_are : (round : Round) (xs : List Seen) → (IsReader b (MembersOf xs) → Z) → RoundOf round → CtlsOf (round_of round xs)
+  round_are : (round : Round) (xs : List Seen) → (IsReader b (MembersOf xs) → O order.Home) → RoundOf round → CtlsOf (round_of round xs)
   round_are round [] f k = tt
   round_are round (x ∷ xs) f k = ctls_both (orders_to round x) (round_of round xs) (to_are round x (λ e is. f (inl (e, is))) k) (round_are round xs (λ i. f (inr i)) k)
 
-  abbrev PhaseOf : Phase → Type 0
-  PhaseOf (Sends round) = RoundOf round
-  PhaseOf p = Unit {0}
+  -- what the group is to do in a phase: a timeout, where it grows, and the relays
+  abbrev pub PhaseOf : GroupState → ℕ → Phase → Type 0
+  PhaseOf g turn (Sends round) = RoundOf round
+  PhaseOf g turn Goes = (nat_lt g.sent (limit g) ≡ true → O (order.Timeout (limit g))) × (relays_in (relay_in g turn) turn ≡ true → O order.Trigger)
+  PhaseOf g turn Rests = Unit {0}
 
-  goes_are : (g : GroupState) (turn : ℕ) → (IsReader b (members_of g) → Z) → (relays_in (relay_in g turn) turn ≡ true → R) → CtlsOf (goes g turn)
+  goes_are : (g : GroupState) (turn : ℕ) → (IsReader b (members_of g) → O order.Home) → PhaseOf g turn Goes → CtlsOf (goes g turn)
   goes_are g turn f k =
       ctls_both (cond (nat_lt g.sent (limit g)) (round_of (Timeouts (limit g)) g.members) []) (cond (relays_in (relay_in g turn) turn) (round_of Relays g.members) [])
-      (ctls_if (nat_lt g.sent (limit g)) (round_of (Timeouts (limit g)) g.members) (λ e. round_are (Timeouts (limit g)) g.members f tt))
-      (ctls_if (relays_in (relay_in g turn) turn) (round_of Relays g.members) (λ e. round_are Relays g.members f (k e)))
+      (ctls_if (nat_lt g.sent (limit g)) (round_of (Timeouts (limit g)) g.members) (λ e. round_are (Timeouts (limit g)) g.members f (k.0 e)))
+      (ctls_if (relays_in (relay_in g turn) turn) (round_of Relays g.members) (λ e. round_are Relays g.members f (k.1 e)))
 
-  in_are : (p : Phase) (g : GroupState) (turn : ℕ) → (IsReader b (members_of g) → Z) → (relays_in (relay_in g turn) turn ≡ true → R) → PhaseOf p → CtlsOf (orders_in p g turn)
-  in_are (Sends round) g turn f k q = round_are round g.members f q
-  in_are Goes g turn f k q = ctls_unless (all_fired g.members) (goes g turn) (goes_are g turn f k)
-  in_are Rests g turn f k q = tt
+  in_are : (p : Phase) (g : GroupState) (turn : ℕ) → (IsReader b (members_of g) → O order.Home) → PhaseOf g turn p → CtlsOf (orders_in p g turn)
+  in_are (Sends round) g turn f q = round_are round g.members f q
+  in_are Goes g turn f q = ctls_unless (all_fired g.members) (goes g turn) (goes_are g turn f q)
+  in_are Rests g turn f q = tt
 
-  if_of : (c : Bool) (x y : Phase) → PhaseOf x → PhaseOf y → PhaseOf (cond c x y)
-  if_of true x y f g = f
-  if_of false x y f g = g
+  if_of : (g : GroupState) (turn : ℕ) (c : Bool) (x y : Phase) → (c ≡ true → PhaseOf g turn x) → PhaseOf g turn y → PhaseOf g turn (cond c x y)
+  if_of g turn true x y f q = f refl
+  if_of g turn false x y f q = q
 
-  phase_of : (start last k : ℕ) → PhaseOf (phase start last k)
-  phase_of start last k =
-      let left = start - k in
-      if_of (left == 254) (Sends (Resets 0)) _ tt
-      (if_of (left == 253) (Sends (Resets 1)) _ tt
-      (if_of (left == 252) (Sends (Resets 2)) _ tt (if_of (left == 251) (Sends (Starts (first_timeout start last))) _ tt (if_of (left == 250) (Sends Homes) _ tt (if_of (left == 0) Goes Rests tt tt)))))
+  phase_of : (g : GroupState) (k : ℕ) → ((g.start - k == 251) ≡ true → O (order.Timeout (first_timeout g.start g.last))) → ((g.start - k == 0) ≡ true → PhaseOf g k Goes) → PhaseOf g k (phase g.start g.last k)
+  phase_of g k first on =
+      let left = g.start - k in
+      if_of g k (left == 254) (Sends (Resets 0)) _ (λ e. tt)
+      (if_of g k (left == 253) (Sends (Resets 1)) _ (λ e. tt)
+      (if_of g k (left == 252) (Sends (Resets 2)) _ (λ e. tt) (if_of g k (left == 251) (Sends (Starts (first_timeout g.start g.last))) _ first (if_of g k (left == 250) (Sends Homes) _ (λ e. tt) (if_of g k (left == 0) Goes Rests on tt)))))
 
   -- their commands
+  ctls_are : (m : Machine) (clocks : Clocks) (start : ℕ) (axis : AxisDef) (ctls : List Ctl) → ((what : Order) → O what → C (order_command m clocks b start axis what)) → CtlsOf ctls → Each C (commands_to m clocks b start axis ctls)
+  ctls_are m clocks start axis [] so a = tt
+  ctls_are m clocks start axis (c ∷ ctls) so a =
+      each_both C (command_to m clocks b start axis c) (commands_to m clocks b start axis ctls)
+      (elim (eqb_tells c.board b) [
+        | inl p ↦ rw p.0 (so c.what (a.0 p.1), tt)
+        | inr p ↦ rw p.0 tt
+      ])
+      (ctls_are m clocks start axis ctls so a.1)
+
+  answer_is : (m : Machine) (k : ℕ) (own : Clocks) (h : Homing) (o : Option End) → ((what : Order) → O what → C (order_command m own b h.start (axis_at m h.axis) what)) → CtlsOf (group_orders h.group k) → Each C (homing_commands m (by_answer k h o) own b)
+  answer_is m k own h None so a = ctls_are m own h.start (axis_at m h.axis) (by_answer k h None).ctls.items so a
+  answer_is m k own h (Some (end.Endstop tick)) so a = tt
+  answer_is m k own h (Some end.NoSwitch) so a = tt
+  answer_is m k own h (Some (end.Expired board turn)) so a = tt
+
+  stop_is : (s : Bool) → Each C (stop_command s)
+  stop_is true = (frees cmd.EmergencyStop tt, tt)
+  stop_is false = tt
+
+  asks_is : (t : Bool) → Each C (cond t (cmd.GetUptime ∷ []) [])
+  asks_is true = (frees cmd.GetUptime tt, tt)
+  asks_is false = tt
+
+  -- its orders are so, and their commands, by the clock lines that are known
+  pub record AreSent (m : Machine) (r : Known) (k : ℕ) (states : List State) (h : Homing) : Type 0 where
+    pub commands : (what : Order) → O what → C (order_command m (clocks_at r.clocks b) b h.start (axis_at m h.axis) what)
+    pub homes : IsReader b (members_of h.group) → O order.Home
+    pub first : (heard_group r states h).start ≡ k + 251 → O (order.Timeout (first_timeout (heard_group r states h).start (heard_group r states h).last))
+    pub on : (heard_group r states h).start ≤ k → PhaseOf (heard_group r states h) k Goes
+
+  control_is : (m : Machine) (k : ℕ) (r : Known) (states : List State) (a : Asking) (x : Reacted) (c : Control) (h : Homing) → (r.phase ≡ Connecting → ⊥) → r.homing ≡ Some h → BoardTurned m r b k states a x c → AreSent m r k states h → Each C c.commands
+  control_is m k r states a x c h open_it is (Asks p g) s = absurd (open_it p)
+  control_is m k r states a x c h open_it is (Ends p g) s = absurd (open_it p)
+  control_is m k r states a x c h open_it is (Runs p g) s =
+      let waits = waits_in (drifts (board_at m b).drift) k a in
+      let commands = homing_commands m (homing_turn r.clocks k states r.homing) g.own b in
+      let rest = clock_question commands waits ++ stop_command (stops g.stop) in
+      let heard = hears_all r.clocks states h in
+      let members = members_states r.clocks 0 h.start states h.group in
+      let reads : IsReader b (members_of heard.group) → O order.Home = λ i. s.homes (subst (λ (l : List Member). IsReader b l) members i) in
+      let left = heard.group.start - k in
+      let of_phase = phase_of heard.group k (λ e. s.first (let n = eqb-true left 251 e in omega (arith, n))) (λ e. s.on (let n = eqb-true left 0 e in omega (arith, n))) in
+      let sent = in_are (phase heard.group.start heard.group.last k) heard.group k reads of_phase in
+      let so : (what : Order) → O what → C (order_command m g.own b h.start (axis_at m h.axis) what) = λ what o.
+      subst (λ (own : Clocks). C (order_command m own b h.start (axis_at m h.axis) what)) (sym (lines_at b r.clocks g.own g.own_is)) (s.commands what o) in
+      let At : Option Homing → Type 0 = λ o. Each C (homing_commands m (homing_turn r.clocks k states o) g.own b) in
+      let own : Each C commands = subst At (sym is) (answer_is m k g.own heard (answer_in k heard.start heard.group) so sent) in
+      let more = each_both C (clock_question commands waits) (stop_command (stops g.stop)) (asks_is (asks_now commands waits)) (stop_is (stops g.stop)) in
+      subst (λ (y : Control). Each C y.commands) (sym g.control_is) (each_both C commands rest own more)
+
+  -- what comes to it in the turn
+  plain_are : (cs : List Cmd) → Each C cs → AllSo C (map plain cs)
+  plain_are [] k = tt
+  plain_are (c ∷ cs) k = (k.0, plain_are cs k.1)
+
+  unit_is : (u : StepUnit) → AllSo C (unit_orders u)
+  unit_is u = one u.reset u.up
+    where
+      steps : C (step_command u)
+      steps = frees (step_command u) tt
+
+      one : (r : Option ℕ) (d : Option Bool) → AllSo C (map plain (reset_commands u.stepper r) ++ (map plain (dir_commands u.stepper d) ++ record { command = step_command u; ticks = unit_ticks u } ∷ []))
+      one None None = (steps, tt)
+      one None (Some d) = (frees (cmd.SetNextStepDir u.stepper (dir_number d)) tt, (steps, tt))
+      one (Some r) None = (frees (cmd.ResetStepClock u.stepper (r % 2 ^ 32)) tt, (steps, tt))
+      one (Some r) (Some d) = (frees (cmd.ResetStepClock u.stepper (r % 2 ^ 32)) tt, (frees (cmd.SetNextStepDir u.stepper (dir_number d)) tt, (steps, tt)))
+
+  units_are : (us : List StepUnit) → AllSo C (units_orders us)
+  units_are [] = tt
+  units_are (u ∷ us) = so_both C (unit_orders u) (units_orders us) (unit_is u) (units_are us)
+
+  pub turn_so : (m : Machine) (switches : List Switch) (pins : List (List Level)) (entries : List Entry) (c : Came) (before : List Came) (t : BoardTurn) (turns : List BoardTurn) (h : Homing) → IsInRun m switches pins entries b (c ∷ before) (t ∷ turns)
+      → ((known_by m switches before).phase ≡ Connecting → ⊥) → (noted m c.note (known_by m switches before)).homing ≡ Some h → AreSent m (noted m c.note (known_by m switches before)) (length before) c.states h → AllSo C (queued_in (orders t.control t.batch))
+  turn_so m switches pins entries c before t turns h r open_it is s =
+      let x = turn_of m switches pins entries b c before t turns r in
+      let known = known_by m switches before in
+      let n = noted m c.note known in
+      so_both C (map plain t.control.commands) (units_orders t.batch.units)
+      (plain_are t.control.commands (control_is m (length before) n c.states x.a (last_turn m switches c before) t.control h (λ p. open_it (sym (noted_phase m c.note known) ∙ p)) is x.turned s)) (units_are t.batch.units)
+
+-- readings are asked for where Z is so, and it is told to trigger where R is so
+module _ (Z R : Type 0) (b : ℕ) where
+  abbrev OrderOf : Order → Type 0
+  OrderOf order.Home = Z
+  OrderOf order.Trigger = R
+  OrderOf what = Unit {0}
+
+  free_of : (c : Cmd) → IsFree c → IsOf Z R c
+  free_of (cmd.TrsyncStart oid clock every reason) k = absurd k
+  free_of (cmd.TrsyncTrigger oid reason) k = absurd k
+  free_of (cmd.EndstopHome oid clock sample count rest value other reason) k = absurd k
+  free_of c k = tt
+
   order_is : (m : Machine) (clocks : Clocks) (start : ℕ) (axis : AxisDef) (what : Order) → OrderOf what → IsOf Z R (order_command m clocks b start axis what)
   order_is m clocks start axis (order.Reset s) a = tt
   order_is m clocks start axis (order.Stop s) a = tt
@@ -137,71 +246,9 @@ module _ (Z R : Type 0) (b : ℕ) where
   order_is m clocks start axis order.Home a = (a, refl)
   order_is m clocks start axis order.Trigger a = a
 
-  ctls_are : (m : Machine) (clocks : Clocks) (start : ℕ) (axis : AxisDef) (ctls : List Ctl) → CtlsOf ctls → Each (IsOf Z R) (commands_to m clocks b start axis ctls)
-  ctls_are m clocks start axis [] a = tt
-  ctls_are m clocks start axis (c ∷ ctls) a =
-      each_both (IsOf Z R) (command_to m clocks b start axis c) (commands_to m clocks b start axis ctls)
-      (elim (eqb_tells c.board b) [
-        | inl p ↦ rw p.0 (order_is m clocks start axis c.what (a.0 p.1), tt)
-        | inr p ↦ rw p.0 tt
-      ])
-      (ctls_are m clocks start axis ctls a.1)
-
-  answer_is : (m : Machine) (k : ℕ) (own : Clocks) (h : Homing) (o : Option End) → CtlsOf (group_orders h.group k) → Each (IsOf Z R) (homing_commands m (by_answer k h o) own b)
-  answer_is m k own h None a = ctls_are m own h.start (axis_at m h.axis) (by_answer k h None).ctls.items a
-  answer_is m k own h (Some (end.Endstop tick)) a = tt
-  answer_is m k own h (Some end.NoSwitch) a = tt
-  answer_is m k own h (Some (end.Expired board turn)) a = tt
-
-  stop_is : (s : Bool) → Each (IsOf Z R) (stop_command s)
-  stop_is true = (tt, tt)
-  stop_is false = tt
-
-  asks_is : (t : Bool) → Each (IsOf Z R) (cond t (cmd.GetUptime ∷ []) [])
-  asks_is true = (tt, tt)
-  asks_is false = tt
-
-  control_is : (m : Machine) (k : ℕ) (r : Known) (states : List State) (a : Asking) (x : Reacted) (c : Control) (h : Homing) → (r.phase ≡ Connecting → ⊥) → r.homing ≡ Some h → BoardTurned m r b k states a x c → (IsReader b (members_of h.group) → Z)
-      → (relays_in (relay_in (hears_all r.clocks states h).group k) k ≡ true → R) → Each (IsOf Z R) c.commands
-  control_is m k r states a x c h open_it is (Asks p g) f relays = absurd (open_it p)
-  control_is m k r states a x c h open_it is (Ends p g) f relays = absurd (open_it p)
-  control_is m k r states a x c h open_it is (Runs p g) f relays =
-      let waits = waits_in (drifts (board_at m b).drift) k a in
-      let commands = homing_commands m (homing_turn r.clocks k states r.homing) g.own b in
-      let rest = clock_question commands waits ++ stop_command (stops g.stop) in
-      let heard = hears_all r.clocks states h in
-      let members = members_states r.clocks 0 h.start states h.group in
-      let reads : IsReader b (members_of heard.group) → Z = λ i. f (subst (λ (l : List Member). IsReader b l) members i) in
-      let sent = in_are (phase heard.group.start heard.group.last k) heard.group k reads relays (phase_of heard.group.start heard.group.last k) in
-      let At : Option Homing → Type 0 = λ o. Each (IsOf Z R) (homing_commands m (homing_turn r.clocks k states o) g.own b) in
-      let own : Each (IsOf Z R) commands = subst At (sym is) (answer_is m k g.own heard (answer_in k heard.start heard.group) sent) in
-      let more = each_both (IsOf Z R) (clock_question commands waits) (stop_command (stops g.stop)) (asks_is (asks_now commands waits)) (stop_is (stops g.stop)) in
-      subst (λ (y : Control). Each (IsOf Z R) y.commands) (sym g.control_is) (each_both (IsOf Z R) commands rest own more)
-
-  -- what comes to it in the turn
-  plain_are : (cs : List Cmd) → Each (IsOf Z R) cs → AllSo (IsOf Z R) (map plain cs)
-  plain_are [] k = tt
-  plain_are (c ∷ cs) k = (k.0, plain_are cs k.1)
-
-  unit_is : (u : StepUnit) → AllSo (IsOf Z R) (unit_orders u)
-  unit_is u = one u.reset u.up
-    where
-      one : (r : Option ℕ) (d : Option Bool) → AllSo (IsOf Z R) (map plain (reset_commands u.stepper r) ++ (map plain (dir_commands u.stepper d) ++ record { command = step_command u; ticks = unit_ticks u } ∷ []))
-      one None None = (tt, tt)
-      one None (Some d) = (tt, (tt, tt))
-      one (Some r) None = (tt, (tt, tt))
-      one (Some r) (Some d) = (tt, (tt, (tt, tt)))
-
-  units_are : (us : List StepUnit) → AllSo (IsOf Z R) (units_orders us)
-  units_are [] = tt
-  units_are (u ∷ us) = so_both (IsOf Z R) (unit_orders u) (units_orders us) (unit_is u) (units_are us)
-
   pub turn_is : (m : Machine) (switches : List Switch) (pins : List (List Level)) (entries : List Entry) (c : Came) (before : List Came) (t : BoardTurn) (turns : List BoardTurn) (h : Homing) → IsInRun m switches pins entries b (c ∷ before) (t ∷ turns)
       → ((known_by m switches before).phase ≡ Connecting → ⊥) → (noted m c.note (known_by m switches before)).homing ≡ Some h → (IsReader b (members_of h.group) → Z)
       → (relays_in (relay_in (hears_all (noted m c.note (known_by m switches before)).clocks c.states h).group (length before)) (length before) ≡ true → R) → AllSo (IsOf Z R) (queued_in (orders t.control t.batch))
   turn_is m switches pins entries c before t turns h r open_it is f relays =
-      let x = turn_of m switches pins entries b c before t turns r in
-      let known = known_by m switches before in
-      let n = noted m c.note known in
-      so_both (IsOf Z R) (map plain t.control.commands) (units_orders t.batch.units)
-      (plain_are t.control.commands (control_is m (length before) n c.states x.a (last_turn m switches c before) t.control h (λ p. open_it (sym (noted_phase m c.note known) ∙ p)) is x.turned f relays)) (units_are t.batch.units)
+      turn_so OrderOf (IsOf Z R) b free_of (λ i. tt) (λ i. tt) tt m switches pins entries c before t turns h r open_it is
+      (record { commands = λ what o. order_is m (clocks_at (noted m c.note (known_by m switches before)).clocks b) h.start (axis_at m h.axis) what o; homes = f; first = λ e. tt; on = λ e. (λ g. tt, relays) })

@@ -1,9 +1,12 @@
 -- Links that are hindered, in any scene.
-use Rattle.std.specs.Prelude.{◌≡◌, ◌⊎◌, ◌+◌, ◌<◌, ◌≤◌, ◌^◌, ℕ, false, true, List, [], ◌∷◌, Some, length}
+use Rattle.std.specs.Prelude.{◌≡◌, ◌⊎◌, ◌+◌, ◌*◌, ◌<◌, ◌≤◌, ◌^◌, ℕ, false, true, List, [], ◌∷◌, Some, length}
 use Rattle.plan_types.specs.declared.levels.Level.{Level}
 use Rattle.plan_types.specs.declared.machine.Machine.{Machine}
-use Rattle.plan_types.specs.Clock.{board_tick, clock_of}
+use Rattle.plan_types.specs.Clock.{board_tick, clock_of, turn_ns}
+use Rattle.plan_types.specs.Lines.{lines_tick}
 use Rattle.plan_types.specs.Machines.{board_at}
+use Rattle.plan_types.specs.Sections.{clocks_at}
+use Rattle.clock_line.specs.Early.{run_turns}
 use Rattle.wire_scene.specs.declared.scene.Entry.{Entry}
 use Rattle.wire_scene.specs.declared.scene.Switch.{Switch}
 use Rattle.link_work.specs.Ends.{is_quiet, none_wait}
@@ -74,8 +77,9 @@ pub record HasLiveTrigger (m : Machine) (b turn : ℕ) (r : Rig) : Type 0 where
   pub due : board_tick (clock_of (board_at m b)) turn ≤ next
   pub soon : next ≤ board_tick (clock_of (board_at m b)) turn + report_ticks m b
 
--- As a turn begins a board's trigger has triggered, and goes on reporting: every five turns, the next time within them.
-pub record HasTellingTrigger (m : Machine) (b turn : ℕ) (r : Rig) : Type 0 where
+-- As a turn begins a board's trigger has triggered, at a tick from this one on, and goes on reporting: every five
+-- turns, the next time within them.
+pub record HasTellingTrigger (m : Machine) (b base turn : ℕ) (r : Rig) : Type 0 where
   pub slot : Slot
   pub is : slot_at r (trigger_of m b) ≡ Some slot
   pub fired : slot.trigger.can ≡ false
@@ -84,19 +88,27 @@ pub record HasTellingTrigger (m : Machine) (b turn : ℕ) (r : Rig) : Type 0 whe
   pub report : slot.trigger.report ≡ Some next
   pub due : board_tick (clock_of (board_at m b)) turn ≤ next
   pub soon : next ≤ board_tick (clock_of (board_at m b)) turn + report_ticks m b
+  pub since : base ≤ slot.trigger.tick
 
 -- so it has, or it is live
-abbrev pub TellsOn : Machine → ℕ → ℕ → Rig → Type 0
-TellsOn m b turn r = HasLiveTrigger m b turn r ⊎ HasTellingTrigger m b turn r
-
--- where a board's trigger has triggered as a turn begins, it did so at a tick from this one on, and no more than two
--- billion ticks before, which is less than half a round of the clock's 32 bits
-abbrev pub FellLately : Machine → ℕ → ℕ → ℕ → Rig → Type 0
-FellLately m b base turn r =
-    (s : Slot) → slot_at r (trigger_of m b) ≡ Some s → s.trigger.can ≡ false →
-    (base ≤ s.trigger.tick) × (board_tick (clock_of (board_at m b)) turn ≤ s.trigger.tick + 2_000_000_000)
+abbrev pub TellsOn : Machine → (b base turn : ℕ) → Rig → Type 0
+TellsOn m b base turn r = HasLiveTrigger m b turn r ⊎ HasTellingTrigger m b base turn r
 
 -- so a board stood as its turn with this number began
 abbrev pub StoodAt : (Rig → Type 0) → ℕ → List BoardTurn → Type 0
 StoodAt P at [] = Unit {0}
 StoodAt P at (t ∷ before) = (length before + 1 ≡ at → P t.after.core.board) × StoodAt P at before
+
+-- By the clock lines of a board that the reactor knows in a turn a round of the 32-bit clock fits between this turn and
+-- the last one of a run.
+abbrev pub HasRoundAhead : Machine → List Switch → ℕ → Came → List Came → Type 0
+HasRoundAhead m switches b c before =
+    let known = clocks_at (noted m c.note (known_by m switches before)).clocks b in
+    lines_tick known (length before * turn_ns) + 2 ^ 32 ≤ lines_tick known (run_turns * turn_ns)
+
+-- so in each turn of a section, from its start to its last one
+abbrev pub HaveRoundAhead : Machine → List Switch → (b start last : ℕ) → List Came → Type 0
+HaveRoundAhead m switches b start last [] = Unit {0}
+HaveRoundAhead m switches b start last (c ∷ before) =
+    (start ≤ length before → length before ≤ last → HasRoundAhead m switches b c before)
+    × HaveRoundAhead m switches b start last before

@@ -1,5 +1,5 @@
 -- A whole run in which axes home, in any scene, and in which a board told that it expired: the link of a member's board was hindered.
-use Rattle.std.proofs.Common.{◌≡◌, ◌⊎◌, ℕ, ◌+◌, ◌-◌, ◌*◌, ◌<◌, ◌≤◌, inl, inr, List, [], ◌∷◌, ◌++◌, length, map, Option, Some, None, refl, ap, sym, ◌∙◌, subst, arith, length-append}
+use Rattle.std.proofs.Common.{◌≡◌, ◌⊎◌, ℕ, ◌+◌, ◌-◌, ◌*◌, ◌^◌, ◌<◌, ◌≤◌, inl, inr, List, [], ◌∷◌, ◌++◌, length, map, Option, Some, None, refl, ap, sym, ◌∙◌, subst, arith, length-append}
 use Rattle.std.proofs.Props.{props}
 use Rattle.std.proofs.lemmas.Bool.Decides.{leb_tells}
 use Rattle.std.proofs.lemmas.List.{length-map}
@@ -11,6 +11,7 @@ use Rattle.plan_types.specs.Clock.{board_tick, clock_of, turn_ns}
 use Rattle.plan_types.specs.Lines.{Clocks, lines_tick}
 use Rattle.plan_types.specs.Machines.{IsValidMachine, board_at}
 use Rattle.plan_types.specs.Sections.{clocks_at}
+use Rattle.clock_line.specs.Early.{run_turns}
 use Rattle.msg_code.specs.declared.talk.ShutNews.{ShutNews}
 use Rattle.msg_code.specs.declared.talk.State.{State}
 use Rattle.wire_scene.specs.declared.scene.Scene.{Scene}
@@ -26,7 +27,7 @@ use Rattle.host_reactor.specs.Notes.{noted}
 use Rattle.host_reactor.specs.Runs.{Came, GoesOn, HaveStates, known_by, state_at}
 use Rattle.laws_board.specs.turns.Turns.{BoardTurn, latest_state}
 use Rattle.laws_board.specs.clocks.Runs.{IsInRun}
-use Rattle.laws_board.proofs.clocks.Lines.{as_long, run_before}
+use Rattle.laws_board.proofs.clocks.Lines.{run_before}
 use Rattle.motion_work.specs.Known.{lines_by}
 use Rattle.motion_work.specs.Seen.{Started}
 use Rattle.motion_work.specs.Told.{Told}
@@ -43,11 +44,13 @@ use Rattle.laws_homing.specs.switch_runs.Reports.{WasReported}
 use Rattle.laws_homing.proofs.clear_boards.Clocking.{line_ahead}
 use Rattle.laws_homing.proofs.hindered.Told.{Told as Told_so, read_more, stands_late, told_switch, told_true, was_told}
 use Rattle.laws_homing.specs.fired_runs.Since.{AllRead, AreBehind, AreRead, BeginsApart, IsFiredAt, ReadsAsTold, ReadsSwitchTrue, ReadsTrue}
-use Rattle.laws_homing.specs.hindered.Hindered.{FellLately, HeardByNow, HinderedIn, IsGoingOn, SomeHinderedIn, StoodAt, TellsOn}
+use Rattle.laws_homing.specs.hindered.Hindered.{HasRoundAhead, HaveRoundAhead, HeardByNow, HinderedIn, IsGoingOn, SomeHinderedIn, StoodAt, TellsOn}
 use Rattle.laws_homing.specs.home_parts.Cuts.{cuts_on}
+use Rattle.laws_homing.specs.home_parts.Known.{KnowsLately}
+use Rattle.laws_homing.proofs.home_parts.Held.{clocks_by}
 use Rattle.laws_homing.specs.home_plans.Notes.{CameNotes}
 use Rattle.laws_homing.specs.home_runs.Guards.{HasFired}
-use Rattle.laws_homing.specs.home_runs.Sections.{TakesSetUp}
+use Rattle.laws_homing.specs.home_runs.Sections.{HomesFrom, TakesSetUp}
 use Rattle.laws_homing.specs.home_runs.Told.{IsMember}
 use Rattle.laws_homing.specs.clear_groups.Runs.{BeginsWell, IsTracked}
 use Rattle.laws_homing.specs.clear_groups.Sections.{IsFollowed, IsHomingSection, KnowsLines, turns_of}
@@ -58,14 +61,14 @@ use Rattle.laws_homing.proofs.clear_groups.Newly.{new_later}
 use Rattle.laws_homing.proofs.clear_groups.Noted.{board_followed, states_of_turn}
 use Rattle.laws_homing.proofs.hindered.Expired.{begins_later, homes_later, stood, stood_lately}
 use Rattle.laws_homing.proofs.hindered.Telling.{tell_on}
-use Rattle.laws_run.specs.hindered_runs.Hindered.{AllStoodAt, AllTookSetUp, HasHindered, IsHinderedIn, known_start}
+use Rattle.laws_run.specs.hindered_runs.Hindered.{AllTookSetUp, HasHindered, IsHinderedIn}
 use Rattle.laws_run.specs.home_headline.Near.{AllReadAsTold, KeepsUp}
 use Rattle.laws_run.specs.home_wholes.Own.{AllSwitchesReadTrue}
 use Rattle.laws_run.specs.lanes.Boards.{IsInWhole, behind, states_of}
 use Rattle.laws_run.specs.run_headline.Timely.{link_of}
 use Rattle.laws_run.proofs.clear_homes.Boards as boards
 use Rattle.laws_run.proofs.clear_homes.Bounds.{starts_by}
-use Rattle.laws_run.proofs.clear_homes.Lines.{lines_known, tracked_by}
+use Rattle.laws_run.proofs.clear_homes.Lines.{lines_known, round_by, tracked_by}
 use Rattle.laws_run.proofs.clear_homes.Opened.{begin_well}
 use Rattle.laws_run.proofs.clear_homes.Running.{all_none, end_none}
 use Rattle.laws_run.proofs.clear_runs.Bare.{latest_behind}
@@ -267,10 +270,13 @@ module _ (m : Machine) (v : IsValidMachine m) (s : Scene) (ts : List MotionTurn)
   apart : BeginsApart m s.switches (came_in end ∷ Came_all)
   apart = well_apart m s.switches Lines (From + 1) Till (came_in end ∷ Came_all) well
 
+  known_lately : KnowsLately m s.switches t.clocks (came_in end ∷ Came_all)
+  known_lately = ((λ past. knows.1), (boards.known m v s ts p t first rest end c told f long short little).0)
+
   lines_of : (start : ℕ) → KnowsLines m s.switches start (Lines start) (came_in end ∷ Came_all)
   lines_of start =
       let sound = boards.sound m v s ts p t first rest end c told f long short little in
-      lines_known m s.switches t.clocks start (came_in end ∷ Came_all) sound.clocks_are.count sound.kept ((λ past. knows.1), (boards.known m v s ts p t first rest end c told f long short little).0)
+      lines_known m s.switches t.clocks start (came_in end ∷ Came_all) sound.clocks_are.count sound.kept known_lately
 
   -- the homing section that is known
   module _ (h : Homing) (is : (noted m end.note (known_by m s.switches Came_all)).homing ≡ Some h) where
@@ -307,14 +313,37 @@ module _ (m : Machine) (v : IsValidMachine m) (s : Scene) (ts : List MotionTurn)
     new : IsNewAt m s.switches h.start h.group.last Members (Since + 1) (came_in end ∷ Came_all)
     new = new_later m s.switches x.from h.start h.group.last Members x.soon (Since + 1) (came_in end) Came_all soon_since.0 soon_since.1 goes x.homes x.begins of_turn x.new
 
+    -- by the lines that are known in a turn of the section a round of the 32-bit clock fits before the run's last turn
+    rounds : (i : ℕ) → IsMember i Members → (came : List Came) → length came ≤ length Came_all + 1 → HomesFrom m s.switches (Since + 1) h.start Members came → KnowsLately m s.switches t.clocks came → HaveRoundAhead m s.switches i h.start h.group.last came
+    rounds i on [] few homes lately = tt
+    rounds i on (d ∷ before) few homes lately = (here, rounds i on before (omega (arith, few)) homes.1 lately.1)
+      where
+        here : h.start ≤ length before → length before ≤ h.group.last → HasRoundAhead m s.switches i d before
+        here late soon =
+            let low = x.within i on in
+            let fol = followed i on in
+            let begins = fol.begins in
+            let ends = fol.ends in
+            let far = x.far in
+            let r = lines_renewed m v s ts p t first rest end told i Turn (Whole i low) low (boards.renewed m v s ts p t first rest end c told f long short little i low) in
+            let first_early = r.early in
+            let ahead = fol.tracked.ahead (length before) (omega (arith, late, begins)) (omega (arith, ends, soon, few)) in
+            let size = many in
+            let small = p.small in
+            let made = length-map p.made put_of in
+            let range = own_small (board_at m i) (valid_at m.boards i low v.boards) (length before + 4) (omega (arith, few, size, long, small, made)) in
+            let Round : Clocks → Type 0 = λ z. lines_tick z (length before * turn_ns) + 2 ^ 32 ≤ lines_tick z (run_turns * turn_ns) in
+            subst Round (sym (ap (λ (cs : List Clocks). clocks_at cs i) (lately.0 (homes.0 (omega (arith, late, far))).0) ∙ clocks_by (length before + 276) t.clocks i))
+            (round_by (clocks_at t.clocks i) (length before + 276) (length before) r.kept (omega arith) (omega (arith, first_early, begins, late)) (omega (arith, few, size, long, small, made)) (omega (arith, ahead, range)))
+
     -- from five turns behind its start on the triggers of its boards tell on, where they took its set-up in time
-    tells : AllTookSetUp m s ts first rest end h → (at : ℕ) → h.start + 5 ≤ at → (i : ℕ) → IsMember i Members → StoodAt (TellsOn m i at) at (turns_of i all.0)
-    tells took at late i on =
+    tells : AllTookSetUp m s ts first rest end h → (y : ℕ) → IsMember y Members → HeardByNow m s.switches y h.start (came_in end ∷ Came_all) → (at : ℕ) → h.start + 5 ≤ at → (i : ℕ) → IsMember i Members → StoodAt (TellsOn m i (lines_tick (Lines h.start i) (h.start * turn_ns)) at) at (turns_of i all.0)
+    tells took y on_y heard at late i on =
         let low = x.within i on in
         let far = x.far in
         let own : TakesSetUp (link_of m s i) h.start (turns_of i all.0) = subst (λ (turns : List BoardTurn). TakesSetUp (link_of m s i) h.start turns) (sym (all.2 i low)) (took i on (Whole i low)) in
         tell_on m v s.switches (Pins i) s.entries i (Lines h.start) (From + 1) (Since + 1) h.start h.group.last Till Members (followed i on) (omega (arith, far)) (omega (arith, far)) on
-        (came_in end) Came_all (turns_of i all.0) (section.plain i on) section.homes section.knows apart (omega arith) own at late
+        (came_in end) Came_all (turns_of i all.0) (section.plain i on) section.homes section.knows apart (omega arith) section.begins new y on_y heard own at late
 
     -- where a board told that it expired, in a turn that isn't past the section's last one
     module _ (board turn tick : ℕ) (member : IsMember board Members) (in_last : turn ≤ h.group.last) (report : WasReported m s.switches board h.start (record { reason = 2; tick = tick; turn = turn }) (came_in end ∷ Came_all)) where
@@ -370,32 +399,20 @@ module _ (m : Machine) (v : IsValidMachine m) (s : Scene) (ts : List MotionTurn)
             hindered = subst (λ (turns : List BoardTurn). HinderedIn Since (length past) turns) (all.2 found.0 there) found.2;
           }
 
-      -- as its boards stood
-      stood_at : (P : ℕ → Rig → Type 0) (n : ℕ) → AllStoodAt m s ts first rest end h P n → (i : ℕ) → IsMember i Members → StoodAt (P i) n (turns_of i all.0)
-      stood_at P n k i on = subst (λ (turns : List BoardTurn). StoodAt (P i) n turns) (sym (all.2 i (x.within i on))) (k i on (Whole i (x.within i on)))
-
       lately : (later : List BoardTurn) (t : BoardTurn) (past : List BoardTurn) → Turns board low ≡ later ++ t ∷ past → IsFiredAt (trigger_of m board) 2 tick t.after.core.board → h.start + 41 ≤ length past → length past ≤ h.group.last + 4
           → HeardByNow m s.switches board h.start (came_in end ∷ Came_all) → AllTookSetUp m s ts first rest end h
-          → AllStoodAt m s ts first rest end h (λ i. FellLately m i (known_start m s.switches h i (came_in end) Came_all) (length past - 36)) (length past - 36)
           → StoodAt (λ r. HasFired (trigger_of m board) r → ⊥) (length past - 12) (Turns board low) → HasHindered m s ts first rest end h (length past - 37) (length past)
-      lately later t past are stands begun ends heard set_up fell could =
+      lately later t past are stands begun ends heard set_up could =
           let early = so.early in
           let far = x.far in
           let at : ℕ = length past - 36 in
-          let many = as_long m s.switches board Came_all (Turns board low) own_run.both in
-          let size : length (Turns board low) ≡ length (later ++ t ∷ past) = ap length are in
-          let more = length-append later (t ∷ past) in
-          let Fell : ℕ → ℕ → Type 0 = λ i base. StoodAt (FellLately m i base at) at (turns_of i all.0) in
-          let fell_so : (i : ℕ) → IsMember i Members → Fell i (lines_tick (Lines h.start i) (h.start * turn_ns)) = λ i on.
-          subst (Fell i) (((lines_of h.start).0 knows.0 h is refl i (x.within i on)).1.ticks h.start (omega (arith, many, size, more, begun)))
-          (stood_at (λ k. FellLately m k (known_start m s.switches h k (came_in end) Came_all) at) at fell i on) in
           let Could : Rig → Type 0 = λ r. HasFired (trigger_of m board) r → ⊥ in
           let twelve : length past - 12 ≡ at + 24 = omega (arith, begun) in
           let before : length past - 37 ≡ at - 1 = omega (arith, begun) in
           let could_so : StoodAt Could (at + 24) (turns_of board all.0) = subst (λ (n : ℕ). StoodAt Could n (turns_of board all.0)) twelve (subst (λ (turns : List BoardTurn). StoodAt Could (length past - 12) turns) (sym (all.2 board low)) could) in
           let found = some_of (at - 1) (length past) Members all.0
           (stood_lately m v s.switches Pins s.entries (Lines h.start) (From + 1) Since h.start h.group.last Till Members followed (omega (arith, far)) soon_since.2 x.order (omega (arith, far)) at (omega (arith, begun)) (omega (arith, begun, ends)) board member tick (λ e. omega (arith, e, early)) later t past
-          (came_in end) Came_all all.0 section apart (omega arith) new heard (all.2 board low ∙ are) (omega (arith, begun)) (tells set_up at (omega (arith, begun))) fell_so could_so stands) in
+          (came_in end) Came_all all.0 section apart (omega arith) new heard (all.2 board low ∙ are) (omega (arith, begun)) (tells set_up board member heard at (omega (arith, begun))) could_so (λ i on. rounds i on (came_in end ∷ Came_all) (omega arith) section.homes known_lately) stands) in
           let there = x.within found.0 found.1 in
           record {
             board = found.0;

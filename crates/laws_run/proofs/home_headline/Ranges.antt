@@ -42,21 +42,21 @@ own_far own (suc k) few =
     let rec = own_far own k few in
     omega (arith, one, rec)
 
-all_small : (d : BoardDef) (turns : ℕ) (own : ℕ → ℕ) → IsValidBoard d → AreOwn d turns own → (k : ℕ) → k < 2 ^ 42 + 300 → own k < 2 ^ 62
+all_small : (d : BoardDef) (turns : ℕ) (own : ℕ → ℕ) → IsValidBoard d → AreOwn d turns own → (k : ℕ) → k < 2 ^ 42 + 300 → own k < 2 ^ 61
 all_small d turns own v o k soon =
     let first = o.same 0 (omega arith) ∙ own_first d.start d.freq d.drift in
     let start = v.start in
     let far = own_far own k o.few in
     omega (arith, first, start, far, soon)
 
-pub own_small : (d : BoardDef) → IsValidBoard d → (k : ℕ) → k < 2 ^ 42 + 300 → board_tick (clock_of d) k < 2 ^ 62
+pub own_small : (d : BoardDef) → IsValidBoard d → (k : ℕ) → k < 2 ^ 42 + 300 → board_tick (clock_of d) k < 2 ^ 61
 own_small d v k soon = all_small d 0 (board_tick (clock_of d)) v (own_ticks d 0 v) k soon
 
-pub on_small : (m : Machine) (b turns : ℕ) → IsValidBoard (board_at m b) → (k : ℕ) → k < 2 ^ 42 + 300 → Own m b turns k < 2 ^ 62
+pub on_small : (m : Machine) (b turns : ℕ) → IsValidBoard (board_at m b) → (k : ℕ) → k < 2 ^ 42 + 300 → Own m b turns k < 2 ^ 61
 on_small m b turns v k soon = all_small (board_at m b) 0 (Own m b turns) v (own_on (board_at m b) 0 (turns + 349) v (omega arith)) k soon
 
 -- the ticks of the starts
-pub range_all : (m : Machine) (all : List Clocks) (own : ℕ → ℕ) (clocks : Clocks) (ready at : ℕ) (begun : List Started) → (k : AreTracked own clocks ready) → ((j : ℕ) → j < 2 ^ 42 + 300 → own j < 2 ^ 62) → ready ≤ at → AreInARow at begun → AreOverBefore m all k.until begun
+pub range_all : (m : Machine) (all : List Clocks) (own : ℕ → ℕ) (clocks : Clocks) (ready at : ℕ) (begun : List Started) → (k : AreTracked own clocks ready) → ((j : ℕ) → j < 2 ^ 42 + 300 → own j < 2 ^ 61) → ready ≤ at → AreInARow at begun → AreOverBefore m all k.until begun
     → All (λ s. s.start < 2 ^ 42 + 260) begun → StartInRange clocks begun
 range_all m all own clocks ready at [] k small early row ends soon = tt
 range_all m all own clocks ready at (s ∷ begun) k small early row ends soon =

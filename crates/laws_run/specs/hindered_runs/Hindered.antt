@@ -1,19 +1,15 @@
 -- A run that ends as a board expired, and the links of the boards of its homing section, in any scene.
-use Rattle.std.specs.Prelude.{◌≡◌, ◌<◌, ◌≤◌, ◌+◌, ◌-◌, ◌*◌, ℕ, List, [], ◌∷◌, ◌++◌, Some, length}
+use Rattle.std.specs.Prelude.{◌≡◌, ◌<◌, ◌≤◌, ◌+◌, ◌-◌, ℕ, List, [], ◌∷◌, ◌++◌, Some, length}
 use Rattle.plan_types.specs.declared.machine.Machine.{Machine}
-use Rattle.plan_types.specs.Clock.{clock_of, turn_ns}
-use Rattle.plan_types.specs.Lines.{lines_tick}
+use Rattle.plan_types.specs.Clock.{clock_of}
 use Rattle.plan_types.specs.Machines.{board_at}
-use Rattle.plan_types.specs.Sections.{clocks_at}
 use Rattle.wire_scene.specs.declared.scene.Scene.{Scene}
-use Rattle.wire_scene.specs.declared.scene.Switch.{Switch}
 use Rattle.board_asking.specs.Machine.{trigger_of}
-use Rattle.board_sim.specs.Rig.{Rig}
 use Rattle.laws_board.specs.turns.Turns.{BoardTurn}
 use Rattle.axis_homing.specs.declared.homing.Homing.{Homing}
 use Rattle.axis_homing.specs.Rising.{members_of}
 use Rattle.host_reactor.specs.Notes.{noted}
-use Rattle.host_reactor.specs.Runs.{Came, known_by}
+use Rattle.host_reactor.specs.Runs.{known_by}
 use Rattle.session_work.specs.declared.table.MotionTurn.{MotionTurn}
 use Rattle.session_work.specs.declared.table.ReactorTurn.{ReactorTurn}
 use Rattle.session_run.specs.Boards.{came_from, came_in}
@@ -22,7 +18,7 @@ use Rattle.laws_homing.specs.home_runs.Sections.{TakesSetUp}
 use Rattle.laws_homing.specs.home_runs.Told.{IsMember}
 use Rattle.laws_homing.specs.switch_runs.Reports.{WasReported}
 use Rattle.laws_homing.specs.fired_runs.Since.{IsFiredAt, WasFiredAt}
-use Rattle.laws_homing.specs.hindered.Hindered.{FellLately, HeardByNow, HinderedIn, StoodAt}
+use Rattle.laws_homing.specs.hindered.Hindered.{HeardByNow, HinderedIn, StoodAt}
 use Rattle.laws_run.specs.lanes.Boards.{IsInWhole, behind}
 use Rattle.laws_run.specs.run_headline.Timely.{link_of}
 
@@ -37,15 +33,7 @@ pub record HasHindered (m : Machine) (s : Scene) (planned : List MotionTurn) (fi
       (rest ++ last ∷ [])
   pub hindered : HinderedIn from to (behind [] w.made)
 
--- so the board of each member of a homing section stood as its turn with this number began
-abbrev pub AllStoodAt : Machine → Scene → List MotionTurn → ReactorTurn → List ReactorTurn → ReactorTurn → Homing →
-    (ℕ → Rig → Type 0) → ℕ → Type 0
-AllStoodAt m s planned first rest last h P at =
-    (b : ℕ) → IsMember b (members_of h.group) →
-    (w : IsInWhole m s.switches b (clock_of (board_at m b)) (link_of m s b) planned first (rest ++ last ∷ [])) →
-    StoodAt (P b) at (behind [] w.made)
-
--- so the board of each member of a homing section took the section's set-up in time
+-- the board of each member of a homing section took the section's set-up in time
 abbrev pub AllTookSetUp : Machine → Scene → List MotionTurn → ReactorTurn → List ReactorTurn → ReactorTurn → Homing →
     Type 0
 AllTookSetUp m s planned first rest last h =
@@ -53,18 +41,12 @@ AllTookSetUp m s planned first rest last h =
     (w : IsInWhole m s.switches b (clock_of (board_at m b)) (link_of m s b) planned first (rest ++ last ∷ [])) →
     TakesSetUp (link_of m s b) h.start (behind [] w.made)
 
--- the tick at which a homing section starts on a board, by the clock lines that the reactor knows in a turn
-abbrev pub known_start : Machine → List Switch → Homing → ℕ → Came → List Came → ℕ
-known_start m switches h b c before =
-    lines_tick (clocks_at (noted m c.note (known_by m switches before)).clocks b) (h.start * turn_ns)
-
 -- A run ends as a board expired in a turn: the board told so in the homing section that is under way, of a tick since
 -- which its trigger stood expired (2) as some of its turns ended; and by the first of these, as by each, the link of a
 -- board of the section was hindered, from 252 turns before its start on. It was so in such a turn or in one of the 37
 -- before it, where that is 41 turns behind the start or later and at most four behind the section's last one; where the
--- section's boards took its set-up in time, and the triggers of those that had triggered 36 turns before it did so in
--- the section, less than half a round of the clock before; where 12 turns before it the board's own could still
--- trigger; and where the group heard of the board as able to trigger in no turn to come.
+-- section's boards took its set-up in time; where 12 turns before it the board's own trigger could still trigger; and
+-- where the group heard of the board as able to trigger in no turn to come.
 pub record IsHinderedIn (m : Machine) (s : Scene) (planned : List MotionTurn) (first : ReactorTurn)
     (rest : List ReactorTurn) (last : ReactorTurn) (board turn : ℕ) : Type 0 where
   pub homing : Homing
@@ -84,9 +66,6 @@ pub record IsHinderedIn (m : Machine) (s : Scene) (planned : List MotionTurn) (f
       homing.start + 41 ≤ length past → length past ≤ homing.group.last + 4 →
       HeardByNow m s.switches board homing.start (came_in last ∷ came_from [] (first ∷ rest)) →
       AllTookSetUp m s planned first rest last homing →
-      AllStoodAt m s planned first rest last homing (λ b.
-      FellLately m b (known_start m s.switches homing b (came_in last) (came_from [] (first ∷ rest)))
-      (length past - 36)) (length past - 36) →
       StoodAt (λ r. HasFired (trigger_of m board) r → ⊥) (length past - 12) (behind [] w.made) →
       HasHindered m s planned first rest last homing (length past - 37) (length past)
 

@@ -10,7 +10,7 @@ ghost use Rattle.session_run.specs.Ends.{status_of};
 use crate::answer::Answer;
 use crate::ended::finish;
 use crate::run::end_with;
-use crate::scene::refuse;
+use crate::scene::{Runtime, refuse};
 use generated_load::{LoadFiles, load_machine};
 use io_core::{Files, Gate, Sink, SureSink};
 use plan_types::{Cause, Listed};
@@ -66,11 +66,9 @@ fn wants_memory(cause: &Cause) -> bool
 /// Runs a load on its own printer, in a scene without entries and without switches, and counts the pulses. Nothing is
 /// written.
 fn counted_load<R: Threads + Wait + Sync, G: Gate + Sync>(
-    rt: &R,
-    alloc: Global,
+    rt: &Runtime<'_, R, G>,
     seed: u64,
     moves: u64,
-    gate: &G,
 ) -> Result<Answer, AllocError>
     requires few { moves ≤ 1_000_000 }
     ensures load { IfOk result (λ a. IsLoadAnswer ⟦<LoadFiles as Files>⟧ ⟦<SureSink as Sink>⟧ seed moves a) }
@@ -78,27 +76,27 @@ fn counted_load<R: Threads + Wait + Sync, G: Gate + Sync>(
     ensures no_read { IfOk result (λ a. a.cause ≢ Cause.ReadFault) }
     ensures no_write { IfOk result (λ a. a.cause ≢ Cause.WriteFault) }
 {
-    let machine = load_machine(alloc)?;
-    let scene = Scene::empty(alloc);
+    let machine = load_machine(rt.alloc)?;
+    let scene = Scene::empty(rt.alloc);
     let mut files = LoadFiles::new(seed, moves);
     let mut none = SureSink::new();
     let ran = run(
-        rt,
-        alloc,
+        rt.threads,
+        rt.alloc,
         &machine,
         &mut files,
         "load",
         &scene,
         &mut none,
-        gate,
+        rt.gate,
         Show::Counts,
     );
     if wants_memory(&ran.cause) {
-        return Ok(end_with(alloc, Cause::Memory));
+        return Ok(end_with(rt.alloc, Cause::Memory));
     }
     let Ended { cause, report, .. } = ran;
     let Report { counts, links, .. } = report;
-    let lines = summary(alloc, seed, moves, counts.as_slice(), cause)?;
+    let lines = summary(rt.alloc, seed, moves, counts.as_slice(), cause)?;
     Ok(Answer {
         cause,
         machine,
@@ -112,12 +110,10 @@ fn counted_load<R: Threads + Wait + Sync, G: Gate + Sync>(
 
 /// Runs a load and writes its summary.
 pub fn run_load<R: Threads + Wait + Sync, S: Sink, G: Gate + Sync>(
-    rt: &R,
-    alloc: Global,
+    rt: &Runtime<'_, R, G>,
     seed: u64,
     moves: u64,
     out: &mut S,
-    gate: &G,
 ) -> Ended
     requires few { moves ≤ 1_000_000 }
     ensures shows { ShowsLoad ⟦<LoadFiles as Files>⟧ ⟦<SureSink as Sink>⟧ seed moves
@@ -129,8 +125,8 @@ pub fn run_load<R: Threads + Wait + Sync, S: Sink, G: Gate + Sync>(
     ensures quiet { result.cause ≢ Cause.WriteFault → result.cause ≢ Cause.Memory →
         S.faults out.new ≡ S.faults out.old }
 {
-    match counted_load(rt, alloc, seed, moves, gate) {
-        Ok(answer) => finish(alloc, answer, out),
-        Err(_) => refuse(alloc, Cause::Memory, out),
+    match counted_load(rt, seed, moves) {
+        Ok(answer) => finish(rt.alloc, answer, out),
+        Err(_) => refuse(rt.alloc, Cause::Memory, out),
     }
 }

@@ -32,6 +32,15 @@ use std::sync::Wait;
 use std::thread::Threads;
 use wire_scene::{Scene, SceneFault, read_scene};
 
+/// What the workers of a run are started with: the runtime that gives them threads, the memory, and the gate that each
+/// passes in each of its turns.
+#[derive(Drop)]
+pub struct Runtime<'a, R, G> {
+    pub threads: &'a R,
+    pub alloc: Global,
+    pub gate: &'a G,
+}
+
 /// One byte more is read of a scene, to tell that it is too large.
 const SCENE_LIMIT: u64 = 16_777_216;
 
@@ -65,14 +74,12 @@ fn read_scene_file<F: Files>(
 
 /// Runs a file of G-code that was found, on a machine in a scene.
 fn run_found<R: Threads + Wait + Sync, F: Files, S: Sink, G: Gate + Sync>(
-    rt: &R,
-    alloc: Global,
+    rt: &Runtime<'_, R, G>,
     machine: &Machine,
     scene: &Scene,
     gcode: &str,
     files: &mut F,
     out: &mut S,
-    gate: &G,
 ) -> Ended
     requires machine { IsValidMachine machine.now }
     requires scene { IsValidScene machine.now scene.now }
@@ -89,14 +96,14 @@ fn run_found<R: Threads + Wait + Sync, F: Files, S: Sink, G: Gate + Sync>(
         S.faults out.new ≡ S.faults out.old }
 {
     run(
-        rt,
-        alloc,
+        rt.threads,
+        rt.alloc,
         machine,
         files,
         gcode,
         scene,
         out,
-        gate,
+        rt.gate,
         Show::Lines,
     )
 }
@@ -131,14 +138,12 @@ fn find_file<F: Files>(files: &mut F, name: &str) -> Result<(), Cause>
 
 /// Runs a file of G-code on a machine in a scene. A file that can't be read is refused before the run begins.
 fn run_on<R: Threads + Wait + Sync, F: Files, S: Sink, G: Gate + Sync>(
-    rt: &R,
-    alloc: Global,
+    rt: &Runtime<'_, R, G>,
     machine: &Machine,
     scene: &Scene,
     gcode: &str,
     files: &mut F,
     out: &mut S,
-    gate: &G,
 ) -> Ended
     requires machine { IsValidMachine machine.now }
     requires scene { IsValidScene machine.now scene.now }
@@ -155,21 +160,19 @@ fn run_on<R: Threads + Wait + Sync, F: Files, S: Sink, G: Gate + Sync>(
         S.faults out.new ≡ S.faults out.old }
 {
     match find_file(files, gcode) {
-        Ok(()) => run_found(rt, alloc, machine, scene, gcode, files, out, gate),
-        Err(cause) => refuse(alloc, cause, out),
+        Ok(()) => run_found(rt, machine, scene, gcode, files, out),
+        Err(cause) => refuse(rt.alloc, cause, out),
     }
 }
 
 /// Runs a file of G-code on a machine in a file's scene.
 fn run_in<R: Threads + Wait + Sync, F: Files, S: Sink, G: Gate + Sync>(
-    rt: &R,
-    alloc: Global,
+    rt: &Runtime<'_, R, G>,
     machine: &Machine,
     scene: &str,
     gcode: &str,
     files: &mut F,
     out: &mut S,
-    gate: &G,
 ) -> Ended
     requires machine { IsValidMachine machine.now }
     ensures shows { (text : List ℕ) (s : Scene) → F.told files.old scene.now ≡ Some text →
@@ -187,22 +190,20 @@ fn run_in<R: Threads + Wait + Sync, F: Files, S: Sink, G: Gate + Sync>(
     ensures quiet_output { result.cause ≢ Cause.WriteFault → result.cause ≢ Cause.Memory →
         S.faults out.new ≡ S.faults out.old }
 {
-    match read_scene_file(alloc, machine, files, scene) {
-        Ok(scene) => run_on(rt, alloc, machine, &scene, gcode, files, out, gate),
-        Err(cause) => refuse(alloc, cause, out),
+    match read_scene_file(rt.alloc, machine, files, scene) {
+        Ok(scene) => run_on(rt, machine, &scene, gcode, files, out),
+        Err(cause) => refuse(rt.alloc, cause, out),
     }
 }
 
 /// Runs a file of G-code on the machine of a configuration in a scene.
 pub fn run_scene<R: Threads + Wait + Sync, F: Files, S: Sink, G: Gate + Sync>(
-    rt: &R,
-    alloc: Global,
+    rt: &Runtime<'_, R, G>,
     config: &str,
     gcode: &str,
     scene: &str,
     files: &mut F,
     out: &mut S,
-    gate: &G,
 ) -> Ended
     ensures shows { (printer text : List ℕ) (m : Machine) (s : Scene) → F.told files.old config.now ≡ Some printer →
         F.told files.old scene.now ≡ Some text → reading printer ≡ Ok m → scenes.reading m text ≡ Ok s →
@@ -223,21 +224,19 @@ pub fn run_scene<R: Threads + Wait + Sync, F: Files, S: Sink, G: Gate + Sync>(
     ensures quiet_output { result.cause ≢ Cause.WriteFault → result.cause ≢ Cause.Memory →
         S.faults out.new ≡ S.faults out.old }
 {
-    match read_machine(alloc, files, config) {
-        Ok(machine) => run_in(rt, alloc, &machine, scene, gcode, files, out, gate),
-        Err(cause) => refuse(alloc, cause, out),
+    match read_machine(rt.alloc, files, config) {
+        Ok(machine) => run_in(rt, &machine, scene, gcode, files, out),
+        Err(cause) => refuse(rt.alloc, cause, out),
     }
 }
 
 /// Runs a file of G-code on the machine of a configuration, in a scene without entries and without switches.
 pub fn run_plain<R: Threads + Wait + Sync, F: Files, S: Sink, G: Gate + Sync>(
-    rt: &R,
-    alloc: Global,
+    rt: &Runtime<'_, R, G>,
     config: &str,
     gcode: &str,
     files: &mut F,
     out: &mut S,
-    gate: &G,
 ) -> Ended
     ensures shows { (printer : List ℕ) (m : Machine) → F.told files.old config.now ≡ Some printer →
         reading printer ≡ Ok m →
@@ -256,11 +255,11 @@ pub fn run_plain<R: Threads + Wait + Sync, F: Files, S: Sink, G: Gate + Sync>(
     ensures quiet_output { result.cause ≢ Cause.WriteFault → result.cause ≢ Cause.Memory →
         S.faults out.new ≡ S.faults out.old }
 {
-    match read_machine(alloc, files, config) {
+    match read_machine(rt.alloc, files, config) {
         Ok(machine) => {
-            let scene = Scene::empty(alloc);
-            run_on(rt, alloc, &machine, &scene, gcode, files, out, gate)
+            let scene = Scene::empty(rt.alloc);
+            run_on(rt, &machine, &scene, gcode, files, out)
         }
-        Err(cause) => refuse(alloc, cause, out),
+        Err(cause) => refuse(rt.alloc, cause, out),
     }
 }

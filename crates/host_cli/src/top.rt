@@ -9,7 +9,7 @@ use crate::check::run_check;
 use crate::fan::run_fan;
 use crate::load::run_load;
 use crate::mesh::{MeshWords, run_mesh};
-use crate::scene::{refuse, run_plain, run_scene};
+use crate::scene::{Runtime, refuse, run_plain, run_scene};
 use crate::traffic::{Task, TrafficWords, run_traffic};
 use command_words::{Words, WordsFault, read_words};
 use generated_load::LoadFiles;
@@ -41,18 +41,21 @@ pub fn host_main<R: Threads + Wait + Sync, F: Files, S: Sink, G: Gate + Sync>(
         result.cause }
     ensures status { result.status ≡ status_of result.cause }
 {
+    let rt = Runtime {
+        threads: rt,
+        alloc,
+        gate,
+    };
     match read_words(alloc, words) {
-        Ok(Words::Run { config, gcode }) => {
-            run_plain(rt, alloc, config, gcode, files, out, gate)
-        }
+        Ok(Words::Run { config, gcode }) => run_plain(&rt, config, gcode, files, out),
         Ok(
             Words::Scene {
                 config,
                 gcode,
                 scene,
             },
-        ) => run_scene(rt, alloc, config, gcode, scene, files, out, gate),
-        Ok(Words::Make { seed, moves }) => run_load(rt, alloc, seed, moves, out, gate),
+        ) => run_scene(&rt, config, gcode, scene, files, out),
+        Ok(Words::Make { seed, moves }) => run_load(&rt, seed, moves, out),
         Ok(Words::Fan { config, gcode }) => run_fan(alloc, config, gcode, files, out),
         Ok(
             Words::Check {

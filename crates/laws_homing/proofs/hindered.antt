@@ -18,3 +18,4 @@ pub mod Unheard
 pub mod Waking
 pub mod Expired
 pub mod Told
+pub mod Soon

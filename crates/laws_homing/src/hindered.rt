@@ -4,7 +4,7 @@ ghost use Rattle.std.specs.Prelude.{◌≡◌, ◌⊎◌, ◌≤◌, ◌+◌, �
 ghost use Rattle.plan_types.specs.declared.levels.Level.{Level};
 ghost use Rattle.plan_types.specs.declared.machine.BoardDef.{BoardDef};
 ghost use Rattle.plan_types.specs.declared.machine.Machine.{Machine};
-ghost use Rattle.plan_types.specs.Clock.{clock_of, turn_ns};
+ghost use Rattle.plan_types.specs.Clock.{board_tick, clock_of, turn_ns};
 ghost use Rattle.plan_types.specs.Lines.{Clocks, lines_tick};
 ghost use Rattle.plan_types.specs.Machines.{IsValidMachine, board_at};
 ghost use Rattle.wire_scene.specs.declared.scene.Entry.{Entry};
@@ -13,14 +13,15 @@ ghost use Rattle.link_work.specs.Limits.{AllKeepLimits};
 ghost use Rattle.link_work.specs.Stands.{first_state};
 ghost use Rattle.board_asking.specs.Machine.{trigger_of};
 ghost use Rattle.trigger_group.specs.declared.order.Member.{Member};
-ghost use Rattle.host_reactor.specs.Runs.{Came};
-ghost use Rattle.laws_board.specs.turns.Turns.{AreBoardTurns, BoardTurn};
-ghost use Rattle.laws_board.specs.clocks.Runs.{orders_in};
+ghost use Rattle.host_reactor.specs.Runs.{Came, state_at};
+ghost use Rattle.laws_board.specs.turns.Turns.{AreBoardTurns, BoardTurn, latest_state};
+ghost use Rattle.laws_board.specs.clocks.Runs.{IsInRun, orders_in};
 ghost use Rattle.laws_homing.specs.home_runs.Guards.{HasFired};
-ghost use Rattle.laws_homing.specs.home_runs.Sections.{TakesSetUp};
+ghost use Rattle.laws_homing.specs.home_runs.Moments.{AllComeSoon, ComesSoon};
+ghost use Rattle.laws_homing.specs.home_runs.Sections.{HomesFrom, TakesSetUp};
 ghost use Rattle.laws_homing.specs.home_runs.Told.{IsMember};
 ghost use Rattle.laws_homing.specs.clear_boards.Rests.{RestsFrom};
-ghost use Rattle.laws_homing.specs.clear_groups.Sections.{IsFollowed, IsHomingSection, turns_of};
+ghost use Rattle.laws_homing.specs.clear_groups.Sections.{IsFollowed, IsHomingSection, KnowsLines, turns_of};
 ghost use Rattle.laws_homing.specs.clear_groups.SetUp.{AllOfTurn, IsNewAt};
 ghost use Rattle.laws_homing.specs.fired_runs.Since.{BeginsApart, IsFiredAt, ReadsAsTold, ReadsSwitchTrue, ReadsTrue};
 ghost use Rattle.laws_homing.specs.hindered.Hindered.{HaveRoundAhead, HeardByNow, HinderedIn, IsGoingOn, SomeHinderedIn, StoodAt, TellsOn};
@@ -111,4 +112,19 @@ pub fn reports_read_as_told_are_read_true()
     ensures { (m : Machine) (switches : List Switch) (b : ℕ) (c : Came) (before : List Came)
         (turns : List BoardTurn) → ReadsAsTold m switches b c before turns →
         ReadsTrue m switches b c before turns × ReadsSwitchTrue m switches b c before turns }
+{}
+
+/// The law of reports that come soon, in any scene: where what a board told in the turn in front of a homing section's
+/// start or later comes soon (`ComesSoon`), the section's group hears of the board as able to trigger in no turn to
+/// come. What it takes is that the section is known from a turn on, and that each of the board's turns from the start
+/// on begins no later than the turn behind it by the section's clock lines.
+pub fn reports_that_come_soon_are_heard_by_now()
+    ensures { (m : Machine) (switches : List Switch) (pins : List (List Level)) (entries : List Entry)
+        (b from start : ℕ) (members : List Member) (lines : ℕ → Clocks) (c : Came) (before : List Came)
+        (turns : List BoardTurn) → from ≤ start → IsInRun m switches pins entries b before turns →
+        state_at b c.states ≡ latest_state turns → HomesFrom m switches from start members (c ∷ before) →
+        KnowsLines m switches start lines (c ∷ before) → ((k : ℕ) → start ≤ k → k ≤ length before →
+        board_tick (clock_of (board_at m b)) k ≤ lines_tick (lines b) ((k + 1) * turn_ns)) →
+        (start ≤ length turns → ComesSoon m switches pins entries b c before turns) →
+        AllComeSoon m switches pins entries b start before turns → HeardByNow m switches b start (c ∷ before) }
 {}

@@ -275,7 +275,7 @@ pub fn moving_steppers_stop_with_their_trigger()
 {}
 
 /// The law of reports: whatever answer of a board comes to the host that tells of a trigger that it could trigger, it
-/// is of a moment when it could: it has the clock of a tick that the board came to, not before a turn as which began
+/// is of a moment when it could: it has the clock of a tick that is past on the board, not before a turn as which began
 /// nothing that the board had said was under way; and where the trigger can't trigger, up to any later turn's end, it
 /// can't since this tick or a later one. This is so whatever happens on the lines.
 pub fn reports_are_of_moments()

@@ -8,6 +8,7 @@ pub mod Opened
 pub mod Running
 pub mod Bounds
 pub mod Lines
+pub mod Together
 pub mod Whole
 pub mod Fitting
 pub mod Timed

@@ -35,21 +35,21 @@ use Rattle.laws_homing.proofs.home_runs.Timeouts.{nearest_low}
 use Rattle.laws_homing.proofs.switch_runs.Ordering.{bring_fit}
 
 -- an answer that tells of a trigger that it could trigger
-record Able (clocks : Clocks) (turn when : ℕ) (news : List News) : Type 0 where
-  oid : ℕ
-  can : ℕ
-  reason : ℕ
-  clock : ℕ
-  has : HasAnswer (cmd.TrsyncState oid can reason clock) news
-  able : can ≡ 0 → ⊥
-  is : turn_in_run clocks (nearest (turn_tick clocks turn) clock) ≡ Some when
+pub record Able (clocks : Clocks) (turn when : ℕ) (news : List News) : Type 0 where
+  pub oid : ℕ
+  pub can : ℕ
+  pub reason : ℕ
+  pub clock : ℕ
+  pub has : HasAnswer (cmd.TrsyncState oid can reason clock) news
+  pub able : can ≡ 0 → ⊥
+  pub is : turn_in_run clocks (nearest (turn_tick clocks turn) clock) ≡ Some when
 
 able_one : (clocks : Clocks) (turn when : ℕ) (n : News) (news : List News) (c : Cmd) → n.answer ≡ c
     → IsAble clocks turn when c → Able clocks turn when (n ∷ news)
 able_one clocks turn when n news (cmd.TrsyncState oid can reason clock) e a = record { oid = oid; can = can; reason = reason; clock = clock; has = inl e; able = a.0; is = a.1 }
 able_one clocks turn when n news c e a = absurd a
 
-able_answer : (clocks : Clocks) (turn when : ℕ) (news : List News) → TellAble clocks turn when news
+pub able_answer : (clocks : Clocks) (turn when : ℕ) (news : List News) → TellAble clocks turn when news
     → Able clocks turn when news
 able_answer clocks turn when [] t = absurd t
 able_answer clocks turn when (n ∷ news) (inl a) = able_one clocks turn when n news n.answer refl a
@@ -57,7 +57,7 @@ able_answer clocks turn when (n ∷ news) (inr t) =
     let x = able_answer clocks turn when news t in
     record { oid = x.oid; can = x.can; reason = x.reason; clock = x.clock; has = inr x.has; able = x.able; is = x.is }
 
-same_state : (s u : State) → s ∷ [] ≡ u ∷ [] → s ≡ u
+pub same_state : (s u : State) → s ∷ [] ≡ u ∷ [] → s ≡ u
 same_state s u e = cc
 
 pub run_moments : (m : Machine) (switches : List Switch) (pins : List (List Level)) (entries : List Entry) (b : ℕ)

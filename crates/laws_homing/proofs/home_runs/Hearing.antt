@@ -54,7 +54,7 @@ up_to b start u (x ∷ xs) k (inr is) = inr (up_to b start u xs k.1 is)
 
 -- a section with this start, and a turn from it on
 module _ (m : Machine) (switches : List Switch) (b start u : ℕ) (late : start ≤ u) where
-  abbrev HeardSo : Option Homing → Type 0
+  abbrev pub HeardSo : Option Homing → Type 0
   HeardSo None = Unit {0}
   HeardSo (Some h) = h.start ≡ start → HeardUntil start b u h.group.members
 
@@ -85,12 +85,12 @@ module _ (m : Machine) (switches : List Switch) (b start u : ℕ) (late : start 
   all_told_so [] r k = k
   all_told_so (n ∷ ns) r k = all_told_so ns (told m r n) (told_so r n k)
 
-  noted_so : (note : Option Note) (r : Known) → HeardSo r.homing → HeardSo (noted m note r).homing
+  pub noted_so : (note : Option Note) (r : Known) → HeardSo r.homing → HeardSo (noted m note r).homing
   noted_so None r k = k
   noted_so (Some note) r k = all_told_so note.news r k
 
   -- the states come
-  heard_so : (c : Came) (before : List Came) (h : Homing) → CouldUpTo m switches b start u (c ∷ before)
+  pub heard_so : (c : Came) (before : List Came) (h : Homing) → CouldUpTo m switches b start u (c ∷ before)
       → HeardSo (Some h)
       → HeardSo (Some (hears_all (known_in m switches c before).clocks c.states h))
   heard_so c before h could k = λ e.
@@ -110,7 +110,7 @@ module _ (m : Machine) (switches : List Switch) (b start u : ℕ) (late : start 
       let g = hears_all (known_in m switches c before).clocks c.states h in
       goes_so (length before) g (answer_in (length before) g.start g.group) (heard_so c before h could s)
 
-  known_so : (came : List Came) → GoesOn m switches came → CouldUpTo m switches b start u came
+  pub known_so : (came : List Came) → GoesOn m switches came → CouldUpTo m switches b start u came
       → HeardSo (known_by m switches came).homing
   known_so [] g could = tt
   known_so (c ∷ before) g could =

@@ -386,7 +386,7 @@ could_by o x r q t (Turned oid s u at e steps) k = elim (same_or_not oid o) [
         came = (let l = k.came in omega (arith, l, t));
         slot = u;
         is = subst (λ (n : ℕ). slot_at q n ≡ Some u) same there;
-        fired = steps.since x k.came (subst (λ (z : Slot). Since x z.trigger) own k.fired);
+        fired = steps.since x (let l = k.came in omega (arith, l)) (subst (λ (z : Slot). Since x z.trigger) own k.fired);
       }
   | inr other ↦ record { came = (let l = k.came in omega (arith, l, t)); slot = k.slot; is = set_other r q o oid (Some u) e other ∙ k.is; fired = k.fired }
 ]
@@ -434,7 +434,7 @@ late_of x low now pins s k l since due = record {
 pub pass_could : (n o x t : ℕ) (r : Rig) → AllSound r → r.controller.tick ≤ t → all_left t r.triggers < n
     → CouldAt o x r → CouldAt o x (pass n r t).rig
 pass_could n o x t r sound l enough k =
-    let h = pass_late n o x 0 t r (record { slot = k.slot; is = k.is; late = late_of x 0 r.controller.tick r.pins k.slot (sound o k.slot k.is) k.came k.fired (λ y e. omega arith) }) in
+    let h = pass_late n o x 0 t r (record { slot = k.slot; is = k.is; late = late_of x 0 r.controller.tick r.pins k.slot (sound o k.slot k.is) (let c = k.came in omega (arith, c)) k.fired (λ y e. omega arith) }) in
     let tick = finishes n r t (sound_regular r sound) l enough in
     record { came = (let c = k.came in omega (arith, c, l, tick)); slot = h.slot; is = h.is; fired = h.late.fired }
 

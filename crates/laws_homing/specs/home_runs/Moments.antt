@@ -13,10 +13,10 @@ use Rattle.laws_board.specs.turns.Turns.{BoardTurn, stands_after}
 use Rattle.laws_board.specs.clocks.Runs.{IsInRun}
 use Rattle.laws_homing.specs.home_runs.Timeouts.{tick_in}
 
--- A trigger of a board could trigger at a tick that the board came to: where it can't trigger as it stands here, it
--- can't since this tick or a later one.
+-- A trigger of a board could trigger at a tick that is past: where it can't trigger as it stands here, it can't since
+-- this tick or a later one.
 pub record CouldAt (oid tick : ℕ) (r : Rig) : Type 0 where
-  pub came : tick ≤ r.controller.tick
+  pub came : tick < r.controller.tick
   pub slot : Slot
   pub is : slot_at r oid ≡ Some slot
   pub fired : slot.trigger.can ≡ false → tick ≤ slot.trigger.tick

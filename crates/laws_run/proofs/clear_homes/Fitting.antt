@@ -17,7 +17,7 @@ use Rattle.wire_scene.specs.declared.scene.Switch.{Switch}
 use Rattle.board_world.specs.World.{Core, run, start}
 use Rattle.link_work.specs.Limits.{AllKeepLimits}
 use Rattle.link_work.specs.Runs.{AreTurns}
-use Rattle.link_work.specs.Stands.{first_state, orders}
+use Rattle.link_work.specs.Stands.{first_state}
 use Rattle.link_work.specs.Turn.{LinkState, Orders}
 use Rattle.link_work.proofs.Late.{limits_split}
 use Rattle.host_reactor.specs.Runs.{Came, last_turn, state_at}

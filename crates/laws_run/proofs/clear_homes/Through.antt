@@ -94,7 +94,6 @@ use Rattle.laws_run.proofs.home_headline.Planned.{all_notes}
 use Rattle.laws_board.specs.causes.Short.{HaveShortDictionaries}
 use Rattle.laws_run.specs.clear_runs.Clear.{SendsAllSoon}
 use Rattle.laws_run.proofs.clear_homes.Boards.{on}
-use Rattle.laws_run.proofs.clear_homes.Boards as boards
 use Rattle.laws_run.proofs.clear_homes.Expired.{expired_of, missed_of}
 use Rattle.laws_run.proofs.clear_homes.Punctual.{RunsLed, cuts_led, soon_not_late}
 use Rattle.laws_run.proofs.clear_homes.Whole.{never_expired, never_missed}

@@ -1,12 +1,8 @@
 -- A whole run in which axes home, in any scene, and in which a board told that it expired: the link of a member's board was hindered.
-use Rattle.std.proofs.Common.{◌≡◌, ◌⊎◌, ℕ, ◌+◌, ◌-◌, ◌*◌, ◌^◌, ◌<◌, ◌≤◌, inl, inr, List, [], ◌∷◌, ◌++◌, length, map, Option, Some, None, refl, ap, sym, ◌∙◌, subst, arith, length-append}
-use Rattle.std.proofs.Props.{props}
-use Rattle.std.proofs.lemmas.Bool.Decides.{leb_tells}
-use Rattle.std.proofs.lemmas.List.{length-map}
+use Rattle.std.proofs.Common.{◌≡◌, ℕ, ◌+◌, ◌-◌, ◌*◌, ◌^◌, ◌<◌, ◌≤◌, inl, inr, List, [], ◌∷◌, ◌++◌, length, map, Option, Some, None, refl, ap, sym, ◌∙◌, subst, arith}
 use Rattle.plan_types.specs.declared.cause.Cause.{Cause}
 use Rattle.plan_types.specs.declared.levels.Level.{Level}
 use Rattle.plan_types.specs.declared.machine.Machine.{Machine}
-use Rattle.plan_types.specs.declared.plan.SectionKind.TheVariants.{Home}
 use Rattle.plan_types.specs.Clock.{board_tick, clock_of, turn_ns}
 use Rattle.plan_types.specs.Lines.{Clocks, lines_tick}
 use Rattle.plan_types.specs.Machines.{IsValidMachine, board_at}
@@ -29,7 +25,6 @@ use Rattle.laws_board.specs.turns.Turns.{BoardTurn, latest_state}
 use Rattle.laws_board.specs.clocks.Runs.{IsInRun}
 use Rattle.laws_board.proofs.clocks.Lines.{run_before}
 use Rattle.motion_work.specs.Known.{lines_by}
-use Rattle.motion_work.specs.Seen.{Started}
 use Rattle.motion_work.specs.Told.{Told}
 use Rattle.session_work.specs.declared.table.MotionTurn.{MotionTurn}
 use Rattle.session_work.specs.declared.table.ReactorTurn.{ReactorTurn}
@@ -45,18 +40,15 @@ use Rattle.laws_homing.proofs.clear_boards.Clocking.{line_ahead}
 use Rattle.laws_homing.proofs.hindered.Told.{Told as Told_so, read_more, stands_late, told_switch, told_true, was_told}
 use Rattle.laws_homing.specs.fired_runs.Since.{AllRead, AreBehind, AreRead, BeginsApart, IsFiredAt, ReadsAsTold, ReadsSwitchTrue, ReadsTrue}
 use Rattle.laws_homing.specs.hindered.Hindered.{HasRoundAhead, HaveRoundAhead, HeardByNow, HinderedIn, IsGoingOn, SomeHinderedIn, StoodAt, TellsOn}
-use Rattle.laws_homing.specs.home_parts.Cuts.{cuts_on}
 use Rattle.laws_homing.specs.home_parts.Known.{KnowsLately}
 use Rattle.laws_homing.proofs.home_parts.Held.{clocks_by}
-use Rattle.laws_homing.specs.home_plans.Notes.{CameNotes}
 use Rattle.laws_homing.specs.home_runs.Guards.{HasFired}
 use Rattle.laws_homing.specs.home_runs.Sections.{HomesFrom, TakesSetUp}
 use Rattle.laws_homing.specs.home_runs.Told.{IsMember}
-use Rattle.laws_homing.specs.clear_groups.Runs.{BeginsWell, IsTracked}
+use Rattle.laws_homing.specs.clear_groups.Runs.{BeginsWell}
 use Rattle.laws_homing.specs.clear_groups.Sections.{IsFollowed, IsHomingSection, KnowsLines, turns_of}
 use Rattle.laws_homing.specs.clear_groups.SetUp.{AllOfTurn, IsNewAt}
 use Rattle.laws_homing.proofs.clear_groups.Begun.{Began, began}
-use Rattle.laws_homing.proofs.clear_groups.Joined.{join, tracked_later}
 use Rattle.laws_homing.proofs.clear_groups.Newly.{new_later}
 use Rattle.laws_homing.proofs.clear_groups.Noted.{board_followed, states_of_turn}
 use Rattle.laws_homing.proofs.hindered.Expired.{begins_later, homes_later, stood, stood_lately}
@@ -64,24 +56,16 @@ use Rattle.laws_homing.proofs.hindered.Telling.{tell_on}
 use Rattle.laws_run.specs.hindered_runs.Hindered.{AllTookSetUp, HasHindered, IsHinderedIn}
 use Rattle.laws_run.specs.home_headline.Near.{AllReadAsTold, KeepsUp}
 use Rattle.laws_run.specs.home_wholes.Own.{AllSwitchesReadTrue}
-use Rattle.laws_run.specs.lanes.Boards.{IsInWhole, behind, states_of}
+use Rattle.laws_run.specs.lanes.Boards.{IsInWhole, behind}
 use Rattle.laws_run.specs.run_headline.Timely.{link_of}
-use Rattle.laws_run.proofs.clear_homes.Boards as boards
-use Rattle.laws_run.proofs.clear_homes.Bounds.{starts_by}
-use Rattle.laws_run.proofs.clear_homes.Lines.{lines_known, round_by, tracked_by}
-use Rattle.laws_run.proofs.clear_homes.Opened.{begin_well}
-use Rattle.laws_run.proofs.clear_homes.Running.{all_none, end_none}
-use Rattle.laws_run.proofs.clear_runs.Bare.{latest_behind}
-use Rattle.laws_run.proofs.clock_ages.Own.{follow_to}
-use Rattle.laws_run.proofs.home_headline.Clocks.{end_knows}
-use Rattle.laws_run.proofs.home_headline.Planned.{all_notes}
 use Rattle.laws_run.proofs.home_headline.Ranges.{own_small}
-use Rattle.laws_run.proofs.home_headline.Unasked.{never_stop}
+use Rattle.std.proofs.lemmas.List.{length-map}
+use Rattle.laws_run.proofs.clear_homes.Together as together
+use Rattle.laws_run.proofs.clear_homes.Boards as boards
+use Rattle.laws_run.proofs.clear_homes.Lines.{round_by}
 use Rattle.laws_run.proofs.home_wholes.Own.{all_so}
-use Rattle.laws_run.proofs.lanes.Items.{item_state}
-use Rattle.laws_run.proofs.run_headline.Boarded.{Ready, came_cut, came_split, lines_renewed, ready, took, valid_at}
-use Rattle.laws_run.proofs.run_headline.Going.{Lasts, lasts}
-use Rattle.laws_run.proofs.run_headline.Showing.{Facts, came_long}
+use Rattle.laws_run.proofs.run_headline.Boarded.{Ready, came_cut, lines_renewed, ready, took, valid_at}
+use Rattle.laws_run.proofs.run_headline.Showing.{Facts}
 
 -- sections that are begun well are begun apart
 well_apart : (m : Machine) (switches : List Switch) (lines : ℕ → ℕ → Clocks) (ready till : ℕ) (came : List Came) → BeginsWell m switches lines ready till came → BeginsApart m switches came
@@ -114,23 +98,6 @@ some_same : (g h : Homing) (o : Option Homing) → o ≡ Some g → o ≡ Some h
 some_same g h None e f = absurd (let bad : None ≡ Some g = e in cc)
 some_same g h (Some x) e f = (let a : x ≡ g = cc in let z : x ≡ h = cc in sym a ∙ z)
 
--- what each of some boards did; of no other board anything
-turns_by : (b n : ℕ) (f : (i : ℕ) → i < n → List BoardTurn) → ((b < n) ⊎ (n ≤ b)) → List BoardTurn
-turns_by b n f (inl low) = f b low
-turns_by b n f (inr far) = []
-
-is_low : (b n : ℕ) → (b < n) ⊎ (n ≤ b)
-is_low b n = elim (leb_tells (b + 1) n) [ inl p ↦ (let q = p.1 in inl (omega (arith, q))) | inr p ↦ (let q = p.1 in inr (omega (arith, q))) ]
-
-turns_same : (b n : ℕ) (f : (i : ℕ) → i < n → List BoardTurn) (o : (b < n) ⊎ (n ≤ b)) (low : b < n) → turns_by b n f o ≡ f b low
-unfolding turns_by
-turns_same b n f (inl p) low = let low_prop : IsProp (b < n) = hlevel props in ap (λ (h : b < n). f b h) (low_prop p low)
-turns_same b n f (inr p) low = absurd (omega (arith, p, low))
-
-some_turn : (turns : List BoardTurn) → 0 < length turns → BoardTurn
-some_turn [] some = absurd (omega (arith, some))
-some_turn (t ∷ turns) some = t
-
 module _ (m : Machine) (v : IsValidMachine m) (s : Scene) (ts : List MotionTurn) (p : Plans m (length m.boards) ts) (t : Told) (first : ReactorTurn) (rest : List ReactorTurn) (end : ReactorTurn) (c : Cause) (told : p.seen.told ≡ Some t) (f : Facts m s ts (first ∷ rest) end c)
     (long : length (rest ++ end ∷ []) ≤ length p.made) (short : HaveShortDictionaries m)
     (little : (b : ℕ) → b < length m.boards → (w : IsInWhole m s.switches b (clock_of (board_at m b)) (link_of m s b) ts first (rest ++ end ∷ [])) → KeepsUp m s b ts first (rest ++ end ∷ []) p.seen.begun w)
@@ -155,17 +122,8 @@ module _ (m : Machine) (v : IsValidMachine m) (s : Scene) (ts : List MotionTurn)
   abbrev Pins : ℕ → List (List Level)
   Pins b = pins_of (board_at m b) b s.switches
 
-  last : (b : ℕ) (h : b < length m.boards) → Lasts b rest end (states_of (Whole b h).made)
-  last b h = lasts b rest end (states_of (Whole b h).made) (took b (rest ++ end ∷ []) (states_of (Whole b h).made) (Whole b h).states)
-
-  latest : (b : ℕ) (h : b < length m.boards) → latest_state (Turns b h) ≡ (last b h).last ∷ []
-  latest b h = latest_behind [] (Whole b h).made (last b h).front (last b h).last (last b h).are
-
   count : (b : ℕ) (h : b < length m.boards) → length (Turns b h) ≡ length (rest ++ end ∷ [])
   count b h = boards.count m v s ts p t first rest end c told f long short little b h
-
-  many : length Came_all ≡ length (rest ++ end ∷ [])
-  many = let size = came_long [] (first ∷ rest) in let more = length-append rest (end ∷ []) in omega (arith, size, more)
 
   abbrev All_read : (Came → List Came → List BoardTurn → Type 0) → (b : ℕ) → (w : IsInWhole m s.switches b (clock_of (board_at m b)) (link_of m s b) ts first (rest ++ end ∷ [])) → Type 0
   All_read R b w = AllRead R Came_all (behind [] w.made)
@@ -181,31 +139,19 @@ module _ (m : Machine) (v : IsValidMachine m) (s : Scene) (ts : List MotionTurn)
 
   going : (b : ℕ) (h : b < length m.boards) → IsGoingOn m s.switches (Pins b) s.entries b Came_all (Turns b h)
   going b h =
-      let run = boards.run_of m v s ts p t first rest end c told f long short little b h in
-      let home = boards.on m v s ts p t first rest end c told f long short little b h in
-      let none = end_none b s.entries From (length (rest ++ end ∷ [])) (cuts_on m t.clocks (length (rest ++ end ∷ [])) p.seen.begun b) (boards.Here m v s ts p t first rest end c told f long short little b h) home (last b h).front (last b h).last (last b h).are
-      (never_stop m s.switches (Pins b) s.entries b Came_all (Turns b h) run stop) (λ n shut one. in_time b h (last b h).last n (last b h).at shut one) in
-      let size = count b h in
-      let small = p.small in
-      let made = length-map p.made put_of in
-      let range = own_small (board_at m b) (valid_at m.boards b h v.boards) (length (Turns b h)) (omega (arith, size, long, small, made)) in
+      let x = together.stands m v s ts p t first rest end c told f long short little stop in_time notes b h in
       let so = all_so m v s ts p t first rest end c told f short switches b h in
       record {
-        run = run;
-        none_shut = all_none (board_at m b) (Pins b) b s.entries (Turns b h) (last b h).last run.turns_are (latest b h) none;
-        in_range = omega (arith, range);
+        run = x.0;
+        none_shut = x.1;
+        in_range = x.2;
         reads = read_so (ReadsTrue m s.switches b) b h (λ d before past k. told_true m s.switches b d before past k) (Whole b h);
         reads_switch = so.1;
         behind = so.2;
       }
 
-  given : CameNotes p.seen.begun (came_in end ∷ Came_all)
-  given =
-      let Notes : List Came → Type 0 = λ z. CameNotes p.seen.begun z in
-      subst Notes (came_split [] (first ∷ rest) end []) (all_notes m p.seen.text p.seen.begun p.made first (rest ++ end ∷ []) p.put notes)
-
   knows : ((known_by m s.switches Came_all).phase ≡ Connecting → ⊥) × ((noted m end.note (known_by m s.switches Came_all)).clocks ≡ map (lines_by (length Came_all + 276)) t.clocks)
-  knows = end_knows m v s ts p t first rest end told Turn f.turns (boards.sound m v s ts p t first rest end c told f long short little) notes
+  knows = together.knows m v s ts p t first rest end c told f long short little stop in_time notes
 
   -- each section's own clock lines, which are all, track the boards until here
   abbrev Lines : ℕ → ℕ → Clocks
@@ -214,49 +160,17 @@ module _ (m : Machine) (v : IsValidMachine m) (s : Scene) (ts : List MotionTurn)
   abbrev Till : ℕ
   Till = length Came_all + 276
 
-  tracked : (past : List Started) (x : Started) (later : List Started) (axis : ℕ) → p.seen.begun ≡ past ++ x ∷ later → x.section.kind ≡ Home axis
-      → (x.start ≤ x.last) × ((b : ℕ) → b < length m.boards → IsTracked m b (Lines x.start b) (From + 1) x.last Till)
-  tracked past x later axis cut home = (
-    starts_by m ts p t told past x later axis cut home,
-    λ b h. (
-        let own : ℕ → ℕ = λ n. board_tick (clock_of (board_at m b)) n in
-        let l = follow_to m b (length rest) From (clocks_at t.clocks b) (lines_renewed m v s ts p t first rest end told b Turn (Whole b h) h (boards.renewed m v s ts p t first rest end c told f long short little b h)) in
-        let low = l.1 in
-        let all = many in
-        let more = length-append rest (end ∷ []) in
-        let late = tracked_later own (clocks_at t.clocks b) From (From + 1) (omega arith) l.0 in
-        let same = late.1 in
-        let y = tracked_by own (clocks_at t.clocks b) (From + 1) Till late.0 (omega (arith, low, same, all, more)) in
-        let is = y.1 in
-        let few = p.small in
-        let size = length-map p.made put_of in
-        (y.0, omega (arith, is), omega (arith, is, few, size, all, long))),
-  )
-
   well : BeginsWell m s.switches Lines (From + 1) Till (came_in end ∷ Came_all)
-  well =
-      let by = boards.by m v s ts p t first rest end c told f long short little in
-      let row = boards.row m v s ts p t first rest end c told f long short little in
-      let known = boards.known m v s ts p t first rest end c told f long short little in
-      begin_well m s.switches ts p Lines From Till t.first Turn.early row tracked Came_all by known.1 (came_in end) given.0 knows.0
+  well = together.well m v s ts p t first rest end c told f long short little stop in_time notes
 
-  -- what all boards did, turn by turn
   all : (js : List (ℕ → BoardTurn)) × (length js ≡ length Came_all) × ((b : ℕ) → (low : b < length m.boards) → turns_of b js ≡ Turns b low)
-  all =
-      let n = length m.boards in
-      let size = many in
-      let some = v.boards_some in
-      let own = count 0 some in
-      let more = length-append rest (end ∷ []) in
-      let d = some_turn (Turns 0 some) (omega (arith, own, more)) in
-      let js = join n (length Came_all) d (λ i. turns_by i n Turns (is_low i n)) (λ i low. ap length (turns_same i n Turns (is_low i n) low) ∙ count i low ∙ sym size) in
-      (js.0, js.1, λ i low. js.2 i low ∙ turns_same i n Turns (is_low i n) low)
+  all = together.all m v s ts p t first rest end c told f long short little stop in_time notes
 
   runs : (i : ℕ) → i < length m.boards → IsGoingOn m s.switches (Pins i) s.entries i Came_all (turns_of i all.0)
   runs i low = subst (λ (turns : List BoardTurn). IsGoingOn m s.switches (Pins i) s.entries i Came_all turns) (sym (all.2 i low)) (going i low)
 
   here : (i : ℕ) (low : i < length m.boards) → state_at i end.states ≡ latest_state (Turns i low)
-  here i low = item_state i end.states ∙ (last i low).at ∙ sym (latest i low)
+  here i low = together.here m v s ts p t first rest end c told f long short little stop in_time notes i low
 
   states : (i : ℕ) → i < length m.boards → state_at i end.states ≡ latest_state (turns_of i all.0)
   states i low = here i low ∙ ap latest_state (sym (all.2 i low))
@@ -265,7 +179,7 @@ module _ (m : Machine) (v : IsValidMachine m) (s : Scene) (ts : List MotionTurn)
   of_turn = all_of_turn m s.switches Pins s.entries (came_in end) Came_all all.0 all.1 have (λ i low. ((runs i low).run, states i low))
 
   goes : GoesOn m s.switches Came_all
-  goes = (boards.by m v s ts p t first rest end c told f long short little).goes_on
+  goes = together.goes m v s ts p t first rest end c told f long short little stop in_time notes
 
   apart : BeginsApart m s.switches (came_in end ∷ Came_all)
   apart = well_apart m s.switches Lines (From + 1) Till (came_in end ∷ Came_all) well
@@ -274,9 +188,7 @@ module _ (m : Machine) (v : IsValidMachine m) (s : Scene) (ts : List MotionTurn)
   known_lately = ((λ past. knows.1), (boards.known m v s ts p t first rest end c told f long short little).0)
 
   lines_of : (start : ℕ) → KnowsLines m s.switches start (Lines start) (came_in end ∷ Came_all)
-  lines_of start =
-      let sound = boards.sound m v s ts p t first rest end c told f long short little in
-      lines_known m s.switches t.clocks start (came_in end ∷ Came_all) sound.clocks_are.count sound.kept known_lately
+  lines_of start = together.lines_of m v s ts p t first rest end c told f long short little stop in_time notes start
 
   -- the homing section that is known
   module _ (h : Homing) (is : (noted m end.note (known_by m s.switches Came_all)).homing ≡ Some h) where
@@ -328,7 +240,7 @@ module _ (m : Machine) (v : IsValidMachine m) (s : Scene) (ts : List MotionTurn)
             let r = lines_renewed m v s ts p t first rest end told i Turn (Whole i low) low (boards.renewed m v s ts p t first rest end c told f long short little i low) in
             let first_early = r.early in
             let ahead = fol.tracked.ahead (length before) (omega (arith, late, begins)) (omega (arith, ends, soon, few)) in
-            let size = many in
+            let size = together.many m v s ts p t first rest end c told f long short little stop in_time notes in
             let small = p.small in
             let made = length-map p.made put_of in
             let range = own_small (board_at m i) (valid_at m.boards i low v.boards) (length before + 4) (omega (arith, few, size, long, small, made)) in

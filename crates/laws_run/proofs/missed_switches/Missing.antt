@@ -69,7 +69,7 @@ use Rattle.laws_run.specs.home_headline.Near.{AllReadAsTold}
 use Rattle.laws_run.specs.run_ends.Ends.{EndsSo}
 use Rattle.laws_run.specs.run_headline.Made.{IsMade}
 use Rattle.laws_run.proofs.clear_homes.Expired.{missed_of}
-use Rattle.laws_run.proofs.clear_homes.Whole.{is_low, turns_by, turns_same}
+use Rattle.laws_run.proofs.clear_homes.Together.{is_low, turns_by, turns_same}
 use Rattle.laws_run.proofs.clear_runs.Bare.{latest_behind}
 use Rattle.laws_run.proofs.clock_ages.Own.{follow_to}
 use Rattle.laws_run.proofs.clock_ages.Renews.{renews}

@@ -1,3 +1,4 @@
+pub mod Slots
 pub mod Heard
 pub mod Held
 pub mod Renewed

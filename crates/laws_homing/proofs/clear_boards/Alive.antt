@@ -1,10 +1,8 @@
 -- A board whose trigger can trigger, over a turn.
 use Rattle.std.proofs.Common.{◌≡◌, ℕ, ◌+◌, ◌<◌, ◌≤◌, ◌^◌, Bool, true, false, List, [], ◌∷◌, Option, Some, None, max, refl, ap, sym, ◌∙◌, subst, arith, ◌⊎◌, inl, inr}
 use Rattle.std.specs.Prelude.{if◌then◌else◌, nat_lt, slice_index_or}
-use Rattle.std.proofs.lemmas.List.{get_or-set_same}
 use Rattle.std.proofs.lemmas.Bool.Decides.{leb_tells}
 use Rattle.plan_types.specs.declared.levels.Level.{Level}
-use Rattle.plan_types.specs.declared.plan.BoardState.{BoardState}
 use Rattle.plan_types.specs.declared.plan.BoardState.TheVariants.{Running}
 use Rattle.plan_types.specs.Board.{nearest}
 use Rattle.board_trig.specs.declared.sampling.Sampling.{Sampling}
@@ -12,10 +10,9 @@ use Rattle.board_trig.specs.declared.trigger.Trigger.{Trigger}
 use Rattle.board_trig.specs.Trigger as trig
 use Rattle.board_trig.specs.Sampling.{IsTriggerTick}
 use Rattle.msg_code.specs.declared.cmd.Cmd.{Cmd}
-use Rattle.msg_code.specs.declared.cmd.Cmd.TheVariants as cmd
-use Rattle.board_sim.specs.Rig.{Passed, Rig, Slot, acts, acts_running, all_left, becomes, expires_at_once, pass, passes, set_timeout, slot_at, takes, takes_all}
+use Rattle.board_sim.specs.Rig.{Passed, Rig, Slot, all_left, pass, passes, slot_at, takes, takes_all}
 use Rattle.board_sim.specs.RigRuns.{AllSound, AreRegular}
-use Rattle.board_sim.proofs.Bound.{one_slot, slot_range}
+use Rattle.board_sim.proofs.Bound.{one_slot}
 use Rattle.board_sim.proofs.RigTicks.{takes_rig_tick}
 use Rattle.laws_homing.specs.home_runs.Guards.{IsSole}
 use Rattle.laws_homing.specs.clear_boards.Alive.{IsAlive, IsSwitched, RelayNone, StaysAlive}
@@ -25,6 +22,7 @@ use Rattle.laws_homing.specs.clear_boards.Reports.{IsReported}
 use Rattle.laws_homing.specs.clear_boards.Turned.{AreBehind, IsBehind, Relays}
 use Rattle.laws_homing.proofs.clear_boards.Firing.{passes_gone}
 use Rattle.laws_homing.proofs.clear_boards.Reports.{reports_told}
+use Rattle.laws_homing.proofs.clear_boards.Slots.{Follows, OfEach, running_beside, running_each, with_trigger}
 use Rattle.laws_homing.proofs.clear_boards.Turned.{ran}
 
 -- a slot whose timeout alone is another
@@ -38,67 +36,40 @@ Left oid s r = (o : Option ℕ) × (slot_at r oid ≡ Some (with_timeout s o))
 pub less_is : (a b : ℕ) → a < b → nat_lt a b ≡ true
 less_is a b l = elim (leb_tells (a + 1) b) [ inl p ↦ (let e : a + 1 ≡ 1 + a = omega arith in grind arith) | inr p ↦ absurd (omega (arith, p.1, l)) ]
 
-once_by : (o : Option ℕ) (r : Rig) (oid : ℕ) (s : Slot) (t : Trigger) → t.untold ≡ o → s.trigger.untold ≡ None → t.untold ≡ s.trigger.untold → slot_at r oid ≡ Some s → slot_at (expires_at_once r oid s t o).rig oid ≡ Some (record s { trigger = t })
-once_by None r oid s t e none same there = get_or-set_same r.triggers oid (Some (record s { trigger = t })) None (slot_range r.triggers oid s there)
-once_by (Some n) r oid s t e none same there = absurd (let bad : None ≡ Some n = sym none ∙ sym same ∙ e in cc)
-
 pub timed_is : (can early : Bool) (now at : ℕ) (t : Trigger) → early ≡ true
     → (o : Option ℕ) × ((if can then (if early then record t { timeout = Some at } else record (trig.fired now t.expire t) { untold = Some now }) else t) ≡ record t { timeout = o })
 timed_is true true now at t e = (Some at, refl)
 timed_is true false now at t e = absurd (cc)
 timed_is false early now at t e = (t.timeout, refl)
 
-timeout_left : (oid clock : ℕ) (r : Rig) (s : Slot) → slot_at r oid ≡ Some s → s.trigger.untold ≡ None → r.controller.tick < nearest r.controller.tick clock → Left oid s (set_timeout r oid (Some s) clock).rig
-timeout_left oid clock r s there told ahead =
-    let now = r.controller.tick in
-    let at = nearest now clock in
-    let x = timed_is s.trigger.can (nat_lt now at) now at s.trigger (less_is now at ahead) in
-    let t = trig.with_timeout now clock s.trigger in
-    let same : t.untold ≡ s.trigger.untold = ap (λ (y : Trigger). y.untold) x.1 in
-    (x.0, once_by t.untold r oid s t refl told same there ∙ ap (λ (y : Trigger). Some (record s { trigger = y })) x.1)
+-- a command that is not to trigger it, taken where its timeout is ahead
+abbrev LeftOf : ℕ → Slot → (List (List Level) → ℕ → Slot → Type 0)
+LeftOf oid s pins i u = i ≡ oid → (o : Option ℕ) × (u ≡ with_timeout s o)
 
-acts_left : (oid clock : ℕ) (r : Rig) (c : Cmd) (s : Slot) → slot_at r oid ≡ Some s → s.trigger.untold ≡ None → r.controller.tick < nearest r.controller.tick clock → IsBehind oid clock c → (Relays c → ⊥) → Left oid s (acts r c).rig
-acts_left oid clock r (cmd.TrsyncSetTimeout other at) s there told ahead k none =
-    let same = k.0 in
-    let At : ℕ → Type 0 = λ i. Left oid s (set_timeout r i (slot_at r i) at).rig in
-    let Of : Option Slot → Type 0 = λ o. Left oid s (set_timeout r oid o at).rig in
-    let Clock : ℕ → Type 0 = λ n. r.controller.tick < nearest r.controller.tick n in
-    subst At (sym same) (subst Of (sym there) (timeout_left oid at r s there told (subst Clock (sym k.1) ahead)))
-acts_left oid clock r (cmd.TrsyncTrigger other reason) s there told ahead k none = absurd (none tt)
-acts_left oid clock r (cmd.ConfigTrsync other) s there told ahead k none = absurd k
-acts_left oid clock r (cmd.TrsyncStart other at every reason) s there told ahead k none = absurd k
-acts_left oid clock r (cmd.StepperStopOnTrigger stepper other) s there told ahead k none = absurd k
-acts_left oid clock r (cmd.ConfigEndstop other pin pull) s there told ahead k none = absurd k
-acts_left oid clock r (cmd.EndstopHome other at sample count rest value trigger reason) s there told ahead k none = absurd k
-acts_left oid clock r c s there told ahead k none = (s.trigger.timeout, there)
+abbrev Ahead : ℕ → ℕ → (ℕ → Cmd → Type 0)
+Ahead oid clock now c = IsBehind oid clock c × (Relays c → ⊥) × (now < nearest now clock)
 
-acts_pins : (oid clock : ℕ) (r : Rig) (c : Cmd) → IsBehind oid clock c → (acts r c).rig.pins ≡ r.pins
-acts_pins oid clock r (cmd.TrsyncSetTimeout other at) k = by (slot_at r other)
-  where
-    once : (o : Option ℕ) (s : Slot) (t : Trigger) → (expires_at_once r other s t o).rig.pins ≡ r.pins
-    once None s t = refl
-    once (Some n) s t = refl
-
-    by : (o : Option Slot) → (set_timeout r other o at).rig.pins ≡ r.pins
-    by None = refl
-    by (Some s) = let t = trig.with_timeout r.controller.tick at s.trigger in once t.untold s t
-acts_pins oid clock r (cmd.TrsyncTrigger other reason) k = by (slot_at r other)
-  where
-    by : (o : Option Slot) → (Rattle.board_sim.specs.Rig.trigger r other o reason).rig.pins ≡ r.pins
-    by None = refl
-    by (Some s) = refl
-acts_pins oid clock r (cmd.ConfigTrsync other) k = absurd k
-acts_pins oid clock r (cmd.TrsyncStart other at every reason) k = absurd k
-acts_pins oid clock r (cmd.StepperStopOnTrigger stepper other) k = absurd k
-acts_pins oid clock r (cmd.ConfigEndstop other pin pull) k = absurd k
-acts_pins oid clock r (cmd.EndstopHome other at sample count rest value trigger reason) k = absurd k
-acts_pins oid clock r c k = refl
+follows_left : (oid clock : ℕ) (s : Slot) → s.trigger.untold ≡ None → Follows (LeftOf oid s) (Ahead oid clock)
+follows_left oid clock s told = record {
+  made = λ pins now i fit. absurd fit.0;
+  starts = λ pins now i u at every reason fit k. absurd fit.0;
+  limits = λ pins now i u at fit can ahead k own. (Some (nearest now at), ap (λ (z : Slot). with_trigger z (record z.trigger { timeout = Some (nearest now at) })) (k own).1);
+  expires = λ pins now i u at fit can past k. absurd (let ahead : now < nearest now at = subst (λ (n : ℕ). now < nearest now n) (sym fit.0.1) fit.2 in omega (arith, ahead, past));
+  says = λ pins i u n e k own. absurd (let bad : None ≡ Some n = sym told ∙ ap (λ (z : Slot). z.trigger.untold) (sym (k own).1) ∙ e in cc);
+  fires = λ pins now i u reason fit can k. absurd (fit.1 tt);
+  binds = λ pins now i u stepper fit k. absurd fit.0;
+  homes = λ pins now i u endstop pin g fit k. absurd fit.0;
+}
 
 pub one_left : (oid clock : ℕ) (r : Rig) (c : Cmd) (s : Slot) → r.controller.state ≡ Running → slot_at r oid ≡ Some s → s.trigger.untold ≡ None → r.controller.tick < nearest r.controller.tick clock → IsBehind oid clock c → (Relays c → ⊥)
     → Left oid s (takes r c).rig × ((takes r c).rig.pins ≡ r.pins)
 one_left oid clock r c s runs there told ahead k none =
-    let At : BoardState → Type 0 = λ o. Left oid s (acts_running o r c).rig × ((acts_running o r c).rig.pins ≡ r.pins) in
-    subst At (sym runs) (acts_left oid clock r c s there told ahead k none, acts_pins oid clock r c k)
+    let state = r.controller.state in
+    let beside = running_beside state r c in
+    let u = beside.3 oid s there in
+    let old : OfEach (LeftOf oid s) r = λ i v at own. (s.trigger.timeout, one_slot (slot_at r oid) v s (subst (λ (n : ℕ). slot_at r n ≡ Some v) own at) there) in
+    let new = running_each (LeftOf oid s) (Ahead oid clock) (follows_left oid clock s told) state r c (k, none, ahead) old oid u.0 u.1 refl in
+    ((new.0, u.1 ∙ ap (λ (z : Slot). Some z) new.1), beside.0)
 
 pub all_left_of : (oid clock now : ℕ) (r : Rig) (cs : List Cmd) (s : Slot) → (takes_all r cs).rig.controller.state ≡ Running → slot_at r oid ≡ Some s → s.trigger.untold ≡ None → r.controller.tick ≡ now → now < nearest now clock → AreBehind oid clock cs → RelayNone cs
     → Left oid s (takes_all r cs).rig × ((takes_all r cs).rig.pins ≡ r.pins)

@@ -19,6 +19,7 @@ use Rattle.laws_homing.specs.clear_boards.Firing.{AllKeen, AreSpoken, IsKeen, Is
 use Rattle.laws_homing.specs.clear_boards.Limited.{limit_of}
 use Rattle.laws_homing.proofs.clear_boards.Held.{at_set, ended_reason, rested_is, sampled_reason, switch_reason}
 use Rattle.laws_homing.proofs.home_runs.Saying.{bit_none}
+use Rattle.laws_homing.proofs.clear_boards.Slots.{clock_small, no_both}
 
 pub off_front : (oid clock : ℕ) (xs ys : List Cmd) → TellOff oid clock xs → TellOff oid clock (xs ++ ys)
 off_front oid clock [] ys t = absurd t
@@ -60,13 +61,6 @@ record Went (oid base until limit : ℕ) (pins : List (List Level)) (s : Slot) (
   keen : IsKeen base limit until pins (record s { trigger = a.trigger })
   small : AreSpoken base limit until (told oid a.event)
   off : s.trigger.can ≡ true → a.trigger.can ≡ false → (at : ℕ) × (base ≤ at) × (at < until) × (at < limit) × TellOff oid (at % 2 ^ 32) (told oid a.event)
-
-clock_small : (tick : ℕ) → tick % 2 ^ 32 < 2 ^ 32
-clock_small tick = omega arith
-
-no_both : (b : Bool) → b ≡ true → b ≡ false → ⊥
-no_both true e f = cc
-no_both false e f = cc
 
 expired_not : (can : Bool) (limit at until : ℕ) (o : Option ℕ) → o ≡ limit_of can limit → o ≡ Some at → at < until → until ≤ limit → ⊥
 expired_not true limit at until o e f less far = let same : Some limit ≡ Some at = sym e ∙ f in let is : limit ≡ at = cc in absurd (omega (arith, is, less, far))

@@ -1,8 +1,8 @@
 -- A board of a homing group over a turn of a clear link.
-use Rattle.std.proofs.Common.{◌≡◌, ℕ, ◌<◌, ◌≤◌, Bool, true, false, List, [], ◌∷◌, ◌++◌, length, Option, Some, None, ap, sym, ◌∙◌, subst, arith}
-use Rattle.std.specs.Prelude.{if◌then◌else◌, nat_lt}
+use Rattle.std.proofs.Common.{◌≡◌, ℕ, ◌<◌, ◌≤◌, List, [], ◌∷◌, ◌++◌, length, Option, Some, None, ap, sym, ◌∙◌, subst, arith}
+use Rattle.std.specs.Prelude.{nat_lt}
 use Rattle.plan_types.specs.declared.plan.BoardState.{BoardState}
-use Rattle.plan_types.specs.declared.plan.BoardState.TheVariants.{Running, Shut}
+use Rattle.plan_types.specs.declared.plan.BoardState.TheVariants.{Running}
 use Rattle.plan_types.specs.Board.{nearest}
 use Rattle.msg_code.specs.declared.cmd.Cmd.{Cmd}
 use Rattle.msg_code.specs.declared.cmd.Cmd.TheVariants as cmd
@@ -18,7 +18,7 @@ use Rattle.board_world.specs.World.{says, shut_before}
 use Rattle.laws_board.proofs.clocks.Answers.{Each, each_both}
 use Rattle.laws_homing.specs.home_runs.Guards.{HasFired, IsSole}
 use Rattle.laws_homing.proofs.home_runs.Guarding.{passes_next}
-use Rattle.laws_homing.proofs.home_runs.Saying.{IsOther, Says, all_later, all_say, board_tells, time_says}
+use Rattle.laws_homing.proofs.home_runs.Saying.{IsOther, Says, all_later, all_say, board_tells, shut_other, time_says}
 use Rattle.laws_homing.specs.clear_boards.Alive.{RelayNone}
 use Rattle.laws_homing.specs.clear_boards.Firing.{AreNumbered, AreSpoken, IsNumbered, IsSpoken}
 use Rattle.laws_homing.specs.clear_boards.Turned.{AreBehind, IsBehind, Relays}
@@ -74,21 +74,13 @@ takes_spoken base limit until oid clock now r (c ∷ cs) s runs there told at ah
     let rest = takes_spoken base limit until oid clock now (takes r c).rig cs (with_timeout s left.0.0) runs left.0.1 told (takes_rig_tick r c ∙ at) ahead k.1 none.1 in
     small_both base limit until (takes r c).answers (takes_all (takes r c).rig cs).answers one rest
 
-shut_if : (base limit until : ℕ) (b : Bool) (reason : ℕ) → AreSpoken base limit until (if b then cmd.IsShutdown reason ∷ [] else [])
-shut_if base limit until true reason = (tt, tt)
-shut_if base limit until false reason = tt
-
-shut_spoken : (base limit until from to : ℕ) (s : BoardState) → AreSpoken base limit until (says_shut s from to)
-shut_spoken base limit until from to Running = tt
-shut_spoken base limit until from to (Shut reason at first) = shut_if base limit until (nat_lt from to) reason
-
 -- all that it answers in the turn
 pub turn_spoken : (base limit until : ℕ) (r : Rig) (cs : List Cmd) → AreSpoken base limit until (takes_all r cs).answers → AreSpoken base limit until (passes (takes_all r cs).rig until).answers
     → AreSpoken base limit until ((takes_all r cs).answers ++ says (takes_all r cs).rig until)
 turn_spoken base limit until r cs k l =
     let q = (takes_all r cs).rig in
     let shut = says_shut (shut_before q.controller.state q.controller.tick) q.controller.tick until in
-    small_both base limit until (takes_all r cs).answers (says q until) k (small_both base limit until (passes q until).answers shut l (shut_spoken base limit until q.controller.tick until (shut_before q.controller.state q.controller.tick)))
+    small_both base limit until (takes_all r cs).answers (says q until) k (small_both base limit until (passes q until).answers shut l (others_spoken base limit until shut (shut_other (shut_before q.controller.state q.controller.tick) q.controller.tick until)))
 
 one_numbered : (j : ℕ) (q : Rig) (c : Cmd) → Says ⊥ j q c → IsNumbered c
 one_numbered j q (cmd.TrsyncState oid can reason clock) s = (s.0, s.1)

@@ -1,6 +1,6 @@
 -- While time passes, a trigger that can trigger tells so at each of its reports.
-use Rattle.std.proofs.Common.{◌≡◌, ◌≢◌, ℕ, zero, suc, ◌+◌, ◌/◌, ◌%◌, ◌^◌, ◌<◌, ◌≤◌, Bool, true, false, List, [], ◌∷◌, ◌++◌, get_or, Option, Some, None, refl, ap, sym, ◌∙◌, subst, arith, ◌⊎◌, inl, inr}
-use Rattle.std.specs.Prelude.{if◌then◌else◌, nat_le}
+use Rattle.std.proofs.Common.{◌≡◌, ◌≢◌, ℕ, zero, suc, ◌+◌, ◌/◌, ◌%◌, ◌^◌, ◌<◌, ◌≤◌, Bool, true, List, [], ◌∷◌, ◌++◌, get_or, Option, Some, None, refl, ap, sym, ◌∙◌, subst, arith, ◌⊎◌, inl, inr}
+use Rattle.std.specs.Prelude.{if◌then◌else◌}
 use Rattle.std.proofs.lemmas.List.{get_or-set_other, get_or-set_same}
 use Rattle.plan_types.specs.declared.levels.Level.{Level}
 use Rattle.board_trig.specs.declared.trigger.Happening.{Happening}
@@ -11,7 +11,7 @@ use Rattle.board_trig.specs.Trigger as trig
 use Rattle.board_trig.proofs.Nexts.{is_next}
 use Rattle.msg_code.specs.declared.cmd.Cmd.{Cmd}
 use Rattle.board_sim.specs.Board.{bit}
-use Rattle.board_sim.specs.Rig.{Passed, Rig, Slot, all_left, at_of, earliest, goes_on, happens, happens_to, levels_of, moment_in, moment_of, pass, passes_by, rested, rests_to, runs_to, slot_at, sooner, told}
+use Rattle.board_sim.specs.Rig.{Passed, Rig, Slot, all_left, at_of, earliest, goes_on, happens, happens_to, levels_of, moment_in, moment_of, pass, passes_by, rested, rests_to, runs_to, slot_at, told}
 use Rattle.board_sim.specs.RigRuns.{AreRegular, IsRegular}
 use Rattle.board_sim.proofs.Bound.{map_at, one_slot, same_or_not, slot_range}
 use Rattle.board_sim.proofs.Chosen.{chosen_is}
@@ -19,6 +19,7 @@ use Rattle.board_sim.proofs.Moments.{all_in}
 use Rattle.board_sim.proofs.Passing.{Left, happens_left, in_time}
 use Rattle.board_sim.proofs.Ticks.{timed}
 use Rattle.laws_homing.specs.clear_boards.Reports.{IsReported, TellCan}
+use Rattle.laws_homing.proofs.clear_boards.Slots.{none_next}
 
 tell_front : (oid clock : ℕ) (xs ys : List Cmd) → TellCan oid clock xs → TellCan oid clock (xs ++ ys)
 tell_front oid clock [] ys t = absurd t
@@ -86,19 +87,8 @@ happens_so oid k until report r s None there here h is = record { slot = s; is =
 happens_so oid k until report r s (Some u) there here h is = happens_here oid k until report r s u (same_or_not oid k) there here h is
 
 -- where nothing happens any more, no report is left
-sooner_none : (oid : ℕ) (o : Option ℕ) (rest : Option (ℕ × ℕ)) → sooner oid o rest ≡ None → (o ≡ None) × (rest ≡ None)
-sooner_none oid None rest e = (refl, e)
-sooner_none oid (Some moment) None e = absurd (let f : Some (moment, oid) ≡ None = e in cc)
-sooner_none oid (Some moment) (Some rest) e = absurd (by (nat_le moment rest.0) e)
-  where
-    by : (b : Bool) → (if b then Some (moment, oid) else Some rest) ≡ None → ⊥
-    by true f = cc
-    by false f = cc
-
 pub none_in : (r : Rig) (until p oid : ℕ) (xs : List (Option Slot)) (s : Slot) → earliest r until p xs ≡ None → get_or xs oid None ≡ Some s → moment_in r until (Some s) ≡ None
-none_in r until p oid [] s e at = absurd (cc)
-none_in r until p zero (x ∷ xs) s e at = ap (λ (o : Option Slot). moment_in r until o) (sym at) ∙ (sooner_none p (moment_in r until x) (earliest r until (p + 1) xs) e).0
-none_in r until p (suc oid) (x ∷ xs) s e at = none_in r until (p + 1) oid xs s (sooner_none p (moment_in r until x) (earliest r until (p + 1) xs) e).1 at
+none_in r until p oid xs s e at = none_next r until p oid xs s at e
 
 pub none_left : (levels : List Level) (until report : ℕ) (t : Trigger) (e : Happening) → moment_of e ≡ None → IsNextOf levels until t e → ReportsAt t report → until ≤ report
 none_left levels until report t Nothing m next is = next.2 report is

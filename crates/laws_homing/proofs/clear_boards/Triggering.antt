@@ -25,6 +25,7 @@ use Rattle.board_sim.proofs.RigTicks.{takes_rig_tick}
 use Rattle.laws_homing.specs.clear_boards.Firing.{TellOff}
 use Rattle.laws_homing.specs.clear_boards.Turned.{AreBehind, IsBehind, Relays, RelaysOne, Sets, SetsOne}
 use Rattle.laws_homing.proofs.clear_boards.Firing.{off_behind, off_front}
+use Rattle.laws_homing.proofs.clear_boards.Slots.{no_both}
 
 -- a trigger that can trigger, at no tick before this one
 pub record Keen (low : ℕ) (pins : List (List Level)) (s : Slot) : Type 0 where
@@ -43,10 +44,6 @@ pub record Gone (oid low until : ℕ) (s : Slot) (answers : List Cmd) : Type 0 w
   pub begun : low ≤ s.trigger.tick
   pub early : s.trigger.tick < until
   pub tells : TellOff oid (s.trigger.tick % 2 ^ 32) answers
-
-no_both : (b : Bool) → b ≡ true → b ≡ false → ⊥
-no_both true e f = cc
-no_both false e f = cc
 
 module _ (oid low until : ℕ) where
   abbrev So : List (List Level) → Slot → List Cmd → Type 0
@@ -69,14 +66,17 @@ module _ (oid low until : ℕ) where
     tells = off_behind oid (at % 2 ^ 32) xs (told oid (trig.told at (trig.fired at reason s.trigger)).event) (inl (refl, refl, refl));
   }
 
-  happened_so : (pins : List (List Level)) (e : Happening) (s : Slot) (xs : List Cmd) → IsNextOf (slice_index_or pins s.pin []) until s.trigger e → So pins s xs
-      → So pins (record s { trigger = (trig.happened (slice_index_or pins s.pin []) until e s.trigger).trigger }) (xs ++ told oid (trig.happened (slice_index_or pins s.pin []) until e s.trigger).event)
-  happened_so pins Nothing s xs next (inl k) =
+  quiet_so : (pins : List (List Level)) (s : Slot) (xs : List Cmd) → So pins s xs → So pins (record s { trigger = (trig.happened (slice_index_or pins s.pin []) until Nothing s.trigger).trigger }) (xs ++ [])
+  quiet_so pins s xs (inl k) =
       let levels = slice_index_or pins s.pin [] in
       inl (record { can = k.can; told = k.told; moves = quiet_moves s.trigger.sampling levels until k.moves; timed = k.timed; sampled = λ y is t at. (let old = quiet_switch s.trigger.sampling levels until y t is at in k.sampled old.0 old.1 t old.2) })
-  happened_so pins Nothing s xs next (inr g) =
+  quiet_so pins s xs (inr g) =
       let levels = slice_index_or pins s.pin [] in
       inr (record { fired = g.fired; told = g.told; idle = g.idle; moves = quiet_moves s.trigger.sampling levels until g.moves; begun = g.begun; early = g.early; tells = off_front oid (s.trigger.tick % 2 ^ 32) xs [] g.tells })
+
+  happened_so : (pins : List (List Level)) (e : Happening) (s : Slot) (xs : List Cmd) → IsNextOf (slice_index_or pins s.pin []) until s.trigger e → So pins s xs
+      → So pins (record s { trigger = (trig.happened (slice_index_or pins s.pin []) until e s.trigger).trigger }) (xs ++ told oid (trig.happened (slice_index_or pins s.pin []) until e s.trigger).event)
+  happened_so pins Nothing s xs next k = quiet_so pins s xs k
   happened_so pins (Expires at) s xs next (inl k) = inr (fires s at s.trigger.expire xs (k.timed at next.0) next.1 k.told)
   happened_so pins (Expires at) s xs next (inr g) = absurd (let bad : None ≡ Some at = sym g.idle ∙ next.0 in cc)
   happened_so pins (Switches at) s xs next (inl k) = inr (fires s at (trig.reason_of s.trigger.sampling) xs (k.sampled next.0.0 next.0.2 at next.0.3) next.1 k.told)
@@ -129,22 +129,11 @@ module _ (oid low until : ℕ) where
   ]
 
   rests_so : (r : Rig) (xs : List Cmd) → Stands r xs → Stands (rests_to r until).rig (xs ++ [])
-  rests_so r xs d =
-      let s = d.slot in
-      let levels = slice_index_or r.pins s.pin [] in
-      record {
-        slot = record s { trigger = (trig.happened levels until Nothing s.trigger).trigger };
-        is = map_at (rested r.pins until) r.triggers oid refl ∙ ap (rested r.pins until) d.is;
-        so = by d.so;
-      }
-    where
-      by : So r.pins d.slot xs → So r.pins (record d.slot { trigger = (trig.happened (slice_index_or r.pins d.slot.pin []) until Nothing d.slot.trigger).trigger }) (xs ++ [])
-      by (inl k) =
-          let levels = slice_index_or r.pins d.slot.pin [] in
-          inl (record { can = k.can; told = k.told; moves = quiet_moves d.slot.trigger.sampling levels until k.moves; timed = k.timed; sampled = λ y is t at. (let old = quiet_switch d.slot.trigger.sampling levels until y t is at in k.sampled old.0 old.1 t old.2) })
-      by (inr g) =
-          let levels = slice_index_or r.pins d.slot.pin [] in
-          inr (record { fired = g.fired; told = g.told; idle = g.idle; moves = quiet_moves d.slot.trigger.sampling levels until g.moves; begun = g.begun; early = g.early; tells = off_front oid (d.slot.trigger.tick % 2 ^ 32) xs [] g.tells })
+  rests_so r xs d = record {
+    slot = record d.slot { trigger = (trig.happened (slice_index_or r.pins d.slot.pin []) until Nothing d.slot.trigger).trigger };
+    is = map_at (rested r.pins until) r.triggers oid refl ∙ ap (rested r.pins until) d.is;
+    so = quiet_so r.pins d.slot xs d.so;
+  }
 
   goes_so : (o : Option (ℕ × ℕ)) (xs : List Cmd) (x y : Passed) → Stands x.rig (xs ++ x.answers) → Stands y.rig (xs ++ y.answers) → Stands (goes_on o x y).rig (xs ++ (goes_on o x y).answers)
   goes_so None xs x y k l = k

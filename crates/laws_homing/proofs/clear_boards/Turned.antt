@@ -1,6 +1,6 @@
 -- A board's turn behind the set-up of a homing section.
 use Rattle.std.proofs.Common.{◌≡◌, ℕ, suc, ◌+◌, ◌<◌, ◌≤◌, Bool, true, false, List, [], ◌∷◌, Option, Some, None, refl, ap, sym, ◌∙◌, subst, arith, ◌⊎◌, inl, inr}
-use Rattle.std.specs.Prelude.{if◌then◌else◌, nat_le, nat_lt}
+use Rattle.std.specs.Prelude.{if◌then◌else◌, nat_le}
 use Rattle.std.proofs.lemmas.List.{get_or-set_same}
 use Rattle.plan_types.specs.declared.plan.BoardState.{BoardState}
 use Rattle.plan_types.specs.declared.plan.BoardState.TheVariants.{Running, Shut}
@@ -22,7 +22,8 @@ use Rattle.laws_homing.proofs.home_runs.Saying.{EachCalm, all_next}
 use Rattle.laws_homing.specs.clear_boards.Held.{AllTellOnly}
 use Rattle.laws_homing.specs.clear_boards.Limited.{AllFired, IsLimited, IsRenewing, limit_by, limit_of}
 use Rattle.laws_homing.specs.clear_boards.Turned.{AreBehind, IsBehind, IsTurnedTo, Relays, RelaysOne, Sets, SetsNone, SetsOne}
-use Rattle.laws_homing.proofs.clear_boards.Held.{all_both}
+use Rattle.laws_homing.proofs.clear_boards.Held.{all_both, others_tell}
+use Rattle.laws_homing.proofs.home_runs.Saying.{shut_other}
 use Rattle.laws_homing.proofs.clear_boards.Limited.{pass_limited, takes_limited}
 
 -- a board that runs behind some commands ran before them
@@ -115,14 +116,6 @@ takes_fired oid tick limit next clock r (c ∷ cs) runs k fired limited =
     (rest.0, all_both tick (takes r c).answers (takes_all (takes r c).rig cs).answers one.1 rest.1)
 
 -- and as it runs on
-shut_if : (tick : ℕ) (b : Bool) (reason : ℕ) → AllTellOnly tick (if b then cmd.IsShutdown reason ∷ [] else [])
-shut_if tick true reason = (tt, tt)
-shut_if tick false reason = tt
-
-shut_tells : (tick from to : ℕ) (s : BoardState) → AllTellOnly tick (says_shut s from to)
-shut_tells tick from to Running = tt
-shut_tells tick from to (Shut reason at first) = shut_if tick (nat_lt from to) reason
-
 pub passes_limited : (oid tick limit until : ℕ) (r : Rig) → ((until ≤ limit) ⊎ ((limit ≡ tick) ⊎ AllFired r)) → IsLimited oid tick limit r → IsLimited oid tick limit (passes r until).rig × AllTellOnly tick (passes r until).answers
 passes_limited oid tick limit until r far k = by (nat_le r.controller.tick until)
   where
@@ -138,7 +131,7 @@ runs_on oid tick limit until r cs far k =
     let shut = says_shut (shut_before q.controller.state q.controller.tick) q.controller.tick until in
     record {
       limited = p.0;
-      tells = all_both tick (takes_all r cs).answers (says q until) k.1 (all_both tick (passes q until).answers shut p.1 (shut_tells tick q.controller.tick until (shut_before q.controller.state q.controller.tick)));
+      tells = all_both tick (takes_all r cs).answers (says q until) k.1 (all_both tick (passes q until).answers shut p.1 (others_tell tick shut (shut_other (shut_before q.controller.state q.controller.tick) q.controller.tick until)));
     }
 
 -- a turn of a board whose timeout is ahead, or that can't trigger

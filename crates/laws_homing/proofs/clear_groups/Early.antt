@@ -16,7 +16,7 @@ use Rattle.laws_board.proofs.clocks.Answers.{Each}
 use Rattle.laws_homing.specs.clear_groups.Early.{AllDue, AreEarly, IsEarly}
 use Rattle.laws_homing.proofs.clear_boards.Turned.{triggered_off}
 use Rattle.laws_homing.proofs.home_runs.Moments.{AllLate, IsMoment, LateAt, pass_says}
-use Rattle.laws_homing.proofs.home_runs.Saying.{IsOther, board_tells}
+use Rattle.laws_homing.proofs.home_runs.Saying.{IsOther, board_tells, shut_other}
 
 all_both : (from until : ℕ) (xs ys : List Cmd) → AreEarly from until xs → AreEarly from until ys → AreEarly from until (xs ++ ys)
 all_both from until [] ys k l = l
@@ -107,18 +107,10 @@ pub takes_early : (from until : ℕ) (r : Rig) (cs : List Cmd) → TellsAll r cs
 takes_early from until r [] k = tt
 takes_early from until r (c ∷ cs) k = all_both from until (takes r c).answers (takes_all (takes r c).rig cs).answers (running_early r.controller.state from until r c k.0) (takes_early from until (takes r c).rig cs k.1)
 
-shut_if : (from until : ℕ) (b : Bool) (reason : ℕ) → AreEarly from until (if b then cmd.IsShutdown reason ∷ [] else [])
-shut_if from until true reason = (tt, tt)
-shut_if from until false reason = tt
-
-shut_early : (from until now to : ℕ) (s : BoardState) → AreEarly from until (says_shut s now to)
-shut_early from until now to Running = tt
-shut_early from until now to (Shut reason at first) = shut_if from until (nat_lt now to) reason
-
 -- a turn
 pub turn_early : (from until : ℕ) (r : Rig) (cs : List Cmd) → TellsAll r cs → AllDue from (takes_all r cs).rig → AreEarly from until ((takes_all r cs).answers ++ says (takes_all r cs).rig until)
 turn_early from until r cs told due =
     let q = (takes_all r cs).rig in
     let shut = says_shut (shut_before q.controller.state q.controller.tick) q.controller.tick until in
     all_both from until (takes_all r cs).answers (says q until) (takes_early from until r cs told)
-    (all_both from until (passes q until).answers shut (passes_early from until q due) (shut_early from until q.controller.tick until (shut_before q.controller.state q.controller.tick)))
+    (all_both from until (passes q until).answers shut (passes_early from until q due) (others_early from until shut (shut_other (shut_before q.controller.state q.controller.tick) q.controller.tick until)))

@@ -30,9 +30,7 @@ use Rattle.laws_homing.specs.clear_groups.Sections.{AllLate, IsAlike, IsClearSec
 use Rattle.laws_homing.proofs.clear_boards.Rests.{clear_from}
 use Rattle.laws_homing.proofs.clear_groups.Groups.{step_in, step_late}
 use Rattle.laws_homing.proofs.clear_groups.Known.{of_known, some_known}
-
-some_same : {A : Type 0} → (x y : A) → Some x ≡ Some y → x ≡ y
-some_same x y e = cc
+use Rattle.laws_homing.proofs.clear_boards.Slots.{some_same}
 
 one_of : (s u : State) → s ∷ [] ≡ u ∷ [] → s ≡ u
 one_of s u e = cc

@@ -1,27 +1,21 @@
 -- What a trigger reads over commands of which one at most begins readings.
-use Rattle.std.proofs.Common.{◌≡◌, ◌≢◌, ℕ, zero, suc, ◌+◌, ◌/◌, ◌^◌, ◌<◌, Bool, true, false, List, [], ◌∷◌, ◌++◌, length, get_or, set, Option, Some, None, refl, ap, sym, ◌∙◌, subst, arith, append_assoc, append-nil, ◌⊎◌, inl, inr}
-use Rattle.std.specs.Prelude.{if◌then◌else◌, slice_index_or, nat_le, nat_lt}
-use Rattle.std.proofs.lemmas.List.{append_cancel_left, get_or-set_other}
+use Rattle.std.proofs.Common.{◌≡◌, ℕ, ◌+◌, ◌^◌, ◌<◌, Bool, true, false, List, [], ◌∷◌, ◌++◌, length, Option, Some, None, refl, ap, sym, ◌∙◌, subst, arith, append_assoc, append-nil, ◌⊎◌, inl, inr}
+use Rattle.std.specs.Prelude.{slice_index_or}
+use Rattle.std.proofs.lemmas.List.{append_cancel_left}
 use Rattle.plan_types.specs.declared.clock.BoardClock.{BoardClock}
 use Rattle.plan_types.specs.declared.levels.Level.{Level}
 use Rattle.plan_types.specs.declared.plan.BoardState.{BoardState}
 use Rattle.plan_types.specs.declared.plan.BoardState.TheVariants.{Running, Shut}
-use Rattle.plan_types.specs.Board.{nearest}
-use Rattle.board_step.specs.Steps.{Pending}
 use Rattle.board_trig.specs.declared.sampling.Homing.{Homing as Reading}
 use Rattle.board_trig.specs.declared.sampling.Sampling.{Sampling}
-use Rattle.board_trig.specs.declared.trigger.Trigger.{Trigger}
 use Rattle.board_trig.specs.declared.trigger.Happening.{Happening}
 use Rattle.board_trig.specs.declared.trigger.Happening.TheVariants.{Nothing, Expires, Switches, Reports}
-use Rattle.board_trig.specs.Nexts.{SwitchesAt}
 use Rattle.board_trig.specs.Sampling.{IsTriggerTick}
 use Rattle.board_trig.specs.Trigger as trig
 use Rattle.msg_code.specs.declared.cmd.Cmd.{Cmd}
 use Rattle.msg_code.specs.declared.cmd.Cmd.TheVariants as cmd
-use Rattle.board_sim.specs.Board.{stepper_at}
 use Rattle.board_sim.specs.Fair.{Meant, commands_of}
-use Rattle.board_sim.specs.Rig.{Passed, Rig, Slot, acts, acts_running, all_left, at_of, becomes, bind, earliest, expires_at_once, goes_on, happens, happens_to, make_endstop, make_trigger, pass, passes, passes_by, rested, rests_to, runs_to, set_timeout, slot_at, home, start, takes, takes_all, trigger}
-use Rattle.board_sim.proofs.Bound.{map_at, same_or_not}
+use Rattle.board_sim.specs.Rig.{Rig, Slot, acts_running, passes, slot_at, home, takes, takes_all}
 use Rattle.board_world.specs.declared.event.Event.{Event}
 use Rattle.board_world.specs.declared.event.Event.TheVariants as event
 use Rattle.board_world.specs.World.{Core, Step, Do, Turn, does, in_turn, run, takes_in}
@@ -36,11 +30,12 @@ use Rattle.link_work.specs.Turn.{LinkState, Orders, after_board, after_host, aft
 use Rattle.link_work.proofs.Sending.{run_append}
 use Rattle.link_work.proofs.Steps.{AllHold, AllOf, Holds, all_append, all_come, come_holds, host_holds, tick_held}
 use Rattle.laws_board.specs.turns.Turns.{AreBoardTurns, BoardTurn, stands_after}
-use Rattle.laws_homing.proofs.clear_boards.Held.{at_set, rested_is, switch_reason}
+use Rattle.laws_homing.proofs.clear_boards.Held.{switch_reason}
+use Rattle.laws_homing.proofs.clear_boards.Slots.{Follows, Lasts, Next, OfEach, levels_at, passes_beside, passes_each, running_beside, running_each, set_each, with_trigger}
 use Rattle.laws_homing.proofs.home_runs.Staying.{steps_take, taken_later}
 use Rattle.laws_homing.specs.switch_runs.Reading.{AreFit, IsComplete, IsFit}
 use Rattle.laws_homing.specs.switch_runs.Taken.{AreBlind, IsBlind}
-use Rattle.laws_homing.proofs.switch_runs.Firing.{AllTrue, begun_true, next_switch, read_true, takes_true, time_true}
+use Rattle.laws_homing.proofs.switch_runs.Firing.{AllTrue, begun_true, read_true, takes_true, time_true}
 use Rattle.laws_homing.proofs.switch_runs.Made.{AnyTick}
 use Rattle.laws_homing.proofs.switch_runs.Telling.{fit_each, fit_parts}
 
@@ -69,158 +64,57 @@ abbrev pub OwnAt : Type 0 → (ℕ → Type 0) → ℕ → List (List Level) →
 OwnAt Z G n pins j r = (r.pins ≡ pins) × ((oid : ℕ) (s : Slot) → oid ≡ j → slot_at r oid ≡ Some s → Own Z G n pins s)
 
 -- what happens to a trigger
-happened_own : (Z : Type 0) (G : ℕ → Type 0) (n : ℕ) (pins : List (List Level)) (until : ℕ) (e : Happening) (s : Slot) → ((x : ℕ) → e ≡ Switches x → SwitchesAt (slice_index_or pins s.pin []) s.trigger x) → Own Z G n pins s
-    → Own Z G n pins (record s { trigger = (trig.happened (slice_index_or pins s.pin []) until e s.trigger).trigger })
+happened_own : (Z : Type 0) (G : ℕ → Type 0) (n : ℕ) (pins : List (List Level)) (until : ℕ) (e : Happening) (s : Slot) → Next (levels_at pins s) until s.trigger e → Own Z G n pins s
+    → Own Z G n pins (with_trigger s (trig.happened (levels_at pins s) until e s.trigger).trigger)
 happened_own Z G n pins until Nothing s next k = record {
   other = k.other;
-  fired = λ off one. elim (k.fired off one) [ inl early ↦ inl early | inr own ↦ inr (ap (trig.read_to (slice_index_or pins s.pin []) until) own.0, own.1) ];
+  fired = λ off one. elim (k.fired off one) [ inl early ↦ inl early | inr own ↦ inr (ap (trig.read_to (levels_at pins s) until) own.0, own.1) ];
   sampled = λ y is. (
-      let x = read_true s.trigger.sampling (slice_index_or pins s.pin []) until y is in
+      let x = read_true s.trigger.sampling (levels_at pins s) until y is in
       let old = k.sampled x.0 x.1 in
       (old.0, λ one t at. old.1 (sym x.2 ∙ one) t (x.3 t at)));
 }
 happened_own Z G n pins until (Expires at) s next k = record { other = k.other; fired = λ off one. absurd (k.other one); sampled = λ y is. absurd (cc) }
 happened_own Z G n pins until (Switches at) s next k =
-    let is = next at refl in
+    let is = next.comes.0 in
     let from = k.sampled is.0 is.2 in
     let why : trig.reason_of s.trigger.sampling ≡ is.0.reason = switch_reason s.trigger.sampling is.0 is.2 in
     record { other = k.other; fired = λ off one. inr (refl, from.1 (sym why ∙ one) at is.3); sampled = λ y none. absurd (cc) }
 happened_own Z G n pins until (Reports at) s next k = record { other = k.other; fired = k.fired; sampled = k.sampled }
 
-tells_own : (o : Option ℕ) (Z : Type 0) (G : ℕ → Type 0) (n : ℕ) (pins : List (List Level)) (until : ℕ) (s : Slot) → Own Z G n pins s → Own Z G n pins (record s { trigger = (trig.tells o (slice_index_or pins s.pin []) until s.trigger).trigger })
-tells_own None Z G n pins until s k =
-    let levels = slice_index_or pins s.pin [] in
-    happened_own Z G n pins until (trig.next levels until s.trigger) s (λ x is. (next_switch levels until s.trigger x is).0) k
-tells_own (Some at) Z G n pins until s k = record { other = k.other; fired = k.fired; sampled = k.sampled }
-
 -- all triggers of a board
 module _ (Z : Type 0) (G : ℕ → Type 0) (n : ℕ) (pins : List (List Level)) (j : ℕ) where
-  one_own : (u s : Slot) (before : Option Slot) → Own Z G n pins u → (before ≡ Some s → Own Z G n pins s) → (s ≡ u) ⊎ (before ≡ Some s) → Own Z G n pins s
-  one_own u s before here others (inl e) = subst (λ (x : Slot). Own Z G n pins x) (sym e) here
-  one_own u s before here others (inr e) = others e
+  abbrev Mine : List (List Level) → ℕ → Slot → Type 0
+  Mine ps oid s = oid ≡ j → Own Z G n ps s
 
-  set_own : (r q : Rig) (k : ℕ) (u : Slot) → q.triggers ≡ set r.triggers k (Some u) → q.pins ≡ r.pins → OwnAt Z G n pins j r → (k ≡ j → Own Z G n pins u) → OwnAt Z G n pins j q
-  set_own r q k u e levels all here = (levels ∙ all.0, slots)
-    where
-      slots : (oid : ℕ) (s : Slot) → oid ≡ j → slot_at q oid ≡ Some s → Own Z G n pins s
-      slots oid s own at = by (same_or_not oid k)
-        where
-          there : get_or (set r.triggers k (Some u)) oid None ≡ Some s
-          there = subst (λ (xs : List (Option Slot)). get_or xs oid None ≡ Some s) e at
+  mine_each : (r : Rig) → OwnAt Z G n pins j r → OfEach Mine r
+  mine_each r all oid s at own = subst (λ (p : List (List Level)). Own Z G n p s) (sym all.0) (all.1 oid s own at)
 
-          by : (oid ≡ k) ⊎ (oid ≢ k) → Own Z G n pins s
-          by (inl same) = one_own u s (get_or r.triggers oid None) (here (sym same ∙ own)) (all.1 oid s own) (at_set r.triggers k oid u s there (inl same))
-          by (inr d) = all.1 oid s own (sym (get_or-set_other r.triggers k oid (Some u) None d) ∙ there)
+  each_mine : (r q : Rig) → q.pins ≡ r.pins → OwnAt Z G n pins j r → OfEach Mine q → OwnAt Z G n pins j q
+  each_mine r q levels old all = (levels ∙ old.0, λ oid s own at. subst (λ (p : List (List Level)). Own Z G n p s) (levels ∙ old.0) (all oid s at own))
 
-  same_own : (r q : Rig) → q.triggers ≡ r.triggers → q.pins ≡ r.pins → OwnAt Z G n pins j r → OwnAt Z G n pins j q
-  same_own r q e levels all = (levels ∙ all.0, λ oid s own at. all.1 oid s own (subst (λ (xs : List (Option Slot)). get_or xs oid None ≡ Some s) e at))
-
-  happens_own : (oid until : ℕ) (r : Rig) (o : Option Slot) → slot_at r oid ≡ o → OwnAt Z G n pins j r → OwnAt Z G n pins j (happens_to r until oid o).rig
-  happens_own oid until r None e all = all
-  happens_own oid until r (Some s) e all =
-      let a = trig.advanced (slice_index_or r.pins s.pin []) until s.trigger in
-      let u : Slot = record s { trigger = a.trigger } in
-      set_own r (becomes r oid s a.trigger) oid u refl refl all
-      (λ own. subst (λ (p : List (List Level)). Own Z G n p u) all.0 (tells_own s.trigger.untold Z G n r.pins until s (subst (λ (p : List (List Level)). Own Z G n p s) (sym all.0) (all.1 oid s own e))))
-
-  rests_own : (r : Rig) (t : ℕ) → OwnAt Z G n pins j r → OwnAt Z G n pins j (rests_to r t).rig
-  rests_own r t all = (all.0, slots)
-    where
-      slots : (oid : ℕ) (u : Slot) → oid ≡ j → slot_at (rests_to r t).rig oid ≡ Some u → Own Z G n pins u
-      slots oid u own at =
-          let x = rested_is r.pins t (slot_at r oid) u (sym (map_at (rested r.pins t) r.triggers oid refl) ∙ at) in
-          let here = happened_own Z G n r.pins t Nothing x.0 (λ k is. absurd (cc)) (subst (λ (p : List (List Level)). Own Z G n p x.0) (sym all.0) (all.1 oid x.0 own x.1)) in
-          subst (λ (p : List (List Level)). Own Z G n p u) all.0 (subst (λ (z : Slot). Own Z G n r.pins z) (sym x.2) here)
-
-  goes_own : (o : Option (ℕ × ℕ)) (x y : Passed) → OwnAt Z G n pins j x.rig → OwnAt Z G n pins j y.rig → OwnAt Z G n pins j (goes_on o x y).rig
-  goes_own None x y k l = k
-  goes_own (Some at) x y k l = l
-
-  pass_own : (times : ℕ) (r : Rig) (t : ℕ) → OwnAt Z G n pins j r → OwnAt Z G n pins j (pass times r t).rig
-  pass_own zero r t all = all
-  pass_own (suc times) r t all =
-      let next = earliest r t 0 r.triggers in
-      let ran = (runs_to r ((at_of next).0 / 3)).rig in
-      let first = happens r t (at_of next) in
-      let rest = pass times first.rig t in
-      let one = happens_own (at_of next).1 t ran (slot_at ran (at_of next).1) refl (same_own r ran refl refl all) in
-      goes_own next (rests_to r t) (passes_by first rest) (rests_own r t all) (pass_own times first.rig t one)
+  lasts_own : (until : ℕ) → Lasts Mine until
+  lasts_own until = record { comes = λ ps oid s e next k own. happened_own Z G n ps until e s next (k own); says = λ ps oid s m e k own. record { other = (k own).other; fired = (k own).fired; sampled = (k own).sampled } }
 
   passes_own : (r : Rig) (t : ℕ) → OwnAt Z G n pins j r → OwnAt Z G n pins j (passes r t).rig
-  passes_own r t all = by (nat_le r.controller.tick t)
-    where
-      by : (b : Bool) → let p : Passed = if b then pass (all_left t r.triggers + 1) r t else record { rig = r; pulses = []; answers = [] } in OwnAt Z G n pins j p.rig
-      by true = pass_own (all_left t r.triggers + 1) r t all
-      by false = all
+  passes_own r t all = each_mine r (passes r t).rig (passes_beside t r).0 all (passes_each Mine t (lasts_own t) r (mine_each r all))
 
   -- a command that begins no readings
-  timeout_one : (can early : Bool) (now at : ℕ) (s : Slot) → Own Z G n pins s
-      → Own Z G n pins (record s { trigger = if can then (if early then record s.trigger { timeout = Some at } else record (trig.fired now s.trigger.expire s.trigger) { untold = Some now }) else s.trigger })
-  timeout_one true true now at s k = record { other = k.other; fired = k.fired; sampled = k.sampled }
-  timeout_one true false now at s k = record { other = k.other; fired = λ off one. absurd (k.other one); sampled = λ y is. absurd (cc) }
-  timeout_one false early now at s k = k
-
-  once_own : (o : Option ℕ) (r : Rig) (oid : ℕ) (s : Slot) (t : Trigger) → OwnAt Z G n pins j r → (oid ≡ j → Own Z G n pins (record s { trigger = t })) → OwnAt Z G n pins j (expires_at_once r oid s t o).rig
-  once_own None r oid s t all k = set_own r (becomes r oid s t) oid (record s { trigger = t }) refl refl all k
-  once_own (Some at) r oid s t all k =
-      set_own r (becomes r oid s (record t { untold = None })) oid (record s { trigger = record t { untold = None } }) refl refl all
-      (λ own. let x = k own in record { other = x.other; fired = x.fired; sampled = x.sampled })
-
-  timeout_own : (r : Rig) (oid clock : ℕ) (o : Option Slot) → slot_at r oid ≡ o → OwnAt Z G n pins j r → OwnAt Z G n pins j (set_timeout r oid o clock).rig
-  timeout_own r oid clock None e all = all
-  timeout_own r oid clock (Some s) e all =
-      let now = r.controller.tick in
-      let t = trig.with_timeout now clock s.trigger in
-      once_own t.untold r oid s t all (λ own. timeout_one s.trigger.can (nat_lt now (nearest now clock)) now (nearest now clock) s (all.1 oid s own e))
-
-  fired_one : (can : Bool) (now reason : ℕ) (s : Slot) → (reason ≡ 1 → ⊥) → Own Z G n pins s → Own Z G n pins (record s { trigger = if can then trig.fired now reason s.trigger else s.trigger })
-  fired_one true now reason s not k = record { other = k.other; fired = λ off one. absurd (not one); sampled = λ y is. absurd (cc) }
-  fired_one false now reason s not k = k
-
-  trigger_own : (r : Rig) (oid reason : ℕ) (o : Option Slot) → (reason ≡ 1 → ⊥) → slot_at r oid ≡ o → OwnAt Z G n pins j r → OwnAt Z G n pins j (trigger r oid o reason).rig
-  trigger_own r oid reason None not e all = all
-  trigger_own r oid reason (Some s) not e all =
-      let now = r.controller.tick in
-      let t = trig.triggered now reason s.trigger in
-      set_own r (becomes r oid s t) oid (record s { trigger = t }) refl refl all (λ own. fired_one s.trigger.can now reason s not (all.1 oid s own e))
-
-  make_own : (r : Rig) (oid : ℕ) (o : Option Slot) → OwnAt Z G n pins j r → OwnAt Z G n pins j (make_trigger r oid o)
-  make_own r oid None all =
-      set_own r (make_trigger r oid None) oid (record { trigger = trig.new_trigger; pin = 0; bound = [] }) refl refl all
-      (λ own. record { other = λ one. absurd (omega (arith, one)); fired = λ off one. absurd (omega (arith, one)); sampled = λ y is. absurd (cc) })
-  make_own r oid (Some s) all = all
-
-  start_own : (r : Rig) (oid : ℕ) (o : Option Slot) (clock every reason : ℕ) → (reason ≡ 1 → ⊥) → slot_at r oid ≡ o → OwnAt Z G n pins j r → OwnAt Z G n pins j (start r oid o clock every reason)
-  start_own r oid None clock every reason not e all = all
-  start_own r oid (Some s) clock every reason not e all =
-      let t = trig.started r.controller.tick clock every reason s.trigger in
-      set_own r (becomes r oid s t) oid (record s { trigger = t }) refl refl all
-      (λ own. let k = all.1 oid s own e in record { other = not; fired = λ off. absurd (cc); sampled = k.sampled })
-
-  bind_own : (r : Rig) (i other : ℕ) (p : Option Pending) (o : Option Slot) → slot_at r other ≡ o → OwnAt Z G n pins j r → OwnAt Z G n pins j (bind r i p other o)
-  bind_own r i other None o e all = all
-  bind_own r i other (Some p) None e all = all
-  bind_own r i other (Some p) (Some s) e all =
-      set_own r (bind r i (Some p) other (Some s)) other (record s { bound = i ∷ s.bound }) refl refl all
-      (λ own. let k = all.1 other s own e in record { other = k.other; fired = k.fired; sampled = k.sampled })
-
-  endstop_own : (r : Rig) (oid pin : ℕ) (o : Option ℕ) → OwnAt Z G n pins j r → OwnAt Z G n pins j (make_endstop r oid pin o)
-  endstop_own r oid pin None all = same_own r (make_endstop r oid pin None) refl refl all
-  endstop_own r oid pin (Some p) all = all
-
-  acts_own : (E F : ℕ → (ℕ → Type 0)) (r : Rig) (c : Cmd) → IsFit E F pins c → IsBlind c → OwnAt Z G n pins j r → OwnAt Z G n pins j (acts r c).rig
-  acts_own E F r (cmd.TrsyncSetTimeout other at) fit blind all = timeout_own r other at (slot_at r other) refl all
-  acts_own E F r (cmd.TrsyncTrigger other reason) fit blind all = trigger_own r other reason (slot_at r other) fit.1 refl all
-  acts_own E F r (cmd.ConfigTrsync other) fit blind all = make_own r other (slot_at r other) all
-  acts_own E F r (cmd.TrsyncStart other at every reason) fit blind all = start_own r other (slot_at r other) at every reason fit.1 refl all
-  acts_own E F r (cmd.StepperStopOnTrigger stepper other) fit blind all = bind_own r stepper other (stepper_at r.controller stepper) (slot_at r other) refl all
-  acts_own E F r (cmd.ConfigEndstop other pin pull) fit blind all = endstop_own r other pin (slice_index_or r.endstops other None) all
-  acts_own E F r (cmd.EndstopHome other at sample count rest value t reason) fit blind all = absurd blind
-  acts_own E F r c fit blind all = same_own r (acts r c).rig refl refl all
+  follows_own : (E F : ℕ → (ℕ → Type 0)) → Follows Mine (λ now c. IsFit E F pins c × IsBlind c)
+  follows_own E F = record {
+    made = λ ps now oid fit own. record { other = λ one. absurd (omega (arith, one)); fired = λ off one. absurd (omega (arith, one)); sampled = λ y is. absurd (cc) };
+    starts = λ ps now oid s clock every reason fit k own. record { other = fit.0.1; fired = λ off. absurd (let bad : true ≡ false = off in cc); sampled = (k own).sampled };
+    limits = λ ps now oid s clock fit can ahead k own. record { other = (k own).other; fired = (k own).fired; sampled = (k own).sampled };
+    expires = λ ps now oid s clock fit can past k own. record { other = (k own).other; fired = λ off one. absurd ((k own).other one); sampled = λ y is. absurd (cc) };
+    says = λ ps oid s m e k own. record { other = (k own).other; fired = (k own).fired; sampled = (k own).sampled };
+    fires = λ ps now oid s reason fit can k own. record { other = (k own).other; fired = λ off one. absurd (fit.0.1 one); sampled = λ y is. absurd (cc) };
+    binds = λ ps now oid s i fit k own. record { other = (k own).other; fired = (k own).fired; sampled = (k own).sampled };
+    homes = λ ps now oid s i pin g fit k. absurd fit.1;
+  }
 
   running_own : (o : BoardState) (E F : ℕ → (ℕ → Type 0)) (r : Rig) (c : Cmd) → IsFit E F pins c → IsBlind c → OwnAt Z G n pins j r → OwnAt Z G n pins j (acts_running o r c).rig
-  running_own Running E F r c fit blind all = acts_own E F r c fit blind all
-  running_own (Shut reason at first) E F r c fit blind all = same_own r (acts_running (Shut reason at first) r c).rig refl refl all
+  running_own o E F r c fit blind all =
+      each_mine r (acts_running o r c).rig (running_beside o r c).0 all (running_each Mine (λ now a. IsFit E F pins a × IsBlind a) (follows_own E F) o r c (fit, blind) (mine_each r all))
 
 -- what is fit for some ticks is fit for more, and for any where it begins no readings
 one_more : (E F G : ℕ → (ℕ → Type 0)) (pins : List (List Level)) → ((now tick : ℕ) → F now tick → G now tick) → (c : Cmd) → IsFit E F pins c → IsFit E G pins c
@@ -282,12 +176,17 @@ module _ (Z : Type 0) (E F : ℕ → (ℕ → Type 0)) (G : ℕ → Type 0) (n :
   home_lit z r oid other (Some pin) (Some s) g at e l to done all k =
       let now = r.controller.tick in
       let new = begun_true E AnyTick G AnyTick pins oid pin now g s (all.ends oid pin at) l (λ one other_pin tick there is. to tick (done one other_pin now tick there is)) (all.slots other s e) in
-      set_own Z G n pins j r (home r (Some pin) other (Some s) g) other (record s { trigger = trig.sampling now g s.trigger; pin = pin }) refl refl (lit_all r k)
-      (λ own. let dark = k.1 other s own e in record {
+      let lit = lit_all r k in
+      let u : Slot = record s { trigger = trig.sampling now g s.trigger; pin = pin } in
+      let own_one : Mine Z G n pins j r.pins other u = λ own. (
+      let dark = k.1 other s own e in
+      subst (λ (p : List (List Level)). Own Z G n p u) (sym k.0) (record {
         other = dark.other;
         fired = λ off one. elim (dark.fired off one) [ inl early ↦ inl early | inr none ↦ absurd none.1 ];
         sampled = λ y is. (z, (new.sampled y is).1);
-      })
+      })) in
+      let q = home r (Some pin) other (Some s) g in
+      each_mine Z G n pins j r q refl lit (set_each (Mine Z G n pins j) r q other u refl refl (mine_each Z G n pins j r lit) own_one)
 
   acts_dim : (o : BoardState) (r : Rig) (c : Cmd) → IsBlind c → IsFit E F pins c → Dark r → Lit (acts_running o r c).rig
   acts_dim o r c blind fit k = lit_all (acts_running o r c).rig (running_own ⊥ NoTick n pins j o E F r c fit blind k)
@@ -296,8 +195,7 @@ module _ (Z : Type 0) (E F : ℕ → (ℕ → Type 0)) (G : ℕ → Type 0) (n :
   acts_lit z Running r (cmd.EndstopHome oid clock sample count rest value other reason) to fit all k =
       home_lit z r oid other (slice_index_or r.endstops oid None) (slot_at r other) (record { clock = clock; sample_ticks = sample; sample_count = count; rest_ticks = rest; pin_value = value; reason = reason }) refl refl fit.0 to fit.1 all k
   acts_lit z (Shut why at first) r (cmd.EndstopHome oid clock sample count rest value other reason) to fit all k =
-      let c = cmd.EndstopHome oid clock sample count rest value other reason in
-      lit_all (acts_running (Shut why at first) r c).rig (same_own ⊥ NoTick n pins j r (acts_running (Shut why at first) r c).rig refl refl k)
+      lit_all (acts_running (Shut why at first) r (cmd.EndstopHome oid clock sample count rest value other reason)).rig k
   acts_lit z o r c to fit all k = acts_dim o r c tt fit k
 
   -- while some commands are still to be taken: none of them begins readings; or one at most does, where Z is so, and there are none yet

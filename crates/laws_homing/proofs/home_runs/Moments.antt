@@ -1,14 +1,12 @@
 -- What a board tells of triggers that can trigger is of moments at which they could.
-use Rattle.std.proofs.Common.{◌≡◌, ℕ, zero, suc, ◌+◌, ◌-◌, ◌*◌, ◌/◌, ◌%◌, ◌^◌, ◌<◌, ◌≤◌, ◌==◌, Bool, true, false, List, [], ◌∷◌, get_or, set, Option, Some, None, refl, ap, sym, ◌∙◌, subst, arith, ◌⊎◌, inl, inr}
-use Rattle.std.specs.Prelude.{if◌then◌else◌, slice_index_or, nat_lt}
+use Rattle.std.proofs.Common.{◌≡◌, ℕ, zero, suc, ◌+◌, ◌-◌, ◌*◌, ◌/◌, ◌%◌, ◌^◌, ◌<◌, ◌≤◌, ◌==◌, Bool, true, false, List, [], ◌∷◌, get_or, Option, Some, None, refl, ap, sym, ◌∙◌, subst, arith, ◌⊎◌, inl, inr}
+use Rattle.std.specs.Prelude.{if◌then◌else◌, slice_index_or}
 use Rattle.std.proofs.lemmas.List.{get_or-set_same}
 use Rattle.std.proofs.lemmas.Bool.Decides.{nat_tests}
 use Rattle.plan_types.specs.declared.levels.Level.{Level}
 use Rattle.plan_types.specs.declared.plan.BoardState.{BoardState}
 use Rattle.plan_types.specs.declared.plan.BoardState.TheVariants.{Running, Shut}
 use Rattle.plan_types.specs.Board.{nearest}
-use Rattle.board_step.specs.Steps.{Pending}
-use Rattle.board_trig.specs.declared.sampling.Homing.{Homing}
 use Rattle.board_trig.specs.declared.trigger.Trigger.{Trigger}
 use Rattle.board_trig.specs.declared.trigger.Happening.{Happening}
 use Rattle.board_trig.specs.declared.trigger.Happening.TheVariants.{Nothing, Expires, Switches, Reports}
@@ -18,8 +16,8 @@ use Rattle.board_trig.specs.Nexts.{ExpiresAt, IsNextOf, SwitchesAt}
 use Rattle.board_trig.proofs.Nexts.{is_next}
 use Rattle.msg_code.specs.declared.cmd.Cmd.{Cmd}
 use Rattle.msg_code.specs.declared.cmd.Cmd.TheVariants as cmd
-use Rattle.board_sim.specs.Board.{bit, stepper_at}
-use Rattle.board_sim.specs.Rig.{Passed, Rig, Slot, acts, acts_running, all_left, at_of, becomes, bind, earliest, expires_at_once, goes_on, happens, happens_to, home, make_endstop, make_trigger, pass, passes_by, rested, rests_to, runs_to, set_timeout, slot_at, start, takes, told, trigger}
+use Rattle.board_sim.specs.Board.{bit}
+use Rattle.board_sim.specs.Rig.{Passed, Rig, Slot, acts_running, all_left, at_of, becomes, earliest, goes_on, happens, happens_to, make_trigger, pass, passes_by, rested, rests_to, runs_to, slot_at, takes, told}
 use Rattle.board_sim.specs.RigRuns.{AllSound, IsSound}
 use Rattle.board_sim.proofs.Bound.{map_at, one_slot, same_or_not, set_other, slot_range}
 use Rattle.board_sim.proofs.Halting.{quiet_moves, quiet_switch}
@@ -30,6 +28,7 @@ use Rattle.laws_board.proofs.clocks.Answers.{Each, each_both}
 use Rattle.laws_homing.specs.home_runs.Moments.{CouldAt}
 use Rattle.laws_homing.proofs.clear_boards.Held.{at_set, rested_is}
 use Rattle.laws_homing.proofs.clear_boards.Reports.{reports_told}
+use Rattle.laws_homing.proofs.clear_boards.Slots.{Follows, OfEach, running_beside, running_each}
 
 -- A trigger, while time passes: if it triggers, then at this tick or later; and its next report is at another one or
 -- later.
@@ -262,19 +261,6 @@ DueFrom now t = (y : ℕ) → t.report ≡ Some y → now ≤ y
 abbrev pub AllDueNow : Rig → Type 0
 AllDueNow r = (oid : ℕ) (s : Slot) → slot_at r oid ≡ Some s → DueFrom r.controller.tick s.trigger
 
--- what a command makes of a trigger, and of a board's triggers
-record Steps (now : ℕ) (t u : Trigger) : Type 0 where
-  since : (x : ℕ) → x ≤ now → Since x t → Since x u
-  due : DueFrom now t → DueFrom now u
-
-data Changed (r q : Rig) : Type 0 where
-  Same : q.triggers ≡ r.triggers → Changed r q
-  Made : (oid : ℕ) → slot_at r oid ≡ None → q.triggers ≡ set r.triggers oid (Some (record { trigger = trig.new_trigger; pin = 0; bound = [] })) → Changed r q
-  Turned : (oid : ℕ) (s u : Slot) → slot_at r oid ≡ Some s → q.triggers ≡ set r.triggers oid (Some u) → Steps r.controller.tick s.trigger u.trigger → Changed r q
-
-stays : (now : ℕ) (t : Trigger) → Steps now t t
-stays now t = record { since = λ x l k. k; due = λ k. k }
-
 ceiling : (a step : ℕ) → 0 < step → a ≤ (a + (step - 1)) / step * step
 ceiling a step some =
     let q = (a + (step - 1)) / step in
@@ -291,133 +277,65 @@ report_from false now clock every y e is =
     let whole = ceiling (now - nearest now clock) every some in
     omega (arith, whole, same)
 
-started_steps : (now clock every expire : ℕ) (t : Trigger) → Steps now t (trig.started now clock every expire t)
-started_steps now clock every expire t = record { since = λ x l k f. absurd (cc); due = λ k y e. report_from (every == 0) now clock every y refl e }
+-- over commands
+abbrev Due : ℕ → (List (List Level) → ℕ → Slot → Type 0)
+Due now pins oid s = DueFrom now s.trigger
 
-timed_steps : (can early : Bool) (now tick : ℕ) (t : Trigger) → t.can ≡ can
-    → Steps now t (if can then (if early then record t { timeout = Some tick } else record (trig.fired now t.expire t) { untold = Some now }) else t)
-timed_steps true true now tick t e = record { since = λ x l k f. k f; due = λ k. k }
-timed_steps true false now tick t e = record { since = λ x l k f. l; due = λ k. k }
-timed_steps false early now tick t e = stays now t
-
-triggered_steps : (can : Bool) (now reason : ℕ) (t : Trigger) → Steps now t (if can then trig.fired now reason t else t)
-triggered_steps true now reason t = record { since = λ x l k f. l; due = λ k. k }
-triggered_steps false now reason t = stays now t
-
-expires_changed : (o : Option ℕ) (r : Rig) (oid : ℕ) (s : Slot) (t : Trigger) → slot_at r oid ≡ Some s
-    → Steps r.controller.tick s.trigger t → Changed r (expires_at_once r oid s t o).rig
-expires_changed None r oid s t e k = Turned oid s (record s { trigger = t }) e refl k
-expires_changed (Some n) r oid s t e k = Turned oid s (record s { trigger = record t { untold = None } }) e refl (record { since = k.since; due = k.due })
-
-made_changed : (r : Rig) (oid : ℕ) (o : Option Slot) → slot_at r oid ≡ o → Changed r (make_trigger r oid o)
-made_changed r oid None e = Made oid e refl
-made_changed r oid (Some s) e = Same refl
-
-start_changed : (r : Rig) (oid : ℕ) (o : Option Slot) (clock every reason : ℕ) → slot_at r oid ≡ o
-    → Changed r (start r oid o clock every reason)
-start_changed r oid None clock every reason e = Same refl
-start_changed r oid (Some s) clock every reason e =
-    Turned oid s (record s { trigger = trig.started r.controller.tick clock every reason s.trigger }) e refl (started_steps r.controller.tick clock every reason s.trigger)
-
-set_changed : (r : Rig) (oid clock : ℕ) (o : Option Slot) → slot_at r oid ≡ o
-    → Changed r (set_timeout r oid o clock).rig
-set_changed r oid clock None e = Same refl
-set_changed r oid clock (Some s) e =
-    let now = r.controller.tick in
-    let t = trig.with_timeout now clock s.trigger in
-    expires_changed t.untold r oid s t e (timed_steps s.trigger.can (nat_lt now (nearest now clock)) now (nearest now clock) s.trigger refl)
-
-trigger_changed : (r : Rig) (oid reason : ℕ) (o : Option Slot) → slot_at r oid ≡ o
-    → Changed r (trigger r oid o reason).rig
-trigger_changed r oid reason None e = Same refl
-trigger_changed r oid reason (Some s) e =
-    Turned oid s (record s { trigger = trig.triggered r.controller.tick reason s.trigger }) e refl (triggered_steps s.trigger.can r.controller.tick reason s.trigger)
-
-bind_changed : (r : Rig) (oid other : ℕ) (q : Option Pending) (o : Option Slot) → slot_at r other ≡ o
-    → Changed r (bind r oid q other o)
-bind_changed r oid other None o e = Same refl
-bind_changed r oid other (Some q) None e = Same refl
-bind_changed r oid other (Some q) (Some s) e = Turned other s (record s { bound = oid ∷ s.bound }) e refl (stays r.controller.tick s.trigger)
-
-endstop_changed : (r : Rig) (oid pin : ℕ) (o : Option ℕ) → Changed r (make_endstop r oid pin o)
-endstop_changed r oid pin None = Same refl
-endstop_changed r oid pin (Some p) = Same refl
-
-home_changed : (r : Rig) (other : ℕ) (p : Option ℕ) (o : Option Slot) (g : Homing) → slot_at r other ≡ o
-    → Changed r (home r p other o g)
-home_changed r other None o g e = Same refl
-home_changed r other (Some pin) None g e = Same refl
-home_changed r other (Some pin) (Some s) g e =
-    Turned other s (record s { trigger = trig.sampling r.controller.tick g s.trigger; pin = pin }) e refl (record { since = λ x l k. k; due = λ k. k })
-
-acts_changed : (r : Rig) (c : Cmd) → Changed r (acts r c).rig
-acts_changed r (cmd.ConfigTrsync oid) = made_changed r oid (slot_at r oid) refl
-acts_changed r (cmd.TrsyncStart oid clock every reason) = start_changed r oid (slot_at r oid) clock every reason refl
-acts_changed r (cmd.TrsyncSetTimeout oid clock) = set_changed r oid clock (slot_at r oid) refl
-acts_changed r (cmd.TrsyncTrigger oid reason) = trigger_changed r oid reason (slot_at r oid) refl
-acts_changed r (cmd.StepperStopOnTrigger oid other) = bind_changed r oid other (stepper_at r.controller oid) (slot_at r other) refl
-acts_changed r (cmd.ConfigEndstop oid pin pull) = endstop_changed r oid pin (slice_index_or r.endstops oid None)
-acts_changed r (cmd.EndstopHome oid clock sample count rest value other reason) =
-    home_changed r other (slice_index_or r.endstops oid None) (slot_at r other)
-    (record { clock = clock; sample_ticks = sample; sample_count = count; rest_ticks = rest; pin_value = value; reason = reason }) refl
-acts_changed r c = Same refl
-
-takes_changed : (r : Rig) (c : Cmd) → Changed r (takes r c).rig
-takes_changed r c = by r.controller.state
-  where
-    by : (o : BoardState) → Changed r (acts_running o r c).rig
-    by Running = acts_changed r c
-    by (Shut reason tick first) = Same refl
-
-could_by : (o x : ℕ) (r q : Rig) → q.controller.tick ≡ r.controller.tick → Changed r q → CouldAt o x r → CouldAt o x q
-could_by o x r q t (Same e) k =
-    record { came = (let l = k.came in omega (arith, l, t)); slot = k.slot; is = ap (λ (xs : List (Option Slot)). get_or xs o None) e ∙ k.is; fired = k.fired }
-could_by o x r q t (Made oid none e) k = record {
-  came = (let l = k.came in omega (arith, l, t));
-  slot = k.slot;
-  is = set_other r q o oid _ e (λ same. let bad : None ≡ Some k.slot = sym none ∙ ap (λ (n : ℕ). slot_at r n) same ∙ k.is in cc) ∙ k.is;
-  fired = k.fired;
+follows_due : (now : ℕ) → Follows (Due now) (λ at c. at ≡ now)
+follows_due now = record {
+  made = λ pins at oid fit y is. absurd (cc);
+  starts = λ pins at oid s clock every reason fit k y is. (let far = report_from (every == 0) at clock every y refl is in omega (arith, far, fit));
+  limits = λ pins at oid s clock fit can ahead k. k;
+  expires = λ pins at oid s clock fit can past k. k;
+  says = λ pins oid s n e k. k;
+  fires = λ pins at oid s reason fit can k. k;
+  binds = λ pins at oid s i fit k. k;
+  homes = λ pins at oid s i pin g fit k. k;
 }
-could_by o x r q t (Turned oid s u at e steps) k = elim (same_or_not oid o) [
-  | inl same ↦
-      let own : k.slot ≡ s = one_slot (slot_at r o) k.slot s k.is (subst (λ (n : ℕ). slot_at r n ≡ Some s) same at) in
-      let there : slot_at q oid ≡ Some u = ap (λ (xs : List (Option Slot)). get_or xs oid None) e ∙ get_or-set_same r.triggers oid (Some u) None (slot_range r.triggers oid s at) in
-      record {
-        came = (let l = k.came in omega (arith, l, t));
-        slot = u;
-        is = subst (λ (n : ℕ). slot_at q n ≡ Some u) same there;
-        fired = steps.since x (let l = k.came in omega (arith, l)) (subst (λ (z : Slot). Since x z.trigger) own k.fired);
-      }
-  | inr other ↦ record { came = (let l = k.came in omega (arith, l, t)); slot = k.slot; is = set_other r q o oid (Some u) e other ∙ k.is; fired = k.fired }
-]
-
-due_one : (now : ℕ) (u s : Slot) (before : Option Slot) → DueFrom now u.trigger
-    → (before ≡ Some s → DueFrom now s.trigger) → (s ≡ u) ⊎ (before ≡ Some s) → DueFrom now s.trigger
-due_one now u s before here others (inl e) = subst (λ (z : Slot). DueFrom now z.trigger) (sym e) here
-due_one now u s before here others (inr e) = others e
-
-due_set : (now : ℕ) (r q : Rig) (k : ℕ) (u : Slot) → q.triggers ≡ set r.triggers k (Some u)
-    → ((oid : ℕ) (s : Slot) → slot_at r oid ≡ Some s → DueFrom now s.trigger) → DueFrom now u.trigger
-    → (oid : ℕ) (s : Slot) → slot_at q oid ≡ Some s → DueFrom now s.trigger
-due_set now r q k u e all here oid s at =
-    let there : get_or (set r.triggers k (Some u)) oid None ≡ Some s = subst (λ (xs : List (Option Slot)). get_or xs oid None ≡ Some s) e at in
-    due_one now u s (get_or r.triggers oid None) here (all oid s) (at_set r.triggers k oid u s there (same_or_not oid k))
-
-due_by : (now : ℕ) (r q : Rig) → r.controller.tick ≡ now → Changed r q → AllDueNow r → (oid : ℕ) (s : Slot)
-    → slot_at q oid ≡ Some s → DueFrom now s.trigger
-due_by now r q t (Same e) all = λ oid s at. subst (λ (n : ℕ). DueFrom n s.trigger) t (all oid s (subst (λ (xs : List (Option Slot)). get_or xs oid None ≡ Some s) e at))
-due_by now r q t (Made oid none e) all = due_set now r q oid _ e (λ o s at. subst (λ (n : ℕ). DueFrom n s.trigger) t (all o s at)) (λ y is. absurd (cc))
-due_by now r q t (Turned oid s u at e steps) all =
-    due_set now r q oid u e (λ o z is. subst (λ (n : ℕ). DueFrom n z.trigger) t (all o z is)) (subst (λ (n : ℕ). DueFrom n u.trigger) t (steps.due (all oid s at)))
-
-pub takes_could : (o x : ℕ) (r : Rig) (c : Cmd) → CouldAt o x r → CouldAt o x (takes r c).rig
-takes_could o x r c k = could_by o x r (takes r c).rig (all_tick r (c ∷ [])) (takes_changed r c) k
 
 pub takes_due : (r : Rig) (c : Cmd) → AllDueNow r → AllDueNow (takes r c).rig
 takes_due r c all = λ oid s at y is.
-    let far = due_by r.controller.tick r (takes r c).rig refl (takes_changed r c) all oid s at y is in
+    let now = r.controller.tick in
+    let far = running_each (Due now) (λ tick a. tick ≡ now) (follows_due now) r.controller.state r c refl all oid s at y is in
     let t = all_tick r (c ∷ []) in
     omega (arith, far, t)
+
+-- the trigger at this id, by commands that make none there
+abbrev CouldThere : ℕ → ℕ → (List (List Level) → ℕ → Slot → Type 0)
+CouldThere o x pins oid s = oid ≡ o → Since x s.trigger
+
+abbrev Makes : ℕ → Cmd → Type 0
+Makes o (cmd.ConfigTrsync oid) = oid ≡ o
+Makes o c = ⊥
+
+follows_could : (o x : ℕ) → Follows (CouldThere o x) (λ now c. (x ≤ now) × (Makes o c → ⊥))
+follows_could o x = record {
+  made = λ pins now oid fit own. absurd (fit.1 own);
+  starts = λ pins now oid s clock every reason fit k own f. absurd (let bad : true ≡ false = f in cc);
+  limits = λ pins now oid s clock fit can ahead k. k;
+  expires = λ pins now oid s clock fit can past k own f. fit.0;
+  says = λ pins oid s n e k. k;
+  fires = λ pins now oid s reason fit can k own f. fit.0;
+  binds = λ pins now oid s i fit k. k;
+  homes = λ pins now oid s i pin g fit k. k;
+}
+
+could_by : (o x : ℕ) (r : Rig) (c : Cmd) (state : BoardState) → (Makes o c → ⊥) → (acts_running state r c).rig.controller.tick ≡ r.controller.tick → CouldAt o x r → CouldAt o x (acts_running state r c).rig
+could_by o x r c state none t k =
+    let u = (running_beside state r c).3 o k.slot k.is in
+    let old : OfEach (CouldThere o x) r = λ oid s at own. subst (λ (z : Slot). Since x z.trigger) (one_slot (slot_at r o) k.slot s k.is (subst (λ (n : ℕ). slot_at r n ≡ Some s) own at)) k.fired in
+    let all = running_each (CouldThere o x) (λ now a. (x ≤ now) × (Makes o a → ⊥)) (follows_could o x) state r c ((let l = k.came in omega (arith, l)), none) old in
+    record { came = (let l = k.came in omega (arith, l, t)); slot = u.0; is = u.1; fired = all o u.0 u.1 refl }
+
+could_made : (o x oid : ℕ) (r : Rig) (state : BoardState) → oid ≡ o → (acts_running state r (cmd.ConfigTrsync oid)).rig.controller.tick ≡ r.controller.tick → CouldAt o x r → CouldAt o x (acts_running state r (cmd.ConfigTrsync oid)).rig
+could_made o x oid r Running same t k = subst (λ (p : Option Slot). CouldAt o x (make_trigger r oid p)) (sym (ap (slot_at r) same ∙ k.is)) k
+could_made o x oid r (Shut reason tick first) same t k = record { came = (let l = k.came in omega (arith, l, t)); slot = k.slot; is = k.is; fired = k.fired }
+
+pub takes_could : (o x : ℕ) (r : Rig) (c : Cmd) → CouldAt o x r → CouldAt o x (takes r c).rig
+takes_could o x r (cmd.ConfigTrsync oid) k =
+    let t = all_tick r (cmd.ConfigTrsync oid ∷ []) in
+    elim (same_or_not oid o) [ inl same ↦ could_made o x oid r r.controller.state same t k | inr other ↦ could_by o x r (cmd.ConfigTrsync oid) r.controller.state other t k ]
+takes_could o x r c k = could_by o x r c r.controller.state (λ m. absurd m) (all_tick r (c ∷ [])) k
 
 -- over time
 late_of : (x low now : ℕ) (pins : List (List Level)) (s : Slot) → IsSound now pins s → x ≤ now → Since x s.trigger

@@ -241,7 +241,7 @@ each_if : (b : Bool) (xs : List Cmd) → Each IsOther xs → Each IsOther (cond 
 each_if true xs k = k
 each_if false xs k = tt
 
-shut_other : (s : BoardState) (from to : ℕ) → Each IsOther (says_shut s from to)
+pub shut_other : (s : BoardState) (from to : ℕ) → Each IsOther (says_shut s from to)
 shut_other Running from to = tt
 shut_other (Shut reason at first) from to = each_if (nat_lt from to) (cmd.IsShutdown reason ∷ []) (tt, tt)
 

@@ -1,5 +1,5 @@
 -- A board by the commands that it took: which stepper is bound to its trigger.
-use Rattle.std.proofs.Common.{◌≡◌, ◌≢◌, ℕ, zero, suc, ◌+◌, ◌/◌, ◌<◌, ◌==◌, ◌&&◌, ◌||◌, ◌⊎◌, inl, inr, Bool, true, false, cond, not, List, [], ◌∷◌, ◌++◌, length, map, get_or, set, Option, Some, None, refl, ap, sym, ◌∙◌, subst, arith, append-nil}
+use Rattle.std.proofs.Common.{◌≡◌, ℕ, zero, suc, ◌+◌, ◌/◌, ◌<◌, ◌==◌, ◌&&◌, ◌||◌, inl, inr, Bool, true, false, cond, not, List, [], ◌∷◌, ◌++◌, length, map, get_or, set, Option, Some, None, refl, ap, sym, ◌∙◌, subst, arith, append-nil}
 use Rattle.std.specs.Prelude.{slice_index_or}
 use Rattle.std.proofs.lemmas.Bool.{eq-eqb, eqb-true}
 use Rattle.std.proofs.lemmas.List.{get_or-set_same, length-map, length-set, map-append}
@@ -24,7 +24,7 @@ use Rattle.board_sim.specs.Fair.{Meant, commands_of}
 use Rattle.board_sim.specs.Rig.{Rig, Slot, Passed, acts, acts_running, all_left, at_of, becomes, bind, earliest, expires_at_once, goes_on, halt, halts, happens_to, home, levels_of, make_endstop, make_trigger, pass, passes, passes_by, rests_to, runs_to, set_timeout, slot_at, start, takes, takes_all, trigger}
 use Rattle.board_sim.specs.Rig.{happens as rig_happens}
 use Rattle.board_sim.specs.RigRuns.{IsThere, has}
-use Rattle.board_sim.proofs.Bound.{halts_all, halts_is, same_or_not, set_other, slot_range}
+use Rattle.board_sim.proofs.Bound.{halts_all, halts_is, slot_range}
 use Rattle.board_sim.proofs.Enough.{none_at}
 use Rattle.board_sim.proofs.RigPlaces.{is_halted, is_there, set_is, there_is}
 use Rattle.board_sim.proofs.RigShut.{all_left_by}
@@ -38,6 +38,7 @@ use Rattle.link_work.proofs.Turns.{turns_are_steps}
 use Rattle.laws_board.specs.turns.Turns.{AreBoardTurns, BoardTurn, stands_after}
 use Rattle.laws_homing.specs.home_runs.Guards.{IsCalm, IsGuarded, IsSole}
 use Rattle.laws_homing.specs.home_runs.Stages.{Stage, lost_stage, no_stage, stage_from, stage_of}
+use Rattle.laws_homing.proofs.clear_boards.Slots.{running_beside, running_sole}
 use Rattle.laws_homing.proofs.home_runs.Guarding.{Next, guard_next, passes_next, takes_next}
 use Rattle.laws_homing.proofs.home_runs.Windows.{takes_places}
 use Rattle.laws_board.proofs.clocks.Askings.{both_true}
@@ -113,27 +114,8 @@ trigger_case true i j oid s r e few k =
     }
 
 -- a trigger is started anew
-start_slot : (r : Rig) (j oid : ℕ) (o : Option Slot) (clock every reason : ℕ) → slot_at r oid ≡ o → HasSlot j r → (oid ≡ j) ⊎ (oid ≢ j) → HasSlot j (start r oid o clock every reason)
-start_slot r j oid None clock every reason e h x = h
-start_slot r j oid (Some s) clock every reason e h (inl same) =
-    let u = record s { trigger = trig.started r.controller.tick clock every reason s.trigger } in
-    subst (λ (n : ℕ). HasSlot n (start r oid (Some s) clock every reason)) same (record { slot = u; is = get_or-set_same r.triggers oid (Some u) None (slot_range r.triggers oid s e) })
-start_slot r j oid (Some s) clock every reason e h (inr d) =
-    let u = record s { trigger = trig.started r.controller.tick clock every reason s.trigger } in
-    record { slot = h.slot; is = set_other r (start r oid (Some s) clock every reason) j oid (Some u) refl d ∙ h.is }
-
 start_sole : (r : Rig) (j oid : ℕ) (clock every reason : ℕ) → IsSole j r → IsSole j (acts r (cmd.TrsyncStart oid clock every reason)).rig
-start_sole r j oid clock every reason sole = one (slot_at r oid) refl
-  where
-    each : (s : Slot) (k : ℕ) (v : Slot) → slot_at r oid ≡ Some s → slot_at (start r oid (Some s) clock every reason) k ≡ Some v → (oid ≡ k) ⊎ (oid ≢ k) → k ≡ j
-    each s k v e is (inl same) = sym same ∙ sole oid s e
-    each s k v e is (inr d) =
-        let u = record s { trigger = trig.started r.controller.tick clock every reason s.trigger } in
-        sole k v (sym (set_other r (start r oid (Some s) clock every reason) k oid (Some u) refl d) ∙ is)
-
-    one : (o : Option Slot) → slot_at r oid ≡ o → IsSole j (start r oid o clock every reason)
-    one None e = sole
-    one (Some s) e = λ k v is. each s k v e is (same_or_not oid k)
+start_sole r j oid clock every reason sole = running_sole Running r j (cmd.TrsyncStart oid clock every reason) tt sole
 
 start_case : (t : Bool) (i j oid clock every reason : ℕ) (s : Stage) (r : Rig) → (oid == j) ≡ t → r.controller.state ≡ Running → Staged i j s r
     → Staged i j (cond t (record s { bound = false }) s) (acts r (cmd.TrsyncStart oid clock every reason)).rig
@@ -141,7 +123,7 @@ start_case true i j oid clock every reason s r e runs k = record {
   sole = λ x. start_sole r j oid clock every reason (k.sole x);
   made = λ x. subst (λ (o : BoardState). IsThere (stepper_at (acts_running o r (cmd.TrsyncStart oid clock every reason)).rig.controller i)) runs
       (next_there i (suc oid) r (takes r (cmd.TrsyncStart oid clock every reason)).rig (takes_next i (suc oid) r (cmd.TrsyncStart oid clock every reason) (λ same. omega (arith, same))) (k.made x));
-  there = λ x. start_slot r j oid (slot_at r oid) clock every reason refl (k.there x) (same_or_not oid j);
+  there = λ x. let h = k.there x in let u = (running_beside Running r (cmd.TrsyncStart oid clock every reason)).3 j h.slot h.is in record { slot = u.0; is = u.1 };
   bound = λ x. absurd (no x);
 }
 start_case false i j oid clock every reason s r e runs k =

@@ -1,11 +1,10 @@
 -- Turns of a board behind the set-up of a homing section.
-use Rattle.std.proofs.Common.{◌≡◌, ℕ, suc, ◌≤◌, List, [], ◌∷◌, ◌++◌, length, refl, ap, sym, ◌∙◌, subst, arith}
+use Rattle.std.proofs.Common.{◌≡◌, ℕ, ◌≤◌, List, [], ◌∷◌, ◌++◌, length, refl, ap, sym, ◌∙◌, subst, arith}
 use Rattle.plan_types.specs.declared.clock.BoardClock.{BoardClock}
 use Rattle.plan_types.specs.declared.levels.Level.{Level}
 use Rattle.plan_types.specs.declared.machine.BoardDef.{BoardDef}
 use Rattle.plan_types.specs.Clock.{clock_of}
 use Rattle.msg_code.specs.declared.cmd.Cmd.{Cmd}
-use Rattle.msg_code.specs.declared.cmd.Cmd.TheVariants as cmd
 use Rattle.wire_scene.specs.declared.scene.Entry.{Entry}
 use Rattle.link_core.specs.Core.{Reply}
 use Rattle.board_sim.specs.Board.{stepper_at}
@@ -21,28 +20,22 @@ use Rattle.link_work.specs.Stands.{first_state, orders}
 use Rattle.link_work.specs.Turn.{LinkState}
 use Rattle.link_work.proofs.Turns.{turns_are_steps}
 use Rattle.laws_board.specs.turns.Turns.{AreBoardTurns, BoardTurn, stands_after}
-use Rattle.laws_homing.specs.home_runs.Guards.{IsCalm}
+use Rattle.laws_homing.proofs.clear_boards.Slots.{passes_beside, running_beside}
 use Rattle.laws_homing.specs.home_runs.Windows.{BringCalm, IsSetUp, IsWatched, TellFired}
-use Rattle.laws_homing.proofs.home_runs.Guarding.{guard_halts, guard_next, passes_next, takes_next}
+use Rattle.laws_homing.proofs.home_runs.Guarding.{guard_halts, guard_next}
 use Rattle.laws_homing.proofs.home_runs.Firing.{EachFires}
 use Rattle.laws_homing.proofs.home_runs.Watching.{Watch, watched}
 
 -- the places of triggers are as many as they were
-calm_for : (c : Cmd) → (i : ℕ) × (j : ℕ) × IsCalm i j c
-calm_for (cmd.TrsyncStart oid clock every reason) = (0, suc oid, λ e. omega (arith, e))
-calm_for (cmd.ResetStepClock oid clock) = (suc oid, 0, λ e. omega (arith, e))
-calm_for (cmd.ConfigTrsync oid) = (0, oid, refl)
-calm_for c = (0, 0, tt)
-
 pub takes_places : (r : Rig) (c : Cmd) → length (takes r c).rig.triggers ≡ length r.triggers
-takes_places r c = let x = calm_for c in (takes_next x.0 x.1 r c x.2).places
+takes_places r c = (running_beside r.controller.state r c).1
 
 all_places : (r : Rig) (cs : List Cmd) → length (takes_all r cs).rig.triggers ≡ length r.triggers
 all_places r [] = refl
 all_places r (c ∷ cs) = all_places (takes r c).rig cs ∙ takes_places r c
 
 does_places : (h : Core) (e : Event) → length (does h e).board.triggers ≡ length h.board.triggers
-does_places h (event.Pass t) = (passes_next 0 0 h.board t).places
+does_places h (event.Pass t) = (passes_beside t h.board).1
 does_places h event.Arrive = all_places h.board (commands_of (takes_in h event.Arrive))
 does_places h event.Repeat = all_places h.board (commands_of (takes_in h event.Repeat))
 does_places h (event.Put c) = refl

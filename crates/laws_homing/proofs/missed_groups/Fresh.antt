@@ -41,7 +41,7 @@ use Rattle.host_reactor.specs.Runs.{Came, known_by}
 use Rattle.laws_homing.specs.home_runs.Guards.{HasFired, StandsFired}
 use Rattle.laws_homing.specs.home_runs.Told.{IsMember}
 use Rattle.laws_homing.specs.home_runs.Windows.{HasAnswer}
-use Rattle.laws_homing.proofs.home_runs.Guarding.{Next, passes_next}
+use Rattle.laws_homing.proofs.home_runs.Guarding.{Next, passes_next, true_or_false}
 use Rattle.laws_homing.proofs.home_runs.Spelled.{own_state}
 use Rattle.laws_homing.proofs.home_runs.Told.{told_stands}
 use Rattle.laws_homing.specs.clear_boards.Clocking.{IsCounted}
@@ -75,6 +75,7 @@ use Rattle.laws_homing.proofs.clear_groups.Known.{behind_turn, member_seen}
 use Rattle.laws_homing.proofs.clear_groups.Orders.{IsSent}
 use Rattle.laws_homing.proofs.missed_groups.Stepping as stepping
 use Rattle.laws_homing.proofs.missed_groups.Stepping.{both_parts, either_part, le_so, none_relay, relay_after}
+use Rattle.laws_homing.proofs.clear_boards.Slots.{no_both}
 
 -- the triggers of a group's boards, and what it knows of them, as a turn begins
 module _ (m : Machine) (lines : ℕ → Clocks) (start last : ℕ) (members : List Member) where
@@ -120,14 +121,6 @@ record Fell (m : Machine) (lines : ℕ → Clocks) (start last b turn : ℕ) (wa
   when : ℕ
   known : FiredOn b when g.members
   late : s.trigger.tick < lines_tick (lines b) ((last + 1) * turn_ns) → FiredOn b last g.members
-
-no_both : (b : Bool) → b ≡ true → b ≡ false → ⊥
-no_both true e f = cc
-no_both false e f = cc
-
-true_or_false : (b : Bool) → (b ≡ true) ⊎ (b ≡ false)
-true_or_false true = inl refl
-true_or_false false = inr refl
 
 no_sets : (cs : List Cmd) → SetsNone cs → SetsOne cs → ⊥
 no_sets [] n o = o

@@ -1,5 +1,5 @@
 -- In a clear run what a board tells of its trigger is read as the tick since which it can't trigger.
-use Rattle.std.proofs.Common.{◌≡◌, ℕ, ◌+◌, ◌-◌, ◌%◌, ◌^◌, ◌<◌, ◌≤◌, inl, inr, Bool, true, false, List, [], ◌∷◌, length, Some, ap, sym, ◌∙◌, subst, arith}
+use Rattle.std.proofs.Common.{◌≡◌, ℕ, ◌+◌, ◌%◌, ◌^◌, ◌<◌, ◌≤◌, inl, inr, List, [], ◌∷◌, length, Some, ap, sym, ◌∙◌, subst, arith}
 use Rattle.std.proofs.lemmas.Bool.Decides.{leb_tells}
 use Rattle.plan_types.specs.declared.levels.Level.{Level}
 use Rattle.plan_types.specs.declared.machine.Machine.{Machine}
@@ -46,13 +46,7 @@ use Rattle.laws_homing.proofs.clear_groups.Sections.{rests_section}
 use Rattle.laws_homing.proofs.missed_groups.Fresh as freshness
 use Rattle.laws_homing.proofs.missed_groups.Fresh.{IsFresh, Off, begins_fresh, step_fresh, told_so}
 use Rattle.laws_homing.proofs.missed_groups.Stepping as stepping
-
-some_same : {A : Type 0} → (x y : A) → Some x ≡ Some y → x ≡ y
-some_same x y e = cc
-
-no_both : (b : Bool) → b ≡ true → b ≡ false → ⊥
-no_both true e f = cc
-no_both false e f = cc
+use Rattle.laws_homing.proofs.clear_boards.Slots.{no_both, some_same}
 
 one_state : (x y : State) → x ∷ [] ≡ y ∷ [] → x ≡ y
 one_state x y e = cc

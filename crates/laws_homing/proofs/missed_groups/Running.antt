@@ -47,9 +47,7 @@ use Rattle.laws_homing.proofs.missed_groups.Axes.{OfBoard, of_axis}
 use Rattle.laws_homing.proofs.missed_groups.Beginning.{RestsOf}
 use Rattle.laws_homing.proofs.missed_groups.Setting.{begins_known, begins_mindful}
 use Rattle.laws_homing.proofs.missed_groups.Stepping.{IsMindful, Stood, step_known, step_mindful}
-
-some_same : {A : Type 0} → (x y : A) → Some x ≡ Some y → x ≡ y
-some_same x y e = cc
+use Rattle.laws_homing.proofs.clear_boards.Slots.{some_same}
 
 -- the group of the homing section that is known in a turn, and its boards; and so as the turn with this number began
 abbrev MindsIn : (m : Machine) (switches : List Switch) (pins : ℕ → List (List Level)) (entries : List Entry) (lines : ℕ → Clocks) (start last : ℕ) (members : List Member) → Came → List Came → List (ℕ → BoardTurn) → Type 0

@@ -53,10 +53,7 @@ use Rattle.laws_homing.proofs.missed_groups.Homing.{Able, homes_able, homes_neve
 use Rattle.laws_homing.proofs.missed_groups.Minding.{Minded, passes_minded}
 use Rattle.laws_homing.proofs.missed_groups.Stepping.{IsMindful, Reads, Stood}
 use Rattle.laws_homing.proofs.missed_groups.Told.{Each, KnownIn}
-
-no_both : (b : Bool) → b ≡ true → b ≡ false → ⊥
-no_both true e f = cc
-no_both false e f = cc
+use Rattle.laws_homing.proofs.clear_boards.Slots.{no_both}
 
 true_or_not : (b : Bool) → (b ≡ true) ⊎ (b ≡ true → ⊥)
 true_or_not true = inl refl

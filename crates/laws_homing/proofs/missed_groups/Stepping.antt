@@ -66,6 +66,7 @@ use Rattle.laws_homing.specs.missed_groups.Ticks.{IsReader, IsSwitchTick}
 use Rattle.laws_homing.proofs.missed_groups.Homing.{minds_map}
 use Rattle.laws_homing.proofs.missed_groups.Minding.{From, Minded, turn_minded}
 use Rattle.laws_homing.proofs.missed_groups.Told.{Each, KnownIn, Telling, all_each, each_more, states_stay}
+use Rattle.laws_homing.proofs.clear_boards.Slots.{no_both}
 
 -- a trigger of a board stands as one that can't trigger, for this reason
 pub record FiredSo (oid reason : ℕ) (r : Rig) : Type 0 where
@@ -85,10 +86,6 @@ fired_on i oid reason r q x z =
     let b = x.slots z.slot z.is in
     let fell = still_fired z.slot.trigger.can b.slot.trigger.can b.stays.can z.fired in
     record { slot = b.slot; is = b.is; fired = fell; none = b.stays.quiet (λ e. z.none) fell; reason_is = (b.stays.same z.fired z.none).0 ∙ z.reason_is }
-
-no_both : (b : Bool) → b ≡ true → b ≡ false → ⊥
-no_both true e f = cc
-no_both false e f = cc
 
 pub both_parts : (a b : Bool) → (a && b) ≡ true → (a ≡ true) × (b ≡ true)
 both_parts true b e = (refl, e)

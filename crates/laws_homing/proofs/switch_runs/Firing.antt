@@ -1,33 +1,31 @@
 -- What a board tells of its triggers: where it tells that readings triggered one, it tells of a tick at which these are complete.
-use Rattle.std.proofs.Common.{◌≡◌, ◌≢◌, ℕ, zero, suc, ◌+◌, ◌/◌, ◌%◌, ◌^◌, ◌<◌, ◌≤◌, ◌==◌, Bool, true, false, List, [], ◌∷◌, length, map, get_or, set, Option, Some, None, refl, sym, ap, ◌∙◌, subst, arith, ◌⊎◌, inl, inr}
-use Rattle.std.specs.Prelude.{if◌then◌else◌, slice_index_or, nat_le, nat_lt}
-use Rattle.std.proofs.lemmas.List.{get_or-set_same, get_or-set_other, length-set}
+use Rattle.std.proofs.Common.{◌≡◌, ◌≢◌, ℕ, zero, suc, ◌%◌, ◌^◌, ◌<◌, ◌≤◌, ◌==◌, Bool, true, false, List, [], ◌∷◌, length, get_or, set, Option, Some, None, refl, sym, ap, ◌∙◌, subst, arith, ◌⊎◌, inl, inr}
+use Rattle.std.specs.Prelude.{if◌then◌else◌, slice_index_or}
+use Rattle.std.proofs.lemmas.List.{get_or-set_same, get_or-set_other}
 use Rattle.plan_types.specs.declared.levels.Level.{Level}
 use Rattle.plan_types.specs.declared.machine.BoardDef.{BoardDef}
 use Rattle.plan_types.specs.declared.plan.BoardState.{BoardState}
 use Rattle.plan_types.specs.declared.plan.BoardState.TheVariants.{Running, Shut}
 use Rattle.plan_types.specs.Board.{nearest}
-use Rattle.board_step.specs.Steps.{Pending}
 use Rattle.board_trig.specs.declared.sampling.Homing.{Homing}
 use Rattle.board_trig.specs.declared.sampling.Sampling.{Sampling}
 use Rattle.board_trig.specs.declared.trigger.Trigger.{Trigger}
 use Rattle.board_trig.specs.declared.trigger.Happening.{Happening}
 use Rattle.board_trig.specs.declared.trigger.Happening.TheVariants.{Nothing, Expires, Switches, Reports}
 use Rattle.board_trig.specs.Sampling.{IsTriggerTick, completes, sampled_to}
-use Rattle.board_trig.specs.Nexts.{SwitchesAt}
 use Rattle.board_trig.specs.Trigger as trig
-use Rattle.board_trig.proofs.Nexts.{was_before, was_switch}
 use Rattle.board_trig.proofs.TriggerTicks.{read_on}
 use Rattle.msg_code.specs.declared.cmd.Cmd.{Cmd}
 use Rattle.msg_code.specs.declared.cmd.Cmd.TheVariants as cmd
-use Rattle.board_sim.specs.Board.{stepper_at, takes as board_takes}
-use Rattle.board_sim.specs.Rig.{Passed, Rig, Slot, acts, acts_running, all_left, at_of, becomes, bind, earliest, expires_at_once, goes_on, happens, happens_to, home, make_endstop, make_trigger, new_rig, no_objects, pass, passes, passes_by, rested, rests_to, runs_to, set_timeout, slot_at, start, takes, takes_all, tell, told, trigger}
-use Rattle.board_sim.specs.Turn.{says_shut}
-use Rattle.board_sim.proofs.Bound.{map_at, same_or_not, slot_range}
+use Rattle.board_sim.specs.Board.{takes as board_takes}
+use Rattle.board_sim.specs.Rig.{Rig, Slot, acts_running, home, make_endstop, new_rig, no_objects, passes, slot_at, takes, takes_all, tell}
+use Rattle.board_sim.proofs.Bound.{same_or_not}
 use Rattle.board_sim.proofs.RigTicks.{takes_rig_tick}
-use Rattle.board_world.specs.World.{says, shut_before}
+use Rattle.board_world.specs.World.{says}
 use Rattle.laws_board.proofs.clocks.Answers.{Each, each_both}
-use Rattle.laws_homing.proofs.clear_boards.Held.{at_set, ended_reason, rested_is, sampled_reason, switch_reason}
+use Rattle.laws_homing.proofs.clear_boards.Held.{ended_reason, sampled_reason, switch_reason}
+use Rattle.laws_homing.proofs.clear_boards.Slots.{Beside, Follows, Lasts, MakesNone, Next, OfEach, Tells, clock_small, levels_at, running_both, says_both, set_beside, set_each, with_trigger}
+use Rattle.laws_homing.specs.switch_runs.Taken.{IsBlind}
 use Rattle.laws_homing.specs.switch_runs.Reading.{IsComplete, IsFit, TellsOf}
 use Rattle.laws_homing.proofs.home_runs.Saying.{IsOther, bit_none, bit_small, board_tells}
 
@@ -63,12 +61,6 @@ others_say F [] k = tt
 others_say F (c ∷ cs) k = (other_says F c k.0, others_say F cs k.1)
 
 -- what is told of a trigger
-clock_small : (tick : ℕ) → tick % 2 ^ 32 < 2 ^ 32
-clock_small tick = omega arith
-
-oid_small : (r : Rig) (oid : ℕ) (s : Slot) → length r.triggers ≤ 256 → slot_at r oid ≡ Some s → oid < 2 ^ 8
-oid_small r oid s few e = let within = slot_range r.triggers oid s e in omega (arith, few, within)
-
 tell_says : (F : ℕ → Type 0) (oid now : ℕ) (t : Trigger) → oid < 2 ^ 8 → t.reason < 2 ^ 8 → (t.can ≡ false → t.reason ≡ 1 → F t.tick) → Says F (tell oid (trig.state_at now t))
 tell_says F oid now t id small k = (
   id,
@@ -91,209 +83,78 @@ read_true None levels until y e = absurd (cc)
 read_true (Some s) levels until y e =
     (s, refl, ended_reason (completes levels until s) (sampled_to levels until s) y e ∙ sampled_reason until levels until s, λ x at. ended_true (completes levels until s) levels until s y x e at)
 
--- a switch happens where the readings are complete
-earliest_switch : (e s r : Option ℕ) (x : ℕ) → trig.earliest e s r ≡ Switches x → s ≡ Some x
-earliest_switch e s (Some report) x is = absurd (cc)
-earliest_switch e (Some switch) None x is = cc
-earliest_switch (Some expiry) None None x is = absurd (cc)
-earliest_switch None None None x is = absurd (cc)
-
-early_so : (until : ℕ) (o : Option ℕ) (x : ℕ) → ((n : ℕ) → o ≡ Some n → n < until) → x < trig.or_until until o → x < until
-early_so until None x early l = l
-early_so until (Some n) x early l = let m = early n refl in omega (arith, l, m)
-
-pub next_switch : (levels : List Level) (until : ℕ) (t : Trigger) (x : ℕ) → trig.next levels until t ≡ Switches x → SwitchesAt levels t x × (x < until)
-next_switch levels until t x is =
-    let expiry = trig.expiry_of until t in
-    let at = was_switch levels (trig.or_until until expiry) t.can t.sampling x (earliest_switch expiry (trig.switch_of levels until t) (trig.report_of levels until t) x is) in
-    (at.0, early_so until expiry x (λ n e. (was_before until t.timeout n e).1) at.1)
-
 -- what happens to a trigger
-happened_true : (F G : ℕ → Type 0) (pins : List (List Level)) (oid until : ℕ) (e : Happening) (s : Slot) → oid < 2 ^ 8 → ((x : ℕ) → e ≡ Switches x → SwitchesAt (slice_index_or pins s.pin []) s.trigger x × (G x → F x)) → IsTrue F G pins s
-    → IsTrue F G pins (record s { trigger = (trig.happened (slice_index_or pins s.pin []) until e s.trigger).trigger }) × Each (Says F) (told oid (trig.happened (slice_index_or pins s.pin []) until e s.trigger).event)
-happened_true F G pins oid until Nothing s id next k = (
-  record {
-    reason = k.reason;
-    expire = k.expire;
-    other = k.other;
-    fired = k.fired;
-    sampled = λ y is. (
-        let x = read_true s.trigger.sampling (slice_index_or pins s.pin []) until y is in
-        let old = k.sampled x.0 x.1 in
-        let small = old.0 in
-        let same = x.2 in
-        (omega (arith, small, same), λ one t at. old.1 (sym same ∙ one) t (x.3 t at)));
-    ended = k.ended;
-  },
-  tt,
-)
-happened_true F G pins oid until (Expires at) s id next k = (
-  record { reason = k.expire; expire = k.expire; other = k.other; fired = λ e one. absurd (k.other one); sampled = λ y is. absurd (cc); ended = λ e. refl },
-  (tell_says F oid at (trig.fired at s.trigger.expire s.trigger) id k.expire (λ e one. absurd (k.other one)), tt),
-)
-happened_true F G pins oid until (Switches at) s id next k =
-    let both = next at refl in
-    let is = both.0 in
+abbrev True_one : (ℕ → Type 0) → (ℕ → Type 0) → (List (List Level) → ℕ → Slot → Type 0)
+True_one F G pins oid s = IsTrue F G pins s
+
+happened_true : (F G : ℕ → Type 0) (pins : List (List Level)) (until : ℕ) (e : Happening) (s : Slot) → ((x : ℕ) → x < until → G x → F x) → Next (levels_at pins s) until s.trigger e → IsTrue F G pins s
+    → IsTrue F G pins (with_trigger s (trig.happened (levels_at pins s) until e s.trigger).trigger)
+happened_true F G pins until Nothing s soon next k = record {
+  reason = k.reason;
+  expire = k.expire;
+  other = k.other;
+  fired = k.fired;
+  sampled = λ y is. (
+      let x = read_true s.trigger.sampling (levels_at pins s) until y is in
+      let old = k.sampled x.0 x.1 in
+      let small = old.0 in
+      let same = x.2 in
+      (omega (arith, small, same), λ one t at. old.1 (sym same ∙ one) t (x.3 t at)));
+  ended = k.ended;
+}
+happened_true F G pins until (Expires at) s soon next k =
+    record { reason = k.expire; expire = k.expire; other = k.other; fired = λ e one. absurd (k.other one); sampled = λ y is. absurd (cc); ended = λ e. refl }
+happened_true F G pins until (Switches at) s soon next k =
+    let is = next.comes.0 in
     let from = k.sampled is.0 is.2 in
     let why : trig.reason_of s.trigger.sampling ≡ is.0.reason = switch_reason s.trigger.sampling is.0 is.2 in
     let low = from.0 in
-    let small : trig.reason_of s.trigger.sampling < 2 ^ 8 = omega (arith, low, why) in
-    let fell : trig.reason_of s.trigger.sampling ≡ 1 → F at = λ one. both.1 (from.1 (sym why ∙ one) at is.3) in (
-      record { reason = small; expire = k.expire; other = k.other; fired = λ e one. fell one; sampled = λ y none. absurd (cc); ended = λ e. refl },
-      (tell_says F oid at (trig.fired at (trig.reason_of s.trigger.sampling) s.trigger) id small (λ e one. fell one), tt),
-    )
-happened_true F G pins oid until (Reports at) s id next k = (
-  record { reason = k.reason; expire = k.expire; other = k.other; fired = k.fired; sampled = k.sampled; ended = k.ended },
-  (tell_says F oid at (record s.trigger { report = Some (at + s.trigger.every) }) id k.reason k.fired, tt),
-)
+    record {
+      reason = omega (arith, low, why);
+      expire = k.expire;
+      other = k.other;
+      fired = λ e one. soon at next.comes.1 (from.1 (sym why ∙ one) at is.3);
+      sampled = λ y none. absurd (cc);
+      ended = λ e. refl;
+    }
+happened_true F G pins until (Reports at) s soon next k = record { reason = k.reason; expire = k.expire; other = k.other; fired = k.fired; sampled = k.sampled; ended = k.ended }
 
-tells_true : (o : Option ℕ) (F G : ℕ → Type 0) (pins : List (List Level)) (oid until : ℕ) (s : Slot) → oid < 2 ^ 8 → ((x : ℕ) → x < until → G x → F x) → IsTrue F G pins s
-    → IsTrue F G pins (record s { trigger = (trig.tells o (slice_index_or pins s.pin []) until s.trigger).trigger }) × Each (Says F) (told oid (trig.tells o (slice_index_or pins s.pin []) until s.trigger).event)
-tells_true None F G pins oid until s id soon k =
-    let levels = slice_index_or pins s.pin [] in
-    happened_true F G pins oid until (trig.next levels until s.trigger) s id (λ x is. let at = next_switch levels until s.trigger x is in (at.0, soon x at.1)) k
-tells_true (Some n) F G pins oid until s id soon k = (
-  record { reason = k.reason; expire = k.expire; other = k.other; fired = k.fired; sampled = k.sampled; ended = k.ended },
-  (tell_says F oid n (record s.trigger { untold = None }) id k.reason k.fired, tt),
-)
-
--- and to all of a board
-one_true : (F G : ℕ → Type 0) (pins : List (List Level)) (u s : Slot) (before : Option Slot) → IsTrue F G pins u → (before ≡ Some s → IsTrue F G pins s) → (s ≡ u) ⊎ (before ≡ Some s) → IsTrue F G pins s
-one_true F G pins u s before here others (inl e) = subst (λ (x : Slot). IsTrue F G pins x) (sym e) here
-one_true F G pins u s before here others (inr e) = others e
-
-pub few_set : (r q : Rig) (k : ℕ) (u : Slot) → q.triggers ≡ set r.triggers k (Some u) → length r.triggers ≤ 256 → length q.triggers ≤ 256
-few_set r q k u e few =
-    let same : length q.triggers ≡ length r.triggers = ap (λ (xs : List (Option Slot)). length xs) e ∙ length-set r.triggers k (Some u) in
-    omega (arith, same, few)
-
-set_true : (E : ℕ → (ℕ → Type 0)) (F G : ℕ → Type 0) (pins : List (List Level)) (r q : Rig) (k : ℕ) (u : Slot) → q.triggers ≡ set r.triggers k (Some u) → q.pins ≡ r.pins → q.endstops ≡ r.endstops → AllTrue E F G pins r → IsTrue F G pins u → AllTrue E F G pins q
-set_true E F G pins r q k u e levels ends all here = record {
-  pins_are = levels ∙ all.pins_are;
-  few = few_set r q k u e all.few;
-  slots = λ oid s at. (
-      let there : get_or (set r.triggers k (Some u)) oid None ≡ Some s = subst (λ (xs : List (Option Slot)). get_or xs oid None ≡ Some s) e at in
-      one_true F G pins u s (get_or r.triggers oid None) here (all.slots oid s) (at_set r.triggers k oid u s there (same_or_not oid k)));
-  ends = λ oid pin at. all.ends oid pin (subst (λ (xs : List (Option ℕ)). get_or xs oid None ≡ Some pin) ends at);
+lasts_true : (F G : ℕ → Type 0) (until : ℕ) → ((x : ℕ) → x < until → G x → F x) → Lasts (True_one F G) until
+lasts_true F G until soon = record {
+  comes = λ pins oid s e next k. happened_true F G pins until e s soon next k;
+  says = λ pins oid s n e k. record { reason = k.reason; expire = k.expire; other = k.other; fired = k.fired; sampled = k.sampled; ended = k.ended };
 }
 
-same_true : (E : ℕ → (ℕ → Type 0)) (F G : ℕ → Type 0) (pins : List (List Level)) (r q : Rig) → q.triggers ≡ r.triggers → q.pins ≡ r.pins → q.endstops ≡ r.endstops → AllTrue E F G pins r → AllTrue E F G pins q
-same_true E F G pins r q e levels ends all = record {
-  pins_are = levels ∙ all.pins_are;
-  few = subst (λ (xs : List (Option Slot)). length xs ≤ 256) (sym e) all.few;
-  slots = λ oid s at. all.slots oid s (subst (λ (xs : List (Option Slot)). get_or xs oid None ≡ Some s) e at);
-  ends = λ oid pin at. all.ends oid pin (subst (λ (xs : List (Option ℕ)). get_or xs oid None ≡ Some pin) ends at);
+-- what a command makes of it, but for those that begin readings
+follows_true : (E : ℕ → (ℕ → Type 0)) (F G : ℕ → Type 0) (H : ℕ → (ℕ → Type 0)) (pins : List (List Level)) → Follows (True_one F G) (λ now c. IsFit E H pins c × IsBlind c)
+follows_true E F G H pins = record {
+  made = λ ps now oid fit.
+      record { reason = omega arith; expire = omega arith; other = λ one. absurd (omega (arith, one)); fired = λ e one. absurd (omega (arith, one)); sampled = λ y e. absurd (cc); ended = λ e. refl };
+  starts = λ ps now oid s clock every reason fit k.
+      record { reason = omega arith; expire = fit.0.0; other = fit.0.1; fired = λ f. absurd (let bad : true ≡ false = f in cc); sampled = k.sampled; ended = λ f. refl };
+  limits = λ ps now oid s clock fit can ahead k.
+      record { reason = k.reason; expire = k.expire; other = k.other; fired = k.fired; sampled = k.sampled; ended = λ none. (let bad : true ≡ false = sym can ∙ none in absurd (cc)) };
+  expires = λ ps now oid s clock fit can past k. record { reason = k.expire; expire = k.expire; other = k.other; fired = λ f one. absurd (k.other one); sampled = λ y is. absurd (cc); ended = λ f. refl };
+  says = λ ps oid s n e k. record { reason = k.reason; expire = k.expire; other = k.other; fired = k.fired; sampled = k.sampled; ended = k.ended };
+  fires = λ ps now oid s reason fit can k. record { reason = fit.0.0; expire = k.expire; other = k.other; fired = λ e one. absurd (fit.0.1 one); sampled = λ y is. absurd (cc); ended = λ e. refl };
+  binds = λ ps now oid s i fit k. record { reason = k.reason; expire = k.expire; other = k.other; fired = k.fired; sampled = k.sampled; ended = k.ended };
+  homes = λ ps now oid s i pin g fit k. absurd fit.1;
 }
 
-happens_true : (E : ℕ → (ℕ → Type 0)) (F G : ℕ → Type 0) (pins : List (List Level)) (oid until : ℕ) (r : Rig) (o : Option Slot) → slot_at r oid ≡ o → ((x : ℕ) → x < until → G x → F x) → AllTrue E F G pins r
-    → AllTrue E F G pins (happens_to r until oid o).rig × Each (Says F) (happens_to r until oid o).answers
-happens_true E F G pins oid until r None e soon all = (all, tt)
-happens_true E F G pins oid until r (Some s) e soon all =
-    let a = trig.advanced (slice_index_or r.pins s.pin []) until s.trigger in
-    let here = subst (λ (p : List (List Level)). IsTrue F G p s) (sym all.pins_are) (all.slots oid s e) in
-    let h = tells_true s.trigger.untold F G r.pins oid until s (oid_small r oid s all.few e) soon here in
-    let u : Slot = record s { trigger = a.trigger } in
-    (set_true E F G pins r (becomes r oid s a.trigger) oid u refl refl refl all (subst (λ (p : List (List Level)). IsTrue F G p u) all.pins_are h.0), h.1)
+tells_true : (F G : ℕ → Type 0) → Tells (True_one F G) 256 (Says F)
+tells_true F G = record { own = λ pins oid n s l k. tell_says F oid n s.trigger (omega (arith, l)) k.reason k.fired; other = other_says F }
 
-map_few : (f : Option Slot → Option Slot) (xs : List (Option Slot)) → length (map f xs) ≡ length xs
-map_few f [] = refl
-map_few f (x ∷ xs) = let rest = map_few f xs in omega (arith, rest)
+-- and all of a board
+true_each : (E : ℕ → (ℕ → Type 0)) (F G : ℕ → Type 0) (pins : List (List Level)) (r : Rig) → AllTrue E F G pins r → OfEach (True_one F G) r
+true_each E F G pins r all oid s at = subst (λ (p : List (List Level)). IsTrue F G p s) (sym all.pins_are) (all.slots oid s at)
 
-rests_true : (E : ℕ → (ℕ → Type 0)) (F G : ℕ → Type 0) (pins : List (List Level)) (r : Rig) (t : ℕ) → AllTrue E F G pins r → AllTrue E F G pins (rests_to r t).rig
-rests_true E F G pins r t all = record {
-  pins_are = all.pins_are;
-  few = let same = map_few (rested r.pins t) r.triggers in let few = all.few in omega (arith, same, few);
-  slots = λ oid u at. (
-      let x = rested_is r.pins t (slot_at r oid) u (sym (map_at (rested r.pins t) r.triggers oid refl) ∙ at) in
-      let here = subst (λ (p : List (List Level)). IsTrue F G p x.0) (sym all.pins_are) (all.slots oid x.0 x.1) in
-      let h = (happened_true F G r.pins oid t Nothing x.0 (oid_small r oid x.0 all.few x.1) (λ n is. absurd (cc)) here).0 in
-      subst (λ (p : List (List Level)). IsTrue F G p u) all.pins_are (subst (λ (z : Slot). IsTrue F G r.pins z) (sym x.2) h));
-  ends = all.ends;
+each_true : (E : ℕ → (ℕ → Type 0)) (F G : ℕ → Type 0) (pins : List (List Level)) (r q : Rig) → AllTrue E F G pins r → Beside (Unit {0}) r q → OfEach (True_one F G) q → AllTrue E F G pins q
+each_true E F G pins r q all beside new = record {
+  pins_are = beside.0 ∙ all.pins_are;
+  few = let same = beside.1 in let few = all.few in omega (arith, same, few);
+  slots = λ oid s at. subst (λ (p : List (List Level)). IsTrue F G p s) (beside.0 ∙ all.pins_are) (new oid s at);
+  ends = λ oid pin at. all.ends oid pin (subst (λ (xs : List (Option ℕ)). get_or xs oid None ≡ Some pin) (beside.2 tt) at);
 }
-
-goes_true : (E : ℕ → (ℕ → Type 0)) (F G : ℕ → Type 0) (pins : List (List Level)) (o : Option (ℕ × ℕ)) (x y : Passed) → AllTrue E F G pins x.rig × Each (Says F) x.answers → AllTrue E F G pins y.rig × Each (Says F) y.answers
-    → AllTrue E F G pins (goes_on o x y).rig × Each (Says F) (goes_on o x y).answers
-goes_true E F G pins None x y k l = k
-goes_true E F G pins (Some at) x y k l = l
-
-pass_true : (n : ℕ) (E : ℕ → (ℕ → Type 0)) (F G : ℕ → Type 0) (pins : List (List Level)) (r : Rig) (t : ℕ) → ((x : ℕ) → x < t → G x → F x) → AllTrue E F G pins r → AllTrue E F G pins (pass n r t).rig × Each (Says F) (pass n r t).answers
-pass_true zero E F G pins r t soon all = (all, tt)
-pass_true (suc n) E F G pins r t soon all =
-    let next = earliest r t 0 r.triggers in
-    let ran = (runs_to r ((at_of next).0 / 3)).rig in
-    let first = happens r t (at_of next) in
-    let rest = pass n first.rig t in
-    let one = happens_true E F G pins (at_of next).1 t ran (slot_at ran (at_of next).1) refl soon (same_true E F G pins r ran refl refl refl all) in
-    let more = pass_true n E F G pins first.rig t soon one.0 in
-    goes_true E F G pins next (rests_to r t) (passes_by first rest) (rests_true E F G pins r t all, tt) (more.0, each_both (Says F) first.answers rest.answers one.1 more.1)
-
-passes_true : (E : ℕ → (ℕ → Type 0)) (F G : ℕ → Type 0) (pins : List (List Level)) (r : Rig) (t : ℕ) → ((x : ℕ) → x < t → G x → F x) → AllTrue E F G pins r → AllTrue E F G pins (passes r t).rig × Each (Says F) (passes r t).answers
-passes_true E F G pins r t soon all = by (nat_le r.controller.tick t)
-  where
-    by : (b : Bool) → let p : Passed = if b then pass (all_left t r.triggers + 1) r t else record { rig = r; pulses = []; answers = [] } in AllTrue E F G pins p.rig × Each (Says F) p.answers
-    by true = pass_true (all_left t r.triggers + 1) E F G pins r t soon all
-    by false = (all, tt)
-
--- a command
-timeout_true : (can early : Bool) (F G : ℕ → Type 0) (pins : List (List Level)) (now at : ℕ) (s : Slot) → s.trigger.can ≡ can → IsTrue F G pins s
-    → IsTrue F G pins (record s { trigger = if can then (if early then record s.trigger { timeout = Some at } else record (trig.fired now s.trigger.expire s.trigger) { untold = Some now }) else s.trigger })
-timeout_true true true F G pins now at s e k =
-    record { reason = k.reason; expire = k.expire; other = k.other; fired = k.fired; sampled = k.sampled; ended = λ none. (let bad : true ≡ false = sym e ∙ none in absurd (cc)) }
-timeout_true true false F G pins now at s e k = record { reason = k.expire; expire = k.expire; other = k.other; fired = λ f one. absurd (k.other one); sampled = λ y is. absurd (cc); ended = λ f. refl }
-timeout_true false early F G pins now at s e k = k
-
-once_true : (o : Option ℕ) (E : ℕ → (ℕ → Type 0)) (F G : ℕ → Type 0) (pins : List (List Level)) (r : Rig) (oid : ℕ) (s : Slot) (t : Trigger) → oid < 2 ^ 8 → AllTrue E F G pins r → IsTrue F G pins (record s { trigger = t })
-    → AllTrue E F G pins (expires_at_once r oid s t o).rig × Each (Says F) (expires_at_once r oid s t o).answers
-once_true None E F G pins r oid s t id all k = (set_true E F G pins r (becomes r oid s t) oid (record s { trigger = t }) refl refl refl all k, tt)
-once_true (Some n) E F G pins r oid s t id all k = (
-  set_true E F G pins r (becomes r oid s (record t { untold = None })) oid (record s { trigger = record t { untold = None } }) refl refl refl all
-      (record { reason = k.reason; expire = k.expire; other = k.other; fired = k.fired; sampled = k.sampled; ended = k.ended }),
-  (tell_says F oid n t id k.reason k.fired, tt),
-)
-
-limit_true : (E : ℕ → (ℕ → Type 0)) (F G : ℕ → Type 0) (pins : List (List Level)) (r : Rig) (oid clock : ℕ) (o : Option Slot) → slot_at r oid ≡ o → AllTrue E F G pins r
-    → AllTrue E F G pins (set_timeout r oid o clock).rig × Each (Says F) (set_timeout r oid o clock).answers
-limit_true E F G pins r oid clock None e all = (all, tt)
-limit_true E F G pins r oid clock (Some s) e all =
-    let now = r.controller.tick in
-    let t = trig.with_timeout now clock s.trigger in
-    once_true t.untold E F G pins r oid s t (oid_small r oid s all.few e) all (timeout_true s.trigger.can (nat_lt now (nearest now clock)) F G pins now (nearest now clock) s refl (all.slots oid s e))
-
-fired_true : (can : Bool) (F G : ℕ → Type 0) (pins : List (List Level)) (now reason : ℕ) (s : Slot) → reason < 2 ^ 8 → (reason ≡ 1 → ⊥) → IsTrue F G pins s → IsTrue F G pins (record s { trigger = if can then trig.fired now reason s.trigger else s.trigger })
-fired_true true F G pins now reason s l n k = record { reason = l; expire = k.expire; other = k.other; fired = λ e one. absurd (n one); sampled = λ y is. absurd (cc); ended = λ e. refl }
-fired_true false F G pins now reason s l n k = k
-
-trigger_true : (E : ℕ → (ℕ → Type 0)) (F G : ℕ → Type 0) (pins : List (List Level)) (r : Rig) (oid reason : ℕ) (o : Option Slot) → reason < 2 ^ 8 → (reason ≡ 1 → ⊥) → slot_at r oid ≡ o → AllTrue E F G pins r
-    → AllTrue E F G pins (trigger r oid o reason).rig × Each (Says F) (trigger r oid o reason).answers
-trigger_true E F G pins r oid reason None l n e all = (all, tt)
-trigger_true E F G pins r oid reason (Some s) l n e all =
-    let now = r.controller.tick in
-    let t = trig.triggered now reason s.trigger in
-    let k = fired_true s.trigger.can F G pins now reason s l n (all.slots oid s e) in
-    (set_true E F G pins r (becomes r oid s t) oid (record s { trigger = t }) refl refl refl all k, (tell_says F oid now t (oid_small r oid s all.few e) k.reason k.fired, tt))
-
-made_true : (E : ℕ → (ℕ → Type 0)) (F G : ℕ → Type 0) (pins : List (List Level)) (r : Rig) (oid : ℕ) (o : Option Slot) → AllTrue E F G pins r → AllTrue E F G pins (make_trigger r oid o)
-made_true E F G pins r oid None all =
-    set_true E F G pins r (make_trigger r oid None) oid (record { trigger = trig.new_trigger; pin = 0; bound = [] }) refl refl refl all
-    (record { reason = omega arith; expire = omega arith; other = λ one. absurd (omega (arith, one)); fired = λ e one. absurd (omega (arith, one)); sampled = λ y e. absurd (cc); ended = λ e. refl })
-made_true E F G pins r oid (Some s) all = all
-
-start_true : (E : ℕ → (ℕ → Type 0)) (F G : ℕ → Type 0) (pins : List (List Level)) (r : Rig) (oid : ℕ) (o : Option Slot) (clock every reason : ℕ) → reason < 2 ^ 8 → (reason ≡ 1 → ⊥) → slot_at r oid ≡ o → AllTrue E F G pins r
-    → AllTrue E F G pins (start r oid o clock every reason)
-start_true E F G pins r oid None clock every reason l n e all = all
-start_true E F G pins r oid (Some s) clock every reason l n e all =
-    let k = all.slots oid s e in
-    let t = trig.started r.controller.tick clock every reason s.trigger in
-    set_true E F G pins r (becomes r oid s t) oid (record s { trigger = t }) refl refl refl all
-    (record { reason = omega arith; expire = l; other = n; fired = λ f. absurd (cc); sampled = k.sampled; ended = λ f. refl })
-
-bind_true : (E : ℕ → (ℕ → Type 0)) (F G : ℕ → Type 0) (pins : List (List Level)) (r : Rig) (oid other : ℕ) (q : Option Pending) (o : Option Slot) → slot_at r other ≡ o → AllTrue E F G pins r → AllTrue E F G pins (bind r oid q other o)
-bind_true E F G pins r oid other None o e all = all
-bind_true E F G pins r oid other (Some q) None e all = all
-bind_true E F G pins r oid other (Some q) (Some s) e all =
-    let k = all.slots other s e in
-    set_true E F G pins r (bind r oid (Some q) other (Some s)) other (record s { bound = oid ∷ s.bound }) refl refl refl all
-    (record { reason = k.reason; expire = k.expire; other = k.other; fired = k.fired; sampled = k.sampled; ended = k.ended })
 
 -- the readings that a command begins are for its reason
 pub begun_reason : (b : Bool) (now : ℕ) (g : Homing) (y : Sampling)
@@ -321,8 +182,10 @@ home_true E F G pins r oid other None o g at e l n all = all
 home_true E F G pins r oid other (Some pin) None g at e l n all = all
 home_true E F G pins r oid other (Some pin) (Some s) g at e l n all =
     let now = r.controller.tick in
-    set_true E F G pins r (home r (Some pin) other (Some s) g) other (record s { trigger = trig.sampling now g s.trigger; pin = pin }) refl refl refl all
-    (begun_true E F G G pins oid pin now g s (all.ends oid pin at) l n (all.slots other s e))
+    let q = home r (Some pin) other (Some s) g in
+    let u : Slot = record s { trigger = trig.sampling now g s.trigger; pin = pin } in
+    let new = subst (λ (p : List (List Level)). IsTrue F G p u) (sym all.pins_are) (begun_true E F G G pins oid pin now g s (all.ends oid pin at) l n (all.slots other s e)) in
+    each_true E F G pins r q all (set_beside (Unit {0}) r q other u refl refl refl) (set_each (True_one F G) r q other u refl refl (true_each E F G pins r all) new)
 
 -- an endstop's pin is the one that it was made with
 past_made : (xs : List (Option ℕ)) (k pin n : ℕ) → length xs ≤ k → get_or (set xs k (Some pin)) k None ≡ Some n → get_or xs k None ≡ Some n
@@ -356,23 +219,20 @@ endstop_true E F G pins r oid pin None is all = record {
 }
 endstop_true E F G pins r oid pin (Some p) is all = all
 
-acts_true : (E : ℕ → (ℕ → Type 0)) (F G : ℕ → Type 0) (H : ℕ → (ℕ → Type 0)) (pins : List (List Level)) (r : Rig) (c : Cmd) → ((x : ℕ) → H r.controller.tick x → G x) → IsFit E H pins c → AllTrue E F G pins r → AllTrue E F G pins (acts r c).rig × Each (Says F) (acts r c).answers
-acts_true E F G H pins r (cmd.ConfigTrsync oid) to fit all = (made_true E F G pins r oid (slot_at r oid) all, tt)
-acts_true E F G H pins r (cmd.TrsyncStart oid clock every reason) to fit all = (start_true E F G pins r oid (slot_at r oid) clock every reason fit.0 fit.1 refl all, tt)
-acts_true E F G H pins r (cmd.TrsyncSetTimeout oid clock) to fit all = limit_true E F G pins r oid clock (slot_at r oid) refl all
-acts_true E F G H pins r (cmd.TrsyncTrigger oid reason) to fit all = trigger_true E F G pins r oid reason (slot_at r oid) fit.0 fit.1 refl all
-acts_true E F G H pins r (cmd.StepperStopOnTrigger oid other) to fit all = (bind_true E F G pins r oid other (stepper_at r.controller oid) (slot_at r other) refl all, tt)
-acts_true E F G H pins r (cmd.ConfigEndstop oid pin pull) to fit all = (endstop_true E F G pins r oid pin (slice_index_or r.endstops oid None) fit all, tt)
-acts_true E F G H pins r (cmd.EndstopHome oid clock sample count rest value other reason) to fit all = (
+kept_true : (o : BoardState) (E : ℕ → (ℕ → Type 0)) (F G : ℕ → Type 0) (H : ℕ → (ℕ → Type 0)) (pins : List (List Level)) (r : Rig) (c : Cmd) → (Unit {0} → MakesNone c) → IsBlind c → IsFit E H pins c → AllTrue E F G pins r → AllTrue E F G pins (acts_running o r c).rig × Each (Says F) (acts_running o r c).answers
+kept_true o E F G H pins r c none blind fit all =
+    let both = running_both (True_one F G) 256 (Says F) (tells_true F G) (λ now a. IsFit E H pins a × IsBlind a) (follows_true E F G H pins) o r c all.few (fit, blind) (true_each E F G pins r all) in
+    (each_true E F G pins r (acts_running o r c).rig all (both.1.0, both.1.1, (λ m. both.1.2 (none m)), both.1.3) both.0, both.2)
+
+running_true : (o : BoardState) (E : ℕ → (ℕ → Type 0)) (F G : ℕ → Type 0) (H : ℕ → (ℕ → Type 0)) (pins : List (List Level)) (r : Rig) (c : Cmd) → ((x : ℕ) → H r.controller.tick x → G x) → IsFit E H pins c → AllTrue E F G pins r → AllTrue E F G pins (acts_running o r c).rig × Each (Says F) (acts_running o r c).answers
+running_true (Shut reason at first) E F G H pins r c to fit all =
+    (record { pins_are = all.pins_are; few = all.few; slots = all.slots; ends = all.ends }, others_say F (board_takes r.controller c).answers (board_tells r.controller c))
+running_true Running E F G H pins r (cmd.ConfigEndstop oid pin pull) to fit all = (endstop_true E F G pins r oid pin (slice_index_or r.endstops oid None) fit all, tt)
+running_true Running E F G H pins r (cmd.EndstopHome oid clock sample count rest value other reason) to fit all = (
   home_true E F G pins r oid other (slice_index_or r.endstops oid None) (slot_at r other) (record { clock = clock; sample_ticks = sample; sample_count = count; rest_ticks = rest; pin_value = value; reason = reason }) refl refl fit.0 (λ one pin tick at k. to tick (fit.1 one pin r.controller.tick tick at k)) all,
   tt,
 )
-acts_true E F G H pins r c to fit all = (same_true E F G pins r (acts r c).rig refl refl refl all, others_say F (board_takes r.controller c).answers (board_tells r.controller c))
-
-running_true : (o : BoardState) (E : ℕ → (ℕ → Type 0)) (F G : ℕ → Type 0) (H : ℕ → (ℕ → Type 0)) (pins : List (List Level)) (r : Rig) (c : Cmd) → ((x : ℕ) → H r.controller.tick x → G x) → IsFit E H pins c → AllTrue E F G pins r → AllTrue E F G pins (acts_running o r c).rig × Each (Says F) (acts_running o r c).answers
-running_true Running E F G H pins r c to fit all = acts_true E F G H pins r c to fit all
-running_true (Shut reason at first) E F G H pins r c to fit all =
-    (same_true E F G pins r (acts_running (Shut reason at first) r c).rig refl refl refl all, others_say F (board_takes r.controller c).answers (board_tells r.controller c))
+running_true Running E F G H pins r c to fit all = kept_true Running E F G H pins r c (λ m. tt) tt fit all
 
 -- commands that are fit at the board's tick keep it so, and what it answers of its triggers is so
 pub takes_true : (E : ℕ → (ℕ → Type 0)) (F G : ℕ → Type 0) (H : ℕ → (ℕ → Type 0)) (pins : List (List Level)) (r : Rig) (cs : List Cmd) → ((x : ℕ) → H r.controller.tick x → G x) → Each (IsFit E H pins) cs → AllTrue E F G pins r → AllTrue E F G pins (takes_all r cs).rig × Each (Says F) (takes_all r cs).answers
@@ -382,20 +242,11 @@ takes_true E F G H pins r (c ∷ cs) to fit all =
     let rest = takes_true E F G H pins (takes r c).rig cs (λ x k. to x (subst (λ (n : ℕ). H n x) (takes_rig_tick r c) k)) fit.1 one.0 in
     (rest.0, each_both (Says F) (takes r c).answers (takes_all (takes r c).rig cs).answers one.1 rest.1)
 
-shut_if : (F : ℕ → Type 0) (b : Bool) (reason : ℕ) → Each (Says F) (if b then cmd.IsShutdown reason ∷ [] else [])
-shut_if F true reason = (tt, tt)
-shut_if F false reason = tt
-
-shut_says : (F : ℕ → Type 0) (from to : ℕ) (s : BoardState) → Each (Says F) (says_shut s from to)
-shut_says F from to Running = tt
-shut_says F from to (Shut reason at first) = shut_if F (nat_lt from to) reason
-
 -- so does time, where what readings complete in it is in F
 pub time_true : (E : ℕ → (ℕ → Type 0)) (F G : ℕ → Type 0) (pins : List (List Level)) (r : Rig) (t : ℕ) → ((x : ℕ) → x < t → G x → F x) → AllTrue E F G pins r → AllTrue E F G pins (passes r t).rig × Each (Says F) (says r t)
 time_true E F G pins r t soon all =
-    let one = passes_true E F G pins r t soon all in
-    let shut = says_shut (shut_before r.controller.state r.controller.tick) r.controller.tick t in
-    (one.0, each_both (Says F) (passes r t).answers shut one.1 (shut_says F r.controller.tick t (shut_before r.controller.state r.controller.tick)))
+    let both = says_both (True_one F G) 256 (Says F) (tells_true F G) t (lasts_true F G t soon) r all.few (true_each E F G pins r all) in
+    (each_true E F G pins r (passes r t).rig all both.1 both.0, both.2)
 
 -- and a board is so at first
 none_there : {A : Type 0} → (n oid : ℕ) → get_or (no_objects {A = A} n) oid None ≡ None

@@ -1,25 +1,17 @@
 -- What stands on a board by the commands that it took: no other trigger, and the endstops that they make.
-use Rattle.std.proofs.Common.{◌≡◌, ◌≢◌, ℕ, zero, suc, ◌+◌, ◌/◌, ◌<◌, ◌⊎◌, inl, inr, List, [], ◌∷◌, ◌++◌, length, Option, Some, None, refl, ap, sym, ◌∙◌, subst, arith, append-nil}
+use Rattle.std.proofs.Common.{◌≡◌, ℕ, ◌<◌, ◌⊎◌, inl, inr, List, [], ◌∷◌, ◌++◌, length, Option, Some, None, refl, ap, sym, ◌∙◌, subst, arith, append-nil}
 use Rattle.std.specs.Prelude.{slice_index_or}
-use Rattle.std.proofs.lemmas.Bool.Decides.{leb_tells}
 use Rattle.std.proofs.lemmas.List.{get_or-set_same, get_or-set_other, length-set}
 use Rattle.plan_types.specs.declared.levels.Level.{Level}
 use Rattle.plan_types.specs.declared.machine.BoardDef.{BoardDef}
 use Rattle.plan_types.specs.declared.plan.BoardState.{BoardState}
 use Rattle.plan_types.specs.declared.plan.BoardState.TheVariants.{Running}
 use Rattle.plan_types.specs.Clock.{clock_of}
-use Rattle.board_step.specs.Steps.{Pending}
-use Rattle.board_trig.specs.declared.sampling.Homing.{Homing}
-use Rattle.board_trig.specs.declared.trigger.Trigger.{Trigger}
-use Rattle.board_trig.specs.Trigger as trig
 use Rattle.msg_code.specs.declared.cmd.Cmd.{Cmd}
 use Rattle.msg_code.specs.declared.cmd.Cmd.TheVariants as cmd
 use Rattle.wire_scene.specs.declared.scene.Entry.{Entry}
-use Rattle.board_sim.specs.Board.{stepper_at}
 use Rattle.board_sim.specs.Fair.{Meant, commands_of}
-use Rattle.board_sim.specs.Rig.{Passed, Rig, Slot, acts, acts_running, all_left, at_of, bind, earliest, expires_at_once, goes_on, happens_to, home, make_endstop, make_trigger, new_rig, pass, passes, passes_by, rests_to, runs_to, set_timeout, slot_at, start, takes, takes_all, trigger}
-use Rattle.board_sim.specs.Rig.{happens as rig_happens}
-use Rattle.board_sim.proofs.Bound.{same_or_not}
+use Rattle.board_sim.specs.Rig.{Rig, acts, acts_running, make_endstop, new_rig, passes, takes, takes_all, trigger}
 use Rattle.board_sim.proofs.Enough.{none_at}
 use Rattle.board_sim.proofs.RigStates.{passes_state}
 use Rattle.board_world.specs.declared.event.Event.{Event}
@@ -28,7 +20,8 @@ use Rattle.board_world.specs.World.{Core, Step, Do, Turn, after, happens, takes_
 use Rattle.link_work.specs.Stands.{first_state}
 use Rattle.laws_board.specs.turns.Turns.{AreBoardTurns, BoardTurn, stands_after}
 use Rattle.laws_homing.specs.home_runs.Guards.{IsSole}
-use Rattle.laws_homing.proofs.home_runs.Guarding.{passes_next, takes_next}
+use Rattle.laws_homing.proofs.clear_boards.Slots.{MakesNone, MakesOnly, passes_beside, running_beside, running_sole}
+use Rattle.laws_homing.proofs.home_runs.Guarding.{passes_next}
 use Rattle.laws_homing.proofs.home_runs.Staging.{commands_both}
 use Rattle.laws_homing.proofs.home_runs.Whole.{OneOnly, Only}
 use Rattle.laws_homing.proofs.clear_boards.Turned.{ran}
@@ -41,66 +34,16 @@ abbrev pub AnyTick : ℕ → Type 0
 AnyTick tick = Unit {0}
 
 -- no other trigger stands behind a command that makes none
-start_sole : (r : Rig) (j oid clock every reason : ℕ) (o : Option Slot) → slot_at r oid ≡ o → IsSole j r → IsSole j (start r oid o clock every reason)
-start_sole r j oid clock every reason None at sole = sole
-start_sole r j oid clock every reason (Some s) at sole = λ k v is. one k v is (same_or_not k oid)
-  where
-    one : (k : ℕ) (v : Slot) → slot_at (start r oid (Some s) clock every reason) k ≡ Some v → (k ≡ oid) ⊎ (k ≢ oid) → k ≡ j
-    one k v is (inl same) = same ∙ sole oid s at
-    one k v is (inr d) = sole k v (sym (get_or-set_other r.triggers oid k _ None d) ∙ is)
+makes_only : (j : ℕ) (c : Cmd) → OneOnly j c → MakesOnly j c
+makes_only j (cmd.ConfigTrsync oid) only = only
+makes_only j c only = tt
 
-takes_sole : (r : Rig) (j : ℕ) (c : Cmd) → r.controller.state ≡ Running → OneOnly j c → IsSole j r → IsSole j (takes r c).rig
-takes_sole r j (cmd.ConfigTrsync oid) runs only sole = (takes_next 0 j r (cmd.ConfigTrsync oid) only).sole sole
-takes_sole r j (cmd.TrsyncStart oid clock every reason) runs only sole =
-    subst (λ (o : BoardState). IsSole j (acts_running o r (cmd.TrsyncStart oid clock every reason)).rig) (sym runs) (start_sole r j oid clock every reason (slot_at r oid) refl sole)
-takes_sole r j (cmd.ResetStepClock oid clock) runs only sole = (takes_next (suc oid) j r (cmd.ResetStepClock oid clock) (λ same. omega (arith, same))).sole sole
-takes_sole r j c runs only sole = (takes_next 0 j r c tt).sole sole
+takes_sole : (r : Rig) (j : ℕ) (c : Cmd) → OneOnly j c → IsSole j r → IsSole j (takes r c).rig
+takes_sole r j c only sole = running_sole r.controller.state r j c (makes_only j c only) sole
 
 -- the endstops behind a command that makes none
-made_ends : (r : Rig) (oid : ℕ) (o : Option Slot) → (make_trigger r oid o).endstops ≡ r.endstops
-made_ends r oid None = refl
-made_ends r oid (Some s) = refl
-
-start_ends : (r : Rig) (oid clock every reason : ℕ) (o : Option Slot) → (start r oid o clock every reason).endstops ≡ r.endstops
-start_ends r oid clock every reason None = refl
-start_ends r oid clock every reason (Some s) = refl
-
-expires_ends : (r : Rig) (oid : ℕ) (s : Slot) (t : Trigger) (o : Option ℕ) → (expires_at_once r oid s t o).rig.endstops ≡ r.endstops
-expires_ends r oid s t None = refl
-expires_ends r oid s t (Some n) = refl
-
-limit_ends : (r : Rig) (oid clock : ℕ) (o : Option Slot) → (set_timeout r oid o clock).rig.endstops ≡ r.endstops
-limit_ends r oid clock None = refl
-limit_ends r oid clock (Some s) = let t = trig.with_timeout r.controller.tick clock s.trigger in expires_ends r oid s t t.untold
-
-trigger_ends : (r : Rig) (oid reason : ℕ) (o : Option Slot) → (trigger r oid o reason).rig.endstops ≡ r.endstops
-trigger_ends r oid reason None = refl
-trigger_ends r oid reason (Some s) = refl
-
-bind_ends : (r : Rig) (oid other : ℕ) (q : Option Pending) (o : Option Slot) → (bind r oid q other o).endstops ≡ r.endstops
-bind_ends r oid other None o = refl
-bind_ends r oid other (Some q) None = refl
-bind_ends r oid other (Some q) (Some s) = refl
-
-home_ends : (r : Rig) (p : Option ℕ) (other : ℕ) (o : Option Slot) (g : Homing) → (home r p other o g).endstops ≡ r.endstops
-home_ends r None other o g = refl
-home_ends r (Some pin) other None g = refl
-home_ends r (Some pin) other (Some s) g = refl
-
-abbrev pub MakesNone : Cmd → Type 0
-MakesNone (cmd.ConfigEndstop oid pin pull) = ⊥
-MakesNone c = Unit {0}
-
 pub acts_ends : (r : Rig) (c : Cmd) → MakesNone c → (acts r c).rig.endstops ≡ r.endstops
-acts_ends r (cmd.ConfigTrsync oid) none = made_ends r oid (slot_at r oid)
-acts_ends r (cmd.TrsyncStart oid clock every reason) none = start_ends r oid clock every reason (slot_at r oid)
-acts_ends r (cmd.TrsyncSetTimeout oid clock) none = limit_ends r oid clock (slot_at r oid)
-acts_ends r (cmd.TrsyncTrigger oid reason) none = trigger_ends r oid reason (slot_at r oid)
-acts_ends r (cmd.StepperStopOnTrigger oid other) none = bind_ends r oid other (stepper_at r.controller oid) (slot_at r other)
-acts_ends r (cmd.ConfigEndstop oid pin pull) none = absurd none
-acts_ends r (cmd.EndstopHome oid clock sample count rest value other reason) none =
-    home_ends r (slice_index_or r.endstops oid None) other (slot_at r other) (record { clock = clock; sample_ticks = sample; sample_count = count; rest_ticks = rest; pin_value = value; reason = reason })
-acts_ends r c none = refl
+acts_ends r c none = (running_beside Running r c).2 none
 
 -- an endstop stands at a place, once it is made
 abbrev pub HasEnd : ℕ → List (Option ℕ) → Type 0
@@ -135,7 +78,7 @@ one_stood : (e j : ℕ) (P : Type 0) (r : Rig) (c : Cmd) (cs : List Cmd) → r.c
 one_stood e j P r (cmd.ConfigEndstop oid pin pull) cs runs only k =
     let c = cmd.ConfigEndstop oid pin pull in
     record {
-      sole = takes_sole r j c runs only k.sole;
+      sole = takes_sole r j c only k.sole;
       room = subst (λ (o : BoardState). e < length (acts_running o r c).rig.endstops) (sym runs)
           (let few = k.room in let same = end_places r oid pin (slice_index_or r.endstops oid None) in omega (arith, few, same));
       made = λ p. subst (λ (o : BoardState). HasEnd e (acts_running o r c).rig.endstops ⊎ MakesEndstop e cs) (sym runs) (end_made r e oid pin pull cs k.room (k.made p));
@@ -143,7 +86,7 @@ one_stood e j P r (cmd.ConfigEndstop oid pin pull) cs runs only k =
 one_stood e j P r c cs runs only k =
     let same : (takes r c).rig.endstops ≡ r.endstops = subst (λ (o : BoardState). (acts_running o r c).rig.endstops ≡ r.endstops) (sym runs) (acts_ends r c tt) in
     record {
-      sole = takes_sole r j c runs only k.sole;
+      sole = takes_sole r j c only k.sole;
       room = subst (λ (xs : List (Option ℕ)). e < length xs) (sym same) k.room;
       made = λ p. subst (λ (xs : List (Option ℕ)). HasEnd e xs ⊎ MakesEndstop e cs) (sym same) (k.made p);
     }
@@ -153,23 +96,8 @@ all_stood e j P r [] runs only k = k
 all_stood e j P r (c ∷ cs) runs only k = all_stood e j P (takes r c).rig cs runs only.1 (one_stood e j P r c cs (ran r (c ∷ cs) runs) only.0 k)
 
 -- as time passes
-happens_ends : (r : Rig) (until oid : ℕ) (o : Option Slot) → (happens_to r until oid o).rig.endstops ≡ r.endstops
-happens_ends r until oid None = refl
-happens_ends r until oid (Some s) = refl
-
-goes_ends : (o : Option (ℕ × ℕ)) (r : Rig) (t : ℕ) (rest : Passed) → rest.rig.endstops ≡ (rig_happens r t (at_of o)).rig.endstops → (goes_on o (rests_to r t) (passes_by (rig_happens r t (at_of o)) rest)).rig.endstops ≡ r.endstops
-goes_ends None r t rest e = refl
-goes_ends (Some at) r t rest e = let ran_on = (runs_to r (at.0 / 3)).rig in e ∙ happens_ends ran_on t at.1 (slot_at ran_on at.1)
-
-pass_ends : (n : ℕ) (r : Rig) (t : ℕ) → (pass n r t).rig.endstops ≡ r.endstops
-pass_ends zero r t = refl
-pass_ends (suc n) r t =
-    let next = earliest r t 0 r.triggers in
-    let first = (rig_happens r t (at_of next)).rig in
-    goes_ends next r t (pass n first t) (pass_ends n first t)
-
 passes_ends : (r : Rig) (t : ℕ) → (passes r t).rig.endstops ≡ r.endstops
-passes_ends r t = elim (leb_tells r.controller.tick t) [ inl p ↦ rw p.0 (pass_ends (all_left t r.triggers + 1) r t) | inr p ↦ rw p.0 refl ]
+passes_ends r t = (passes_beside t r).2 tt
 
 time_stood : (e j : ℕ) (P : Type 0) (r : Rig) (t : ℕ) → Stood e j P [] r → Stood e j P [] (passes r t).rig
 time_stood e j P r t k = record {

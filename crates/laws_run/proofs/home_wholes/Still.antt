@@ -2,15 +2,11 @@
 use Rattle.std.proofs.Common.{◌≡◌, ℕ, zero, suc, ◌+◌, ◌/◌, ◌==◌, ◌&&◌, not, Bool, true, false, cond, ◌⊎◌, List, [], ◌∷◌, get_or, set, Option, Some, None, refl, ap, sym, ◌∙◌, subst, inl, inr}
 use Rattle.std.specs.Prelude.{slice_index_or}
 use Rattle.std.proofs.lemmas.Bool.Decides.{leb_tells}
-use Rattle.plan_types.specs.Board.{nearest}
-use Rattle.plan_types.specs.declared.levels.Level.{Level}
 use Rattle.plan_types.specs.declared.plan.BoardState.{BoardState}
 use Rattle.plan_types.specs.declared.plan.BoardState.TheVariants.{Running, Shut}
 use Rattle.plan_types.specs.declared.plan.Triple.{Triple}
 use Rattle.board_step.specs.Steps.{Pending, ticks_at, with_ticks}
 use Rattle.board_trig.specs.declared.sampling.Homing.{Homing}
-use Rattle.board_trig.specs.declared.trigger.Happening.{Happening}
-use Rattle.board_trig.specs.declared.trigger.Happening.TheVariants.{Nothing, Expires, Switches, Reports}
 use Rattle.board_trig.specs.declared.trigger.Trigger.{Trigger}
 use Rattle.board_trig.specs.Trigger as trig
 use Rattle.msg_code.specs.declared.cmd.Cmd.{Cmd}
@@ -18,34 +14,16 @@ use Rattle.msg_code.specs.declared.cmd.Cmd.TheVariants as cmd
 use Rattle.board_sim.specs.Board.{Controller, stepper_at, slot_to, passes_on, with_stepper, refusal, takes_triple, first_of, queue_step, set_dir, reset, make_stepper, is_none_pending, stop}
 use Rattle.board_sim.specs.Board as board
 use Rattle.board_sim.specs.Halted.{is_halted}
-use Rattle.board_sim.specs.Rig.{Passed, Rig, Slot, slot_at, levels_of, becomes, make_trigger, make_endstop, expires_at_once, set_timeout, trigger, home, acts, acts_running, takes, earliest, runs_to, rested, rests_to, happens_to, happens, goes_on, at_of, passes_by, pass, passes, all_left}
-use Rattle.board_sim.proofs.Bound.{map_at}
+use Rattle.board_sim.specs.Rig.{Passed, Rig, Slot, slot_at, levels_of, becomes, make_trigger, make_endstop, expires_at_once, set_timeout, trigger, home, acts, acts_running, takes, earliest, runs_to, rests_to, happens_to, happens, goes_on, at_of, passes_by, pass, passes, all_left}
 use Rattle.board_sim.proofs.Keeps.{slots_at}
+use Rattle.laws_homing.specs.clear_groups.Resting.{IsTame}
+use Rattle.laws_homing.proofs.clear_boards.Slots.{set_either}
+use Rattle.laws_homing.proofs.clear_groups.Off.{happens_off, passes_off, running_off}
 use Rattle.laws_run.specs.home_wholes.Still.{IsOff, IsStill}
 
 -- a stepper is not halted
 abbrev pub IsFree : ℕ → Controller → Type 0
 IsFree oid b = is_halted (stepper_at b oid) ≡ false
-
--- a place of a list that is set
-set_either : {A : Type 0} (xs : List (Option A)) (i j : ℕ) (v : Option A) → ((i ≡ j) × (get_or (set xs i v) j None ≡ v)) ⊎ (get_or (set xs i v) j None ≡ get_or xs j None)
-set_either [] i j v = inr refl
-set_either (x ∷ xs) zero zero v = inl (refl, refl)
-set_either (x ∷ xs) zero (suc j) v = inr refl
-set_either (x ∷ xs) (suc i) zero v = inr refl
-set_either (x ∷ xs) (suc i) (suc j) v = elim (set_either xs i j v) [ inl p ↦ inl (ap (λ n. suc n) p.0, p.1) | inr e ↦ inr e ]
-
-some_same : {A : Type 0} (a b : A) → Some a ≡ Some b → a ≡ b
-some_same a b e = cc
-
-off_set : (r q : Rig) (oid : ℕ) (u : Slot) → q.triggers ≡ set r.triggers oid (Some u) → u.trigger.can ≡ false → IsOff r → IsOff q
-off_set r q oid u e fell off k v is =
-    elim (set_either r.triggers oid k (Some u)) [
-      | inl p ↦
-          let same : u ≡ v = some_same u v (sym p.1 ∙ ap (λ xs. get_or xs k None) (sym e) ∙ is) in
-          subst (λ (s : Slot). s.trigger.can ≡ false) same fell
-      | inr p ↦ off k v (sym p ∙ ap (λ xs. get_or xs k None) (sym e) ∙ is)
-    ]
 
 -- a trigger that can't trigger becomes another such one: nothing is halted
 not_both : (a b : Bool) → a ≡ false → (a && b) ≡ false
@@ -55,86 +33,60 @@ not_both false b e = refl
 becomes_same : (r : Rig) (oid : ℕ) (s : Slot) (t : Trigger) → s.trigger.can ≡ false → (becomes r oid s t).controller ≡ r.controller
 becomes_same r oid s t fell = let e : (s.trigger.can && not t.can) ≡ false = not_both s.trigger.can (not t.can) fell in rw e refl
 
-becomes_off : (r : Rig) (oid : ℕ) (s : Slot) (t : Trigger) → t.can ≡ false → IsOff r → IsOff (becomes r oid s t)
-becomes_off r oid s t fell off = off_set r (becomes r oid s t) oid (record s { trigger = t }) refl fell off
+-- the board's steppers are as they were
+made_same : (r : Rig) (oid : ℕ) (o : Option Slot) → (make_trigger r oid o).controller ≡ r.controller
+made_same r oid None = refl
+made_same r oid (Some s) = refl
 
--- what is kept: no trigger can trigger, and the board's steppers are as they were
-record Stays (r q : Rig) : Type 0 where
-  off : IsOff q
-  same : q.controller ≡ r.controller
+endstop_same : (r : Rig) (oid pin : ℕ) (o : Option ℕ) → (make_endstop r oid pin o).controller ≡ r.controller
+endstop_same r oid pin None = refl
+endstop_same r oid pin (Some p) = refl
 
-stays_becomes : (r : Rig) (oid : ℕ) (s : Slot) (t : Trigger) → slot_at r oid ≡ Some s → t.can ≡ false → IsOff r → Stays r (becomes r oid s t)
-stays_becomes r oid s t at fell off = record { off = becomes_off r oid s t fell off; same = becomes_same r oid s t (off oid s at) }
+expires_same : (o : Option ℕ) (r : Rig) (oid : ℕ) (s : Slot) (t : Trigger) → s.trigger.can ≡ false → (expires_at_once r oid s t o).rig.controller ≡ r.controller
+expires_same None r oid s t fell = becomes_same r oid s t fell
+expires_same (Some n) r oid s t fell = becomes_same r oid s (record t { untold = None }) fell
 
-unless : {A : Type 0} (b : Bool) (x y : A) → b ≡ false → cond b x y ≡ y
-unless true x y e = cc
-unless false x y e = refl
+timeout_same : (r : Rig) (oid : ℕ) (o : Option Slot) (clock : ℕ) → slot_at r oid ≡ o → IsOff r → (set_timeout r oid o clock).rig.controller ≡ r.controller
+timeout_same r oid None clock at off = refl
+timeout_same r oid (Some s) clock at off = let t = trig.with_timeout r.controller.tick clock s.trigger in expires_same t.untold r oid s t (off oid s at)
 
-made_stays : (r : Rig) (oid : ℕ) (o : Option Slot) → IsOff r → Stays r (make_trigger r oid o)
-made_stays r oid None off = record { off = off_set r (make_trigger r oid None) oid (record { trigger = trig.new_trigger; pin = 0; bound = [] }) refl refl off; same = refl }
-made_stays r oid (Some s) off = record { off = off; same = refl }
+trigger_same : (r : Rig) (oid : ℕ) (o : Option Slot) (reason : ℕ) → slot_at r oid ≡ o → IsOff r → (trigger r oid o reason).rig.controller ≡ r.controller
+trigger_same r oid None reason at off = refl
+trigger_same r oid (Some s) reason at off = becomes_same r oid s (trig.triggered r.controller.tick reason s.trigger) (off oid s at)
 
-endstop_stays : (r : Rig) (oid pin : ℕ) (o : Option ℕ) → IsOff r → Stays r (make_endstop r oid pin o)
-endstop_stays r oid pin None off = record { off = off; same = refl }
-endstop_stays r oid pin (Some p) off = record { off = off; same = refl }
-
-expires_stays : (o : Option ℕ) (r : Rig) (oid : ℕ) (s : Slot) (t : Trigger) → slot_at r oid ≡ Some s → t.can ≡ false → IsOff r → Stays r (expires_at_once r oid s t o).rig
-expires_stays None r oid s t at fell off = stays_becomes r oid s t at fell off
-expires_stays (Some n) r oid s t at fell off = stays_becomes r oid s (record t { untold = None }) at fell off
-
-timeout_stays : (r : Rig) (oid : ℕ) (o : Option Slot) (clock : ℕ) → slot_at r oid ≡ o → IsOff r → Stays r (set_timeout r oid o clock).rig
-timeout_stays r oid None clock at off = record { off = off; same = refl }
-timeout_stays r oid (Some s) clock at off =
-    let fell = off oid s at in
-    let t = trig.with_timeout r.controller.tick clock s.trigger in
-    let is : t ≡ s.trigger = unless s.trigger.can (trig.limited r.controller.tick (nearest r.controller.tick clock) s.trigger) s.trigger fell in
-    expires_stays t.untold r oid s t at (ap (λ (x : Trigger). x.can) is ∙ fell) off
-
-trigger_stays : (r : Rig) (oid : ℕ) (o : Option Slot) (reason : ℕ) → slot_at r oid ≡ o → IsOff r → Stays r (trigger r oid o reason).rig
-trigger_stays r oid None reason at off = record { off = off; same = refl }
-trigger_stays r oid (Some s) reason at off =
-    let fell = off oid s at in
-    let t = trig.triggered r.controller.tick reason s.trigger in
-    let is : t ≡ s.trigger = unless s.trigger.can (trig.fired r.controller.tick reason s.trigger) s.trigger fell in
-    stays_becomes r oid s t at (ap (λ (x : Trigger). x.can) is ∙ fell) off
-
-home_stays : (r : Rig) (p : Option ℕ) (other : ℕ) (o : Option Slot) (h : Homing) → slot_at r other ≡ o → IsOff r → Stays r (home r p other o h)
-home_stays r None other o h at off = record { off = off; same = refl }
-home_stays r (Some pin) other None h at off = record { off = off; same = refl }
-home_stays r (Some pin) other (Some s) h at off = record {
-  off = off_set r (home r (Some pin) other (Some s) h) other (record s { trigger = trig.sampling r.controller.tick h s.trigger; pin = pin }) refl (off other s at) off;
-  same = refl;
-}
+home_same : (r : Rig) (p : Option ℕ) (other : ℕ) (o : Option Slot) (h : Homing) → (home r p other o h).controller ≡ r.controller
+home_same r None other o h = refl
+home_same r (Some pin) other None h = refl
+home_same r (Some pin) other (Some s) h = refl
 
 -- one of the steppers' board changes no trigger
 abbrev Goes : Rig → Cmd → Rig → Type 0
-Goes r c q = IsOff q × ((q.controller ≡ r.controller) ⊎ (q.controller ≡ (board.takes r.controller c).board))
-
-of_stays : (r q : Rig) (c : Cmd) → Stays r q → Goes r c q
-of_stays r q c s = (s.off, inl s.same)
+Goes r c q = (q.controller ≡ r.controller) ⊎ (q.controller ≡ (board.takes r.controller c).board)
 
 acts_go : (r : Rig) (c : Cmd) → IsStill c → IsOff r → Goes r c (acts r c).rig
-acts_go r (cmd.ConfigTrsync oid) i off = of_stays r (acts r (cmd.ConfigTrsync oid)).rig (cmd.ConfigTrsync oid) (made_stays r oid (slot_at r oid) off)
+acts_go r (cmd.ConfigTrsync oid) i off = inl (made_same r oid (slot_at r oid))
 acts_go r (cmd.TrsyncStart oid clock every reason) i off = absurd i
-acts_go r (cmd.TrsyncSetTimeout oid clock) i off = of_stays r (acts r (cmd.TrsyncSetTimeout oid clock)).rig (cmd.TrsyncSetTimeout oid clock) (timeout_stays r oid (slot_at r oid) clock refl off)
-acts_go r (cmd.TrsyncTrigger oid reason) i off = of_stays r (acts r (cmd.TrsyncTrigger oid reason)).rig (cmd.TrsyncTrigger oid reason) (trigger_stays r oid (slot_at r oid) reason refl off)
+acts_go r (cmd.TrsyncSetTimeout oid clock) i off = inl (timeout_same r oid (slot_at r oid) clock refl off)
+acts_go r (cmd.TrsyncTrigger oid reason) i off = inl (trigger_same r oid (slot_at r oid) reason refl off)
 acts_go r (cmd.StepperStopOnTrigger oid other) i off = absurd i
-acts_go r (cmd.ConfigEndstop oid pin pull) i off = of_stays r (acts r (cmd.ConfigEndstop oid pin pull)).rig (cmd.ConfigEndstop oid pin pull) (endstop_stays r oid pin (slice_index_or r.endstops oid None) off)
+acts_go r (cmd.ConfigEndstop oid pin pull) i off = inl (endstop_same r oid pin (slice_index_or r.endstops oid None))
 acts_go r (cmd.EndstopHome oid clock sample count rest value other reason) i off =
-    of_stays r (acts r (cmd.EndstopHome oid clock sample count rest value other reason)).rig (cmd.EndstopHome oid clock sample count rest value other reason)
-    (home_stays r (slice_index_or r.endstops oid None) other (slot_at r other)
-    (record { clock = clock; sample_ticks = sample; sample_count = count; rest_ticks = rest; pin_value = value; reason = reason }) refl off)
-acts_go r c i off = (off, inr refl)
+    inl (home_same r (slice_index_or r.endstops oid None) other (slot_at r other) (record { clock = clock; sample_ticks = sample; sample_count = count; rest_ticks = rest; pin_value = value; reason = reason }))
+acts_go r c i off = inr refl
 
 takes_go : (r : Rig) (c : Cmd) → IsStill c → IsOff r → Goes r c (takes r c).rig
 takes_go r c i off = by r.controller.state
   where
     by : (o : BoardState) → Goes r c (acts_running o r c).rig
     by Running = acts_go r c i off
-    by (Shut reason tick first) = (off, inr refl)
+    by (Shut reason tick first) = inr refl
+
+still_tame : (c : Cmd) → IsStill c → IsTame c
+still_tame (cmd.TrsyncStart oid clock every reason) i = absurd i
+still_tame c i = tt
 
 pub takes_off : (r : Rig) (c : Cmd) → IsStill c → IsOff r → IsOff (takes r c).rig
-takes_off r c i off = (takes_go r c i off).0
+takes_off r c i off = running_off r.controller.state r c (still_tame c i) off
 
 -- steppers' places
 with_free : (b : Controller) (other oid : ℕ) (q : Pending) → (other ≡ oid → q.halted ≡ false) → IsFree oid b → IsFree oid (with_stepper b other q)
@@ -200,7 +152,7 @@ board_free b oid c free runs = running_free b.state b oid c free runs
 pub takes_free : (r : Rig) (oid : ℕ) (c : Cmd) → IsStill c → IsOff r → (takes r c).rig.controller.state ≡ Running → IsFree oid r.controller → IsFree oid (takes r c).rig.controller
 takes_free r oid c i off runs free =
     let At : Controller → Type 0 = λ b. b.state ≡ Running → IsFree oid b in
-    elim (takes_go r c i off).1 [
+    elim (takes_go r c i off) [
       | inl e ↦ subst At (sym e) (λ _. free) runs
       | inr e ↦ subst At (sym e) (board_free r.controller oid c free) runs
     ]
@@ -235,9 +187,6 @@ pub record Outlasts (r q : Rig) : Type 0 where
   pub off : IsOff q
   pub free : (oid : ℕ) → IsFree oid r.controller → IsFree oid q.controller
 
-passes_same : (r : Rig) → IsOff r → Outlasts r r
-passes_same r off = record { off = off; free = λ oid f. f }
-
 slot_free : (t : ℕ) (o : Option Pending) → is_halted o ≡ false → is_halted (slot_to t o) ≡ false
 slot_free t None f = f
 slot_free t (Some q) f = f
@@ -249,64 +198,29 @@ on_free (Shut reason tick first) b t oid f = f
 time_free : (b : Controller) (t oid : ℕ) → IsFree oid b → IsFree oid (board.passes b t).board
 time_free b t oid f = elim (leb_tells b.tick t) [ inl p ↦ rw p.0 (on_free b.state b t oid f) | inr p ↦ rw p.0 f ]
 
-runs_pass : (r : Rig) (t : ℕ) → IsOff r → Outlasts r (runs_to r t).rig
-runs_pass r t off = record { off = off; free = λ oid f. time_free r.controller t oid f }
+abbrev Frees : Rig → Rig → Type 0
+Frees r q = (oid : ℕ) → IsFree oid r.controller → IsFree oid q.controller
 
--- the readings before a tick
-rested_can : (pins : List (List Level)) (t : ℕ) (o : Option Slot) (v : Slot) → rested pins t o ≡ Some v → ((s : Slot) → o ≡ Some s → s.trigger.can ≡ false) → v.trigger.can ≡ false
-rested_can pins t None v e off = cc
-rested_can pins t (Some s) v e off =
-    let x : Slot = record s { trigger = (trig.happened (slice_index_or pins s.pin []) t Nothing s.trigger).trigger } in
-    let same : x ≡ v = some_same x v e in
-    subst (λ (y : Slot). y.trigger.can ≡ false) same (off s refl)
+happens_free : (r : Rig) (until oid : ℕ) (o : Option Slot) → slot_at r oid ≡ o → IsOff r → Frees r (happens_to r until oid o).rig
+happens_free r until oid None at off i f = f
+happens_free r until oid (Some s) at off i f =
+    subst (λ (b : Controller). IsFree i b) (sym (becomes_same r oid s (trig.advanced (levels_of r s.pin) until s.trigger).trigger (off oid s at))) f
 
-rests_pass : (r : Rig) (t : ℕ) → IsOff r → Outlasts r (rests_to r t).rig
-rests_pass r t off = record {
-  off = λ k v is. rested_can r.pins t (slot_at r k) v (sym (map_at (rested r.pins t) r.triggers k refl) ∙ is) (λ s e. off k s e);
-  free = λ oid f. time_free r.controller t oid f;
-}
-
--- what happens to a trigger that can't trigger
-happened_can : (h : Happening) (levels : List Level) (until : ℕ) (t : Trigger) → t.can ≡ false → (trig.happened levels until h t).trigger.can ≡ false
-happened_can Nothing levels until t e = e
-happened_can (Expires tick) levels until t e = refl
-happened_can (Switches tick) levels until t e = refl
-happened_can (Reports tick) levels until t e = e
-
-advanced_can : (o : Option ℕ) (levels : List Level) (until : ℕ) (t : Trigger) → t.can ≡ false → (trig.tells o levels until t).trigger.can ≡ false
-advanced_can None levels until t e = happened_can (trig.next levels until t) levels until t e
-advanced_can (Some tick) levels until t e = e
-
-of_same : (r q : Rig) → Stays r q → Outlasts r q
-of_same r q s = record { off = s.off; free = λ oid f. subst (λ (b : Controller). IsFree oid b) (sym s.same) f }
-
-happens_pass : (r : Rig) (until oid : ℕ) (o : Option Slot) → slot_at r oid ≡ o → IsOff r → Outlasts r (happens_to r until oid o).rig
-happens_pass r until oid None at off = passes_same r off
-happens_pass r until oid (Some s) at off =
-    let t = (trig.advanced (levels_of r s.pin) until s.trigger).trigger in
-    of_same r (becomes r oid s t) (stays_becomes r oid s t at (advanced_can s.trigger.untold (levels_of r s.pin) until s.trigger (off oid s at)) off)
-
-pass_then : (r q p : Rig) → Outlasts r q → Outlasts q p → Outlasts r p
-pass_then r q p x y = record { off = y.off; free = λ oid f. y.free oid (x.free oid f) }
-
-goes_pass : (o : Option (ℕ × ℕ)) (r : Rig) (t : ℕ) (rest : Passed) → IsOff r → (IsOff (happens r t (at_of o)).rig → Outlasts (happens r t (at_of o)).rig rest.rig) → Outlasts r (goes_on o (rests_to r t) (passes_by (happens r t (at_of o)) rest)).rig
-goes_pass None r t rest off more = rests_pass r t off
-goes_pass (Some at) r t rest off more =
+goes_free : (o : Option (ℕ × ℕ)) (r : Rig) (t : ℕ) (rest : Passed) → IsOff r → (let q = (happens r t (at_of o)).rig in IsOff q → Frees q rest.rig) → Frees r (goes_on o (rests_to r t) (passes_by (happens r t (at_of o)) rest)).rig
+goes_free None r t rest off more i f = time_free r.controller t i f
+goes_free (Some at) r t rest off more i f =
     let ran = (runs_to r (at.0 / 3)).rig in
-    let one = runs_pass r (at.0 / 3) off in
-    let two = happens_pass ran t at.1 (slot_at ran at.1) refl one.off in
-    pass_then r ran rest.rig one (pass_then ran (happens r t at).rig rest.rig two (more two.off))
+    more (happens_off t at.1 ran (slot_at ran at.1) refl off) i (happens_free ran t at.1 (slot_at ran at.1) refl off i (time_free r.controller (at.0 / 3) i f))
 
-steps_pass : (n : ℕ) (r : Rig) (t : ℕ) → IsOff r → Outlasts r (pass n r t).rig
-steps_pass zero r t off = passes_same r off
-steps_pass (suc n) r t off =
+steps_free : (n : ℕ) (r : Rig) (t : ℕ) → IsOff r → Frees r (pass n r t).rig
+steps_free zero r t off i f = f
+steps_free (suc n) r t off i f =
     let o = earliest r t 0 r.triggers in
     let next = (happens r t (at_of o)).rig in
-    goes_pass o r t (pass n next t) off (λ f. steps_pass n next t f)
+    goes_free o r t (pass n next t) off (λ off_next. steps_free n next t off_next) i f
 
 pub time_passes : (r : Rig) (t : ℕ) → IsOff r → Outlasts r (passes r t).rig
-time_passes r t off =
-    elim (leb_tells r.controller.tick t) [
-      | inl p ↦ rw p.0 (steps_pass (all_left t r.triggers + 1) r t off)
-      | inr p ↦ rw p.0 (passes_same r off)
-    ]
+time_passes r t off = record {
+  off = passes_off t r off;
+  free = λ i f. elim (leb_tells r.controller.tick t) [ inl p ↦ rw p.0 (steps_free (all_left t r.triggers + 1) r t off i f) | inr p ↦ rw p.0 f ];
+}

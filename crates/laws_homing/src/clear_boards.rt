@@ -44,7 +44,8 @@ ghost use Rattle.laws_homing.specs.clear_boards.Clocking.{IsAhead, IsCounted};
 ghost use Rattle.laws_homing.specs.clear_boards.Firing.{AllKeen, AllSmall, AreNumbered, AreSmall, AreSpoken, IsOff, TellOff};
 ghost use Rattle.laws_homing.specs.clear_boards.Expiry.{CameExpiry, TellExpiry};
 ghost use Rattle.trigger_group.specs.declared.order.End.TheVariants.{Expired};
-ghost use Rattle.laws_homing.specs.clear_boards.Hearing.{AllFiredIn, FiredOn, HeardBy, KnownOn, NoneOn, TellAble, TellFiring};
+ghost use Rattle.laws_homing.specs.clear_boards.Hearing.{AllFiredIn, FiredOn, HeardBy, KnownOn, NoneOn, TellAble};
+ghost use Rattle.laws_homing.specs.home_runs.Windows.{SayFired};
 ghost use Rattle.laws_homing.specs.clear_boards.Held.{AllHeld, AllTellOnly, AreFit, all_answers};
 ghost use Rattle.laws_homing.specs.clear_boards.Lately.{IsHeardOf, NearOn};
 ghost use Rattle.laws_homing.specs.clear_boards.Limited.{AreRenewing, IsLimited, limit_after};
@@ -283,7 +284,7 @@ pub fn boards_tell_over_turns()
 pub fn groups_know_of_triggers()
     ensures fired { (b last : ℕ) (clocks : List Clocks) (states : List State) (s : State) (h : Homing) →
         b < length clocks → state_at b states ≡ s ∷ [] → h.start ≤ s.turn + 1 →
-        AllFiredIn (clocks_at clocks b) s.turn h.group.start last s.news → TellFiring s.news →
+        AllFiredIn (clocks_at clocks b) s.turn h.group.start last s.news → SayFired s.news →
         KnownOn b last h.group.members → FiredOn b last (hears_all clocks states h).group.members }
     ensures known { (b last : ℕ) (clocks : List Clocks) (states : List State) (h : Homing) →
         ((s : State) → state_at b states ≡ s ∷ [] → h.start ≤ s.turn + 1 →
@@ -320,7 +321,7 @@ pub fn clear_states_tell_of_triggers()
         TellOff oid clock (passes (takes_all (stands_after (first_state b pins place entries) before).core.board
         (commands_of (queued_in (orders t.control t.batch)))).rig
         (board_tick (clock_of b) (length before + 1))).answers →
-        TellFiring t.state.news }
+        SayFired t.state.news }
     ensures all { (b : BoardDef) (pins : List (List Level)) (place : ℕ) (entries : List Entry) (t : BoardTurn)
         (before : List BoardTurn) (clocks : Clocks) (start last base limit until : ℕ) → RestsOver t before →
         AreBoardTurns (clock_of b) (first_state b pins place entries) (t ∷ before) →

@@ -33,7 +33,8 @@ ghost use Rattle.laws_homing.specs.clear_groups.Safe.{IsSafeAt, IsSafeIn};
 ghost use Rattle.laws_homing.specs.clear_groups.Sections.{AllLate, AreOfTurn, BeginsNoneFrom, IsClearSection, IsFollowed, IsPlain, IsRestingSection, rig_at, turns_of};
 ghost use Rattle.laws_homing.specs.clear_groups.SetUp.{AllOfTurn, ArePreparedAt, BeginsSome, HoldsOf, IsNew, IsNewAt, IsNewIn, IsPrepared};
 ghost use Rattle.laws_homing.specs.clear_groups.Quiet.{IsQuiet};
-ghost use Rattle.laws_homing.specs.clear_groups.Resting.{AllOff, BeginsAlone};
+ghost use Rattle.laws_homing.specs.clear_groups.Resting.{BeginsAlone};
+ghost use Rattle.laws_homing.specs.clear_boards.Limited.{AllFired};
 ghost use Rattle.laws_homing.specs.clear_groups.Runs.{AreSetUp, BeginNone, IsClearRun};
 
 /// The law of safe sections: where the clock lines follow the boards until 276 turns ahead, or to the
@@ -164,7 +165,7 @@ pub fn boards_rest_between_sections()
         (turns : List BoardTurn) → IsPlain m switches pins entries b before turns →
         BeginsAlone m switches (c ∷ before) → (h : Homing) →
         (noted m c.note (known_by m switches before)).homing ≡ Some h → h.start ≡ length before + 251 →
-        AllOff (stands_after (first_state (board_at m b) pins b entries) turns).core.board }
+        AllFired (stands_after (first_state (board_at m b) pins b entries) turns).core.board }
 {}
 
 /// The law of states: in a run whose boards are all in it, the states that come in a turn are of the turn before.

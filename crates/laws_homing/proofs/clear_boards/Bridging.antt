@@ -26,7 +26,8 @@ use Rattle.laws_board.specs.turns.Turns.{AreBoardTurns, BoardTurn, stands_after}
 use Rattle.laws_board.proofs.clocks.Answers.{Each}
 use Rattle.laws_homing.proofs.home_runs.Spelled.{own_state, same_kind, state_is, state_told}
 use Rattle.laws_homing.specs.clear_boards.Firing.{AreNumbered, AreSpoken, IsNumbered, IsSpoken, TellOff}
-use Rattle.laws_homing.specs.clear_boards.Hearing.{AllFiredIn, FiringNone, IsAble, IsFiredIn, IsFiring, TellAble, TellFiring}
+use Rattle.laws_homing.specs.clear_boards.Hearing.{AllFiredIn, FiringNone, IsAble, IsFiredIn, TellAble}
+use Rattle.laws_homing.specs.home_runs.Windows.{IsFired, SayFired}
 use Rattle.laws_homing.specs.clear_boards.Reports.{TellCan}
 use Rattle.laws_homing.proofs.clear_boards.Saying.{said_in_turn}
 use Rattle.laws_homing.proofs.clear_boards.Telling.{told_at_once}
@@ -74,9 +75,9 @@ able_among clocks turn when oid reason clock n (x ∷ ns) (inl e) is =
     inl (subst (λ (c : Cmd). IsAble clocks turn when c) (ap (λ (y : News). y.answer) (sym e)) can)
 able_among clocks turn when oid reason clock n (x ∷ ns) (inr m) is = inr (able_among clocks turn when oid reason clock n ns m is)
 
-pub firing_among : (oid reason clock n : ℕ) (ns : List News) → IsAmong (record { number = n; answer = cmd.TrsyncState oid 0 reason clock }) ns → TellFiring ns
+pub firing_among : (oid reason clock n : ℕ) (ns : List News) → IsAmong (record { number = n; answer = cmd.TrsyncState oid 0 reason clock }) ns → SayFired ns
 firing_among oid reason clock n [] among = absurd among
-firing_among oid reason clock n (x ∷ ns) (inl e) = inl (subst IsFiring (ap (λ (y : News). y.answer) (sym e)) (refl))
+firing_among oid reason clock n (x ∷ ns) (inl e) = inl (subst IsFired (ap (λ (y : News). y.answer) (sym e)) (refl))
 firing_among oid reason clock n (x ∷ ns) (inr m) = inr (firing_among oid reason clock n ns m)
 
 -- an answer that the board gave, as the news have it
@@ -101,13 +102,13 @@ off_among P c [] k among = absurd among
 off_among P c (x ∷ xs) k (inl e) = subst (λ (y : Cmd). IsOff y → P) e k.0
 off_among P c (x ∷ xs) k (inr m) = off_among P c xs k.1 m
 
-firing_said : (P : Type 0) (told a : Cmd) → row_of told ≡ row_of a → IsText own_formats told (text_of a) → (IsOff a → P) → IsFiring told → P
+firing_said : (P : Type 0) (told a : Cmd) → row_of told ≡ row_of a → IsText own_formats told (text_of a) → (IsOff a → P) → IsFired told → P
 firing_said P (cmd.TrsyncState oid zero reason clock) (cmd.TrsyncState x y r k) e text f off = f (λ lx ly. (state_is x y r k oid reason clock lx ly text).1)
 firing_said P (cmd.TrsyncState oid (suc can) reason clock) (cmd.TrsyncState x y r k) e text f off = absurd (omega (arith, off))
 firing_said P (cmd.TrsyncState oid can reason clock) a e text f off = absurd (let bad : row.TrsyncState ≡ row_of a = e in cc)
 firing_said P told a e text f off = absurd off
 
-no_news : (ns : List News) → ((n : News) → IsAmong n ns → IsFiring n.answer → ⊥) → FiringNone ns
+no_news : (ns : List News) → ((n : News) → IsAmong n ns → IsFired n.answer → ⊥) → FiringNone ns
 no_news [] f = tt
 no_news (n ∷ ns) f = (λ off. f n (inl refl) off, no_news ns (λ x m. f x (inr m)))
 
@@ -144,7 +145,7 @@ module _ (b : BoardDef) (pins : List (List Level)) (place : ℕ) (entries : List
       let x = found_told oid 1 clock base limit until small (omega arith) spoken f in
       able_among clocks (length before) when oid f.reason clock x.0 t.state.news x.1 is
 
-  pub tells_firing : (oid clock base limit until : ℕ) → oid < 2 ^ 8 → AreSpoken base limit until (passes Taken Until).answers → TellOff oid clock (passes Taken Until).answers → TellFiring t.state.news
+  pub tells_firing : (oid clock base limit until : ℕ) → oid < 2 ^ 8 → AreSpoken base limit until (passes Taken Until).answers → TellOff oid clock (passes Taken Until).answers → SayFired t.state.news
   tells_firing oid clock base limit until small spoken tells =
       let f = off_found oid clock (passes Taken Until).answers tells in
       let x = found_told oid 0 clock base limit until small (omega arith) spoken f in

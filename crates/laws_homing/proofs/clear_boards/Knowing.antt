@@ -17,7 +17,8 @@ use Rattle.trigger_group.specs.Group.{GroupState, came, fired_by, first, hears_f
 use Rattle.axis_homing.specs.declared.homing.Homing.{Homing}
 use Rattle.axis_homing.specs.Homing.{came_at, hears_all, hears_answer, hears_news, hears_state, hears_states}
 use Rattle.host_reactor.specs.Runs.{state_at}
-use Rattle.laws_homing.specs.clear_boards.Hearing.{AllFiredIn, FiredOn, FiringNone, IsFiredIn, IsFiring, KnownOn, NoneOn, TellFiring}
+use Rattle.laws_homing.specs.clear_boards.Hearing.{AllFiredIn, FiredOn, FiringNone, IsFiredIn, KnownOn, NoneOn}
+use Rattle.laws_homing.specs.home_runs.Windows.{IsFired, SayFired}
 
 -- a member behind a report
 abbrev pub behind : Bool → Bool → TrigState → ℕ → ℕ → Seen → Seen
@@ -152,7 +153,7 @@ answer_known start b last board turn clocks (cmd.TrsyncState oid can reason cloc
     (λ when is here off. (let x = low here (no_can can off) in let same = same_when (turn_in_run clocks at) when x.0 is x.3 in let l = x.2 in omega (arith, same, l))) k
 answer_known start b last board turn clocks c g low k = k
 
-answer_new : (start last board turn : ℕ) (clocks : Clocks) (c : Cmd) (g : GroupState) → IsFiredIn clocks turn start last c → IsFiring c → Knows start board last g → Fires start board last (hears_answer clocks board turn c g)
+answer_new : (start last board turn : ℕ) (clocks : Clocks) (c : Cmd) (g : GroupState) → IsFiredIn clocks turn start last c → IsFired c → Knows start board last g → Fires start board last (hears_answer clocks board turn c g)
 answer_new start last board turn clocks (cmd.TrsyncState oid can reason clock) g in_it off k =
     let at = nearest (turn_tick clocks turn) clock in
     let x = in_it off in
@@ -169,7 +170,7 @@ news_known start b last board turn clocks [] g all k = k
 news_known start b last board turn clocks (n ∷ ns) g all k =
     news_known start b last board turn clocks ns (hears_answer clocks board turn n.answer g) (λ here. (all here).1) (answer_known start b last board turn clocks n.answer g (λ here. (all here).0) k)
 
-news_new : (start last board turn : ℕ) (clocks : Clocks) (ns : List News) (g : GroupState) → AllFiredIn clocks turn start last ns → TellFiring ns → Knows start board last g → Fires start board last (hears_news clocks board turn ns g)
+news_new : (start last board turn : ℕ) (clocks : Clocks) (ns : List News) (g : GroupState) → AllFiredIn clocks turn start last ns → SayFired ns → Knows start board last g → Fires start board last (hears_news clocks board turn ns g)
 news_new start last board turn clocks [] g all t k = absurd t
 news_new start last board turn clocks (n ∷ ns) g all (inl off) k =
     news_still start board last board turn clocks ns (hears_answer clocks board turn n.answer g) (answer_new start last board turn clocks n.answer g all.0 off k)
@@ -191,7 +192,7 @@ state_known start b last board from clocks s g all k = elim (leb_tells from (s.t
   | inr p ↦ let At : Bool → Type 0 = λ c. Knows start b last (cond c (hears_news clocks board s.turn s.news g) g) in subst At (sym p.0) k
 ]
 
-state_new : (start last board from : ℕ) (clocks : Clocks) (s : State) (g : GroupState) → from ≤ s.turn + 1 → AllFiredIn clocks s.turn start last s.news → TellFiring s.news → Knows start board last g → Fires start board last (hears_state clocks board from s g)
+state_new : (start last board from : ℕ) (clocks : Clocks) (s : State) (g : GroupState) → from ≤ s.turn + 1 → AllFiredIn clocks s.turn start last s.news → SayFired s.news → Knows start board last g → Fires start board last (hears_state clocks board from s g)
 state_new start last board from clocks s g late all t k = elim (leb_tells from (s.turn + 1)) [
   | inl p ↦
       let At : Bool → Type 0 = λ c. Fires start board last (cond c (hears_news clocks board s.turn s.news g) g) in
@@ -221,13 +222,13 @@ states_known (suc d) start b last board from (c ∷ clocks) (s ∷ states) g e a
     states_known d start b last (board + 1) from clocks states (hears_state c board from s g) (omega (arith, e)) (λ x is late. all x is late) (state_known start b last board from c s g (λ here late. absurd (omega (arith, here, e))) k)
 
 states_new : (d start b last board from : ℕ) (clocks : List Clocks) (states : List State) (s : State) (g : GroupState) → board + d ≡ b → d < length clocks → state_at d states ≡ s ∷ [] → from ≤ s.turn + 1 → AllFiredIn (clocks_at clocks d) s.turn start last s.news
-    → TellFiring s.news → Knows start b last g → Fires start b last (hears_states clocks board from states g)
+    → SayFired s.news → Knows start b last g → Fires start b last (hears_states clocks board from states g)
 states_new d start b last board from [] states s g e few at late all t k = absurd (omega (arith, few))
 states_new d start b last board from (c ∷ clocks) [] s g e few at late all t k = absurd (cc)
 states_new zero start b last board from (c ∷ clocks) (x ∷ states) s g e few at late all t k =
     let same : s ≡ x = cc in
     let place : b ≡ board = omega (arith, e) in
-    let Of : State → Type 0 = λ y. (from ≤ y.turn + 1) × AllFiredIn c y.turn start last y.news × TellFiring y.news in
+    let Of : State → Type 0 = λ y. (from ≤ y.turn + 1) × AllFiredIn c y.turn start last y.news × SayFired y.news in
     let h = subst Of same (late, all, t) in
     let At : ℕ → Type 0 = λ n. Fires start n last (hears_state c board from x g) in
     let K : ℕ → Type 0 = λ n. Knows start n last g in
@@ -236,7 +237,7 @@ states_new (suc d) start b last board from (c ∷ clocks) (x ∷ states) s g e f
     states_new d start b last (board + 1) from clocks states s (hears_state c board from x g) (omega (arith, e)) (omega (arith, few)) at late all t
     (state_known start b last board from c x g (λ here soon. absurd (omega (arith, here, e))) k)
 
-pub hears_fired : (b last : ℕ) (clocks : List Clocks) (states : List State) (s : State) (h : Homing) → b < length clocks → state_at b states ≡ s ∷ [] → h.start ≤ s.turn + 1 → AllFiredIn (clocks_at clocks b) s.turn h.group.start last s.news → TellFiring s.news
+pub hears_fired : (b last : ℕ) (clocks : List Clocks) (states : List State) (s : State) (h : Homing) → b < length clocks → state_at b states ≡ s ∷ [] → h.start ≤ s.turn + 1 → AllFiredIn (clocks_at clocks b) s.turn h.group.start last s.news → SayFired s.news
     → KnownOn b last h.group.members → FiredOn b last (hears_all clocks states h).group.members
 hears_fired b last clocks states s h few at late all t k =
     let was : Knows h.group.start b last h.group = record { is = refl; on = k } in
@@ -281,7 +282,7 @@ at_none b board tick s (Some turn) g low k = came_none b board tick turn s g low
 is_can : (can : ℕ) → (can ≡ 0 → ⊥) → not (can == 0) ≡ true
 is_can can n = elim (eqb_tells can 0) [ inl p ↦ absurd (n p.1) | inr p ↦ ap not p.0 ]
 
-answer_none : (b board turn : ℕ) (clocks : Clocks) (c : Cmd) (g : GroupState) → (board ≡ b → IsFiring c → ⊥) → NoneOn b g.members → NoneOn b (hears_answer clocks board turn c g).members
+answer_none : (b board turn : ℕ) (clocks : Clocks) (c : Cmd) (g : GroupState) → (board ≡ b → IsFired c → ⊥) → NoneOn b g.members → NoneOn b (hears_answer clocks board turn c g).members
 answer_none b board turn clocks (cmd.TrsyncState oid can reason clock) g low k =
     let at = nearest (turn_tick clocks turn) clock in
     at_none b board at (record { can = not (can == 0); reason = reason; clock = clock }) (turn_in_run clocks at) g (λ here. is_can can (λ off. low here off)) k

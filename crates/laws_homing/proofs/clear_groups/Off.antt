@@ -10,7 +10,8 @@ use Rattle.msg_code.specs.declared.cmd.Cmd.{Cmd}
 use Rattle.board_sim.specs.Rig.{Rig, Slot, acts_running, happens_to, passes, slot_at, takes_all}
 use Rattle.laws_board.proofs.clocks.Answers.{Each}
 use Rattle.laws_homing.proofs.clear_boards.Slots.{Follows, Lasts, happens_each, passes_each, running_each, takes_each}
-use Rattle.laws_homing.specs.clear_groups.Resting.{EachTame, IsTame, AllOff}
+use Rattle.laws_homing.specs.clear_groups.Resting.{EachTame, IsTame}
+use Rattle.laws_homing.specs.clear_boards.Limited.{AllFired}
 
 abbrev Off_one : List (List Level) → ℕ → Slot → Type 0
 Off_one pins oid s = s.trigger.can ≡ false
@@ -43,14 +44,14 @@ pub tame_each : (now : ℕ) (cs : List Cmd) → EachTame cs → Each (Tame now) 
 tame_each now [] k = tt
 tame_each now (c ∷ cs) k = (k.0, tame_each now cs k.1)
 
-pub running_off : (o : BoardState) (r : Rig) (c : Cmd) → IsTame c → AllOff r → AllOff (acts_running o r c).rig
+pub running_off : (o : BoardState) (r : Rig) (c : Cmd) → IsTame c → AllFired r → AllFired (acts_running o r c).rig
 running_off o r c k all = running_each Off_one Tame follows_off o r c k all
 
-pub happens_off : (until oid : ℕ) (r : Rig) (o : Option Slot) → slot_at r oid ≡ o → AllOff r → AllOff (happens_to r until oid o).rig
+pub happens_off : (until oid : ℕ) (r : Rig) (o : Option Slot) → slot_at r oid ≡ o → AllFired r → AllFired (happens_to r until oid o).rig
 happens_off until oid r o e all = happens_each Off_one until (lasts_off until) oid r o e all
 
-pub passes_off : (until : ℕ) (r : Rig) → AllOff r → AllOff (passes r until).rig
+pub passes_off : (until : ℕ) (r : Rig) → AllFired r → AllFired (passes r until).rig
 passes_off until r all = passes_each Off_one until (lasts_off until) r all
 
-pub turn_off : (until : ℕ) (r : Rig) (cs : List Cmd) → EachTame cs → AllOff r → AllOff (passes (takes_all r cs).rig until).rig
+pub turn_off : (until : ℕ) (r : Rig) (cs : List Cmd) → EachTame cs → AllFired r → AllFired (passes (takes_all r cs).rig until).rig
 turn_off until r cs k all = passes_off until (takes_all r cs).rig (takes_each Off_one Tame follows_off r cs (tame_each r.controller.tick cs k) all)

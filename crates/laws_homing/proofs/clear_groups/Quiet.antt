@@ -11,7 +11,8 @@ use Rattle.board_sim.specs.Rig.{Rig, Slot, passes, slot_at, takes_all}
 use Rattle.board_sim.proofs.Bound.{one_slot}
 use Rattle.laws_board.proofs.clocks.Answers.{Each}
 use Rattle.laws_homing.proofs.clear_boards.Slots.{Follows, Lasts, passes_each, takes_each}
-use Rattle.laws_homing.specs.clear_groups.Quiet.{EachBlind, IsBlind, IsQuiet}
+use Rattle.laws_homing.specs.clear_groups.Quiet.{EachBlind, IsQuiet}
+use Rattle.laws_homing.specs.switch_runs.Taken.{IsBlind}
 use Rattle.laws_homing.specs.clear_groups.SetUp.{HoldsOf, IsArmed}
 
 abbrev Blank : Trigger → Type 0

@@ -49,7 +49,8 @@ use Rattle.laws_board.proofs.clocks.Lines.{turn_of}
 use Rattle.laws_board.proofs.clocks.Turning.{Asks, BoardTurned, Ends, Runs}
 use Rattle.laws_homing.specs.home_runs.Told.{IsMember}
 use Rattle.laws_homing.proofs.home_runs.Grouped.{members_states}
-use Rattle.laws_homing.specs.clear_groups.Quiet.{EachBlind, IsBlind, IsReadIn}
+use Rattle.laws_homing.specs.clear_groups.Quiet.{EachBlind, IsReadIn}
+use Rattle.laws_homing.specs.switch_runs.Taken.{IsBlind}
 
 each_both : (xs ys : List Cmd) → EachBlind xs → EachBlind ys → EachBlind (xs ++ ys)
 each_both [] ys a b = b

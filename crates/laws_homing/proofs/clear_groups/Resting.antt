@@ -47,7 +47,7 @@ use Rattle.host_reactor.specs.declared.ordered.Phase.{Phase}
 use Rattle.host_reactor.specs.Notes.{news_of, noted}
 use Rattle.host_reactor.specs.Reactor.{Reacted}
 use Rattle.host_reactor.specs.Runs.{Came, GoesOn, known_by, last_turn}
-use Rattle.laws_homing.specs.clear_boards.Hearing.{FiringNone, IsFiring}
+use Rattle.laws_homing.specs.clear_boards.Hearing.{FiringNone}
 use Rattle.laws_homing.specs.clear_boards.Turned.{AreBehind}
 use Rattle.laws_homing.proofs.clear_boards.Rests.{clear_over}
 use Rattle.laws_homing.proofs.clear_boards.Bridging.{none_firing}
@@ -55,7 +55,8 @@ use Rattle.laws_homing.proofs.clear_boards.Member.{turn_off}
 use Rattle.laws_homing.proofs.clear_boards.Ordered.{plain_are, turn_ordered}
 use Rattle.laws_homing.proofs.clear_boards.Taking.{takes_in_turn}
 use Rattle.laws_homing.proofs.clear_boards.Turned.{above, next_all, stays_fired}
-use Rattle.laws_homing.specs.clear_groups.Resting.{AllOff, BeginsAlone, EachTame, IsUnderWay}
+use Rattle.laws_homing.specs.clear_groups.Resting.{BeginsAlone, EachTame, IsUnderWay}
+use Rattle.laws_homing.specs.clear_boards.Limited.{AllFired}
 use Rattle.laws_homing.specs.clear_groups.Sections.{IsPlain}
 use Rattle.laws_homing.proofs.clear_groups.Known.{answered_late, behind_turn, open_group}
 use Rattle.laws_homing.proofs.clear_groups.Noted.{IsNewly, noted_newly, some_or_none}
@@ -93,7 +94,7 @@ pub taken_tame : (t : BoardTurn) → EachTame t.control.commands → EachTame (c
 taken_tame t k = meant_both (map plain t.control.commands) (units_orders t.batch.units) (subst EachTame (sym (plain_are t.control.commands)) k) (units_tame t.batch.units)
 
 -- what was told
-one_clash : (c : Cmd) → IsFired c → (IsFiring c → ⊥) → ⊥
+one_clash : (c : Cmd) → IsFired c → (IsFired c → ⊥) → ⊥
 one_clash (cmd.TrsyncState oid can reason clock) f n = n f
 one_clash c f n = absurd f
 
@@ -176,7 +177,7 @@ module _ (m : Machine) (v : IsValidMachine m) (switches : List Switch) (pins : L
   Oid = trigger_of m b
 
   abbrev Way : List Came → List BoardTurn → Type 0
-  Way before turns = AllOff (Board turns) ⊎ (((known_by m switches before).phase ≡ Connecting → ⊥) × IsUnderWay Oid b (length before) (known_by m switches before).homing turns (Board turns))
+  Way before turns = AllFired (Board turns) ⊎ (((known_by m switches before).phase ≡ Connecting → ⊥) × IsUnderWay Oid b (length before) (known_by m switches before).homing turns (Board turns))
 
   pub board_runs : (before : List Came) (turns : List BoardTurn) → IsPlain m switches pins entries b before turns → (Board turns).controller.state ≡ Running
   unfolding new_controller
@@ -186,7 +187,7 @@ module _ (m : Machine) (v : IsValidMachine m) (switches : List Switch) (pins : L
   owns : (before : List Came) (turns : List BoardTurn) → IsPlain m switches pins entries b before turns → ((known_by m switches before).phase ≡ Connecting → ⊥) → IsSole Oid (Board turns) × HasSlot Oid (Board turns)
   owns before turns p n = one_trigger m switches pins entries b before turns v none p.run p.limits n (board_runs before turns p)
 
-  fired_off : (r : Rig) → IsSole Oid r → HasFired Oid r → AllOff r
+  fired_off : (r : Rig) → IsSole Oid r → HasFired Oid r → AllFired r
   fired_off r sole f i s at =
       let here : slot_at r Oid ≡ Some s = subst (λ (n : ℕ). slot_at r n ≡ Some s) (sole i s at) at in
       subst (λ (x : Slot). x.trigger.can ≡ false) (one_slot (slot_at r Oid) f.slot s f.is here) f.fired
@@ -201,8 +202,8 @@ module _ (m : Machine) (v : IsValidMachine m) (switches : List Switch) (pins : L
     taken : Board (t ∷ turns) ≡ (passes (takes_all (Board turns) Commands).rig Until).rig
     taken = takes_in_turn (board_at m b) pins b entries t turns none now.run.turns_are now.limits
 
-    tame_off : EachTame t.control.commands → AllOff (Board turns) → AllOff (Board (t ∷ turns))
-    tame_off tame off = subst AllOff (sym taken) (turn_all_off Until (Board turns) Commands (taken_tame t tame) off)
+    tame_off : EachTame t.control.commands → AllFired (Board turns) → AllFired (Board (t ∷ turns))
+    tame_off tame off = subst AllFired (sym taken) (turn_all_off Until (Board turns) Commands (taken_tame t tame) off)
 
     -- a trigger behind the set-up, of which it was told that it can't trigger
     fires_on : (clock : ℕ) → AreBehind Oid clock Commands → HasFired Oid (Board turns) → HasFired Oid (Board (t ∷ turns))
@@ -316,7 +317,7 @@ module _ (m : Machine) (v : IsValidMachine m) (switches : List Switch) (pins : L
             inl (tame_off tame (fired_off (Board turns) (owns past turns was open_past).0 (u.fires told)))
 
   -- a whole run
-  first_off : AllOff (Board [])
+  first_off : AllFired (Board [])
   first_off oid s at = absurd (none_some (slot_at (Board []) oid) s (none_at 256 oid) at)
 
   pub rests_all : ((k : ℕ) → board_tick (clock_of (board_at m b)) k ≤ board_tick (clock_of (board_at m b)) (k + 1)) → (before : List Came) (turns : List BoardTurn) → IsPlain m switches pins entries b before turns → BeginsAlone m switches before → Way before turns
@@ -329,7 +330,7 @@ module _ (m : Machine) (v : IsValidMachine m) (switches : List Switch) (pins : L
 
   -- as a section is started
   pub off_at : ((k : ℕ) → board_tick (clock_of (board_at m b)) k ≤ board_tick (clock_of (board_at m b)) (k + 1)) → (c : Came) (before : List Came) (turns : List BoardTurn) → IsPlain m switches pins entries b before turns → BeginsAlone m switches (c ∷ before)
-      → (h : Homing) → (noted m c.note (known_by m switches before)).homing ≡ Some h → h.start ≡ length before + 251 → AllOff (Board turns)
+      → (h : Homing) → (noted m c.note (known_by m switches before)).homing ≡ Some h → h.start ≡ length before + 251 → AllFired (Board turns)
   off_at rise c before turns p alone h is at = elim (rests_all rise before turns p alone.1) [
     | inl off ↦ off
     | inr x ↦

@@ -1,5 +1,5 @@
 -- A member's board over a turn over which its link rests, in any scene: where its trigger triggers, the group hears of that at once; and an order to trigger triggers it.
-use Rattle.std.proofs.Common.{◌≡◌, ◌⊎◌, ℕ, ◌+◌, ◌*◌, ◌%◌, ◌^◌, ◌<◌, ◌≤◌, inl, inr, Bool, true, false, List, [], ◌∷◌, ◌++◌, length, ◌-◌, Some, refl, ap, sym, ◌∙◌, subst, arith, append-nil}
+use Rattle.std.proofs.Common.{◌≡◌, ◌⊎◌, ℕ, ◌+◌, ◌*◌, ◌%◌, ◌^◌, ◌<◌, ◌≤◌, inl, inr, Bool, true, false, List, [], ◌∷◌, ◌++◌, length, Some, refl, ap, sym, ◌∙◌, subst, arith, append-nil}
 use Rattle.plan_types.specs.declared.levels.Level.{Level}
 use Rattle.plan_types.specs.declared.machine.Machine.{Machine}
 use Rattle.plan_types.specs.Board.{nearest}
@@ -39,13 +39,13 @@ use Rattle.host_reactor.specs.Notes.{noted}
 use Rattle.host_reactor.specs.Runs.{Came, known_by}
 use Rattle.laws_homing.specs.home_runs.Guards.{HasFired, StandsFired}
 use Rattle.laws_homing.specs.home_runs.Told.{IsMember}
-use Rattle.laws_homing.specs.home_runs.Windows.{HasAnswer, IsWatched}
+use Rattle.laws_homing.specs.home_runs.Windows.{HasAnswer, IsWatched, SayFired}
 use Rattle.laws_homing.proofs.home_runs.Joining.{all_queued}
 use Rattle.laws_homing.proofs.home_runs.Resting.{rests_took, rests_up}
 use Rattle.laws_homing.proofs.home_runs.Spelled.{own_state}
 use Rattle.laws_homing.proofs.home_runs.Told.{told_stands}
 use Rattle.laws_homing.specs.clear_boards.Firing.{TellOff}
-use Rattle.laws_homing.specs.clear_boards.Hearing.{AllFiredIn, FiredOn, FiringNone, KnownOn, NoneOn, TellFiring}
+use Rattle.laws_homing.specs.clear_boards.Hearing.{AllFiredIn, FiredOn, FiringNone, KnownOn, NoneOn}
 use Rattle.laws_homing.specs.clear_boards.Rests.{RestsOver}
 use Rattle.laws_homing.specs.clear_groups.Sections.{IsAlike, IsFollowed, IsOnward, IsRestingSection, report_ticks, rig_at, turns_of}
 use Rattle.laws_homing.proofs.clear_boards.Answering.{told_to_commands}
@@ -256,7 +256,7 @@ module _ (m : Machine) (v : IsValidMachine m) (switches : List Switch) (pins : �
   known_next k = subst (λ (xs : List Seen). KnownOn b last xs) (sym same_members) k
 
   -- what it told as it ran on is among the news
-  said_off : (clock : ℕ) → TellOff Oid clock (passes (takes_all Before Commands).rig Until).answers → TellFiring (j b).state.news
+  said_off : (clock : ℕ) → TellOff Oid clock (passes (takes_all Before Commands).rig Until).answers → SayFired (j b).state.news
   said_off clock t =
       let q = (takes_all Before Commands).rig in
       let ys = (passes q Until).answers in
@@ -269,7 +269,7 @@ module _ (m : Machine) (v : IsValidMachine m) (switches : List Switch) (pins : �
 
   -- one that triggered in the turn
   module _ (soon : K + 1 ≤ last) (u : Slot) (there : slot_at Later Oid ≡ Some u) (none_before : NoneOn b G.members) (gone : Gone Oid Now Until u ((takes_all Before Commands).answers ++ (passes (takes_all Before Commands).rig Until).answers)) where
-    tells : TellFiring (j b).state.news
+    tells : SayFired (j b).state.news
     tells =
         let xs = (takes_all Before Commands).answers in
         let clock = u.trigger.tick % 2 ^ 32 in

@@ -1,5 +1,5 @@
 -- Where what a board told comes soon, a homing group hears of it as able to trigger in no turn to come.
-use Rattle.std.proofs.Common.{◌≡◌, ℕ, ◌+◌, ◌*◌, ◌%◌, ◌^◌, ◌<◌, ◌≤◌, List, [], ◌∷◌, ◌++◌, length, Option, Some, refl, ap, sym, ◌∙◌, subst, arith}
+use Rattle.std.proofs.Common.{◌≡◌, ℕ, ◌+◌, ◌*◌, ◌%◌, ◌^◌, ◌<◌, ◌≤◌, List, [], ◌∷◌, ◌++◌, length, Some, refl, ap, sym, ◌∙◌, subst, arith}
 use Rattle.plan_types.specs.declared.levels.Level.{Level}
 use Rattle.plan_types.specs.declared.machine.Machine.{Machine}
 use Rattle.plan_types.specs.Board.{nearest}
@@ -12,7 +12,6 @@ use Rattle.msg_code.specs.declared.cmd.Cmd.TheVariants as cmd
 use Rattle.msg_code.specs.declared.talk.State.{State}
 use Rattle.wire_scene.specs.declared.scene.Entry.{Entry}
 use Rattle.wire_scene.specs.declared.scene.Switch.{Switch}
-use Rattle.link_work.specs.Stands.{first_state}
 use Rattle.trigger_group.specs.declared.order.Member.{Member}
 use Rattle.axis_homing.specs.declared.homing.Homing.{Homing}
 use Rattle.axis_homing.specs.Homing.{hears_all}

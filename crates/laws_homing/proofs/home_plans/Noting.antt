@@ -16,9 +16,7 @@ use Rattle.trigger_group.specs.Kept.{group_where, may_be}
 use Rattle.axis_homing.specs.declared.homing.Homing.{Homing}
 use Rattle.axis_homing.specs.Homing.{homing_of, homing_with, members_from}
 use Rattle.motion_work.specs.Puts.{begun_notes}
-use Rattle.plan_types.specs.Lines.{Clocks}
-use Rattle.motion_work.specs.Seen.{AreStarted, Started}
-use Rattle.motion_work.proofs.Turning.{planned_late}
+use Rattle.motion_work.specs.Seen.{Started}
 use Rattle.motion_work.specs.Turns.{done_notes}
 use Rattle.host_reactor.specs.declared.ordered.Known.{Known}
 use Rattle.host_reactor.specs.Notes.{news_of, noted, told, told_all}

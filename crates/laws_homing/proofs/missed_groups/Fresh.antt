@@ -40,13 +40,13 @@ use Rattle.host_reactor.specs.Notes.{noted}
 use Rattle.host_reactor.specs.Runs.{Came, known_by}
 use Rattle.laws_homing.specs.home_runs.Guards.{HasFired, StandsFired}
 use Rattle.laws_homing.specs.home_runs.Told.{IsMember}
-use Rattle.laws_homing.specs.home_runs.Windows.{HasAnswer}
+use Rattle.laws_homing.specs.home_runs.Windows.{HasAnswer, IsFired, SayFired}
 use Rattle.laws_homing.proofs.home_runs.Guarding.{Next, passes_next, true_or_false}
 use Rattle.laws_homing.proofs.home_runs.Spelled.{own_state}
 use Rattle.laws_homing.proofs.home_runs.Told.{told_stands}
 use Rattle.laws_homing.specs.clear_boards.Clocking.{IsCounted}
 use Rattle.laws_homing.specs.clear_boards.Firing.{AllSmall, AreSmall, IsSmall, TellOff}
-use Rattle.laws_homing.specs.clear_boards.Hearing.{AllFiredIn, FiredOn, FiringNone, IsFiredIn, IsFiring, NoneOn, TellFiring}
+use Rattle.laws_homing.specs.clear_boards.Hearing.{AllFiredIn, FiredOn, FiringNone, IsFiredIn, NoneOn}
 use Rattle.laws_homing.specs.clear_boards.Limited.{limit_of}
 use Rattle.laws_homing.specs.clear_boards.Turned.{AreBehind, RelaysOne, SetsNone, SetsOne}
 use Rattle.laws_homing.proofs.clear_boards.Answering.{told_to_commands}
@@ -174,11 +174,11 @@ pub none_firing : (ns : List News) → ((oid reason clock : ℕ) → HasAnswer (
 none_firing [] f = tt
 none_firing (n ∷ ns) f = (by n.answer refl, none_firing ns (λ o r k a. f o r k (inr a)))
   where
-    by : (c : Cmd) → n.answer ≡ c → IsFiring n.answer → ⊥
+    by : (c : Cmd) → n.answer ≡ c → IsFired n.answer → ⊥
     by (cmd.TrsyncState o can r k) e off =
-        let none : can ≡ 0 = subst IsFiring e off in
+        let none : can ≡ 0 = subst IsFired e off in
         f o r k (inl (e ∙ ap (λ (i : ℕ). cmd.TrsyncState o i r k) none))
-    by c e off = absurd (subst IsFiring e off)
+    by c e off = absurd (subst IsFired e off)
 
 pub firing_in : (clocks : Clocks) (turn begin end : ℕ) (ns : List News)
     → ((oid reason clock : ℕ) → HasAnswer (cmd.TrsyncState oid 0 reason clock) ns → (when : ℕ) × (begin ≤ when) × (when ≤ end) × (turn_in_run clocks (nearest (turn_tick clocks turn) clock) ≡ Some when))
@@ -458,7 +458,7 @@ module _ (m : Machine) (v : IsValidMachine m) (switches : List Switch) (pins : �
             report_counts (Own b) Known ready Turn Turn Tick f.ticks k.0 (omega (arith, low_so, size)) (omega arith) (omega arith) k.1 k.2
             (groups.in_range m switches pins entries lines ready from start last till members followed c d past j js Rested early low_so far reach h is b on) (omega (arith, low_tick)) gone.early
 
-        tells : TellFiring (j b).state.news
+        tells : SayFired (j b).state.news
         tells =
             let r = Rigs b in
             let cs = Commands b in

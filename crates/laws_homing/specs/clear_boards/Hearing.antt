@@ -8,6 +8,7 @@ use Rattle.msg_code.specs.declared.cmd.Cmd.TheVariants as cmd
 use Rattle.msg_code.specs.declared.talk.News.{News}
 use Rattle.trigger_group.specs.declared.seen.Seen.{Seen}
 use Rattle.trigger_group.specs.Group.{fired_by, heard_of}
+use Rattle.laws_homing.specs.home_runs.Windows.{IsFired}
 
 -- an answer in a turn tells of a trigger that it could trigger, at a tick that lies in a turn by these clock lines
 abbrev pub IsAble : Clocks → ℕ → ℕ → Cmd → Type 0
@@ -39,16 +40,6 @@ AllFiredIn clocks turn start last [] = Unit {0}
 AllFiredIn clocks turn start last (n ∷ news) =
     IsFiredIn clocks turn start last n.answer × AllFiredIn clocks turn start last news
 
--- an answer tells of a trigger that it can't trigger
-abbrev pub IsFiring : Cmd → Type 0
-IsFiring (cmd.TrsyncState oid can reason clock) = can ≡ 0
-IsFiring answer = ⊥
-
--- one of some answers tells of a trigger that it can't trigger
-abbrev pub TellFiring : List News → Type 0
-TellFiring [] = ⊥
-TellFiring (n ∷ news) = IsFiring n.answer ⊎ TellFiring news
-
 -- the members of a board are known to have triggered by a turn
 abbrev pub FiredOn : ℕ → ℕ → List Seen → Type 0
 FiredOn b last [] = Unit {0}
@@ -67,4 +58,4 @@ NoneOn b (m ∷ ms) = (m.member.board ≡ b → m.fired ≡ None) × NoneOn b ms
 -- no answer tells of a trigger that it can't trigger
 abbrev pub FiringNone : List News → Type 0
 FiringNone [] = Unit {0}
-FiringNone (n ∷ news) = (IsFiring n.answer → ⊥) × FiringNone news
+FiringNone (n ∷ news) = (IsFired n.answer → ⊥) × FiringNone news

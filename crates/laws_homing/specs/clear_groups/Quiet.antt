@@ -1,20 +1,15 @@
 -- A board of which no trigger that can't trigger reads its switch.
 use Rattle.std.specs.Prelude.{◌≡◌, ◌+◌, ℕ, false, List, [], ◌∷◌, Option, Some, None}
 use Rattle.msg_code.specs.declared.cmd.Cmd.{Cmd}
-use Rattle.msg_code.specs.declared.cmd.Cmd.TheVariants as cmd
 use Rattle.board_sim.specs.Rig.{Rig, Slot, slot_at}
 use Rattle.axis_homing.specs.declared.homing.Homing.{Homing}
 use Rattle.axis_homing.specs.Rising.{members_of}
 use Rattle.laws_homing.specs.home_runs.Told.{IsMember}
+use Rattle.laws_homing.specs.switch_runs.Taken.{IsBlind}
 
 -- no trigger that can't trigger reads its switch
 abbrev pub IsQuiet : Rig → Type 0
 IsQuiet r = (oid : ℕ) (s : Slot) → slot_at r oid ≡ Some s → s.trigger.can ≡ false → s.trigger.sampling ≡ None
-
--- a command lets no trigger read its switch
-abbrev pub IsBlind : Cmd → Type 0
-IsBlind (cmd.EndstopHome oid clock sample count rest value trigger reason) = ⊥
-IsBlind c = Unit {0}
 
 -- none of some commands lets a trigger read its switch
 abbrev pub EachBlind : List Cmd → Type 0

@@ -1,10 +1,10 @@
 -- A board between and in the homing sections of a run.
-use Rattle.std.specs.Prelude.{◌≡◌, ◌⊎◌, ◌≤◌, ◌+◌, ℕ, false, List, [], ◌∷◌, Option, Some, None, length}
+use Rattle.std.specs.Prelude.{◌≡◌, ◌⊎◌, ◌≤◌, ◌+◌, ℕ, List, [], ◌∷◌, Option, Some, None, length}
 use Rattle.plan_types.specs.declared.machine.Machine.{Machine}
 use Rattle.msg_code.specs.declared.cmd.Cmd.{Cmd}
 use Rattle.msg_code.specs.declared.cmd.Cmd.TheVariants as cmd
 use Rattle.wire_scene.specs.declared.scene.Switch.{Switch}
-use Rattle.board_sim.specs.Rig.{Rig, Slot, slot_at}
+use Rattle.board_sim.specs.Rig.{Rig}
 use Rattle.laws_board.specs.turns.Turns.{BoardTurn}
 use Rattle.axis_homing.specs.declared.homing.Homing.{Homing}
 use Rattle.axis_homing.specs.Rising.{members_of}
@@ -13,10 +13,6 @@ use Rattle.host_reactor.specs.Runs.{Came, known_by}
 use Rattle.laws_homing.specs.home_runs.Guards.{HasFired}
 use Rattle.laws_homing.specs.home_runs.Told.{IsMember, TellFiredFrom}
 use Rattle.laws_homing.specs.home_runs.Words.{BeginsNone}
-
--- no trigger of a board can trigger
-abbrev pub AllOff : Rig → Type 0
-AllOff r = (oid : ℕ) (s : Slot) → slot_at r oid ≡ Some s → s.trigger.can ≡ false
 
 -- a command starts no trigger
 abbrev pub IsTame : Cmd → Type 0

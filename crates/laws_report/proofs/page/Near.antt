@@ -28,7 +28,7 @@ use Rattle.laws_run.specs.run_headline.Near.{FollowsClock}
 use Rattle.laws_run.specs.run_headline.Timely.{AreSound}
 use Rattle.laws_run.specs.run_lines.Due.{BoardsHave}
 use Rattle.laws_report.specs.reports.Logged.{logged}
-use Rattle.laws_report.specs.reports.Retold.{HoldFrom, retold}
+use Rattle.laws_report.specs.reports.Retold.{retold}
 use Rattle.laws_report.specs.page.Clocks.{AreNearBoards, IsNearBoard, IsOwnTick}
 use Rattle.laws_report.specs.page.Log.{log_of}
 use Rattle.laws_report.proofs.reports.Further.{HaveTurns}
@@ -139,7 +139,7 @@ lines-near : (m : Machine) (b : ℕ) (held rest : List Held) → HaveTurns held 
 lines-near m b [] rest turns h = tt
 lines-near m b (x ∷ held) rest turns h = (line-near m b x turns.0 (h 0 x (omega arith)), lines-near m b held rest turns.1 (λ k d low. h (suc k) d (omega (arith, low))))
 
-hold-from : (turn : ℕ) (held : List Held) → NoneBefore turn held → HoldFrom turn held
+hold-from : (turn : ℕ) (held : List Held) → NoneBefore turn held → NoneBefore turn held
 hold-from turn [] h = tt
 hold-from turn (x ∷ held) h = h
 

@@ -30,12 +30,13 @@ use Rattle.clock_line.proofs.Turns.{turn-after, turn-below}
 use Rattle.step_ticks.proofs.Lists.{filtered-All}
 use Rattle.step_ticks.proofs.Within.{steps-within}
 use Rattle.section_plan.proofs.Boards.{clock-least}
-use Rattle.laws_report.specs.reports.Retold.{HaveLines, HoldFrom, PlanAlike, all_retold, retold}
+use Rattle.laws_report.specs.reports.Retold.{HaveLines, PlanAlike, all_retold, retold}
+use Rattle.laws_board.specs.orders.Renewed.{NoneBefore}
 
 -- the lines of one board
 pub record AreTold (c : Clocks) (turn : ℕ) : Type 0 where
   pub kept : AreKept c
-  pub behind : HoldFrom turn c.held
+  pub behind : NoneBefore turn c.held
   pub before : c.first.at ≤ turn * turn_ns
   pub soon : turn < 2 ^ 62
 
@@ -79,7 +80,7 @@ from-rising first line from most time (h ∷ held) are low =
     let next : time ≤ h.from = omega (arith, up, low) in
     (next, from-rising first h.line h.from h.most time held are.4 next)
 
-held-from : (first : Line) (turn : ℕ) (held : List Held) → AreHeld first first 0 0 held → HoldFrom turn held → AreFrom (turn * turn_ns) held
+held-from : (first : Line) (turn : ℕ) (held : List Held) → AreHeld first first 0 0 held → NoneBefore turn held → AreFrom (turn * turn_ns) held
 held-from first turn [] are low = tt
 held-from first turn (h ∷ held) are low = (low, from-rising first h.line h.from h.most (turn * turn_ns) held are.4 low)
 

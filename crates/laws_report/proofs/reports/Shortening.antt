@@ -24,7 +24,8 @@ use Rattle.laws_report.proofs.logs.Standing.{onto}
 use Rattle.laws_report.specs.reports.Further.{AllMayStand, further_told}
 use Rattle.laws_report.specs.reports.Logged.{logged}
 use Rattle.section_feed.specs.Fewer.{AreFirstLines, HoldBehind}
-use Rattle.laws_report.specs.reports.Retold.{HaveLines, HoldFrom, all_retold, retold}
+use Rattle.laws_report.specs.reports.Retold.{HaveLines, all_retold, retold}
+use Rattle.laws_board.specs.orders.Renewed.{NoneBefore}
 use Rattle.laws_report.specs.reports.Through.{AreHeads}
 use Rattle.laws_report.proofs.reports.Fewer.{kept-first}
 use Rattle.laws_report.proofs.reports.Retelling.{one-of, retold-at, retold-kept}
@@ -140,7 +141,7 @@ pub record AreShownShort (m : Machine) (all : List Clocks) (ready last : ℕ) (h
   pub lines_told : clocks m (further_told (map logged said)) (in_order (map logged head)) ≡ all_retold ready short
   pub may : AllMayStand m [] (map logged said)
 
-from-first : (turn : ℕ) (told rest : List Held) → HoldFrom turn (told ++ rest) → HoldFrom turn told
+from-first : (turn : ℕ) (told rest : List Held) → NoneBefore turn (told ++ rest) → NoneBefore turn told
 from-first turn [] rest low = tt
 from-first turn (h ∷ told) rest low = low
 
@@ -158,7 +159,7 @@ short-have : (m : Machine) (all short : List Clocks) (fs : List Further) (last r
 short-have m all short fs last ready have long each = record {
   boards = long;
   kept = λ b h. (let s = each b h in short-kept (clocks_at all b) (clocks_at short b) s.shown.told s.shown.rest s.is s.shown.are (have.kept b h));
-  behind = λ b h. (let s = each b h in subst (λ (c : Clocks). HoldFrom ready c.held) (sym s.is) (from-first ready s.shown.told s.shown.rest (subst (λ (x : List Held). HoldFrom ready x) s.shown.are (have.behind b h))));
+  behind = λ b h. (let s = each b h in subst (λ (c : Clocks). NoneBefore ready c.held) (sym s.is) (from-first ready s.shown.told s.shown.rest (subst (λ (x : List Held). NoneBefore ready x) s.shown.are (have.behind b h))));
   freq = λ b h. ap (λ (c : Clocks). c.first.freq) (each b h).is ∙ have.freq b h;
   before = λ b h. subst (λ (c : Clocks). c.first.at ≤ ready * turn_ns) (sym (each b h).is) (have.before b h);
   soon = have.soon;

@@ -31,13 +31,11 @@ use Rattle.laws_report.specs.logs.Follows.{in_order}
 use Rattle.laws_report.specs.reports.Further.{further_told}
 use Rattle.laws_report.specs.reports.Logged.{logged}
 use Rattle.laws_report.specs.reports.Retold.{HaveLines, all_retold, retold}
-use Rattle.laws_report.specs.reports.Retold as retelling
 use Rattle.laws_report.specs.reports.Through.{AreHeads}
 use Rattle.laws_report.proofs.reports.Retelling.{retold-at}
 use Rattle.laws_report.proofs.reports.Roomy.{AllSlow, IsSlow, all-roomy, board-far, lines-slow, roomy, tick-far}
 use Rattle.laws_report.proofs.reports.Shortening.{AreShownShort, IsShown, shown-short}
 use Rattle.laws_report.proofs.reports.Telling.{AllSmall, alone, held_told, keeps-low}
-use Rattle.laws_board.specs.orders.Renewed.{NoneBefore}
 use Rattle.laws_run.specs.run_ends.Boards.{boards_of, lines_at}
 use Rattle.laws_run.specs.run_headline.Further.{AreNamed, BoardsFirst, TellsFurther}
 use Rattle.laws_run.specs.run_headline.Timely.{AreSound}
@@ -217,10 +215,6 @@ early_slow first b (h ∷ held) high early low =
       early_slow first b held high early.3 low.1,
     )
 
-from_same : (turn : ℕ) (held : List Held) → NoneBefore turn held → retelling.HoldFrom turn held
-from_same turn [] none = tt
-from_same turn (h ∷ held) none = none
-
 -- lines of a board that are no faster than its clock may be
 record IsSlowAt (lines : List Clocks) (ready b : ℕ) : Type 0 where
   first_slow : IsSlow (clocks_at lines b).first
@@ -255,7 +249,7 @@ module _ (m : Machine) (all : List Clocks) (ready last : ℕ) (head body said : 
   have : HaveLines m all ready
   have =
       let c = sound.clocks_are in
-      record { boards = c.count; kept = sound.kept; behind = λ b h. from_same ready (clocks_at all b).held (sound.behind b h); freq = c.freq; before = c.before; soon = sound.small }
+      record { boards = c.count; kept = sound.kept; behind = sound.behind; freq = c.freq; before = c.before; soon = sound.small }
 
   pub shorts : AreShownShort m all ready last head said
   shorts =

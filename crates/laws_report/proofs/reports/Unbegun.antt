@@ -45,7 +45,8 @@ use Rattle.session_work.specs.declared.table.ReactorTurn.{ReactorTurn}
 use Rattle.session_work.specs.Heads.{IsRow}
 use Rattle.session_work.specs.Rows.{gather, item}
 use Rattle.session_run.specs.Boards.{AreReactorTurns, came_from, came_in}
-use Rattle.laws_run.specs.lanes.Boards.{TookEach, behind, orders_of, states_of}
+use Rattle.laws_run.specs.lanes.Boards.{behind, orders_of, states_of}
+use Rattle.laws_board.specs.plans.Boards.{TookStates}
 use Rattle.laws_run.specs.lanes.Turns.{came_before}
 use Rattle.laws_board.specs.plans.Given.{TookControls}
 use Rattle.laws_board.specs.plans.Lines.{TellTurns, TellsTurn, head_in, heads_of, pulses_of}
@@ -155,7 +156,7 @@ abbrev AllStill : ℕ → List ReactorTurn → Type 0
 AllStill b [] = Unit {0}
 AllStill b (t ∷ ts) = ((s : State) → item b t.states ≡ s ∷ [] → s.pulses ≡ []) × AllStill b ts
 
-took_still : (b : ℕ) (ts : List ReactorTurn) (states : List State) → TookEach b ts states → NonePulse states → AllStill b ts
+took_still : (b : ℕ) (ts : List ReactorTurn) (states : List State) → TookStates b ts states → NonePulse states → AllStill b ts
 took_still b [] states took none = tt
 took_still b (t ∷ ts) [] took none = absurd took
 took_still b (t ∷ ts) (x ∷ states) took none =

@@ -1,13 +1,13 @@
 -- The clock lines of boards, as the boards' lines of a report tell them.
-use Rattle.std.specs.Prelude.{◌≡◌, ℕ, ◌*◌, ◌<◌, ◌≤◌, ◌^◌, List, [], ◌∷◌, length, map}
+use Rattle.std.specs.Prelude.{◌≡◌, ℕ, ◌*◌, ◌<◌, ◌≤◌, ◌^◌, List, length, map}
 use Rattle.plan_types.specs.declared.machine.Machine.{Machine}
-use Rattle.plan_types.specs.declared.plan.Held.{Held}
 use Rattle.plan_types.specs.declared.plan.Move.{Move}
 use Rattle.plan_types.specs.Clock.{tick, turn_ns}
 use Rattle.plan_types.specs.Lines.{Clocks}
 use Rattle.plan_types.specs.Machines.{board_at, stepper_at}
 use Rattle.plan_types.specs.Sections.{base_tick, clocks_at, section_end, stepper_plan}
 use Rattle.clock_line.specs.Kept.{AreKept}
+use Rattle.laws_board.specs.orders.Renewed.{NoneBefore}
 
 -- the lines of a board, the first one told at the beginning of a turn: from then on, with the board's tick then
 abbrev pub retold : ℕ → Clocks → Clocks
@@ -21,17 +21,12 @@ retold turn clocks =
 abbrev pub all_retold : ℕ → List Clocks → List Clocks
 all_retold turn clocks = map (retold turn) clocks
 
--- further lines hold from the beginning of a turn on, or later: so does the first one of them
-abbrev pub HoldFrom : ℕ → List Held → Type 0
-HoldFrom turn [] = Unit {0}
-HoldFrom turn (h ∷ held) = turn * turn_ns ≤ h.from
-
 -- the lines of each board of a machine hold one after the other, the first one from before a turn on, and the
 -- others from then on or later
 pub record HaveLines (m : Machine) (clocks : List Clocks) (turn : ℕ) : Type 0 where
   pub boards : length clocks ≡ length m.boards
   pub kept : (b : ℕ) → b < length m.boards → AreKept (clocks_at clocks b)
-  pub behind : (b : ℕ) → b < length m.boards → HoldFrom turn (clocks_at clocks b).held
+  pub behind : (b : ℕ) → b < length m.boards → NoneBefore turn (clocks_at clocks b).held
   pub freq : (b : ℕ) → b < length m.boards → (clocks_at clocks b).first.freq ≡ (board_at m b).freq
   pub before : (b : ℕ) → b < length m.boards → (clocks_at clocks b).first.at ≤ turn * turn_ns
   pub soon : turn < 2 ^ 62

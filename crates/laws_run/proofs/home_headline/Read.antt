@@ -23,7 +23,8 @@ use Rattle.session_run.specs.Boards.{came_from, came_in}
 use Rattle.session_run.specs.Runs.{RunsOver}
 use Rattle.laws_board.specs.clocks.Runs.{IsInRun}
 use Rattle.laws_board.proofs.clocks.Lines.{run_before}
-use Rattle.laws_run.specs.lanes.Boards.{TookEach, behind, states_of}
+use Rattle.laws_run.specs.lanes.Boards.{behind, states_of}
+use Rattle.laws_board.specs.plans.Boards.{TookStates}
 use Rattle.laws_run.proofs.run_headline.Boarded.{came_cut, came_split}
 use Rattle.laws_run.proofs.run_headline.Cutting.{run_front}
 use Rattle.laws_homing.proofs.fired_runs.Reported.{same_state}
@@ -59,7 +60,7 @@ boards_tell m switches [] all = tt
 boards_tell m switches (c ∷ before) all = (λ b state low is. (all b low).0 state is, boards_tell m switches before (λ b low. (all b low).1))
 
 -- in the last of some turns the reactor took what the board told in its latest one
-took_latest : (b : ℕ) (rest : List ReactorTurn) (last : ReactorTurn) (made turns : List BoardTurn) → TookEach b (rest ++ last ∷ []) (states_of made) → item b last.states ≡ latest_state (behind turns made)
+took_latest : (b : ℕ) (rest : List ReactorTurn) (last : ReactorTurn) (made turns : List BoardTurn) → TookStates b (rest ++ last ∷ []) (states_of made) → item b last.states ≡ latest_state (behind turns made)
 took_latest b [] last [] turns took = absurd took
 took_latest b [] last (t ∷ []) turns took = took.0
 took_latest b [] last (t ∷ u ∷ made) turns took = let no = took.1 in cc

@@ -20,7 +20,8 @@ use Rattle.laws_board.proofs.sections.Entering.{AreEarly, early_behind}
 use Rattle.laws_board.proofs.sections.Spans.{AreLate, early_up}
 use Rattle.laws_board.proofs.sections.Standing.{BoardStands, SlotStands}
 use Rattle.laws_board.proofs.sections.Stepping.{Script, TakesFind, course_append}
-use Rattle.laws_run.specs.home_wholes.Still.{IsOff, IsStill}
+use Rattle.laws_run.specs.home_wholes.Still.{IsStill}
+use Rattle.laws_homing.specs.clear_boards.Limited.{AllFired}
 use Rattle.laws_run.proofs.home_wholes.Still.{IsFree, resets_free, takes_free, takes_off}
 use Rattle.laws_board.proofs.sections.Wholes.{no_time, rise_late}
 use Rattle.laws_homing.specs.clear_groups.Resting.{EachTame, IsTame}
@@ -85,7 +86,7 @@ MayCome low done to_come =
 
 -- a board that took some commands, behind which others are still to come, while no trigger of it can trigger
 abbrev pub StandsFree : ℕ → List Sent → List Sent → Rig → Type 0
-StandsFree low done to_come r = MayCome low done to_come × IsOff r × AreFree low (courses done) r.controller
+StandsFree low done to_come r = MayCome low done to_come × AllFired r × AreFree low (courses done) r.controller
 
 -- or it made all steps
 abbrev pub Ahead : (p : Script) → Aim p → List Sent → Rig → Type 0
@@ -125,7 +126,7 @@ more_made p a made more split m oid =
     (early, rest ++ only oid more, split oid ∙ ap (λ x. x ++ only oid more) is ∙ append_assoc early (a.steps oid ++ rest) (only oid more) ∙ ap (λ x. early ++ x) (append_assoc (a.steps oid) rest (only oid more)))
 
 -- what a command makes of steppers
-next_free : (low oid queued : ℕ) (c : Course) (r : Rig) (m : Cmd) (ticks : List ℕ) → r.controller.state ≡ Running → IsStill m → IsOff r → (takes r m).rig.controller.state ≡ Running → (IsSince low c.since → IsFree oid r.controller)
+next_free : (low oid queued : ℕ) (c : Course) (r : Rig) (m : Cmd) (ticks : List ℕ) → r.controller.state ≡ Running → IsStill m → AllFired r → (takes r m).rig.controller.state ≡ Running → (IsSince low c.since → IsFree oid r.controller)
     → IsSince low (course_of oid queued c m ticks).since → IsFree oid (takes r m).rig.controller
 next_free low oid queued c r (cmd.ResetStepClock other clock) ticks runs still off on old since =
     elim (eqb_tells other oid) [

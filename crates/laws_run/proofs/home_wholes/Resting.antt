@@ -52,7 +52,8 @@ use Rattle.laws_homing.proofs.home_runs.Settled.{clock_from}
 use Rattle.laws_homing.proofs.home_runs.Sole.{sole_after}
 use Rattle.laws_homing.proofs.home_runs.Watching.{Watch, watched}
 use Rattle.laws_homing.proofs.home_runs.Windows.{ordered_after}
-use Rattle.laws_run.specs.home_wholes.Still.{EachStill, IsOff, IsStillAt}
+use Rattle.laws_run.specs.home_wholes.Still.{EachStill, IsStillAt}
+use Rattle.laws_homing.specs.clear_boards.Limited.{AllFired}
 use Rattle.laws_run.proofs.home_wholes.Section.{queued_tame}
 use Rattle.laws_run.proofs.home_wholes.Starting.{IsSettingUp, control_either}
 use Rattle.laws_run.proofs.home_wholes.Still.{time_passes}
@@ -84,11 +85,11 @@ takes_still h e brings q =
     let both = mean_parts (takes_in h e) l.0 (subst MeanTame (sym l.1) (mean_both q.left (orders_of e) q.still brings)) in
     (both.0, record { ordered = o; left = l.0; rest = l.2; still = both.1 })
 
-all_off : (r : Rig) (ms : List Meant) → MeanTame ms → IsOff r → IsOff (takes_all r (commands_of ms)).rig
+all_off : (r : Rig) (ms : List Meant) → MeanTame ms → AllFired r → AllFired (takes_all r (commands_of ms)).rig
 all_off r [] a off = off
 all_off r (m ∷ ms) a off = all_off (takes r m.command).rig ms a.1 (running_off r.controller.state r m.command a.0 off)
 
-does_off : (h : Core) (e : Event) → MeanTame (takes_in h e) → IsOff h.board → IsOff (does h e).board
+does_off : (h : Core) (e : Event) → MeanTame (takes_in h e) → AllFired h.board → AllFired (does h e).board
 does_off h (event.Pass t) a off = (time_passes h.board t off).off
 does_off h event.Arrive a off = all_off h.board (takes_in h event.Arrive) a off
 does_off h event.Repeat a off = all_off h.board (takes_in h event.Repeat) a off
@@ -102,7 +103,7 @@ does_off h event.Reply a off = off
 does_off h event.LoseReply a off = off
 
 abbrev Rests : Core → Core → Type 0
-Rests h g = IsCalmQueue g × (IsOff h.board → IsOff g.board)
+Rests h g = IsCalmQueue g × (AllFired h.board → AllFired g.board)
 
 steps_rest : (steps : List Step) (h : Core) → MeanTame (flat_map step_queues steps) → IsCalmQueue h → Rests h (run steps h)
 steps_rest [] h brings q = (q, λ off. off)
@@ -137,7 +138,7 @@ turns_rest clock first (t ∷ later) past are still q =
     (now.0, λ off. now.1 (old.1 off))
 
 -- a board to which nothing was told
-start_rests : (b : BoardDef) (pins : List (List Level)) → IsCalmQueue (start b pins) × IsOff (start b pins).board
+start_rests : (b : BoardDef) (pins : List (List Level)) → IsCalmQueue (start b pins) × AllFired (start b pins).board
 start_rests b pins = (
   record { ordered = start_ordered b pins; left = []; rest = refl; still = tt },
   λ oid s is. let none : None ≡ Some s = sym (none_at 256 oid) ∙ is in absurd (cc),
@@ -174,7 +175,7 @@ still_behind (x ∷ xs) ys a = still_behind xs ys a.1
 abbrev Ended : Machine → List (List Level) → List Entry → ℕ → List BoardTurn → Type 0
 Ended m pins entries b turns =
     let h = (stands_after (first_state (board_at m b) pins b entries) turns).core in
-    h.board.controller.state ≡ Running → IsCalmQueue h × IsOff h.board
+    h.board.controller.state ≡ Running → IsCalmQueue h × AllFired h.board
 
 homed_rests : (m : Machine) (switches : List Switch) (pins : List (List Level)) (entries : List Entry) (b : ℕ) (c : Came) (before : List Came) (window late past : List BoardTurn) (h : Homing) (from : ℕ) (more : List Meant) → IsValidMachine m
     → IsInRun m switches pins entries b before (window ++ (late ++ past)) → (a : IsAnswered m switches c before h) → state_at b c.states ≡ latest_state (window ++ (late ++ past)) → a.from ≡ from
@@ -238,7 +239,7 @@ AllAnswered m switches b stops turns (c ∷ before) =
 timely_rests : (m : Machine) (switches : List Switch) (pins : List (List Level)) (entries : List Entry) (b start end : ℕ) (total : List BoardTurn) (hm : IsHomed m switches pins entries b start end total) → TakesSetUp (first_state (board_at m b) pins b entries) start hm.past → IsValidMachine m
     → AreBoardTurns (clock_of (board_at m b)) (first_state (board_at m b) pins b entries) total → IsMember b (members_of hm.homing.group) → (recent old : List BoardTurn) → total ≡ recent ++ old → TurnsStill recent → length old + 249 ≤ start
     → (stands_after (first_state (board_at m b) pins b entries) total).core.board.controller.state ≡ Running
-    → IsCalmQueue (stands_after (first_state (board_at m b) pins b entries) total).core × IsOff (stands_after (first_state (board_at m b) pins b entries) total).core.board
+    → IsCalmQueue (stands_after (first_state (board_at m b) pins b entries) total).core × AllFired (stands_after (first_state (board_at m b) pins b entries) total).core.board
 timely_rests m switches pins entries b start end total hm took v are member recent old cut still soon runs =
     let d = board_at m b in
     let first = first_state d pins b entries in
@@ -267,7 +268,7 @@ timely_rests m switches pins entries b start end total hm took v are member rece
     let ended = homed_rests m switches pins entries b hm.came hm.before took.window took.late took.past hm.homing hm.answered.from took.more v run_here hm.answered
     (hm.states ∙ ap latest_state at_end) refl (subst (λ (x : List BoardTurn). SetNoClockFrom hm.answered.from x) at_end hm.sets_none) member (omega (arith, begin, queued)) (omega (arith, begin, in_time)) took.took took.heard in_end ran in
     let last = turns_rest (clock_of d) first hm.later (took.window ++ mid) now (still_front hm.later (took.window ++ took.late) recent_still) ended.0 in
-    subst (λ (x : List BoardTurn). IsCalmQueue (stands_after first x).core × IsOff (stands_after first x).core.board) (sym whole) (last.0, last.1 ended.1)
+    subst (λ (x : List BoardTurn). IsCalmQueue (stands_after first x).core × AllFired (stands_after first x).core.board) (sym whole) (last.0, last.1 ended.1)
   where
     empty : (xs : List BoardTurn) → length xs ≡ 0 → xs ≡ []
     empty [] e = refl
@@ -277,7 +278,7 @@ timely_rests m switches pins entries b start end total hm took v are member rece
 read_rests : (m : Machine) (switches : List Switch) (pins : List (List Level)) (entries : List Entry) (b start end : ℕ) (total : List BoardTurn) (hm : IsHomed m switches pins entries b start end total) → start ≤ end → IsReadSo m switches b hm.came hm.before hm.past → IsValidMachine m
     → AreBoardTurns (clock_of (board_at m b)) (first_state (board_at m b) pins b entries) total → IsMember b (members_of hm.homing.group) → (recent old : List BoardTurn) → total ≡ recent ++ old → TurnsStill recent → length old + 249 ≤ start
     → (stands_after (first_state (board_at m b) pins b entries) total).core.board.controller.state ≡ Running
-    → IsCalmQueue (stands_after (first_state (board_at m b) pins b entries) total).core × IsOff (stands_after (first_state (board_at m b) pins b entries) total).core.board
+    → IsCalmQueue (stands_after (first_state (board_at m b) pins b entries) total).core × AllFired (stands_after (first_state (board_at m b) pins b entries) total).core.board
 read_rests m switches pins entries b start end total hm order so v are member recent old cut still soon runs =
     let d = board_at m b in
     let first = first_state d pins b entries in
@@ -299,9 +300,9 @@ read_rests m switches pins entries b start end total hm order so v are member re
     let rest = fired.at_rest in
     let queue : IsCalmQueue core = record { ordered = o; left = rest.left; rest = rest.rest; still = rest.tame } in
     let sole = (sole_after m switches pins entries b hm.before hm.past v hm.run_is ran).0 in
-    let off : IsOff core.board = λ oid s is. fired.at_rest.off s (subst (λ (n : ℕ). slot_at core.board n ≡ Some s) (sole oid s is) is) in
+    let off : AllFired core.board = λ oid s is. fired.at_rest.off s (subst (λ (n : ℕ). slot_at core.board n ≡ Some s) (sole oid s is) is) in
     let last = turns_rest (clock_of d) first hm.later hm.past now recent_still queue in
-    subst (λ (x : List BoardTurn). IsCalmQueue (stands_after first x).core × IsOff (stands_after first x).core.board) (sym hm.are) (last.0, last.1 off)
+    subst (λ (x : List BoardTurn). IsCalmQueue (stands_after first x).core × AllFired (stands_after first x).core.board) (sym hm.are) (last.0, last.1 off)
   where
     empty : (xs : List BoardTurn) → length xs ≡ 0 → xs ≡ []
     empty [] e = refl
@@ -310,7 +311,7 @@ read_rests m switches pins entries b start end total hm order so v are member re
 section_rests : (m : Machine) (switches : List Switch) (pins : List (List Level)) (entries : List Entry) (b start end : ℕ) (total : List BoardTurn) (hm : IsHomed m switches pins entries b start end total) → start ≤ end → IsValidMachine m
     → AreBoardTurns (clock_of (board_at m b)) (first_state (board_at m b) pins b entries) total → IsMember b (members_of hm.homing.group) → (recent old : List BoardTurn) → total ≡ recent ++ old → TurnsStill recent → length old + 249 ≤ start
     → (stands_after (first_state (board_at m b) pins b entries) total).core.board.controller.state ≡ Running
-    → IsCalmQueue (stands_after (first_state (board_at m b) pins b entries) total).core × IsOff (stands_after (first_state (board_at m b) pins b entries) total).core.board
+    → IsCalmQueue (stands_after (first_state (board_at m b) pins b entries) total).core × AllFired (stands_after (first_state (board_at m b) pins b entries) total).core.board
 section_rests m switches pins entries b start end total hm order v are member recent old cut still soon runs = elim hm.fires [
   | inl took ↦ timely_rests m switches pins entries b start end total hm took v are member recent old cut still soon runs
   | inr so ↦ read_rests m switches pins entries b start end total hm order so v are member recent old cut still soon runs
@@ -344,13 +345,13 @@ scan : (m : Machine) (switches : List Switch) (pins : List (List Level)) (entrie
     → AreBoardTurns (clock_of (board_at m b)) (first_state (board_at m b) pins b entries) total → AreHomed m switches pins entries b until stops total
     → (stands_after (first_state (board_at m b) pins b entries) total).core.board.controller.state ≡ Running
     → (came : List Came) (turns later : List BoardTurn) → IsInRun m switches pins entries b came turns → AllAnswered m switches b stops (length total) came → total ≡ later ++ turns → TurnsStill later
-    → IsCalmQueue (stands_after (first_state (board_at m b) pins b entries) total).core × IsOff (stands_after (first_state (board_at m b) pins b entries) total).core.board
+    → IsCalmQueue (stands_after (first_state (board_at m b) pins b entries) total).core × AllFired (stands_after (first_state (board_at m b) pins b entries) total).core.board
 scan m switches pins entries b until stops total upto v are homed runs [] [] later r all cut still =
     let d = board_at m b in
     let first = first_state d pins b entries in
     let begins = start_rests d pins in
     let last = turns_rest (clock_of d) first later [] (subst (λ (x : List BoardTurn). AreBoardTurns (clock_of d) first x) cut are) still begins.0 in
-    subst (λ (x : List BoardTurn). IsCalmQueue (stands_after first x).core × IsOff (stands_after first x).core.board) (sym cut) (last.0, last.1 begins.1)
+    subst (λ (x : List BoardTurn). IsCalmQueue (stands_after first x).core × AllFired (stands_after first x).core.board) (sym cut) (last.0, last.1 begins.1)
 scan m switches pins entries b until stops total upto v are homed runs [] (t ∷ turns) later r all cut still = absurd r.both
 scan m switches pins entries b until stops total upto v are homed runs (c ∷ before) [] later r all cut still = absurd r.both
 scan m switches pins entries b until stops total upto v are homed runs (c ∷ before) (t ∷ turns) later r all cut still =

@@ -19,7 +19,8 @@ use Rattle.board_sim.proofs.Keeps.{slots_at}
 use Rattle.laws_homing.specs.clear_groups.Resting.{IsTame}
 use Rattle.laws_homing.proofs.clear_boards.Slots.{set_either}
 use Rattle.laws_homing.proofs.clear_groups.Off.{happens_off, passes_off, running_off}
-use Rattle.laws_run.specs.home_wholes.Still.{IsOff, IsStill}
+use Rattle.laws_run.specs.home_wholes.Still.{IsStill}
+use Rattle.laws_homing.specs.clear_boards.Limited.{AllFired}
 
 -- a stepper is not halted
 abbrev pub IsFree : ℕ → Controller → Type 0
@@ -46,11 +47,11 @@ expires_same : (o : Option ℕ) (r : Rig) (oid : ℕ) (s : Slot) (t : Trigger) �
 expires_same None r oid s t fell = becomes_same r oid s t fell
 expires_same (Some n) r oid s t fell = becomes_same r oid s (record t { untold = None }) fell
 
-timeout_same : (r : Rig) (oid : ℕ) (o : Option Slot) (clock : ℕ) → slot_at r oid ≡ o → IsOff r → (set_timeout r oid o clock).rig.controller ≡ r.controller
+timeout_same : (r : Rig) (oid : ℕ) (o : Option Slot) (clock : ℕ) → slot_at r oid ≡ o → AllFired r → (set_timeout r oid o clock).rig.controller ≡ r.controller
 timeout_same r oid None clock at off = refl
 timeout_same r oid (Some s) clock at off = let t = trig.with_timeout r.controller.tick clock s.trigger in expires_same t.untold r oid s t (off oid s at)
 
-trigger_same : (r : Rig) (oid : ℕ) (o : Option Slot) (reason : ℕ) → slot_at r oid ≡ o → IsOff r → (trigger r oid o reason).rig.controller ≡ r.controller
+trigger_same : (r : Rig) (oid : ℕ) (o : Option Slot) (reason : ℕ) → slot_at r oid ≡ o → AllFired r → (trigger r oid o reason).rig.controller ≡ r.controller
 trigger_same r oid None reason at off = refl
 trigger_same r oid (Some s) reason at off = becomes_same r oid s (trig.triggered r.controller.tick reason s.trigger) (off oid s at)
 
@@ -63,7 +64,7 @@ home_same r (Some pin) other (Some s) h = refl
 abbrev Goes : Rig → Cmd → Rig → Type 0
 Goes r c q = (q.controller ≡ r.controller) ⊎ (q.controller ≡ (board.takes r.controller c).board)
 
-acts_go : (r : Rig) (c : Cmd) → IsStill c → IsOff r → Goes r c (acts r c).rig
+acts_go : (r : Rig) (c : Cmd) → IsStill c → AllFired r → Goes r c (acts r c).rig
 acts_go r (cmd.ConfigTrsync oid) i off = inl (made_same r oid (slot_at r oid))
 acts_go r (cmd.TrsyncStart oid clock every reason) i off = absurd i
 acts_go r (cmd.TrsyncSetTimeout oid clock) i off = inl (timeout_same r oid (slot_at r oid) clock refl off)
@@ -74,7 +75,7 @@ acts_go r (cmd.EndstopHome oid clock sample count rest value other reason) i off
     inl (home_same r (slice_index_or r.endstops oid None) other (slot_at r other) (record { clock = clock; sample_ticks = sample; sample_count = count; rest_ticks = rest; pin_value = value; reason = reason }))
 acts_go r c i off = inr refl
 
-takes_go : (r : Rig) (c : Cmd) → IsStill c → IsOff r → Goes r c (takes r c).rig
+takes_go : (r : Rig) (c : Cmd) → IsStill c → AllFired r → Goes r c (takes r c).rig
 takes_go r c i off = by r.controller.state
   where
     by : (o : BoardState) → Goes r c (acts_running o r c).rig
@@ -85,7 +86,7 @@ still_tame : (c : Cmd) → IsStill c → IsTame c
 still_tame (cmd.TrsyncStart oid clock every reason) i = absurd i
 still_tame c i = tt
 
-pub takes_off : (r : Rig) (c : Cmd) → IsStill c → IsOff r → IsOff (takes r c).rig
+pub takes_off : (r : Rig) (c : Cmd) → IsStill c → AllFired r → AllFired (takes r c).rig
 takes_off r c i off = running_off r.controller.state r c (still_tame c i) off
 
 -- steppers' places
@@ -149,7 +150,7 @@ board_free b oid cmd.GetUptime free runs = free
 board_free b oid c free runs = running_free b.state b oid c free runs
 
 -- a stepper that isn't halted stays so where the board runs on
-pub takes_free : (r : Rig) (oid : ℕ) (c : Cmd) → IsStill c → IsOff r → (takes r c).rig.controller.state ≡ Running → IsFree oid r.controller → IsFree oid (takes r c).rig.controller
+pub takes_free : (r : Rig) (oid : ℕ) (c : Cmd) → IsStill c → AllFired r → (takes r c).rig.controller.state ≡ Running → IsFree oid r.controller → IsFree oid (takes r c).rig.controller
 takes_free r oid c i off runs free =
     let At : Controller → Type 0 = λ b. b.state ≡ Running → IsFree oid b in
     elim (takes_go r c i off) [
@@ -184,7 +185,7 @@ resets_free r oid clock is runs =
 
 -- time passes
 pub record Outlasts (r q : Rig) : Type 0 where
-  pub off : IsOff q
+  pub off : AllFired q
   pub free : (oid : ℕ) → IsFree oid r.controller → IsFree oid q.controller
 
 slot_free : (t : ℕ) (o : Option Pending) → is_halted o ≡ false → is_halted (slot_to t o) ≡ false
@@ -201,25 +202,25 @@ time_free b t oid f = elim (leb_tells b.tick t) [ inl p ↦ rw p.0 (on_free b.st
 abbrev Frees : Rig → Rig → Type 0
 Frees r q = (oid : ℕ) → IsFree oid r.controller → IsFree oid q.controller
 
-happens_free : (r : Rig) (until oid : ℕ) (o : Option Slot) → slot_at r oid ≡ o → IsOff r → Frees r (happens_to r until oid o).rig
+happens_free : (r : Rig) (until oid : ℕ) (o : Option Slot) → slot_at r oid ≡ o → AllFired r → Frees r (happens_to r until oid o).rig
 happens_free r until oid None at off i f = f
 happens_free r until oid (Some s) at off i f =
     subst (λ (b : Controller). IsFree i b) (sym (becomes_same r oid s (trig.advanced (levels_of r s.pin) until s.trigger).trigger (off oid s at))) f
 
-goes_free : (o : Option (ℕ × ℕ)) (r : Rig) (t : ℕ) (rest : Passed) → IsOff r → (let q = (happens r t (at_of o)).rig in IsOff q → Frees q rest.rig) → Frees r (goes_on o (rests_to r t) (passes_by (happens r t (at_of o)) rest)).rig
+goes_free : (o : Option (ℕ × ℕ)) (r : Rig) (t : ℕ) (rest : Passed) → AllFired r → (let q = (happens r t (at_of o)).rig in AllFired q → Frees q rest.rig) → Frees r (goes_on o (rests_to r t) (passes_by (happens r t (at_of o)) rest)).rig
 goes_free None r t rest off more i f = time_free r.controller t i f
 goes_free (Some at) r t rest off more i f =
     let ran = (runs_to r (at.0 / 3)).rig in
     more (happens_off t at.1 ran (slot_at ran at.1) refl off) i (happens_free ran t at.1 (slot_at ran at.1) refl off i (time_free r.controller (at.0 / 3) i f))
 
-steps_free : (n : ℕ) (r : Rig) (t : ℕ) → IsOff r → Frees r (pass n r t).rig
+steps_free : (n : ℕ) (r : Rig) (t : ℕ) → AllFired r → Frees r (pass n r t).rig
 steps_free zero r t off i f = f
 steps_free (suc n) r t off i f =
     let o = earliest r t 0 r.triggers in
     let next = (happens r t (at_of o)).rig in
     goes_free o r t (pass n next t) off (λ off_next. steps_free n next t off_next) i f
 
-pub time_passes : (r : Rig) (t : ℕ) → IsOff r → Outlasts r (passes r t).rig
+pub time_passes : (r : Rig) (t : ℕ) → AllFired r → Outlasts r (passes r t).rig
 time_passes r t off = record {
   off = passes_off t r off;
   free = λ i f. elim (leb_tells r.controller.tick t) [ inl p ↦ rw p.0 (steps_free (all_left t r.triggers + 1) r t off i f) | inr p ↦ rw p.0 f ];

@@ -20,8 +20,10 @@ use Rattle.session_work.specs.Heads.{IsRow}
 use Rattle.session_work.specs.Links.{LinkStep}
 use Rattle.session_work.specs.Rows.{gather, item}
 use Rattle.session_work.specs.Turns.{Goes}
-use Rattle.laws_run.specs.lanes.Boards.{TookEach, behind, orders_of, states_of}
-use Rattle.laws_run.specs.lanes.Turns.{AllGoOn, GoesOnIn, IsLastTurn, ShowsLink, came_before, came_in}
+use Rattle.laws_run.specs.lanes.Boards.{behind, orders_of, states_of}
+use Rattle.laws_board.specs.plans.Boards.{TookStates}
+use Rattle.laws_run.specs.lanes.Turns.{AllGoOn, GoesOnIn, IsLastTurn, ShowsLink, came_before}
+use Rattle.session_run.specs.Boards.{came_in}
 use Rattle.laws_run.proofs.lanes.Items.{item_control, item_some, item_state, none_out, one_out}
 
 -- what a board made from a turn on, up to the last one that the reactor took
@@ -32,7 +34,7 @@ pub record Walked (m : Machine) (switches : List Switch) (b : ℕ) (clock : Boar
   pub in_range : board_tick clock (length (behind turns made)) < tick_limit
   pub few : length (behind turns made) ≤ 2 ^ 59
   pub told : AreTold clock (length turns) (orders_of made) (states_of made) (stands_after begin turns) (stands_after begin (behind turns made))
-  pub states : TookEach b more (states_of made)
+  pub states : TookStates b more (states_of made)
   pub left : List Batch
   pub batches : map (λ o. o.batch) (orders_of made) ++ left ≡ gather (λ u. u.batch ∷ []) us
 

@@ -24,8 +24,10 @@ use Rattle.session_work.specs.Rows.{gather, item}
 use Rattle.session_lanes.specs.Runs.{AreLogs, Carried, IsLog}
 use Rattle.session_work.specs.Turns.{Goes}
 use Rattle.session_work.proofs.Goes.{gather_on}
-use Rattle.laws_run.specs.lanes.Boards.{IsInWhole, TookEach, behind, orders_of, states_of}
-use Rattle.laws_run.specs.lanes.Turns.{AllGoOn, AllHaveControls, IsLastTurn, ShowsLink, came_before, came_in}
+use Rattle.laws_run.specs.lanes.Boards.{IsInWhole, behind, orders_of, states_of}
+use Rattle.laws_board.specs.plans.Boards.{TookStates}
+use Rattle.laws_run.specs.lanes.Turns.{AllGoOn, AllHaveControls, IsLastTurn, ShowsLink, came_before}
+use Rattle.session_run.specs.Boards.{came_in}
 use Rattle.laws_run.proofs.lanes.Items.{none_out}
 use Rattle.laws_run.proofs.lanes.Walking.{walk}
 
@@ -73,7 +75,7 @@ front_of (x ∷ xs) (y ∷ ys) us vs e few =
     let f = front_of xs ys us vs then (omega (arith, few)) in
     (f.0, ap (λ z. z ∷ (xs ++ f.0)) first ∙ ap (λ z. y ∷ z) f.1)
 
-took_many : (b : ℕ) (rs : List ReactorTurn) (states : List State) → TookEach b rs states → length states ≡ length rs
+took_many : (b : ℕ) (rs : List ReactorTurn) (states : List State) → TookStates b rs states → length states ≡ length rs
 took_many b [] states t = ap length t
 took_many b (r ∷ rs) [] t = absurd t
 took_many b (r ∷ rs) (s ∷ states) t = ap suc (took_many b rs states t.1)

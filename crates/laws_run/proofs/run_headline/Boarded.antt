@@ -46,7 +46,7 @@ use Rattle.laws_board.specs.sections.Links.{turns_told}
 use Rattle.laws_board.proofs.sections.Calm.{calm_links}
 use Rattle.laws_board.proofs.sections.HeededLinks.{few_heeded, ten_seconds}
 use Rattle.laws_board.specs.sections.Timely.{ControlsKeep}
-use Rattle.laws_run.specs.lanes.Boards.{IsInWhole, TookEach, behind, orders_of, states_of}
+use Rattle.laws_run.specs.lanes.Boards.{IsInWhole, behind, orders_of, states_of}
 use Rattle.laws_run.specs.lanes.Turns.{came_before}
 use Rattle.laws_board.specs.plans.Boards.{TookStates}
 use Rattle.laws_board.specs.plans.Given.{TookControls}
@@ -78,12 +78,12 @@ pub came_long : (before : List Came) (rs : List ReactorTurn) → length (came_fr
 came_long before [] = omega arith
 came_long before (r ∷ rs) = let rec = came_long (came_in r ∷ before) rs in omega (arith, rec)
 
-pub took : (b : ℕ) (rs : List ReactorTurn) (states : List State) → TookEach b rs states → TookStates b rs states
+pub took : (b : ℕ) (rs : List ReactorTurn) (states : List State) → TookStates b rs states → TookStates b rs states
 took b [] states t = t
 took b (r ∷ rs) [] t = t
 took b (r ∷ rs) (s ∷ states) t = (t.0, took b rs states t.1)
 
-pub took_long : (b : ℕ) (rs : List ReactorTurn) (states : List State) → TookEach b rs states → length states ≡ length rs
+pub took_long : (b : ℕ) (rs : List ReactorTurn) (states : List State) → TookStates b rs states → length states ≡ length rs
 took_long b [] states t = ap length t
 took_long b (r ∷ rs) [] t = absurd t
 took_long b (r ∷ rs) (s ∷ states) t = ap suc (took_long b rs states t.1)

@@ -26,7 +26,8 @@ use Rattle.session_work.specs.Turns.{Goes}
 use Rattle.session_run.specs.Boards.{AreReactorTurns, came_from, came_in}
 use Rattle.session_run.specs.Links as links
 use Rattle.host_reactor.specs.Runs.{Came}
-use Rattle.laws_run.specs.lanes.Boards.{TookEach, behind, states_of}
+use Rattle.laws_run.specs.lanes.Boards.{behind, states_of}
+use Rattle.laws_board.specs.plans.Boards.{TookStates}
 use Rattle.laws_run.proofs.lanes.Items.{item_control}
 use Rattle.laws_run.specs.run_lates.Late.{held_by, spoiled_by}
 
@@ -54,7 +55,7 @@ controls_put m switches b before turns (r ∷ rs) (t ∷ made) e are k =
     ∙ ap (λ (z : List Control). t.control ∷ z) (controls_put m switches b (came_in r ∷ before) (t ∷ turns) rs made (omega (arith, e)) are.1 k)
 
 -- and took its states
-pub states_taken : (b : ℕ) (rs : List ReactorTurn) (states : List State) → TookEach b rs states → gather (λ t. item b t.states) rs ≡ states
+pub states_taken : (b : ℕ) (rs : List ReactorTurn) (states : List State) → TookStates b rs states → gather (λ t. item b t.states) rs ≡ states
 states_taken b [] states e = sym e
 states_taken b (r ∷ rs) [] e = absurd e
 states_taken b (r ∷ rs) (s ∷ states) e = ap (λ (z : List State). z ++ gather (λ (x : ReactorTurn). item b x.states) rs) e.0 ∙ ap (λ (z : List State). s ∷ z) (states_taken b rs states e.1)

@@ -43,7 +43,8 @@ use Rattle.laws_board.specs.sections.Parts.{IsControl}
 use Rattle.laws_board.proofs.sections.Each.{shut_as}
 use Rattle.laws_board.proofs.sections.Naming.{in_more, taken_more}
 use Rattle.laws_board.proofs.sections.Seeking.{Among, among_first, among_of, among_split}
-use Rattle.laws_run.specs.lanes.Boards.{TookEach, behind, states_of}
+use Rattle.laws_run.specs.lanes.Boards.{behind, states_of}
+use Rattle.laws_board.specs.plans.Boards.{TookStates}
 use Rattle.laws_board.specs.plans.Given.{TookControls}
 use Rattle.laws_run.proofs.clear_runs.Punctual.{NoUnits}
 use Rattle.laws_run.proofs.home_wholes.Going.{stays_shut}
@@ -111,7 +112,7 @@ behind_parts turns (t ∷ made) = let rest = behind_parts (t ∷ turns) made in 
 abbrev EachMayTell : ℕ → List ReactorTurn → Type 0
 EachMayTell b rs = All (λ t. (x : State) → item b t.states ≡ x ∷ [] → MayTell x) rs
 
-pub each_may : (clock : BoardClock) (begin : LinkState) (turns made : List BoardTurn) (b : ℕ) (rs : List ReactorTurn) → AreBoardTurns clock begin (behind turns made) → MayBe (stands_after begin (behind turns made)).core.board.controller.state → TookEach b rs (states_of made)
+pub each_may : (clock : BoardClock) (begin : LinkState) (turns made : List BoardTurn) (b : ℕ) (rs : List ReactorTurn) → AreBoardTurns clock begin (behind turns made) → MayBe (stands_after begin (behind turns made)).core.board.controller.state → TookStates b rs (states_of made)
     → EachMayTell b rs
 each_may clock begin turns made b [] are may took = All-nil (λ (t : ReactorTurn). (x : State) → item b t.states ≡ x ∷ [] → MayTell x)
 each_may clock begin turns [] b (r ∷ rs) are may took = absurd took

@@ -1,12 +1,11 @@
 -- When no trigger of a board can halt a stepper.
-use Rattle.std.specs.Prelude.{◌≡◌, ℕ, ◌+◌, ◌-◌, ◌≤◌, ◌++◌, false, List, [], ◌∷◌, Some, drop, take}
+use Rattle.std.specs.Prelude.{◌≡◌, ℕ, ◌+◌, ◌-◌, ◌≤◌, ◌++◌, List, [], ◌∷◌, drop, take}
 use Rattle.plan_types.specs.declared.plan.BoardState.TheVariants.{Running}
 use Rattle.plan_types.specs.Clock.{clock_of}
 use Rattle.msg_code.specs.declared.cmd.Cmd.{Cmd}
 use Rattle.msg_code.specs.declared.cmd.Cmd.TheVariants as cmd
 use Rattle.wire_scene.specs.declared.scene.Entry.{Entry}
 use Rattle.board_sim.specs.Fair.{Meant, commands_of}
-use Rattle.board_sim.specs.Rig.{Rig, Slot, slot_at}
 use Rattle.board_world.specs.World.{Core}
 use Rattle.section_units.specs.Sections.{BoardSection}
 use Rattle.link_work.specs.Runs.{AreTurns}
@@ -14,10 +13,7 @@ use Rattle.link_work.specs.Stands.{first_state}
 use Rattle.link_work.specs.Turn.{LinkState, Orders}
 use Rattle.laws_board.specs.sections.Boards.{OnBoard}
 use Rattle.laws_homing.specs.clear_groups.Resting.{EachTame}
-
--- no trigger of a board can trigger
-abbrev pub IsOff : Rig → Type 0
-IsOff r = (oid : ℕ) (s : Slot) → slot_at r oid ≡ Some s → s.trigger.can ≡ false
+use Rattle.laws_homing.specs.clear_boards.Limited.{AllFired}
 
 -- a command starts no trigger and binds no stepper to one
 abbrev pub IsStill : Cmd → Type 0
@@ -39,7 +35,7 @@ BringStill (o ∷ os) = EachStill o.control.commands × BringStill os
 abbrev pub IsStillAt : Core → Type 0
 IsStillAt h =
     h.board.controller.state ≡ Running → (left : List Meant) → h.taken ++ left ≡ h.queued →
-    IsOff h.board × EachTame (commands_of left)
+    AllFired h.board × EachTame (commands_of left)
 
 -- A board is still in a section's turns: as the first turn begins in which units of the section may be
 -- released, and up to six turns behind its end no control starts a trigger or binds a stepper.

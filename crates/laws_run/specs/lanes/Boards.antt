@@ -16,6 +16,7 @@ use Rattle.session_work.specs.declared.table.MotionTurn.{MotionTurn}
 use Rattle.session_work.specs.declared.table.ReactorTurn.{ReactorTurn}
 use Rattle.session_work.specs.Rows.{gather, item}
 use Rattle.laws_run.specs.lanes.Turns.{came_before}
+use Rattle.laws_board.specs.plans.Boards.{TookStates}
 
 -- turns in their order behind others, of which the latest stands first
 abbrev pub behind : List BoardTurn → List BoardTurn → List BoardTurn
@@ -29,12 +30,6 @@ orders_of made = map (λ t. orders t.control t.batch) made
 -- the state that it told in each of some turns
 abbrev pub states_of : List BoardTurn → List State
 states_of made = map (λ t. t.state) made
-
--- in some turns of the reactor it took these states of a board, one in each
-abbrev pub TookEach : ℕ → List ReactorTurn → List State → Type 0
-TookEach b [] states = states ≡ []
-TookEach b (t ∷ ts) [] = ⊥
-TookEach b (t ∷ ts) (s ∷ states) = (item b t.states ≡ s ∷ []) × TookEach b ts states
 
 -- A board in a whole run, of which the planner made some turns and the reactor a first one and others, the
 -- last of which may end the run: its turns with its link, as far as the reactor took their states. In each it
@@ -52,6 +47,6 @@ pub record IsInWhole (m : Machine) (switches : List Switch) (b : ℕ) (clock : B
   pub few : length (behind [] made) ≤ 2 ^ 59
   pub in_order : orders_in (behind [] made) ≡ orders_of made
   pub told : AreTold clock 0 (orders_of made) (states_of made) begin (stands_after begin (behind [] made))
-  pub states : TookEach b rest (states_of made)
+  pub states : TookStates b rest (states_of made)
   pub batches : (left : List Batch)
       × (map (λ o. o.batch) (orders_of made) ++ left ≡ gather (λ t. item b t.batches) planned)

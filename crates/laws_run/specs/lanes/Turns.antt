@@ -13,10 +13,7 @@ use Rattle.host_reactor.specs.Runs.{Came, last_turn}
 use Rattle.host_reactor.specs.Running.{any_out}
 use Rattle.session_work.specs.declared.table.ReactorTurn.{ReactorTurn}
 use Rattle.session_work.specs.Heads.{IsRow}
-
--- what came to the reactor in a turn
-abbrev pub came_in : ReactorTurn → Came
-came_in t = record { states = t.states; note = t.note }
+use Rattle.session_run.specs.Boards.{came_in}
 
 -- what came in all but the last of some turns, the latest first, behind what came before
 abbrev pub came_before : List Came → List ReactorTurn → List Came

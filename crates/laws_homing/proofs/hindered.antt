@@ -1,6 +1,5 @@
 pub mod Resting
 pub mod Prepared
-pub mod Kept
 pub mod Holding
 pub mod Crossing
 pub mod Since

@@ -1,30 +1,27 @@
 -- A board's trigger over commands that start none: it stays there, and keeps what no such command takes from it.
-use Rattle.std.proofs.Common.{◌≡◌, ◌≢◌, ◌⊎◌, inl, inr, ℕ, ◌+◌, ◌<◌, ◌≤◌, Bool, true, false, List, [], ◌∷◌, get_or, set, Option, Some, None, refl, ap, sym, ◌∙◌, subst, arith}
-use Rattle.std.specs.Prelude.{slice_index_or, nat_lt, ◌==◌, if◌then◌else◌}
+use Rattle.std.proofs.Common.{◌≡◌, ◌⊎◌, inl, inr, ℕ, ◌+◌, ◌<◌, ◌≤◌, Bool, true, false, List, [], ◌∷◌, get_or, set, Option, Some, None, refl, ap, sym, ◌∙◌, subst, arith}
+use Rattle.std.specs.Prelude.{nat_lt, ◌==◌, if◌then◌else◌}
 use Rattle.std.proofs.lemmas.List.{get_or-set_same}
 use Rattle.plan_types.specs.declared.levels.Level.{Level}
 use Rattle.plan_types.specs.declared.plan.BoardState.{BoardState}
 use Rattle.plan_types.specs.declared.plan.BoardState.TheVariants.{Running, Shut}
 use Rattle.plan_types.specs.Board.{nearest}
-use Rattle.board_step.specs.Steps.{Pending}
-use Rattle.board_trig.specs.declared.sampling.Homing.{Homing as Reading}
 use Rattle.board_trig.specs.declared.trigger.Trigger.{Trigger}
-use Rattle.board_trig.specs.declared.trigger.Happening.TheVariants.{Nothing}
+use Rattle.board_trig.specs.declared.trigger.Happening.{Happening}
+use Rattle.board_trig.specs.declared.trigger.Happening.TheVariants as happening
 use Rattle.board_trig.specs.Trigger as trig
 use Rattle.msg_code.specs.declared.cmd.Cmd.{Cmd}
 use Rattle.msg_code.specs.declared.cmd.Cmd.TheVariants as cmd
-use Rattle.board_sim.specs.Board.{stepper_at}
-use Rattle.board_sim.specs.Rig.{Rig, Slot, acts, acts_running, becomes, bind, expires_at_once, home, make_endstop, make_trigger, passes, set_timeout, slot_at, start, takes, takes_all, trigger}
+use Rattle.board_sim.specs.Rig.{Rig, Slot, acts_running, becomes, expires_at_once, make_trigger, passes, set_timeout, slot_at, start, takes, takes_all}
 use Rattle.board_sim.specs.RigRuns.{AllSound}
-use Rattle.board_sim.proofs.Bound.{one_slot, same_or_not, set_other, slot_range}
+use Rattle.board_sim.proofs.Bound.{one_slot, slot_range}
 use Rattle.board_sim.proofs.RigTicks.{takes_rig_tick}
 use Rattle.board_sim.proofs.Sound.{sound_regular}
 use Rattle.laws_homing.specs.clear_groups.Resting.{EachTame, IsTame}
-use Rattle.laws_homing.proofs.home_runs.Guarding.{passes_next}
 use Rattle.laws_homing.proofs.home_runs.Staging.{HasSlot}
 use Rattle.laws_homing.proofs.clear_boards.Alive.{late_passes}
 use Rattle.laws_homing.proofs.clear_groups.SetUp.{report_at}
-use Rattle.laws_homing.proofs.hindered.Kept.{passes_kept}
+use Rattle.laws_homing.proofs.clear_boards.Slots.{Beside, Follows, Lasts, MakesNone, OfEach, levels_at, passes_beside, passes_each, running_beside, running_each}
 
 -- the trigger with an object id stands here, and this holds of it
 pub record Holds (j : ℕ) (M : Trigger → Type 0) (r : Rig) : Type 0 where
@@ -45,78 +42,34 @@ abbrev pub AllFit : (ℕ → Cmd → Type 0) → ℕ → List Cmd → Type 0
 AllFit Fits now [] = Unit {0}
 AllFit Fits now (c ∷ cs) = Fits now c × AllFit Fits now cs
 
--- the readings that a command asks for
-abbrev pub reading_of : (clock sample count rest value reason : ℕ) → Reading
-reading_of clock sample count rest value reason = record { clock = clock; sample_ticks = sample; sample_count = count; rest_ticks = rest; pin_value = value; reason = reason }
+-- of each trigger, of which only the one with this object id counts
+abbrev pub Own : ℕ → (Trigger → Type 0) → (List (List Level) → ℕ → Slot → Type 0)
+Own j M pins oid s = oid ≡ j → M s.trigger
 
--- something that no timeout, no order to trigger and no reading takes from it, where commands are of a kind at the board's tick
-module _ (j : ℕ) (M : Trigger → Type 0) (Fits : ℕ → Cmd → Type 0) (timed : (now other clock : ℕ) (t : Trigger) → Fits now (cmd.TrsyncSetTimeout other clock) → M t → M (trig.with_timeout now clock t)) (calmed : (t : Trigger) → M t → M (record t { untold = None }))
-    (told : (now other reason : ℕ) (t : Trigger) → Fits now (cmd.TrsyncTrigger other reason) → M t → M (trig.triggered now reason t))
-    (read : (now oid clock sample count rest value other reason : ℕ) (t : Trigger) → Fits now (cmd.EndstopHome oid clock sample count rest value other reason) → M t → M (trig.sampling now (reading_of clock sample count rest value reason) t)) where
-  set_holds : (r q : Rig) (k : ℕ) (u : Slot) → q.triggers ≡ set r.triggers k (Some u) → Holds j M r → (k ≡ j → M u.trigger) → Holds j M q
-  set_holds r q k u e h here = by (same_or_not k j)
-    where
-      by : (k ≡ j) ⊎ (k ≢ j) → Holds j M q
-      by (inl same) = put_holds j M r q u h.slot (e ∙ ap (λ (n : ℕ). set r.triggers n (Some u)) same) h.is (here same)
-      by (inr d) = record { slot = h.slot; is = set_other r q j k (Some u) e d ∙ h.is; so = h.so }
+own_each : (j : ℕ) (M : Trigger → Type 0) (r : Rig) → Holds j M r → OfEach (Own j M) r
+own_each j M r h oid s at own = subst (λ (z : Slot). M z.trigger) (one_slot (slot_at r j) h.slot s h.is (subst (λ (n : ℕ). slot_at r n ≡ Some s) own at)) h.so
 
-  same_holds : (r q : Rig) → q.triggers ≡ r.triggers → Holds j M r → Holds j M q
-  same_holds r q e h = record { slot = h.slot; is = ap (λ (xs : List (Option Slot)). get_or xs j None) e ∙ h.is; so = h.so }
+holds_each : (j : ℕ) (M : Trigger → Type 0) (L : Type 0) (r q : Rig) → Beside L r q → Holds j M r → OfEach (Own j M) q → Holds j M q
+holds_each j M L r q beside h all = let u = beside.3 j h.slot h.is in record { slot = u.0; is = u.1; so = all j u.0 u.1 refl }
 
-  own : (r : Rig) (k : ℕ) (s : Slot) → slot_at r k ≡ Some s → Holds j M r → k ≡ j → M s.trigger
-  own r k s e h same = subst (λ (z : Slot). M z.trigger) (one_slot (slot_at r j) h.slot s h.is (subst (λ (n : ℕ). slot_at r n ≡ Some s) same e)) h.so
+-- a command that starts none, is of a kind, and makes none where one stands
+abbrev pub Others : ℕ → (ℕ → Cmd → Type 0) → (ℕ → Cmd → Type 0)
+Others j Fits now (cmd.ConfigTrsync oid) = oid ≡ j → ⊥
+Others j Fits now c = IsTame c × Fits now c
 
-  once_holds : (o : Option ℕ) (r : Rig) (oid : ℕ) (s : Slot) (t : Trigger) → Holds j M r → (oid ≡ j → M t) → Holds j M (expires_at_once r oid s t o).rig
-  once_holds None r oid s t h k = set_holds r (becomes r oid s t) oid (record s { trigger = t }) refl h k
-  once_holds (Some at) r oid s t h k = set_holds r (becomes r oid s (record t { untold = None })) oid (record s { trigger = record t { untold = None } }) refl h (λ same. calmed t (k same))
+-- something that no such command takes from it
+module _ (j : ℕ) (M : Trigger → Type 0) (Fits : ℕ → Cmd → Type 0) (f : Follows (Own j M) (Others j Fits)) where
+  other_holds : (o : BoardState) (r : Rig) (c : Cmd) → Others j Fits r.controller.tick c → Holds j M r → Holds j M (acts_running o r c).rig
+  other_holds o r c fit h = holds_each j M (MakesNone c) r (acts_running o r c).rig (running_beside o r c) h (running_each (Own j M) (Others j Fits) f o r c fit (own_each j M r h))
 
-  timeout_holds : (r : Rig) (oid clock : ℕ) (o : Option Slot) → Fits r.controller.tick (cmd.TrsyncSetTimeout oid clock) → slot_at r oid ≡ o → Holds j M r → Holds j M (set_timeout r oid o clock).rig
-  timeout_holds r oid clock None fit e h = h
-  timeout_holds r oid clock (Some s) fit e h =
-      let t = trig.with_timeout r.controller.tick clock s.trigger in
-      once_holds t.untold r oid s t h (λ same. timed r.controller.tick oid clock s.trigger fit (own r oid s e h same))
-
-  trigger_holds : (r : Rig) (oid reason : ℕ) (o : Option Slot) → Fits r.controller.tick (cmd.TrsyncTrigger oid reason) → slot_at r oid ≡ o → Holds j M r → Holds j M (trigger r oid o reason).rig
-  trigger_holds r oid reason None fit e h = h
-  trigger_holds r oid reason (Some s) fit e h =
-      let t = trig.triggered r.controller.tick reason s.trigger in
-      set_holds r (becomes r oid s t) oid (record s { trigger = t }) refl h (λ same. told r.controller.tick oid reason s.trigger fit (own r oid s e h same))
-
-  make_holds : (r : Rig) (oid : ℕ) (o : Option Slot) → slot_at r oid ≡ o → Holds j M r → Holds j M (make_trigger r oid o)
-  make_holds r oid None e h =
-      set_holds r (make_trigger r oid None) oid (record { trigger = trig.new_trigger; pin = 0; bound = [] }) refl h
-      (λ same. absurd (none_some (slot_at r j) h.slot (subst (λ (n : ℕ). slot_at r n ≡ None) same e) h.is))
-  make_holds r oid (Some s) e h = h
-
-  home_holds : (r : Rig) (p : Option ℕ) (other : ℕ) (o : Option Slot) (g : Reading) → ((t : Trigger) → M t → M (trig.sampling r.controller.tick g t)) → slot_at r other ≡ o → Holds j M r → Holds j M (home r p other o g)
-  home_holds r None other o g f e h = h
-  home_holds r (Some pin) other None g f e h = h
-  home_holds r (Some pin) other (Some s) g f e h =
-      set_holds r (home r (Some pin) other (Some s) g) other (record s { trigger = trig.sampling r.controller.tick g s.trigger; pin = pin }) refl h (λ same. f s.trigger (own r other s e h same))
-
-  bind_holds : (r : Rig) (i other : ℕ) (p : Option Pending) (o : Option Slot) → slot_at r other ≡ o → Holds j M r → Holds j M (bind r i p other o)
-  bind_holds r i other None o e h = h
-  bind_holds r i other (Some p) None e h = h
-  bind_holds r i other (Some p) (Some s) e h = set_holds r (bind r i (Some p) other (Some s)) other (record s { bound = i ∷ s.bound }) refl h (λ same. own r other s e h same)
-
-  endstop_holds : (r : Rig) (oid pin : ℕ) (o : Option ℕ) → Holds j M r → Holds j M (make_endstop r oid pin o)
-  endstop_holds r oid pin None h = same_holds r (make_endstop r oid pin None) refl h
-  endstop_holds r oid pin (Some p) h = h
-
-  acts_holds : (r : Rig) (c : Cmd) → IsTame c → Fits r.controller.tick c → Holds j M r → Holds j M (acts r c).rig
-  acts_holds r (cmd.TrsyncSetTimeout other at) tame fit h = timeout_holds r other at (slot_at r other) fit refl h
-  acts_holds r (cmd.TrsyncTrigger other reason) tame fit h = trigger_holds r other reason (slot_at r other) fit refl h
-  acts_holds r (cmd.ConfigTrsync other) tame fit h = make_holds r other (slot_at r other) refl h
-  acts_holds r (cmd.TrsyncStart other at every reason) tame fit h = absurd tame
-  acts_holds r (cmd.StepperStopOnTrigger stepper other) tame fit h = bind_holds r stepper other (stepper_at r.controller stepper) (slot_at r other) refl h
-  acts_holds r (cmd.ConfigEndstop other pin pull) tame fit h = endstop_holds r other pin (slice_index_or r.endstops other None) h
-  acts_holds r (cmd.EndstopHome other at sample count rest value t reason) tame fit h =
-      home_holds r (slice_index_or r.endstops other None) t (slot_at r t) (reading_of at sample count rest value reason) (λ u k. read r.controller.tick other at sample count rest value t reason u fit k) refl h
-  acts_holds r c tame fit h = same_holds r (acts r c).rig refl h
+  make_holds : (r : Rig) (oid : ℕ) (o : Option Slot) → slot_at r oid ≡ o → Holds j M r → Holds j M (make_trigger r oid (slot_at r oid))
+  make_holds r oid None e h = other_holds Running r (cmd.ConfigTrsync oid) (λ same. none_some (slot_at r j) h.slot (subst (λ (n : ℕ). slot_at r n ≡ None) same e) h.is) h
+  make_holds r oid (Some s) e h = subst (λ (o : Option Slot). Holds j M (make_trigger r oid o)) (sym e) h
 
   running_holds : (o : BoardState) (r : Rig) (c : Cmd) → IsTame c → Fits r.controller.tick c → Holds j M r → Holds j M (acts_running o r c).rig
-  running_holds Running r c tame fit h = acts_holds r c tame fit h
-  running_holds (Shut reason at first) r c tame fit h = same_holds r (acts_running (Shut reason at first) r c).rig refl h
+  running_holds (Shut reason at first) r c tame fit h = record { slot = h.slot; is = h.is; so = h.so }
+  running_holds Running r (cmd.ConfigTrsync oid) tame fit h = make_holds r oid (slot_at r oid) refl h
+  running_holds Running r c tame fit h = other_holds Running r c (tame, fit) h
 
   -- so over commands
   pub tame_holds : (r : Rig) (cs : List Cmd) → EachTame cs → AllFit Fits r.controller.tick cs → Holds j M r → Holds j M (takes_all r cs).rig
@@ -136,14 +89,17 @@ fit_any now (c ∷ cs) = (tt, fit_any now cs)
 abbrev pub Due : ℕ → ℕ → Trigger → Type 0
 Due every next t = (t.every ≡ every) × (t.report ≡ Some next)
 
-pub timed_due : (every next : ℕ) (can early : Bool) (now at : ℕ) (t : Trigger) → Due every next t → Due every next (if can then (if early then record t { timeout = Some at } else record (trig.fired now t.expire t) { untold = Some now }) else t)
-timed_due every next true true now at t k = (k.0, k.1)
-timed_due every next true false now at t k = (k.0, k.1)
-timed_due every next false early now at t k = k
-
-pub fired_due : (every next : ℕ) (can : Bool) (now reason : ℕ) (t : Trigger) → Due every next t → Due every next (if can then trig.fired now reason t else t)
-fired_due every next true now reason t k = (k.0, k.1)
-fired_due every next false now reason t k = k
+follows_due : (j every next : ℕ) → Follows (Own j (Due every next)) (Others j Any)
+follows_due j every next = record {
+  made = λ pins now oid fit own. absurd (fit own);
+  starts = λ pins now oid s clock often reason fit k. absurd fit.0;
+  limits = λ pins now oid s clock fit can ahead k own. ((k own).0, (k own).1);
+  expires = λ pins now oid s clock fit can past k own. ((k own).0, (k own).1);
+  says = λ pins oid s n e k own. ((k own).0, (k own).1);
+  fires = λ pins now oid s reason fit can k own. ((k own).0, (k own).1);
+  binds = λ pins now oid s i fit k own. k own;
+  homes = λ pins now oid s i pin g fit k own. ((k own).0, (k own).1);
+}
 
 -- where it can trigger, it has a timeout
 abbrev pub Limits : Trigger → Type 0
@@ -158,44 +114,38 @@ sets_limits true true now at t e = λ can. (at, refl)
 sets_limits true false now at t e = λ can. absurd (not_can false refl can)
 sets_limits false early now at t e = λ can. absurd (not_can t.can e can)
 
-fired_limits : (can : Bool) (now reason : ℕ) (t : Trigger) → Limits t → Limits (if can then trig.fired now reason t else t)
-fired_limits true now reason t k = λ can. absurd (not_can false refl can)
-fired_limits false now reason t k = k
+follows_limits : (j : ℕ) → Follows (Own j Limits) (Others j Any)
+follows_limits j = record {
+  made = λ pins now oid fit own. absurd (fit own);
+  starts = λ pins now oid s clock every reason fit k. absurd fit.0;
+  limits = λ pins now oid s clock fit can ahead k own on. (nearest now clock, refl);
+  expires = λ pins now oid s clock fit can past k own on. absurd (not_can false refl on);
+  says = λ pins oid s n e k own on. k own on;
+  fires = λ pins now oid s reason fit can k own on. absurd (not_can false refl on);
+  binds = λ pins now oid s i fit k own. k own;
+  homes = λ pins now oid s i pin g fit k own on. k own on;
+}
 
-happened_limits : (e s report : Option ℕ) (levels : List Level) (until : ℕ) (t : Trigger) → Limits t → Limits (trig.happened levels until (trig.earliest e s report) t).trigger
-happened_limits e s (Some tick) levels until t k = λ can. k can
-happened_limits e (Some tick) None levels until t k = λ can. absurd (not_can false refl can)
-happened_limits (Some tick) None None levels until t k = λ can. absurd (not_can false refl can)
-happened_limits None None None levels until t k = λ can. k can
-
-tells_limits : (o : Option ℕ) (levels : List Level) (until : ℕ) (t : Trigger) → Limits t → Limits (trig.tells o levels until t).trigger
-tells_limits None levels until t k = happened_limits (trig.expiry_of until t) (trig.switch_of levels until t) (trig.report_of levels until t) levels until t k
-tells_limits (Some at) levels until t k = λ can. k can
+comes_limits : (levels : List Level) (until : ℕ) (t : Trigger) (e : Happening) → Limits t → Limits (trig.happened levels until e t).trigger
+comes_limits levels until t happening.Nothing k = λ can. k can
+comes_limits levels until t (happening.Expires at) k = λ can. absurd (not_can false refl can)
+comes_limits levels until t (happening.Switches at) k = λ can. absurd (not_can false refl can)
+comes_limits levels until t (happening.Reports at) k = λ can. k can
 
 module _ (j : ℕ) where
   pub takes_due : (every next : ℕ) (r : Rig) (cs : List Cmd) → EachTame cs → Holds j (Due every next) r → Holds j (Due every next) (takes_all r cs).rig
-  takes_due every next r cs tame h =
-      tame_holds j (Due every next) Any (λ now other at t fit d. timed_due every next t.can (nat_lt now (nearest now at)) now (nearest now at) t d) (λ t d. (d.0, d.1)) (λ now other reason t fit d. fired_due every next t.can now reason t d)
-      (λ now oid at sample count rest value other reason t fit d. (d.0, d.1)) r cs tame (fit_any r.controller.tick cs) h
+  takes_due every next r cs tame h = tame_holds j (Due every next) Any (follows_due j every next) r cs tame (fit_any r.controller.tick cs) h
 
   pub takes_limits : (r : Rig) (cs : List Cmd) → EachTame cs → Holds j Limits r → Holds j Limits (takes_all r cs).rig
-  takes_limits r cs tame h =
-      tame_holds j Limits Any (λ now other at t fit d. sets_limits t.can (nat_lt now (nearest now at)) now (nearest now at) t refl) (λ t d. λ can. d can) (λ now other reason t fit d. fired_limits t.can now reason t d)
-      (λ now oid at sample count rest value other reason t fit d. λ can. d can) r cs tame (fit_any r.controller.tick cs) h
+  takes_limits r cs tame h = tame_holds j Limits Any (follows_limits j) r cs tame (fit_any r.controller.tick cs) h
 
   -- over a stretch of time
-  pub passes_holds : (M : Trigger → Type 0) → ((levels : List Level) (until : ℕ) (t : Trigger) → M t → M (trig.tells t.untold levels until t).trigger) → ((levels : List Level) (until : ℕ) (t : Trigger) → M t → M (trig.happened levels until Nothing t).trigger)
-      → (r : Rig) (until : ℕ) → Holds j M r → Holds j M (passes r until).rig
-  passes_holds M tells rests r until h =
-      let x = (passes_next 0 j r until).slots h.slot h.is in
-      record {
-        slot = x.slot;
-        is = x.is;
-        so = passes_kept j M tells rests r until (λ oid s same at. subst (λ (z : Slot). M z.trigger) (one_slot (slot_at r j) h.slot s h.is (subst (λ (n : ℕ). slot_at r n ≡ Some s) same at)) h.so) j x.slot refl x.is;
-      }
+  pub passes_holds : (M : Trigger → Type 0) (until : ℕ) → Lasts (Own j M) until → (r : Rig) → Holds j M r → Holds j M (passes r until).rig
+  passes_holds M until l r h = holds_each j M (Unit {0}) r (passes r until).rig (passes_beside until r) h (passes_each (Own j M) until l r (own_each j M r h))
 
   pub passes_limits : (r : Rig) (until : ℕ) → Holds j Limits r → Holds j Limits (passes r until).rig
-  passes_limits r until h = passes_holds Limits (λ levels u t d. tells_limits t.untold levels u t d) (λ levels u t d. λ can. d can) r until h
+  passes_limits r until h =
+      passes_holds Limits until (record { comes = λ pins oid s e next k own. comes_limits (levels_at pins s) until s.trigger e (k own); says = λ pins oid s n e k own on. k own on }) r h
 
   -- It reports every so many ticks, the next time from a tick on, and no later than a tick or so many ticks behind the first one.
   pub record Reports (base every now : ℕ) (r : Rig) : Type 0 where

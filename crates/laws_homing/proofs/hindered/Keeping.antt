@@ -1,11 +1,11 @@
 -- A trigger that can trigger keeps a timeout, and its readings their reason; so its board's timeout is at one tick.
-use Rattle.std.proofs.Common.{◌≡◌, ℕ, Bool, true, false, List, Option, Some, None, refl, sym, ◌∙◌, subst}
-use Rattle.std.specs.Prelude.{nat_lt, if◌then◌else◌}
+use Rattle.std.proofs.Common.{◌≡◌, ℕ, Bool, true, false, List, [], ◌∷◌, Some, None, refl, sym, ◌∙◌, subst}
 use Rattle.plan_types.specs.declared.levels.Level.{Level}
 use Rattle.plan_types.specs.Board.{nearest}
 use Rattle.board_trig.specs.declared.sampling.Sampling.{Sampling}
 use Rattle.board_trig.specs.declared.trigger.Trigger.{Trigger}
-use Rattle.board_trig.specs.declared.trigger.Happening.TheVariants.{Nothing}
+use Rattle.board_trig.specs.declared.trigger.Happening.{Happening}
+use Rattle.board_trig.specs.declared.trigger.Happening.TheVariants.{Nothing, Expires, Switches, Reports}
 use Rattle.board_trig.specs.Trigger as trig
 use Rattle.msg_code.specs.declared.cmd.Cmd.{Cmd}
 use Rattle.board_sim.specs.Rig.{Rig, Slot, passes, slot_at, takes_all}
@@ -14,9 +14,10 @@ use Rattle.board_sim.proofs.Bound.{one_slot}
 use Rattle.laws_homing.specs.home_runs.Guards.{IsSole}
 use Rattle.laws_homing.specs.clear_boards.Held.{IsHeld}
 use Rattle.laws_homing.specs.clear_boards.Limited.{IsLimited, limit_of}
-use Rattle.laws_homing.specs.clear_boards.Turned.{AreBehind}
+use Rattle.laws_homing.specs.clear_boards.Turned.{AreBehind, IsBehind}
 use Rattle.laws_homing.proofs.switch_runs.Firing.{read_true}
-use Rattle.laws_homing.proofs.hindered.Kept.{passes_kept, takes_kept}
+use Rattle.laws_board.proofs.clocks.Answers.{Each}
+use Rattle.laws_homing.proofs.clear_boards.Slots.{Follows, levels_at, passes_each, takes_each}
 
 abbrev pub Timed : Trigger → Type 0
 Timed t = (t.can ≡ true → (x : ℕ) × (t.timeout ≡ Some x)) × ((y : Sampling) → t.sampling ≡ Some y → y.reason ≡ 2 → ⊥)
@@ -27,39 +28,44 @@ none_read y e = cc
 not_can : false ≡ true → ⊥
 not_can e = cc
 
-timed_it : (can early : Bool) (now at : ℕ) (t : Trigger) → Timed t → Timed (if can then (if early then record t { timeout = Some at } else record (trig.fired now t.expire t) { untold = Some now }) else t)
-timed_it true true now at t k = (λ can. (at, refl), k.1)
-timed_it true false now at t k = (λ can. absurd (not_can can), λ y is. absurd (none_read y is))
-timed_it false early now at t k = k
-
-fired_it : (can : Bool) (now reason : ℕ) (t : Trigger) → Timed t → Timed (if can then trig.fired now reason t else t)
-fired_it true now reason t k = (λ can. absurd (not_can can), λ y is. absurd (none_read y is))
-fired_it false now reason t k = k
-
-rests_it : (levels : List Level) (until : ℕ) (t : Trigger) → Timed t → Timed (trig.happened levels until Nothing t).trigger
-rests_it levels until t k = (k.0, λ y is two. (let x = read_true t.sampling levels until y is in k.1 x.0 x.1 (sym x.2 ∙ two)))
-
-happened_it : (e s report : Option ℕ) (levels : List Level) (until : ℕ) (t : Trigger) → Timed t → Timed (trig.happened levels until (trig.earliest e s report) t).trigger
-happened_it e s (Some tick) levels until t k = (k.0, k.1)
-happened_it e (Some tick) None levels until t k = (λ can. absurd (not_can can), λ y is. absurd (none_read y is))
-happened_it (Some tick) None None levels until t k = (λ can. absurd (not_can can), λ y is. absurd (none_read y is))
-happened_it None None None levels until t k = rests_it levels until t k
-
-tells_it : (o : Option ℕ) (levels : List Level) (until : ℕ) (t : Trigger) → Timed t → Timed (trig.tells o levels until t).trigger
-tells_it None levels until t k = happened_it (trig.expiry_of until t) (trig.switch_of levels until t) (trig.report_of levels until t) levels until t k
-tells_it (Some at) levels until t k = (k.0, k.1)
+comes_it : (levels : List Level) (until : ℕ) (t : Trigger) (e : Happening) → Timed t → Timed (trig.happened levels until e t).trigger
+comes_it levels until t Nothing k = (k.0, λ y is two. (let x = read_true t.sampling levels until y is in k.1 x.0 x.1 (sym x.2 ∙ two)))
+comes_it levels until t (Expires at) k = (λ can. absurd (not_can can), λ y is. absurd (none_read y is))
+comes_it levels until t (Switches at) k = (λ can. absurd (not_can can), λ y is. absurd (none_read y is))
+comes_it levels until t (Reports at) k = (k.0, k.1)
 
 -- of the trigger with this object id
 abbrev pub AllTimed : ℕ → Rig → Type 0
 AllTimed j r = (oid : ℕ) (s : Slot) → oid ≡ j → slot_at r oid ≡ Some s → Timed s.trigger
 
+-- the same of each trigger, of which only this one counts
+abbrev Own : ℕ → (List (List Level) → ℕ → Slot → Type 0)
+Own j pins oid s = oid ≡ j → Timed s.trigger
+
+follows_it : (j clock : ℕ) → Follows (Own j) (λ now c. IsBehind j clock c)
+follows_it j clock = record {
+  made = λ pins now oid fit. absurd fit;
+  starts = λ pins now oid s at every reason fit k. absurd fit;
+  limits = λ pins now oid s at fit can ahead k own. (λ on. (nearest now at, refl), (k own).1);
+  expires = λ pins now oid s at fit can past k own. (λ on. absurd (not_can on), λ y is. absurd (none_read y is));
+  says = λ pins oid s n e k own. ((k own).0, (k own).1);
+  fires = λ pins now oid s reason fit can k own. (λ on. absurd (not_can on), λ y is. absurd (none_read y is));
+  binds = λ pins now oid s i fit k. absurd fit;
+  homes = λ pins now oid s i pin g fit k. absurd fit;
+}
+
+behind_each : (j clock : ℕ) (cs : List Cmd) → AreBehind j clock cs → Each (λ (c : Cmd). IsBehind j clock c) cs
+behind_each j clock [] k = tt
+behind_each j clock (c ∷ cs) k = (k.0, behind_each j clock cs k.1)
+
 pub turn_timed : (j clock until : ℕ) (r : Rig) (cs : List Cmd) → AreBehind j clock cs → AllTimed j r → AllTimed j (passes (takes_all r cs).rig until).rig
 turn_timed j clock until r cs behind k =
-    let set_it : (now at : ℕ) (t : Trigger) → Timed t → Timed (trig.with_timeout now at t) = (λ now at t d. timed_it t.can (nat_lt now (nearest now at)) now (nearest now at) t d) in
-    let calm : (t : Trigger) → Timed t → Timed (record t { untold = None }) = (λ t d. (d.0, d.1)) in
-    let fire : (now reason : ℕ) (t : Trigger) → Timed t → Timed (trig.triggered now reason t) = (λ now reason t d. fired_it t.can now reason t d) in
-    passes_kept j Timed (λ levels u t d. tells_it t.untold levels u t d) (λ levels u t d. rests_it levels u t d) (takes_all r cs).rig until
-    (takes_kept j Timed set_it calm fire j clock r cs behind k)
+    let took = takes_each (Own j) (λ now c. IsBehind j clock c) (follows_it j clock) r cs (behind_each j clock cs behind) (λ oid s at own. k oid s own at) in
+    let passed = passes_each (Own j) until (record {
+      comes = λ pins oid s e next k own. comes_it (levels_at pins s) until s.trigger e (k own);
+      says = λ pins oid s n e k own. ((k own).0, (k own).1);
+    }) (takes_all r cs).rig took in
+    λ oid s own at. passed oid s at own
 
 clash : (b : Bool) → b ≡ true → b ≡ false → ⊥
 clash b e f = let bad : true ≡ false = sym e ∙ f in cc

@@ -1,6 +1,5 @@
 -- A member's board over a turn over which its link rests, in any scene: what it reports of its trigger is heard.
 use Rattle.std.proofs.Common.{◌≡◌, ◌⊎◌, ℕ, ◌+◌, ◌%◌, ◌^◌, ◌<◌, ◌≤◌, inl, inr, Bool, true, false, List, [], ◌∷◌, ◌++◌, length, Some, refl, ap, sym, ◌∙◌, subst, arith}
-use Rattle.std.specs.Prelude.{nat_lt}
 use Rattle.plan_types.specs.declared.levels.Level.{Level}
 use Rattle.plan_types.specs.declared.machine.Machine.{Machine}
 use Rattle.plan_types.specs.Board.{nearest}
@@ -35,7 +34,8 @@ use Rattle.laws_homing.specs.clear_boards.Firing.{AllSmall, AreSmall}
 use Rattle.laws_homing.specs.clear_boards.Hearing.{HeardBy, TellAble}
 use Rattle.laws_homing.specs.clear_boards.Reports.{IsReported, TellCan}
 use Rattle.laws_homing.specs.clear_boards.Rests.{RestsOver}
-use Rattle.laws_homing.specs.clear_boards.Turned.{AreBehind}
+use Rattle.laws_homing.specs.clear_boards.Turned.{AreBehind, IsBehind}
+use Rattle.laws_homing.specs.clear_groups.Resting.{EachTame, IsTame}
 use Rattle.laws_homing.specs.clear_groups.Sections.{IsAlike, IsFollowed, report_ticks}
 use Rattle.laws_homing.proofs.home_runs.Spelled.{own_state}
 use Rattle.laws_homing.proofs.clear_boards.Alive.{late_passes}
@@ -49,14 +49,23 @@ use Rattle.laws_homing.proofs.clear_boards.Standing.{sound_at, tick_is}
 use Rattle.laws_homing.proofs.clear_boards.Telling.{told_at_once}
 use Rattle.laws_homing.proofs.clear_boards.Turned.{next_all}
 use Rattle.laws_homing.proofs.clear_groups.Alike.{tracked_alike}
-use Rattle.laws_homing.proofs.hindered.Holding.{Due, fired_due, timed_due}
-use Rattle.laws_homing.proofs.hindered.Kept.{takes_kept}
+use Rattle.laws_homing.proofs.hindered.Holding as holding
+use Rattle.laws_homing.proofs.hindered.Holding.{Due}
+
+-- commands behind the set-up start none
+tame_one : (j clock : ℕ) (c : Cmd) → IsBehind j clock c → IsTame c
+tame_one j clock (cmd.TrsyncStart oid at every reason) k = k
+tame_one j clock c k = tt
+
+behind_tame : (j clock : ℕ) (cs : List Cmd) → AreBehind j clock cs → EachTame cs
+behind_tame j clock [] k = tt
+behind_tame j clock (c ∷ cs) k = (tame_one j clock c k.0, behind_tame j clock cs k.1)
 
 -- its next report, and that it comes every so many ticks, is what no such command changes
 pub takes_due : (j every next clock : ℕ) (r : Rig) (cs : List Cmd) (s u : Slot) → AreBehind j clock cs → slot_at r j ≡ Some s → slot_at (takes_all r cs).rig j ≡ Some u → Due every next s.trigger → Due every next u.trigger
 takes_due j every next clock r cs s u behind is there k =
-    takes_kept j (Due every next) (λ now at t d. timed_due every next t.can (nat_lt now (nearest now at)) now (nearest now at) t d) (λ t d. (d.0, d.1)) (λ now reason t d. fired_due every next t.can now reason t d) j clock r cs behind
-    (λ oid z own at. subst (λ (y : Slot). Due every next y.trigger) (one_slot (slot_at r j) s z is (subst (λ (n : ℕ). slot_at r n ≡ Some z) own at)) k) j u refl there
+    let h = holding.takes_due j every next r cs (behind_tame j clock cs behind) (record { slot = s; is = is; so = k }) in
+    subst (λ (z : Slot). Due every next z.trigger) (one_slot (slot_at (takes_all r cs).rig j) h.slot u h.is there) h.so
 
 -- A member's board at a tick: its trigger can trigger, and reports so often, the next time at the tick or later, and that is no later than a limit, or the report before
 -- it was heard.

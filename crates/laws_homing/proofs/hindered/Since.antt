@@ -1,7 +1,6 @@
 -- A trigger that triggers at no tick before one: neither by its timeout, nor by its readings, nor as it is told to.
-use Rattle.std.proofs.Common.{◌≡◌, ◌⊎◌, inl, inr, ℕ, zero, suc, ◌-◌, ◌≤◌, Bool, true, false, List, [], ◌∷◌, Option, Some, None, refl, sym, subst, arith}
-use Rattle.std.specs.Prelude.{nat_lt, ◌==◌, if◌then◌else◌}
-use Rattle.std.proofs.lemmas.Bool.Decides.{leb_tells}
+use Rattle.std.proofs.Common.{◌≡◌, ◌⊎◌, inl, inr, ℕ, zero, suc, ◌-◌, ◌<◌, ◌≤◌, Bool, true, false, List, [], ◌∷◌, Option, Some, None, refl, sym, subst, arith}
+use Rattle.std.specs.Prelude.{◌==◌, if◌then◌else◌}
 use Rattle.plan_types.specs.declared.levels.Level.{Level}
 use Rattle.plan_types.specs.declared.plan.BoardState.{BoardState}
 use Rattle.plan_types.specs.declared.plan.BoardState.TheVariants.{Running}
@@ -9,17 +8,18 @@ use Rattle.plan_types.specs.Board.{nearest}
 use Rattle.board_trig.specs.declared.sampling.Homing.{Homing as Reading}
 use Rattle.board_trig.specs.declared.sampling.Sampling.{Sampling}
 use Rattle.board_trig.specs.declared.trigger.Trigger.{Trigger}
-use Rattle.board_trig.specs.declared.trigger.Happening.TheVariants.{Nothing}
+use Rattle.board_trig.specs.declared.trigger.Happening.{Happening}
+use Rattle.board_trig.specs.declared.trigger.Happening.TheVariants.{Nothing, Expires, Switches, Reports}
 use Rattle.board_trig.specs.Sampling.{IsTriggerTick, completes, group, group_behind, has_failed, pressed, reading, sampled, sampled_to}
 use Rattle.board_trig.specs.Trigger as trig
-use Rattle.board_trig.proofs.Nexts.{was_before, was_switch}
 use Rattle.msg_code.specs.declared.cmd.Cmd.{Cmd}
 use Rattle.msg_code.specs.declared.cmd.Cmd.TheVariants as cmd
 use Rattle.board_sim.specs.Rig.{Rig, Slot, acts_running, becomes, passes, slot_at, start, takes, takes_all}
 use Rattle.laws_homing.specs.clear_groups.Resting.{EachTame}
+use Rattle.laws_homing.proofs.clear_boards.Slots.{Follows, Next, levels_at}
 use Rattle.laws_homing.proofs.home_runs.Moments.{report_from}
 use Rattle.laws_homing.proofs.home_runs.Staging.{HasSlot}
-use Rattle.laws_homing.proofs.hindered.Holding.{AllFit, Holds, passes_holds, put_holds, reading_of, tame_holds}
+use Rattle.laws_homing.proofs.hindered.Holding.{AllFit, Holds, Others, Own, passes_holds, put_holds, tame_holds}
 
 -- at a tick a command sets a timeout and begins readings for a tick from one on, and tells a trigger to trigger from that tick on
 abbrev pub Fits : (base now : ℕ) → Cmd → Type 0
@@ -92,45 +92,33 @@ module _ (base : ℕ) where
       let up = sampled_at until levels until s in
       ended_at (completes levels until s) (sampled_to levels until s) y e (omega (arith, low, up))
 
-  rests_since : (levels : List Level) (until : ℕ) (t : Trigger) → M t → M (trig.happened levels until Nothing t).trigger
-  rests_since levels until t k = record { fired = k.fired; timed = k.timed; reads = read_at t.sampling levels until k.reads }
-
-  happened_since : (e s report : Option ℕ) (levels : List Level) (until : ℕ) (t : Trigger) → trig.expiry_of until t ≡ e → trig.switch_of levels until t ≡ s → M t → M (trig.happened levels until (trig.earliest e s report) t).trigger
-  happened_since e s (Some tick) levels until t at on k = record { fired = k.fired; timed = k.timed; reads = k.reads }
-  happened_since e (Some tick) None levels until t at on k =
-      let is = (was_switch levels (trig.or_until until (trig.expiry_of until t)) t.can t.sampling tick on).0 in
+  comes_since : (levels : List Level) (until : ℕ) (t : Trigger) (e : Happening) → Next levels until t e → M t → M (trig.happened levels until e t).trigger
+  comes_since levels until t Nothing next k = record { fired = k.fired; timed = k.timed; reads = read_at t.sampling levels until k.reads }
+  comes_since levels until t (Expires at) next k = fired_since at t.expire t (k.timed at next.comes.0)
+  comes_since levels until t (Switches at) next k =
+      let is = next.comes.0 in
       let low = k.reads is.0 is.2 in
-      let up = trigger_at levels is.0 tick is.3 in
-      fired_since tick (trig.reason_of t.sampling) t (omega (arith, low, up))
-  happened_since (Some tick) None None levels until t at on k = fired_since tick t.expire t (k.timed tick (was_before until t.timeout tick at).0)
-  happened_since None None None levels until t at on k = rests_since levels until t k
+      let up = trigger_at levels is.0 at is.3 in
+      fired_since at (trig.reason_of t.sampling) t (omega (arith, low, up))
+  comes_since levels until t (Reports at) next k = record { fired = k.fired; timed = k.timed; reads = k.reads }
 
-  tells_since : (o : Option ℕ) (levels : List Level) (until : ℕ) (t : Trigger) → M t → M (trig.tells o levels until t).trigger
-  tells_since None levels until t k = happened_since (trig.expiry_of until t) (trig.switch_of levels until t) (trig.report_of levels until t) levels until t refl refl k
-  tells_since (Some at) levels until t k = record { fired = k.fired; timed = k.timed; reads = k.reads }
+  told_since : (t : Trigger) → M t → M (record t { untold = None })
+  told_since t k = record { fired = k.fired; timed = k.timed; reads = k.reads }
 
   pub passes_since : (j : ℕ) (r : Rig) (until : ℕ) → Holds j M r → Holds j M (passes r until).rig
-  passes_since j r until h = passes_holds j M (λ levels u t k. tells_since t.untold levels u t k) rests_since r until h
+  passes_since j r until h =
+      passes_holds j M until (record { comes = λ pins oid s e next k own. comes_since (levels_at pins s) until s.trigger e next (k own); says = λ pins oid s n e k own. told_since s.trigger (k own) }) r h
 
   -- as a command is taken
-  timed_since : (can : Bool) (now at : ℕ) (t : Trigger) → (base ≤ now) ⊎ (base ≤ at) → M t → M (if can then (if nat_lt now at then record t { timeout = Some at } else record (trig.fired now t.expire t) { untold = Some now }) else t)
-  timed_since false now at t fit k = k
-  timed_since true now at t fit k =
-      let On : Bool → Type 0 = λ b. M (if b then record t { timeout = Some at } else record (trig.fired now t.expire t) { untold = Some now }) in
-      elim (leb_tells (suc now) at) [
-        | inl p ↦
-            let less = p.1 in
-            let far : base ≤ at = elim fit [ inl l ↦ omega (arith, l, less) | inr l ↦ l ] in
-            subst On (sym p.0) (record { fired = k.fired; timed = λ x is. (let same : at ≡ x = cc in omega (arith, same, far)); reads = k.reads })
-        | inr p ↦
-            let not = p.1 in
-            let late : base ≤ now = elim fit [ inl l ↦ l | inr l ↦ omega (arith, l, not) ] in
-            subst On (sym p.0) (record { fired = λ off. late; timed = λ x is. absurd (cc); reads = λ y is. absurd (cc) })
-      ]
+  limits_since : (now at : ℕ) (t : Trigger) → (base ≤ now) ⊎ (base ≤ at) → now < at → M t → M (record t { timeout = Some at })
+  limits_since now at t fit ahead k =
+      let far : base ≤ at = elim fit [ inl l ↦ omega (arith, l, ahead) | inr l ↦ l ] in
+      record { fired = k.fired; timed = λ x is. (let same : at ≡ x = cc in omega (arith, same, far)); reads = k.reads }
 
-  told_since : (can : Bool) (now reason : ℕ) (t : Trigger) → base ≤ now → M t → M (if can then trig.fired now reason t else t)
-  told_since true now reason t late k = fired_since now reason t late
-  told_since false now reason t late k = k
+  expires_since : (now at : ℕ) (t : Trigger) → (base ≤ now) ⊎ (base ≤ at) → at ≤ now → M (record (trig.fired now t.expire t) { untold = None })
+  expires_since now at t fit past =
+      let late : base ≤ now = elim fit [ inl l ↦ l | inr l ↦ omega (arith, l, past) ] in
+      record { fired = λ off. late; timed = λ x is. absurd (cc); reads = λ y is. absurd (cc) }
 
   begun_at : (b : Bool) (now : ℕ) (g : Reading) (y : Sampling) → (base ≤ now) ⊎ (base ≤ nearest now g.clock)
       → (if b then None else Some (record { at = trig.first_from now (nearest now g.clock) (trig.rest_of g); sample = g.sample_ticks; count = g.sample_count; rest = trig.rest_of g; value = g.pin_value == 1; reason = g.reason })) ≡ Some y → base ≤ y.at
@@ -147,10 +135,20 @@ module _ (base : ℕ) where
       first_on : (now tick step : ℕ) → tick ≤ trig.first_from now tick step
       first_on now tick step = omega arith
 
+  follows_since : (j : ℕ) → Follows (Own j M) (Others j (Fits base))
+  follows_since j = record {
+    made = λ pins now oid fit own. absurd (fit own);
+    starts = λ pins now oid s clock every reason fit k. absurd fit.0;
+    limits = λ pins now oid s clock fit can ahead k own. limits_since now (nearest now clock) s.trigger fit.1 ahead (k own);
+    expires = λ pins now oid s clock fit can past k own. expires_since now (nearest now clock) s.trigger fit.1 past;
+    says = λ pins oid s n e k own. told_since s.trigger (k own);
+    fires = λ pins now oid s reason fit can k own. fired_since now reason s.trigger fit.1;
+    binds = λ pins now oid s i fit k own. k own;
+    homes = λ pins now oid s i pin g fit k own. (let x = k own in record { fired = x.fired; timed = x.timed; reads = λ y is. begun_at (g.sample_count == 0) now g y fit.1 is });
+  }
+
   pub takes_since : (j : ℕ) (r : Rig) (cs : List Cmd) → EachTame cs → AllFit (Fits base) r.controller.tick cs → Holds j M r → Holds j M (takes_all r cs).rig
-  takes_since j r cs tame fit h =
-      tame_holds j M (Fits base) (λ now oid at t fit k. timed_since t.can now (nearest now at) t fit k) (λ t k. record { fired = k.fired; timed = k.timed; reads = k.reads }) (λ now oid reason t late k. told_since t.can now reason t late k)
-      (λ now oid clock sample count rest value other reason t fit k. record { fired = k.fired; timed = k.timed; reads = λ y is. begun_at (count == 0) now (reading_of clock sample count rest value reason) y fit is }) r cs tame fit h
+  takes_since j r cs tame fit h = tame_holds j M (Fits base) (follows_since j) r cs tame fit h
 
   -- and as it is started, where nothing is read for it
   pub start_since : (j clock every reason : ℕ) (r : Rig) → r.controller.state ≡ Running → HasSlot j r → ((s : Slot) → slot_at r j ≡ Some s → (y : Sampling) → s.trigger.sampling ≡ Some y → ⊥) → Holds j M (takes r (cmd.TrsyncStart j clock every reason)).rig

@@ -1,33 +1,28 @@
 -- Why a board's trigger can't trigger in a homing section: its timeout passed, its readings triggered it, or the host told it to.
-use Rattle.std.proofs.Common.{◌≡◌, ◌≢◌, ℕ, zero, suc, ◌+◌, ◌/◌, ◌<◌, ◌≤◌, Bool, true, false, List, [], ◌∷◌, ◌++◌, length, get_or, set, Option, Some, None, refl, ap, sym, ◌∙◌, subst, arith, append_assoc, append-nil, length-append, ◌⊎◌, inl, inr}
-use Rattle.std.specs.Prelude.{slice_index_or, nat_le, nat_lt, ◌==◌, if◌then◌else◌}
-use Rattle.std.proofs.lemmas.List.{append_cancel_left, get_or-set_other}
+use Rattle.std.proofs.Common.{◌≡◌, ℕ, ◌+◌, ◌<◌, ◌≤◌, Bool, true, false, List, [], ◌∷◌, ◌++◌, length, Some, None, refl, ap, sym, ◌∙◌, subst, arith, append_assoc, append-nil, length-append, ◌⊎◌, inl, inr}
+use Rattle.std.specs.Prelude.{◌==◌}
+use Rattle.std.proofs.lemmas.List.{append_cancel_left}
 use Rattle.plan_types.specs.declared.clock.BoardClock.{BoardClock}
 use Rattle.plan_types.specs.declared.levels.Level.{Level}
-use Rattle.plan_types.specs.declared.plan.BoardState.{BoardState}
-use Rattle.plan_types.specs.declared.plan.BoardState.TheVariants.{Running, Shut}
-use Rattle.plan_types.specs.Board.{nearest}
 use Rattle.plan_types.specs.Clock.{board_tick}
-use Rattle.board_step.specs.Steps.{Pending}
-use Rattle.board_trig.specs.declared.sampling.Homing.{Homing as Reading}
 use Rattle.board_trig.specs.declared.sampling.Sampling.{Sampling}
 use Rattle.board_trig.specs.declared.trigger.Trigger.{Trigger}
-use Rattle.board_trig.specs.declared.trigger.Happening.TheVariants.{Nothing}
+use Rattle.board_trig.specs.declared.trigger.Happening.{Happening}
+use Rattle.board_trig.specs.declared.trigger.Happening.TheVariants.{Nothing, Expires, Switches, Reports}
 use Rattle.board_trig.specs.Trigger as trig
-use Rattle.board_trig.proofs.Nexts.{was_before, was_switch}
 use Rattle.msg_code.specs.declared.cmd.Cmd.{Cmd}
 use Rattle.msg_code.specs.declared.cmd.Cmd.TheVariants as cmd
-use Rattle.board_sim.specs.Board.{stepper_at}
 use Rattle.board_sim.specs.Fair.{Meant, commands_of}
-use Rattle.board_sim.specs.Rig.{Passed, Rig, Slot, acts, acts_running, all_left, at_of, becomes, bind, earliest, expires_at_once, goes_on, happens, happens_to, home, make_endstop, make_trigger, pass, passes, passes_by, rested, rests_to, runs_to, set_timeout, slot_at, start, takes, takes_all, trigger}
-use Rattle.board_sim.proofs.Bound.{map_at, same_or_not}
+use Rattle.board_sim.specs.Rig.{Rig, Slot, passes, slot_at, takes, takes_all}
 use Rattle.board_sim.proofs.RigTicks.{takes_rig_tick}
 use Rattle.link_work.specs.Runs.{queued_in}
 use Rattle.link_work.specs.Stands.{orders}
 use Rattle.link_work.specs.Turn.{LinkState}
 use Rattle.laws_board.specs.turns.Turns.{AreBoardTurns, BoardTurn, stands_after}
 use Rattle.laws_board.proofs.sections.Lists.{cuts}
-use Rattle.laws_homing.proofs.clear_boards.Held.{at_set, rested_is, switch_reason}
+use Rattle.laws_board.proofs.clocks.Answers.{Each}
+use Rattle.laws_homing.proofs.clear_boards.Held.{switch_reason}
+use Rattle.laws_homing.proofs.clear_boards.Slots.{Follows, Next, levels_at, passes_each, takes_each}
 use Rattle.laws_homing.proofs.clear_boards.Taking.{takes_both}
 use Rattle.laws_homing.proofs.home_runs.Staging.{commands_both}
 use Rattle.laws_homing.proofs.home_runs.Staying.{taken_later}
@@ -108,181 +103,108 @@ module _ (Z : Type 0) (n late j : ℕ) (some : 0 < n) where
   abbrev pub MeekAt : Rig → Type 0
   MeekAt r = (oid : ℕ) (s : Slot) → oid ≡ j → slot_at r oid ≡ Some s → M s.trigger
 
+  -- the same of each trigger, of which only this one counts
+  abbrev Own : (Trigger → Type 0) → (List (List Level) → ℕ → Slot → Type 0)
+  Own P pins oid s = oid ≡ j → P s.trigger
+
   -- as time passes
-  happened_meek : (e s report : Option ℕ) (levels : List Level) (until : ℕ) (t : Trigger) → trig.expiry_of until t ≡ e → trig.switch_of levels until t ≡ s → M t → M (trig.happened levels until (trig.earliest e s report) t).trigger
-  happened_meek e s (Some tick) levels until t at on k = record { fired = k.fired; expire = k.expire; reads = k.reads; idle = k.idle }
-  happened_meek e (Some tick) None levels until t at on k =
-      let is = (was_switch levels (trig.or_until until (trig.expiry_of until t)) t.can t.sampling tick on).0 in
+  comes_meek : (levels : List Level) (until : ℕ) (t : Trigger) (e : Happening) → Next levels until t e → M t → M (trig.happened levels until e t).trigger
+  comes_meek levels until t Nothing next k = record {
+    fired = k.fired;
+    expire = k.expire;
+    reads = λ y is. (let x = read_true t.sampling levels until y is in let own = k.reads x.0 x.1 in (own.0, x.2 ∙ own.1));
+    idle = k.idle;
+  }
+  comes_meek levels until t (Expires at) next k =
+      record { fired = λ off. inr (inl (by t.can refl next.comes.0)); expire = λ can. absurd (cc); reads = λ y is. absurd (cc); idle = λ off. refl }
+    where
+      by : (b : Bool) → t.can ≡ b → t.timeout ≡ Some at → t.expire ≡ 2
+      by true can is = k.expire can
+      by false off is = absurd (let bad : None ≡ Some at = sym (k.idle off) ∙ is in cc)
+  comes_meek levels until t (Switches at) next k =
+      let is = next.comes.0 in
       let why : trig.reason_of t.sampling ≡ is.0.reason = switch_reason t.sampling is.0 is.2 in
       let own = k.reads is.0 is.2 in
       record { fired = λ off. inr (inr (inl (own.0, why ∙ own.1))); expire = λ can. absurd (cc); reads = λ y is_so. absurd (cc); idle = λ off. refl }
-  happened_meek (Some tick) None None levels until t at on k =
-      let is = (was_before until t.timeout tick at).0 in
-      record { fired = λ off. inr (inl (by t.can refl is)); expire = λ can. absurd (cc); reads = λ y is_so. absurd (cc); idle = λ off. refl }
-    where
-      by : (b : Bool) → t.can ≡ b → t.timeout ≡ Some tick → t.expire ≡ 2
-      by true can is = k.expire can
-      by false off is = absurd (let bad : None ≡ Some tick = sym (k.idle off) ∙ is in cc)
-  happened_meek None None None levels until t at on k = record {
-    fired = k.fired;
-    expire = k.expire;
-    reads = λ y is. (let x = read_true t.sampling levels until y is in let own = k.reads x.0 x.1 in (own.0, x.2 ∙ own.1));
-    idle = k.idle;
-  }
+  comes_meek levels until t (Reports at) next k = record { fired = k.fired; expire = k.expire; reads = k.reads; idle = k.idle }
 
-  tells_meek : (o : Option ℕ) (levels : List Level) (until : ℕ) (t : Trigger) → M t → M (trig.tells o levels until t).trigger
-  tells_meek None levels until t k = happened_meek (trig.expiry_of until t) (trig.switch_of levels until t) (trig.report_of levels until t) levels until t refl refl k
-  tells_meek (Some at) levels until t k = record { fired = k.fired; expire = k.expire; reads = k.reads; idle = k.idle }
-
-  rested_meek : (levels : List Level) (until : ℕ) (t : Trigger) → M t → M (trig.happened levels until Nothing t).trigger
-  rested_meek levels until t k = record {
-    fired = k.fired;
-    expire = k.expire;
-    reads = λ y is. (let x = read_true t.sampling levels until y is in let own = k.reads x.0 x.1 in (own.0, x.2 ∙ own.1));
-    idle = k.idle;
-  }
-
-  set_meek : (r q : Rig) (k : ℕ) (u : Slot) → q.triggers ≡ set r.triggers k (Some u) → MeekAt r → (k ≡ j → M u.trigger) → MeekAt q
-  set_meek r q k u e all here oid s own at =
-      let there : get_or (set r.triggers k (Some u)) oid None ≡ Some s = subst (λ (xs : List (Option Slot)). get_or xs oid None ≡ Some s) e at in
-      by there (same_or_not oid k) (at_set r.triggers k oid u s there (same_or_not oid k))
-    where
-      by : get_or (set r.triggers k (Some u)) oid None ≡ Some s → (oid ≡ k) ⊎ (oid ≢ k) → (s ≡ u) ⊎ (get_or r.triggers oid None ≡ Some s) → M s.trigger
-      by there (inl same) (inl x) = subst (λ (z : Slot). M z.trigger) (sym x) (here (sym same ∙ own))
-      by there (inl same) (inr x) = all oid s own x
-      by there (inr d) x = all oid s own (sym (get_or-set_other r.triggers k oid (Some u) None d) ∙ there)
-
-  same_meek : (r q : Rig) → q.triggers ≡ r.triggers → MeekAt r → MeekAt q
-  same_meek r q e all oid s own at = all oid s own (subst (λ (xs : List (Option Slot)). get_or xs oid None ≡ Some s) e at)
-
-  happens_meek : (oid until : ℕ) (r : Rig) (o : Option Slot) → slot_at r oid ≡ o → MeekAt r → MeekAt (happens_to r until oid o).rig
-  happens_meek oid until r None e all = all
-  happens_meek oid until r (Some s) e all =
-      let levels = slice_index_or r.pins s.pin [] in
-      let a = trig.advanced levels until s.trigger in
-      set_meek r (becomes r oid s a.trigger) oid (record s { trigger = a.trigger }) refl all (λ own. tells_meek s.trigger.untold levels until s.trigger (all oid s own e))
-
-  rests_meek : (r : Rig) (t : ℕ) → MeekAt r → MeekAt (rests_to r t).rig
-  rests_meek r t all oid u own at =
-      let x = rested_is r.pins t (slot_at r oid) u (sym (map_at (rested r.pins t) r.triggers oid refl) ∙ at) in
-      subst (λ (s : Slot). M s.trigger) (sym x.2) (rested_meek (slice_index_or r.pins x.0.pin []) t x.0.trigger (all oid x.0 own x.1))
-
-  goes_meek : (o : Option (ℕ × ℕ)) (x y : Passed) → MeekAt x.rig → MeekAt y.rig → MeekAt (goes_on o x y).rig
-  goes_meek None x y k l = k
-  goes_meek (Some at) x y k l = l
-
-  pass_meek : (times : ℕ) (r : Rig) (t : ℕ) → MeekAt r → MeekAt (pass times r t).rig
-  pass_meek zero r t all = all
-  pass_meek (suc times) r t all =
-      let next = earliest r t 0 r.triggers in
-      let ran = (runs_to r ((at_of next).0 / 3)).rig in
-      let first = happens r t (at_of next) in
-      let rest = pass times first.rig t in
-      let one = happens_meek (at_of next).1 t ran (slot_at ran (at_of next).1) refl (same_meek r ran refl all) in
-      goes_meek next (rests_to r t) (passes_by first rest) (rests_meek r t all) (pass_meek times first.rig t one)
+  told_meek : (t : Trigger) → M t → M (record t { untold = None })
+  told_meek t k = record { fired = k.fired; expire = k.expire; reads = k.reads; idle = k.idle }
 
   passes_meek : (r : Rig) (t : ℕ) → MeekAt r → MeekAt (passes r t).rig
-  passes_meek r t all = by (nat_le r.controller.tick t)
-    where
-      by : (b : Bool) → let p : Passed = if b then pass (all_left t r.triggers + 1) r t else record { rig = r; pulses = []; answers = [] } in MeekAt p.rig
-      by true = pass_meek (all_left t r.triggers + 1) r t all
-      by false = all
+  passes_meek r t all =
+      let behind = passes_each (Own M) t (record {
+        comes = λ pins oid s e next k own. comes_meek (levels_at pins s) t s.trigger e next (k own);
+        says = λ pins oid s n e k own. told_meek s.trigger (k own);
+      }) r (λ oid s at own. all oid s own at) in
+      λ oid s own at. behind oid s at own
 
-  -- a command; one that tells a trigger to trigger comes late, or to one that can't
-  timeout_one : (can early : Bool) (now at : ℕ) (t : Trigger) → t.can ≡ can → M t → M (if can then (if early then record t { timeout = Some at } else record (trig.fired now t.expire t) { untold = Some now }) else t)
-  timeout_one true true now at t e k = record { fired = k.fired; expire = k.expire; reads = k.reads; idle = λ off. absurd (clash t.can e off) }
-  timeout_one true false now at t e k = record { fired = λ off. inr (inl (k.expire e)); expire = λ can. absurd (cc); reads = λ y is. absurd (cc); idle = λ off. refl }
-  timeout_one false early now at t e k = k
+  -- a command; one that tells a trigger to trigger comes late
+  abbrev Fits : ℕ → Cmd → Type 0
+  Fits now c = IsOf Z (late ≤ now) c
 
-  once_meek : (o : Option ℕ) (r : Rig) (oid : ℕ) (s : Slot) (t : Trigger) → MeekAt r → (oid ≡ j → M t) → MeekAt (expires_at_once r oid s t o).rig
-  once_meek None r oid s t all k = set_meek r (becomes r oid s t) oid (record s { trigger = t }) refl all k
-  once_meek (Some at) r oid s t all k =
-      set_meek r (becomes r oid s (record t { untold = None })) oid (record s { trigger = record t { untold = None } }) refl all
-      (λ own. let x = k own in record { fired = x.fired; expire = x.expire; reads = x.reads; idle = x.idle })
+  new_meek : M trig.new_trigger
+  new_meek = record { fired = λ off. inl some; expire = λ can. absurd (cc); reads = λ y is. absurd (cc); idle = λ off. refl }
 
-  timeout_meek : (r : Rig) (oid clock : ℕ) (o : Option Slot) → slot_at r oid ≡ o → MeekAt r → MeekAt (set_timeout r oid o clock).rig
-  timeout_meek r oid clock None e all = all
-  timeout_meek r oid clock (Some s) e all =
-      let now = r.controller.tick in
-      let t = trig.with_timeout now clock s.trigger in
-      once_meek t.untold r oid s t all (λ own. timeout_one s.trigger.can (nat_lt now (nearest now clock)) now (nearest now clock) s.trigger refl (all oid s own e))
+  follows_meek : Follows (Own M) Fits
+  follows_meek = record {
+    made = λ pins now oid fit own. new_meek;
+    starts = λ pins now oid s clock every reason fit k own. (record { fired = λ off. absurd (cc); expire = λ can. fit; reads = (k own).reads; idle = λ off. absurd (cc) });
+    limits = λ pins now oid s clock fit can ahead k own. (let x = k own in record { fired = x.fired; expire = x.expire; reads = x.reads; idle = λ off. absurd (clash s.trigger.can can off) });
+    expires = λ pins now oid s clock fit can past k own. (record { fired = λ off. inr (inl ((k own).expire can)); expire = λ on. absurd (cc); reads = λ y is. absurd (cc); idle = λ off. refl });
+    says = λ pins oid s n e k own. told_meek s.trigger (k own);
+    fires = λ pins now oid s reason fit can k own. (record { fired = λ off. inr (inr (inr fit)); expire = λ on. absurd (cc); reads = λ y is. absurd (cc); idle = λ off. refl });
+    binds = λ pins now oid s i fit k own. k own;
+    homes = λ pins now oid s i pin g fit k own. (
+        let x = k own in
+        record { fired = x.fired; expire = x.expire; reads = λ y is. (fit.0, sym (begun_reason (g.sample_count == 0) now g y is) ∙ fit.1); idle = x.idle }
+        );
+  }
 
-  fired_one : (can : Bool) (now reason : ℕ) (t : Trigger) → (t.can ≡ true → late ≤ now) → t.can ≡ can → M t → M (if can then trig.fired now reason t else t)
-  fired_one true now reason t to e k = record { fired = λ off. inr (inr (inr (to e))); expire = λ can. absurd (cc); reads = λ y is. absurd (cc); idle = λ off. refl }
-  fired_one false now reason t to e k = k
+  fit_of : (R : Type 0) (c : Cmd) → IsMild Z c → R ⊎ IsMeek Z c → IsOf Z R c
+  fit_of R (cmd.TrsyncStart oid clock every reason) k to = k
+  fit_of R (cmd.TrsyncTrigger oid reason) k to = elim to [ inl l ↦ l | inr none ↦ absurd none ]
+  fit_of R (cmd.EndstopHome oid clock sample count rest value other reason) k to = k
+  fit_of R c k to = tt
 
-  abbrev Told : Rig → Type 0
-  Told r = (late ≤ r.controller.tick) ⊎ OldAt j n r
-
-  trigger_meek : (r : Rig) (oid reason : ℕ) (o : Option Slot) → Told r → slot_at r oid ≡ o → MeekAt r → MeekAt (trigger r oid o reason).rig
-  trigger_meek r oid reason None to e all = all
-  trigger_meek r oid reason (Some s) to e all =
-      let now = r.controller.tick in
-      let t = trig.triggered now reason s.trigger in
-      let soon : oid ≡ j → s.trigger.can ≡ true → late ≤ now = λ own can. elim to [ inl l ↦ l | inr old ↦ absurd (clash s.trigger.can can (old oid s own e).off) ] in
-      set_meek r (becomes r oid s t) oid (record s { trigger = t }) refl all (λ own. fired_one s.trigger.can now reason s.trigger (soon own) refl (all oid s own e))
-
-  make_meek : (r : Rig) (oid : ℕ) (o : Option Slot) → MeekAt r → MeekAt (make_trigger r oid o)
-  make_meek r oid None all =
-      set_meek r (make_trigger r oid None) oid (record { trigger = trig.new_trigger; pin = 0; bound = [] }) refl all
-      (λ own. record { fired = λ off. inl some; expire = λ can. absurd (cc); reads = λ y is. absurd (cc); idle = λ off. refl })
-  make_meek r oid (Some s) all = all
-
-  start_meek : (r : Rig) (oid : ℕ) (o : Option Slot) (clock every reason : ℕ) → reason ≡ 2 → slot_at r oid ≡ o → MeekAt r → MeekAt (start r oid o clock every reason)
-  start_meek r oid None clock every reason two e all = all
-  start_meek r oid (Some s) clock every reason two e all =
-      let t = trig.started r.controller.tick clock every reason s.trigger in
-      set_meek r (becomes r oid s t) oid (record s { trigger = t }) refl all (λ own. record { fired = λ off. absurd (cc); expire = λ can. two; reads = (all oid s own e).reads; idle = λ off. absurd (cc) })
-
-  home_meek : (r : Rig) (p : Option ℕ) (other : ℕ) (o : Option Slot) (g : Reading) → Z → g.reason ≡ 1 → slot_at r other ≡ o → MeekAt r → MeekAt (home r p other o g)
-  home_meek r None other o g z one e all = all
-  home_meek r (Some pin) other None g z one e all = all
-  home_meek r (Some pin) other (Some s) g z one e all =
-      set_meek r (home r (Some pin) other (Some s) g) other (record s { trigger = trig.sampling r.controller.tick g s.trigger; pin = pin }) refl all
-      (λ own. let k = all other s own e in record { fired = k.fired; expire = k.expire; reads = λ y is. (z, sym (begun_reason (g.sample_count == 0) r.controller.tick g y is) ∙ one); idle = k.idle })
-
-  bind_meek : (r : Rig) (i other : ℕ) (p : Option Pending) (o : Option Slot) → slot_at r other ≡ o → MeekAt r → MeekAt (bind r i p other o)
-  bind_meek r i other None o e all = all
-  bind_meek r i other (Some p) None e all = all
-  bind_meek r i other (Some p) (Some s) e all = set_meek r (bind r i (Some p) other (Some s)) other (record s { bound = i ∷ s.bound }) refl all (λ own. all other s own e)
-
-  endstop_meek : (r : Rig) (oid pin : ℕ) (o : Option ℕ) → MeekAt r → MeekAt (make_endstop r oid pin o)
-  endstop_meek r oid pin None all = same_meek r (make_endstop r oid pin None) refl all
-  endstop_meek r oid pin (Some p) all = all
-
-  acts_meek : (r : Rig) (c : Cmd) → IsMild Z c → Told r ⊎ IsMeek Z c → MeekAt r → MeekAt (acts r c).rig
-  acts_meek r (cmd.TrsyncSetTimeout other at) k to all = timeout_meek r other at (slot_at r other) refl all
-  acts_meek r (cmd.TrsyncTrigger other reason) k to all = trigger_meek r other reason (slot_at r other) (elim to [ inl x ↦ x | inr none ↦ absurd none ]) refl all
-  acts_meek r (cmd.ConfigTrsync other) k to all = make_meek r other (slot_at r other) all
-  acts_meek r (cmd.TrsyncStart other at every reason) k to all = start_meek r other (slot_at r other) at every reason k refl all
-  acts_meek r (cmd.StepperStopOnTrigger stepper other) k to all = bind_meek r stepper other (stepper_at r.controller stepper) (slot_at r other) refl all
-  acts_meek r (cmd.ConfigEndstop other pin pull) k to all = endstop_meek r other pin (slice_index_or r.endstops other None) all
-  acts_meek r (cmd.EndstopHome other at sample count rest value t reason) k to all = home_meek r (slice_index_or r.endstops other None) t (slot_at r t) _ k.0 k.1 refl all
-  acts_meek r c k to all = same_meek r (acts r c).rig refl all
-
-  running_meek : (o : BoardState) (r : Rig) (c : Cmd) → IsMild Z c → Told r ⊎ IsMeek Z c → MeekAt r → MeekAt (acts_running o r c).rig
-  running_meek Running r c k to all = acts_meek r c k to all
-  running_meek (Shut reason at first) r c k to all = same_meek r (acts_running (Shut reason at first) r c).rig refl all
+  fits_each : (now : ℕ) (ms : List Meant) → AllSo (IsMild Z) ms → (late ≤ now) ⊎ AllSo (IsMeek Z) ms → Each (Fits now) (commands_of ms)
+  fits_each now [] k to = tt
+  fits_each now (m ∷ ms) k (inl l) = (fit_of (late ≤ now) m.command k.0 (inl l), fits_each now ms k.1 (inl l))
+  fits_each now (m ∷ ms) k (inr x) = (fit_of (late ≤ now) m.command k.0 (inr x.0), fits_each now ms k.1 (inr x.1))
 
   -- commands that come late or tell none to trigger
   pub takes_meek : (r : Rig) (ms : List Meant) → AllSo (IsMild Z) ms → (late ≤ r.controller.tick) ⊎ AllSo (IsMeek Z) ms → MeekAt r → MeekAt (takes_all r (commands_of ms)).rig
-  takes_meek r [] k to all = all
-  takes_meek r (m ∷ ms) k to all =
-      let one : Told r ⊎ IsMeek Z m.command = elim to [ inl l ↦ inl (inl l) | inr x ↦ inr x.0 ] in
-      let same = takes_rig_tick r m.command in
-      let rest : (late ≤ (takes r m.command).rig.controller.tick) ⊎ AllSo (IsMeek Z) ms = elim to [ inl l ↦ inl (omega (arith, l, same)) | inr x ↦ inr x.1 ] in
-      takes_meek (takes r m.command).rig ms k.1 rest (running_meek r.controller.state r m.command k.0 one all)
+  takes_meek r ms k to all =
+      let behind = takes_each (Own M) Fits follows_meek r (commands_of ms) (fits_each r.controller.tick ms k to) (λ oid s at own. all oid s own at) in
+      λ oid s own at. behind oid s at own
 
   -- and those that start none and begin no readings, while it can't trigger
-  mild_of : (c : Cmd) → IsTame c → IsBlind c → IsMild Z c
-  mild_of (cmd.TrsyncStart oid clock every reason) tame blind = absurd tame
-  mild_of (cmd.EndstopHome oid clock sample count rest value other reason) tame blind = absurd blind
-  mild_of c tame blind = tt
+  abbrev Idles : Trigger → Type 0
+  Idles t = (t.can ≡ false) × M t
+
+  abbrev Rests : ℕ → Cmd → Type 0
+  Rests now c = IsTame c × IsBlind c
+
+  follows_idle : Follows (Own Idles) Rests
+  follows_idle = record {
+    made = λ pins now oid fit own. (refl, new_meek);
+    starts = λ pins now oid s clock every reason fit k. absurd fit.0;
+    limits = λ pins now oid s clock fit can ahead k own. absurd (clash s.trigger.can can (k own).0);
+    expires = λ pins now oid s clock fit can past k own. absurd (clash s.trigger.can can (k own).0);
+    says = λ pins oid s n e k own. ((k own).0, told_meek s.trigger (k own).1);
+    fires = λ pins now oid s reason fit can k own. absurd (clash s.trigger.can can (k own).0);
+    binds = λ pins now oid s i fit k own. k own;
+    homes = λ pins now oid s i pin g fit k. absurd fit.1;
+  }
+
+  rests_all : (now : ℕ) (ms : List Meant) → EachTame (commands_of ms) → AreBlind ms → Each (Rests now) (commands_of ms)
+  rests_all now [] tame blind = tt
+  rests_all now (m ∷ ms) tame blind = ((tame.0, blind.0), rests_all now ms tame.1 blind.1)
 
   idles_meek : (r : Rig) (ms : List Meant) → EachTame (commands_of ms) → AreBlind ms → OldAt j n r → MeekAt r → MeekAt (takes_all r (commands_of ms)).rig
-  idles_meek r [] tame blind old all = all
-  idles_meek r (m ∷ ms) tame blind old all =
-      idles_meek (takes r m.command).rig ms tame.1 blind.1 (takes_old j n r (m.command ∷ []) some (tame.0, tt) old) (running_meek r.controller.state r m.command (mild_of m.command tame.0 blind.0) (inl (inr old)) all)
+  idles_meek r ms tame blind old all =
+      let behind = takes_each (Own Idles) Rests follows_idle r (commands_of ms) (rests_all r.controller.tick ms tame blind) (λ oid s at own. ((old oid s own at).off, all oid s own at)) in
+      λ oid s own at. (behind oid s at own).1
 
   -- of some commands that are still to come the first ones do so, and the rest are mild; or all are
   pub record Waiting (P : Cmd → Type 0) (ms : List Meant) (r : Rig) : Type 0 where

@@ -1,5 +1,5 @@
 //! The trace in examples that the host's end sends for one millimetre along x, dumped and replayed.
-//! (`turn_rows` has that it is sent.)
+//! (The rows of links have that it is sent.)
 
 use crate::files::{X_DISTANCE, files, run};
 use io_core::MemSink;

@@ -5,6 +5,7 @@ use Rattle.std.proofs.lemmas.Bool.{lt-leb, ltb-true, ltb-false, eqb-true}
 use Rattle.std.proofs.lemmas.Bool.Decides.{nat_tests}
 use Rattle.std.proofs.lemmas.List.{length-take, length-drop, get_or_past}
 use Rattle.std.proofs.lemmas.List.Sums.{count_by-le-length}
+use Rattle.msg_code.specs.Units.{bit}
 use Rattle.plan_types.specs.declared.machine.Machine.{Machine}
 use Rattle.plan_types.specs.declared.machine.BoardDef.{BoardDef}
 use Rattle.plan_types.specs.declared.machine.StepperDef.{StepperDef}
@@ -29,7 +30,7 @@ use Rattle.trigger_group.specs.declared.round.Phase.TheVariants.{Sends, Goes, Re
 use Rattle.trigger_group.specs.Group.{GroupState, bits, first_timeout, steppers, to_board, reset, stop, unless_fired, orders_to, round_of, limit, relay_in, relays_in, all_fired, goes, orders_in, orders, phase}
 use Rattle.board_asking.specs.Machine.{trigger_of, steppers_on, endstop_pins, pins_of, is_among}
 use Rattle.board_asking.specs.Drift.{bytes_of}
-use Rattle.axis_homing.specs.Homing.{low, flag, place_from, order_command, command_to, commands_to}
+use Rattle.axis_homing.specs.Homing.{low, place_from, order_command, command_to, commands_to}
 use Rattle.axis_homing.specs.Rising.{IsRising}
 use Rattle.axis_homing.specs.Room.{MayFill}
 
@@ -166,7 +167,7 @@ freq-by false m b v e =
     let o : (board_at m b).freq ≡ 1_000_000 = ap (λ (d : BoardDef). d.freq) (get_or_past m.boards b no_board (omega arith)) in
     omega arith
 
-flag-few : (c : Bool) → flag c < 96
+flag-few : (c : Bool) → bit c < 96
 flag-few true = omega arith
 flag-few false = omega arith
 
@@ -190,7 +191,7 @@ order-few m clocks b start axis (Timeout turn) v = let t = trigger-few m b v in 
 order-few m clocks b start axis Home v =
     let t = trigger-few m b v in
     let f = freq-by (nat_lt b (length m.boards)) m b v refl in
-    home-bytes (place_from (trigger_of m b + 1) axis.pin (endstop_pins m b)) _ ((board_at m b).freq * 15 / 1_000_000) ((board_at m b).freq / 10_000) (flag axis.pressed) (trigger_of m b)
+    home-bytes (place_from (trigger_of m b + 1) axis.pin (endstop_pins m b)) _ ((board_at m b).freq * 15 / 1_000_000) ((board_at m b).freq / 10_000) (bit axis.pressed) (trigger_of m b)
     (endstop-few m b axis.pin v) (omega arith) (omega arith) (flag-few axis.pressed) (omega arith)
 order-few m clocks b start axis Trigger v = let t = trigger-few m b v in trigger-bytes (trigger_of m b) (omega arith)
 

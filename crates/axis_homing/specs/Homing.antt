@@ -1,5 +1,6 @@
 -- Homing: the group of a section is told of the boards' reports, and its orders become commands.
-use Rattle.std.specs.Prelude.{◌≡◌, ℕ, ◌+◌, ◌*◌, ◌/◌, ◌%◌, ◌^◌, ◌==◌, ◌&&◌, ◌||◌, Bool, true, false, not, List, [], ◌∷◌, ◌++◌, nat_le, nat_lt, Option, Some, None, if◌then◌else◌}
+use Rattle.std.specs.Prelude.{◌≡◌, ℕ, ◌+◌, ◌*◌, ◌/◌, ◌%◌, ◌^◌, ◌==◌, ◌&&◌, ◌||◌, Bool, not, List, [], ◌∷◌, ◌++◌, nat_le, nat_lt, Option, Some, None, if◌then◌else◌}
+use Rattle.msg_code.specs.Units.{bit}
 use Rattle.plan_types.specs.declared.machine.Machine.{Machine}
 use Rattle.plan_types.specs.declared.machine.BoardDef.{BoardDef}
 use Rattle.plan_types.specs.declared.machine.StepperDef.{StepperDef}
@@ -101,11 +102,6 @@ abbrev pub place_from : ℕ → ℕ → List ℕ → ℕ
 place_from place pin [] = place
 place_from place pin (p ∷ pins) = if p == pin then place else place_from (place + 1) pin pins
 
--- a switch's level as a number
-abbrev pub flag : Bool → ℕ
-flag true = 1
-flag false = 0
-
 -- the command of an order to a board: the clocks are those of the start, reports come every 5 turns, and the endstop is
 -- read every 100 µs, and four times 15 µs apart where it has the level
 abbrev pub order_command : Machine → Clocks → ℕ → ℕ → AxisDef → Order → Cmd
@@ -118,7 +114,7 @@ order_command m clocks b start axis (order.Timeout turn) =
     cmd.TrsyncSetTimeout (trigger_of m b) (low (turn_tick clocks turn))
 order_command m clocks b start axis order.Home =
     cmd.EndstopHome (place_from (trigger_of m b + 1) axis.pin (endstop_pins m b)) (low (turn_tick clocks start))
-    ((board_at m b).freq * 15 / 1_000_000) 4 ((board_at m b).freq / 10_000) (flag axis.pressed) (trigger_of m b) 1
+    ((board_at m b).freq * 15 / 1_000_000) 4 ((board_at m b).freq / 10_000) (bit axis.pressed) (trigger_of m b) 1
 order_command m clocks b start axis order.Trigger = cmd.TrsyncTrigger (trigger_of m b) 3
 
 -- the command that an order becomes, where it goes to this board

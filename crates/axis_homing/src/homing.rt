@@ -1,13 +1,14 @@
 //! Homing.
 
 ghost use Rattle.std.specs.Prelude.{◌≡◌, ◌+◌, ◌*◌, ◌/◌, ◌<◌, ◌≤◌, ◌^◌, ◌++◌, ◌==◌, length, All, Some, OnOk, IfOk};
+ghost use Rattle.msg_code.specs.Units.{bit};
 ghost use Rattle.trigger_group.specs.declared.order.Order.TheVariants.{Home};
 ghost use Rattle.arrayvec.specs.ArrayVec.{array_vec_len};
 ghost use Rattle.plan_types.specs.Board.{nearest};
 ghost use Rattle.plan_types.specs.Machines.{axis_at, board_at, stepper_at};
 ghost use Rattle.axis_homing.specs.Homing.{StartsTogether};
 ghost use Rattle.board_asking.specs.Machine.{trigger_of, endstop_pins};
-ghost use Rattle.axis_homing.specs.Homing.{moving_on, member_where, members_from, homing_with, homing_of, came_at, hears_report, hears_answer, hears_news, hears_state, hears_states, answer_in, low, place_from, flag, order_command, command_to, commands_to, by_answer, goes_on_homing, hears_all, homing_turn, homing_after};
+ghost use Rattle.axis_homing.specs.Homing.{moving_on, member_where, members_from, homing_with, homing_of, came_at, hears_report, hears_answer, hears_news, hears_state, hears_states, answer_in, low, place_from, order_command, command_to, commands_to, by_answer, goes_on_homing, hears_all, homing_turn, homing_after};
 
 use crate::OutOfMemory;
 use arrayvec::ArrayVec;
@@ -266,7 +267,7 @@ fn place_from(place: u8, pin: u8, pins: &[u8]) -> u8
 }
 
 fn flag(set: bool) -> u8
-    ensures { result ≡ flag set }
+    ensures { result ≡ bit set }
 {
     if set { 1 } else { 0 }
 }

@@ -3,11 +3,12 @@ use Rattle.std.proofs.Common.{◌≡◌, ◌≢◌, ◌∙◌, ◌==◌, ℕ, ze
 use Rattle.std.specs.Prelude.{ℤ, pos}
 use Rattle.std.proofs.lemmas.Bool.Decides.{nat_tests}
 use Rattle.std.specs.Prelude.{Result, Ok, Err, IfOk, IfErr}
+use Rattle.text_core.specs.Bytes.{Text}
 use Rattle.plan_types.specs.declared.cause.MeshKind.{MeshKind}
 use Rattle.bed_mesh.specs.declared.mesh.Grid.{Grid}
 use Rattle.bed_mesh.specs.declared.table.Grids.{Grids}
 use Rattle.bed_mesh.specs.declared.fault.MeshFault.{MeshFault}
-use Rattle.bed_mesh.specs.Tables.{chosen, grids_of, six_grids, row_of, rows_of, with_front, Text, before_numbers, numbers_of, word_number, word_numbers}
+use Rattle.bed_mesh.specs.Tables.{chosen, grids_of, six_grids, row_of, rows_of, with_front, before_numbers, numbers_of, word_number, word_numbers}
 use Rattle.bed_mesh.specs.Taken.{IsSoFar, before_all}
 
 joined : (front : List ℤ) (n : ℤ) (o : Option (List ℤ)) → before_all (front ++ n ∷ []) o ≡ before_all front (before_numbers (Some n) o)

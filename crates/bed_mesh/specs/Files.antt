@@ -1,5 +1,6 @@
 -- The file that is written for a text of G-code.
 use Rattle.std.specs.Prelude.{ℕ, ◌+◌, true, false, Bool, List, [], ◌∷◌, ◌++◌, codes, length, Result, Ok, Err}
+use Rattle.gcode_state.specs.States.{one_if}
 use Rattle.text_core.specs.Lines.{lines_of}
 use Rattle.plan_types.specs.declared.cause.LineKind.{LineKind}
 use Rattle.plan_types.specs.declared.machine.Machine.{Machine}
@@ -10,7 +11,7 @@ use Rattle.gcode_state.specs.declared.state.State.{State}
 use Rattle.gcode_state.specs.declared.state.Action.{Action}
 use Rattle.gcode_state.specs.declared.state.Action.TheVariants as actions
 use Rattle.gcode_state.specs.Starts.{initial}
-use Rattle.gcode_program.specs.Readings.{is_passed, line_result, one_if}
+use Rattle.gcode_program.specs.Readings.{is_passed, line_result}
 use Rattle.bed_mesh.specs.declared.mesh.Mesh.{Mesh}
 use Rattle.bed_mesh.specs.BentLines.{last_by, lines_by, text_of}
 

@@ -1,7 +1,8 @@
 -- The reading of a table: its first fault, or its mesh.
-use Rattle.std.specs.Prelude.{◌≡◌, ℕ, ◌+◌, ◌*◌, ◌/◌, ◌%◌, ◌==◌, ◌&&◌, ℤ, pos, negsuc, Bool, true, false, not, List, [], ◌∷◌, ◌++◌, codes, length, nat_lt, nat_le, if◌then◌else◌, zero, suc, Option, Some, None, Result, Ok, Err, unsigned_abs, option_and_then, Vec, ⊤, int_lt}
+use Rattle.std.specs.Prelude.{◌≡◌, ℕ, ◌+◌, ◌/◌, ◌%◌, ◌==◌, ◌&&◌, ℤ, pos, negsuc, Bool, true, false, not, List, [], ◌∷◌, ◌++◌, codes, length, nat_lt, nat_le, if◌then◌else◌, zero, suc, Option, Some, None, Result, Ok, Err, unsigned_abs, option_and_then, Vec, ⊤, int_lt}
 use Rattle.std.specs.List.{list_all}
 use Rattle.std.specs.Str.{bytes_eq}
+use Rattle.text_core.specs.Bytes.{Text}
 use Rattle.text_core.specs.Lines.{lines_of}
 use Rattle.text_core.specs.Numbers.{number_at}
 use Rattle.text_core.specs.Words.{worded_lines}
@@ -11,10 +12,6 @@ use Rattle.bed_mesh.specs.declared.fault.MeshFault.{MeshFault}
 use Rattle.bed_mesh.specs.declared.fault.MeshFault.TheVariants.{At, Memory}
 use Rattle.bed_mesh.specs.declared.mesh.Grid.{Grid}
 use Rattle.bed_mesh.specs.declared.mesh.Mesh.{Mesh}
-
--- a text or a word, as its bytes
-abbrev pub Text : Type 0
-Text = List ℕ
 
 -- a list is empty
 abbrev pub is_none : {A : Type 0} → List A → Bool

@@ -1,6 +1,7 @@
 -- A line whose numbers are read one by one.
 use Rattle.std.specs.Prelude.{◌≡◌, ℕ, ◌+◌, ℤ, List, ◌++◌, length, Option, Some, None}
-use Rattle.bed_mesh.specs.Tables.{Text, word_numbers}
+use Rattle.text_core.specs.Bytes.{Text}
+use Rattle.bed_mesh.specs.Tables.{word_numbers}
 
 -- numbers before others, where those are read
 abbrev pub before_all : List ℤ → Option (List ℤ) → Option (List ℤ)

@@ -4,7 +4,7 @@ ghost use Rattle.std.specs.Prelude.{◌≡◌, ◌+◌, ◌≤◌, ◌<◌, leng
 ghost use Rattle.bed_mesh.specs.Grids.{IsValidMesh};
 ghost use Rattle.gcode_program.specs.Readings as readings;
 ghost use Rattle.plan_types.specs.Machines.{IsValidMachine};
-ghost use Rattle.gcode_state.specs.States.{IsValidAction};
+ghost use Rattle.gcode_state.specs.States.{IsValidAction, one_if};
 ghost use Rattle.bed_mesh.specs.Files.{accepted, begun, first_pen, head_text, mesh_code, mesh_end, with_absolute, with_relative_e};
 ghost use Rattle.bed_mesh.specs.BentLines.{lines_by};
 ghost use Rattle.bed_mesh.specs.Room.{IsWhy};
@@ -145,7 +145,7 @@ fn write_line(
 }
 
 fn one_if(passed: bool) -> u64
-    ensures value { result ≡ readings.one_if passed }
+    ensures value { result ≡ one_if passed }
     ensures small { result ≤ 1 }
 {
     if passed { 1 } else { 0 }

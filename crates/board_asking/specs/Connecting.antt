@@ -1,5 +1,6 @@
 -- Connecting: every board is asked until its configuration is complete.
-use Rattle.std.specs.Prelude.{ℕ, ◌+◌, ◌*◌, ◌-◌, ◌^◌, ◌&&◌, Bool, true, false, List, [], ◌∷◌, max, min, Option, Some, None, if◌then◌else◌}
+use Rattle.std.specs.Prelude.{ℕ, ◌+◌, ◌*◌, ◌-◌, ◌^◌, ◌&&◌, Bool, true, false, List, [], ◌∷◌, min, Option, Some, None, if◌then◌else◌}
+use Rattle.plan_types.specs.Sections.{first_start}
 use Rattle.plan_types.specs.declared.machine.Machine.{Machine}
 use Rattle.plan_types.specs.declared.cause.Cause.{Cause}
 use Rattle.plan_types.specs.declared.cause.Cause.TheVariants as cause
@@ -73,10 +74,6 @@ board_lines m b (a ∷ askings) = board_line m b a ∷ board_lines m (b + 1) ask
 abbrev pub clocks_of : List Line → List Clocks
 clocks_of [] = []
 clocks_of (l ∷ lines) = one_line l ∷ clocks_of lines
-
--- the first section begins in turn 1260, or 260 turns after connecting ended
-abbrev pub first_start : ℕ → ℕ
-first_start k = max 1_260 (k + 260)
 
 -- the tick at which a turn begins, as far as 64 bits go
 abbrev pub turn_tick : Line → ℕ → ℕ

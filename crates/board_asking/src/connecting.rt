@@ -1,6 +1,7 @@
 //! Connecting: every board is asked until its configuration is complete.
 
 ghost use Rattle.std.specs.Prelude.{◌≡◌, ◌+◌, ◌<◌, ◌≤◌, ◌^◌, ◌++◌, [], ◌∷◌, false, length, map, All, OnOk, IfOk};
+ghost use Rattle.plan_types.specs.Sections.{first_start};
 ghost use Rattle.arrayvec.specs.ArrayVec.{array_vec_len};
 ghost use Rattle.plan_types.specs.Machines.{board_at};
 ghost use Rattle.plan_types.specs.Valid.{IsValidLine};
@@ -8,7 +9,7 @@ ghost use Rattle.plan_types.specs.Machines.{IsValidMachine, IsValidFreq};
 ghost use Rattle.board_asking.specs.Kept.{IsEarly, IsSampleEarly};
 ghost use Rattle.board_asking.specs.Machine.{configuration};
 ghost use Rattle.board_asking.specs.Asking.{asks, is_connected};
-ghost use Rattle.board_asking.specs.Connecting.{listen_all, ready_all, giving_up, all_connected, control, asking_controls, ask_all, sample_or_none, board_line, board_lines, clocks_of, first_start, turn_tick, connected_lines};
+ghost use Rattle.board_asking.specs.Connecting.{listen_all, ready_all, giving_up, all_connected, control, asking_controls, ask_all, sample_or_none, board_line, board_lines, clocks_of, turn_tick, connected_lines};
 
 use crate::OutOfMemory;
 use crate::asking::{Asking, Stage, ask, gives_up, listens, ready};

@@ -2,6 +2,7 @@
 use Rattle.std.proofs.Common.{◌≡◌, ◌≢◌, ℕ, ◌&&◌, not, Bool, true, false, List, [], ◌∷◌, ◌++◌, map, get_or, set, Option, Some, None, refl, ap, sym, ◌∙◌, subst, append_assoc, append-nil, ◌⊎◌, inl, inr}
 use Rattle.std.specs.Prelude.{slice_index_or, if◌then◌else◌, ◌==◌}
 use Rattle.std.proofs.lemmas.List.{get_or-set_other}
+use Rattle.plan_types.specs.Plan.{pulse_of}
 use Rattle.plan_types.specs.declared.plan.BoardState.{BoardState}
 use Rattle.plan_types.specs.declared.plan.BoardState.TheVariants.{Running, Shut}
 use Rattle.plan_types.specs.declared.plan.Pulse.{Pulse}
@@ -13,7 +14,7 @@ use Rattle.msg_code.specs.declared.cmd.Cmd.{Cmd}
 use Rattle.msg_code.specs.declared.cmd.Cmd.TheVariants as cmd
 use Rattle.plan_types.specs.declared.plan.Triple.{Triple}
 use Rattle.plan_types.specs.Board.{Group, steps_of}
-use Rattle.board_sim.specs.Board.{Controller, stepper_at, with_stepper, stop, is_none_pending, refusal, takes_triple, queue_step, pulse_of}
+use Rattle.board_sim.specs.Board.{Controller, stepper_at, with_stepper, stop, is_none_pending, refusal, takes_triple, queue_step}
 use Rattle.board_sim.specs.Board as board
 use Rattle.board_sim.specs.Rig.{Rig, Slot, slot_at, becomes, make_trigger, make_endstop, start, expires_at_once, set_timeout, trigger, bind, home, acts, acts_running, takes, takes_all}
 use Rattle.board_sim.specs.Fair.{Meant, commands_of, only, pending_at, IsWhole, IsCut, IsKeptIn, IsKept, IsFairRunning, AreFair, steps_taken, meant_on, meant_by, meant_running}

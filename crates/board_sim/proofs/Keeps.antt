@@ -3,6 +3,8 @@ use Rattle.std.proofs.Common.{◌≡◌, ◌≢◌, ℕ, zero, suc, Bool, true, 
 use Rattle.std.proofs.lemmas.List.{get_or-set_same, get_or-set_other, get_or_past, length-set, map-append}
 use Rattle.std.proofs.lemmas.Bool.Decides.{leb_tells, eqb_tells}
 use Rattle.std.specs.Prelude.{slice_index, nat_lt, nat_le, ◌==◌, if◌then◌else◌}
+use Rattle.plan_types.specs.Numbers.{UpFrom}
+use Rattle.plan_types.specs.Plan.{pulse_of}
 use Rattle.plan_types.specs.declared.machine.BoardDef.{BoardDef}
 use Rattle.plan_types.specs.declared.plan.BoardState.{BoardState}
 use Rattle.plan_types.specs.declared.plan.BoardState.TheVariants.{Running, Shut}
@@ -13,9 +15,9 @@ use Rattle.board_step.specs.Steps.{Pending, IsFair, Follows, ticks_at, with_tick
 use Rattle.board_step.proofs.Whole.{whole}
 use Rattle.msg_code.specs.declared.cmd.Cmd.{Cmd}
 use Rattle.msg_code.specs.declared.cmd.Cmd.TheVariants as cmd
-use Rattle.board_sim.specs.Board.{Controller, Done, Passed, new_controller, places, stepper_at, with_stepper, quiet, stop, is_none_pending, first_of, refusal, takes_triple, queue_step, set_dir, reset, make_stepper, acts, acts_running, takes, takes_all, pulse_of, slot_to, slot_before, all_before, by_tick, passes_on, passes, zero_count, queue_overflow, timer_too_close, stepper_active, command_request}
+use Rattle.board_sim.specs.Board.{Controller, Done, Passed, new_controller, places, stepper_at, with_stepper, quiet, stop, is_none_pending, first_of, refusal, takes_triple, queue_step, set_dir, reset, make_stepper, acts, acts_running, takes, takes_all, slot_to, slot_before, all_before, by_tick, passes_on, passes, zero_count, queue_overflow, timer_too_close, stepper_active, command_request}
 use Rattle.board_sim.specs.Turn.{Station, Heard, hears_all, accepted, turn}
-use Rattle.board_sim.specs.Fair.{Meant, commands_of, IsFairOn, IsFairCommand, IsFairRunning, steps_taken, meant_on, meant_by, meant_running, only, pending_at, UpFrom, RiseFrom, SlotRises, IsWhole, IsCut, IsKeptIn, IsKept}
+use Rattle.board_sim.specs.Fair.{Meant, commands_of, IsFairOn, IsFairCommand, IsFairRunning, steps_taken, meant_on, meant_by, meant_running, only, pending_at, RiseFrom, SlotRises, IsWhole, IsCut, IsKeptIn, IsKept}
 use Rattle.board_sim.proofs.Sorted.{Up}
 use Rattle.board_sim.proofs.Steps.{only-append, only_same, only_other, pending_push, split_groups, rise_from, end_any, rise_push, rise_up, before_up, only_by_tick}
 use Rattle.board_sim.proofs.Heeding.{heeds_all}

@@ -3,6 +3,7 @@ use Rattle.std.proofs.Common.{◌≡◌, ℕ, Bool, true, false, ◌⊎◌, List
 use Rattle.std.proofs.lemmas.Bool.Decides.{eqb_tells}
 use Rattle.std.proofs.lemmas.List.{map-append}
 use Rattle.std.specs.Prelude.{◌==◌, if◌then◌else◌}
+use Rattle.plan_types.specs.Plan.{pulse_of}
 use Rattle.plan_types.specs.declared.machine.BoardDef.{BoardDef}
 use Rattle.plan_types.specs.declared.plan.BoardState.{BoardState}
 use Rattle.plan_types.specs.declared.plan.BoardState.TheVariants.{Running, Shut}
@@ -12,7 +13,7 @@ use Rattle.plan_types.specs.Board.{steps_of}
 use Rattle.board_step.specs.Steps.{Pending, ticks_at}
 use Rattle.msg_code.specs.declared.cmd.Cmd.{Cmd}
 use Rattle.msg_code.specs.declared.cmd.Cmd.TheVariants as cmd
-use Rattle.board_sim.specs.Board.{Controller, Done, new_controller, stepper_at, quiet, first_of, refusal, takes_triple, queue_step, acts, acts_running, is_shut, takes, pulse_of}
+use Rattle.board_sim.specs.Board.{Controller, Done, new_controller, stepper_at, quiet, first_of, refusal, takes_triple, queue_step, acts, acts_running, is_shut, takes}
 use Rattle.board_sim.specs.Fair.{Meant, commands_of, steps_taken, meant_on, meant_by, meant_running, only}
 use Rattle.plan_types.specs.declared.levels.Level.{Level}
 use Rattle.board_sim.specs.Rig.{Rig, takes_all, takes as rig_takes}

@@ -8,7 +8,7 @@ use Rattle.std.specs.Box.{box_value}
 use Rattle.std.specs.Char.{digit_value}
 use Rattle.std.specs.Str.Parse.{AllDigits, IsNumeral, digits_value, without_leading_plus}
 use Rattle.std.proofs.lemmas.Bool.Decides.{nat_tests}
-use Rattle.text_core.specs.Bytes.{is_digit}
+use Rattle.text_core.specs.Bytes.{is_digit, Text}
 use Rattle.clap.specs.Words.{App, HasMatchesOf, IsAmong, Kinds, Row, first_of, is_simple, is_simple_and_free, subcommand_rows_of, fault_of, subcommand_of, subcommand_rows}
 use Rattle.clap.specs.Walk.{is_empty}
 use Rattle.clap.specs.declared.error.kind.ErrorKind.{ErrorKind}
@@ -18,7 +18,7 @@ use Rattle.clap.specs.declared.parser.matches.ArgMatches.TheViews.{out-SubComman
 use Rattle.clap.specs.declared.parser.matches.SubCommand.{SubCommand}
 use Rattle.command_words.specs.Commands.{program}
 use Rattle.std.proofs.lemmas.Slice.Eq.{bytes_eq-Decides}
-use Rattle.command_words.specs.Forms.{Asked, Text, asked, form_of, form_of_two, form_of_three, is_name, is_numeral, number_of}
+use Rattle.command_words.specs.Forms.{Asked, asked, form_of, form_of_two, form_of_three, is_name, is_numeral, number_of}
 use Rattle.command_words.specs.Calls.{Call, call_of, call_in, called_form, takes_two, takes_three}
 
 -- equality of texts has no order

@@ -2,8 +2,9 @@
 use Rattle.std.specs.Prelude.{◌||◌, Bool, List, [], ◌∷◌, Option, Some, None, codes, option_map, if◌then◌else◌}
 use Rattle.std.specs.Str.{bytes_eq}
 use Rattle.std.specs.Borrow.{Bor}
+use Rattle.text_core.specs.Bytes.{Text}
 use Rattle.command_words.specs.declared.parse.Call.{Call as GivenCall}
-use Rattle.command_words.specs.Forms.{Asked, Text, form_of_two, form_of_three}
+use Rattle.command_words.specs.Forms.{Asked, form_of_two, form_of_three}
 use Rattle.clap.specs.Words.{Row, first_of}
 
 -- the name of the subcommand, and its first, second and third operand

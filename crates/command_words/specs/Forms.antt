@@ -4,12 +4,8 @@ use Rattle.std.specs.List.{list_all}
 use Rattle.std.specs.Str.{bytes_eq}
 use Rattle.command_words.specs.declared.words.Words.{Words}
 use Rattle.command_words.specs.declared.words.Words.TheVariants as words
-use Rattle.text_core.specs.Bytes.{is_digit}
+use Rattle.text_core.specs.Bytes.{is_digit, Text}
 use Rattle.std.specs.Str.Parse.{digits_value}
-
--- a word, as its bytes
-abbrev pub Text : Type 0
-Text = List ℕ
 
 -- a word that may name a file: it isn't empty and doesn't begin with a dash
 abbrev pub is_name : Text → Bool

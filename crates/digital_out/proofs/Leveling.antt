@@ -2,6 +2,7 @@
 use Rattle.std.proofs.Common.{◌≡◌, ℕ, ◌+◌, ◌<◌, ◌≤◌, Bool, true, false, cond, ◌-◌, ◌||◌, List, [], ◌∷◌, ◌++◌, Option, Some, None, Ok, Err, length, refl, sym, ap, subst, ◌∙◌, arith, append_assoc, append-nil, true≢false}
 use Rattle.std.specs.Prelude.{Result, nat_le, nat_lt, slice_get}
 use Rattle.std.proofs.lemmas.Bool.Decides.{nat_tests}
+use Rattle.plan_types.specs.Numbers.{tick_before}
 use Rattle.circular_buffer.specs.Buffer.{last_item}
 use Rattle.plan_types.specs.Board.{nearest}
 use Rattle.digital_out.specs.declared.want.Want.{Want}
@@ -12,7 +13,7 @@ use Rattle.digital_out.specs.declared.queue.OutRefusal.{OutRefusal}
 use Rattle.digital_out.specs.declared.queue.OutRefusal.TheVariants.{Overflow, TooClose}
 use Rattle.digital_out.specs.Rising.{RiseFrom}
 use Rattle.digital_out.specs.Calls.{AreFair, Call, Push, Advance, accepted, accepted_by, accepted_one, after, after_all, after_push, listed, made, made_one, new_queue, time_of}
-use Rattle.digital_out.specs.Levels.{before, first_miss, last_level, level_at, level_unless, missed_at, missed_by}
+use Rattle.digital_out.specs.Levels.{first_miss, last_level, level_at, level_unless, missed_at, missed_by}
 use Rattle.digital_out.specs.Outputs.{Output, Turn, comes_late, event_next, event_of, is_too_close, miss_turn, missed_of, not_behind, pushed, pushed_at, turn_by, turn_of, want_turn, with_time, with_want}
 
 -- a queue that was not missed goes on as its commands do: with the level and the tick of the last one that was carried out, and
@@ -252,18 +253,18 @@ all_max : (q : Output) (calls : List Call) → (after_all q calls).max ≡ q.max
 all_max q [] = refl
 all_max q (c ∷ cs) = all_max (after q c) cs ∙ after_max q c
 
-before_late : (until at : ℕ) → until ≤ at → before until (Some at) ≡ None
+before_late : (until at : ℕ) → until ≤ at → tick_before until (Some at) ≡ None
 before_late until at h = let e : nat_lt at until ≡ false = grind (arith, nat_tests) in rw e refl
 
-none_by : (until longest last : ℕ) (level : Bool) → until ≤ last → before until (missed_of longest level last) ≡ None
+none_by : (until longest last : ℕ) (level : Bool) → until ≤ last → tick_before until (missed_of longest level last) ≡ None
 none_by until longest last true le = before_late until (last + longest) (omega (arith, le))
 none_by until longest last false le = refl
 
-pick : (until : ℕ) (b : Bool) (x y : Option ℕ) → before until x ≡ None → before until y ≡ None → before until (cond b x y) ≡ None
+pick : (until : ℕ) (b : Bool) (x y : Option ℕ) → tick_before until x ≡ None → tick_before until y ≡ None → tick_before until (cond b x y) ≡ None
 pick until true x y a b = a
 pick until false x y a b = b
 
-none_from : (until longest last : ℕ) (level : Bool) (ws : List Want) → until ≤ last → RiseFrom last ws → before until (first_miss longest level last ws) ≡ None
+none_from : (until longest last : ℕ) (level : Bool) (ws : List Want) → until ≤ last → RiseFrom last ws → tick_before until (first_miss longest level last ws) ≡ None
 none_from until longest last level [] le rise = none_by until longest last level le
 none_from until longest last level (w ∷ ws) le rise =
     let first = rise.0 in
@@ -274,7 +275,7 @@ miss_past_by : (until at : ℕ) (q : Output) (b : Bool) → nat_lt at until ≡ 
 miss_past_by until at q true is h = absurd (let x = rw is at h in cc)
 miss_past_by until at q false is h = grind (arith, nat_tests)
 
-miss_quiet : (until : ℕ) (q : Output) (miss : Option ℕ) → (miss_turn until q miss).event ≡ None → before until miss ≡ None
+miss_quiet : (until : ℕ) (q : Output) (miss : Option ℕ) → (miss_turn until q miss).event ≡ None → tick_before until miss ≡ None
 miss_quiet until q None h = refl
 miss_quiet until q (Some at) h = before_late until at (miss_past_by until at q (nat_lt at until) refl h)
 
@@ -291,19 +292,19 @@ stays until level w ws le = let e : nat_lt w.tick until ≡ false = grind (arith
 
 -- what is said of a queue whose pending commands are these
 abbrev Quiet : ℕ → Output → List Want → Type 0
-Quiet until q pending = (before until (first_miss q.max q.level q.last pending) ≡ None) × (last_level q.level until pending ≡ q.level)
+Quiet until q pending = (tick_before until (first_miss q.max q.level q.last pending) ≡ None) × (last_level q.level until pending ≡ q.level)
 
 quiet_late : (until : ℕ) (q : Output) (w : Want) (ws : List Want) (b : Bool) → comes_late (missed_of q.max q.level q.last) w.tick ≡ b → RiseFrom 0 (w ∷ ws) → (turn_by until q (missed_of q.max q.level q.last) (w ∷ ws)).event ≡ None → Quiet until q (w ∷ ws)
 quiet_late until q w ws true is rise h =
     let miss = missed_of q.max q.level q.last in
     let other = want_turn until q w ws in
     let here : (miss_turn until q miss).event ≡ None = sym (ap (λ (x : Bool). (cond x (miss_turn until q miss) other).event) is) ∙ h in
-    (subst (λ (x : Bool). before until (cond x miss (first_miss q.max w.on w.tick ws)) ≡ None) (sym is) (miss_quiet until q miss here), stays until q.level w ws (late_past until q miss w.tick is here))
+    (subst (λ (x : Bool). tick_before until (cond x miss (first_miss q.max w.on w.tick ws)) ≡ None) (sym is) (miss_quiet until q miss here), stays until q.level w ws (late_past until q miss w.tick is here))
 quiet_late until q w ws false is rise h =
     let miss = missed_of q.max q.level q.last in
     let here : (want_turn until q w ws).event ≡ None = sym (ap (λ (x : Bool). (cond x (miss_turn until q miss) (want_turn until q w ws)).event) is) ∙ h in
     let le = want_past_by until q w ws (nat_lt w.tick until) refl here in
-    (subst (λ (x : Bool). before until (cond x miss (first_miss q.max w.on w.tick ws)) ≡ None) (sym is) (none_from until q.max w.tick w.on ws le (drop_first w.tick w.tick ws (omega arith) rise.1)), stays until q.level w ws le)
+    (subst (λ (x : Bool). tick_before until (cond x miss (first_miss q.max w.on w.tick ws)) ≡ None) (sym is) (none_from until q.max w.tick w.on ws le (drop_first w.tick w.tick ws (omega arith) rise.1)), stays until q.level w ws le)
 
 quiet_of : (until : ℕ) (q : Output) (pending : List Want) → RiseFrom 0 pending → (turn_by until q (missed_of q.max q.level q.last) pending).event ≡ None → Quiet until q pending
 quiet_of until q [] rise h = (miss_quiet until q (missed_of q.max q.level q.last) h, refl)
@@ -311,13 +312,13 @@ quiet_of until q (w ∷ ws) rise h = quiet_late until q w ws (comes_late (missed
 
 -- what the law says
 abbrev pub Law : ℕ → ℕ → Output → List Want → Option ℕ → Type 0
-Law longest until q all told = (told ≡ before until (first_miss longest false 0 all)) × (q.level ≡ level_at longest until all)
+Law longest until q all told = (told ≡ tick_before until (first_miss longest false 0 all)) × (q.level ≡ level_at longest until all)
 
 law_of : (until : ℕ) (q : Output) (all : List Want) (told : Option ℕ) (b : Bool) → q.missed ≡ b → q.time ≤ until → event_next until q ≡ None → Stands b q all told → Law q.max until q all told
 law_of until q all told true is le none st =
     let past = st.past in
     let soon : nat_lt st.at until ≡ true = grind (arith, nat_tests) in
-    let here : before until (first_miss q.max false 0 all) ≡ Some st.at = ap (before until) st.says ∙ ap (λ (x : Bool). cond x (Some st.at) None) soon in
+    let here : tick_before until (first_miss q.max false 0 all) ≡ Some st.at = ap (tick_before until) st.says ∙ ap (λ (x : Bool). cond x (Some st.at) None) soon in
     (st.told_is ∙ sym here, st.off ∙ sym (ap (λ (x : Option ℕ). level_unless x (last_level false until all)) here))
 law_of until q all told false is le none st =
     let now = with_time q until in
@@ -326,7 +327,7 @@ law_of until q all told false is le none st =
     let event : (turn_by until now (missed_of q.max q.level q.last) q.pending).event ≡ None = sym (ap (λ (x : Bool). (cond x same (turn_by until now (missed_of q.max q.level q.last) q.pending)).event) is) ∙ none in
     let quiet = quiet_of until now q.pending on.rise event in
     let says : first_miss q.max false 0 all ≡ first_miss q.max q.level q.last q.pending = ap (first_miss q.max false 0) (sym (append-nil all)) ∙ on.miss [] ∙ ap (first_miss q.max q.level q.last) (append-nil q.pending) in
-    let here : before until (first_miss q.max false 0 all) ≡ None = ap (before until) says ∙ quiet.0 in
+    let here : tick_before until (first_miss q.max false 0 all) ≡ None = ap (tick_before until) says ∙ quiet.0 in
     let level : last_level false until all ≡ q.level = ap (last_level false until) (sym (append-nil all)) ∙ on.level [] until le ∙ ap (last_level q.level until) (append-nil q.pending) ∙ quiet.1 in
     (st.0 ∙ sym here, sym (ap (λ (x : Option ℕ). level_unless x (last_level false until all)) here ∙ level))
 

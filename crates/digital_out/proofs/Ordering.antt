@@ -2,22 +2,23 @@
 use Rattle.std.proofs.Common.{◌≡◌, ℕ, zero, suc, ◌+◌, ◌==◌, ◌<◌, ◌≤◌, Bool, true, false, not, cond, List, [], ◌∷◌, All, length, map, get_or, refl, sym, subst, arith}
 use Rattle.std.proofs.lemmas.Bool.Decides.{nat_tests}
 use Rattle.std.proofs.lemmas.List.Elements.{All-cons, All-head, All-nil, All-tail}
+use Rattle.plan_types.specs.Numbers.{UpFrom}
 use Rattle.clock_line.proofs.Holding.{tick-mono}
 use Rattle.plan_types.specs.declared.plan.Line.{Line}
 use Rattle.plan_types.specs.Clock.{tick}
 use Rattle.digital_out.specs.declared.want.Want.{Want}
 use Rattle.digital_out.specs.declared.word.FanWord.{FanWord}
-use Rattle.digital_out.specs.Ends.{AreOrdered, AreWordsFrom}
+use Rattle.digital_out.specs.Ends.{AreWordsFrom}
 use Rattle.digital_out.specs.Rising.{Alternate, AreRising, NeverFall, RiseFrom}
 use Rattle.digital_out.specs.Wants.{changes, is_last, last_ones, want_at}
 
 -- a time of an ordered list is not before another that stands before it
-at_least : (low : ℕ) (times : List ℕ) (j : ℕ) → AreOrdered low times → j < length times → low ≤ get_or times j 0
+at_least : (low : ℕ) (times : List ℕ) (j : ℕ) → UpFrom low times → j < length times → low ≤ get_or times j 0
 at_least low [] j h lt = absurd (omega arith)
 at_least low (t ∷ times) zero h lt = h.0
 at_least low (t ∷ times) (suc j) h lt = let later = at_least t times j h.1 (omega (arith, lt)) in let first = h.0 in omega (arith, later, first)
 
-ordered_at : (low : ℕ) (times : List ℕ) (i j : ℕ) → AreOrdered low times → i ≤ j → j < length times → get_or times i 0 ≤ get_or times j 0
+ordered_at : (low : ℕ) (times : List ℕ) (i j : ℕ) → UpFrom low times → i ≤ j → j < length times → get_or times i 0 ≤ get_or times j 0
 ordered_at low [] i j h le lt = absurd (omega arith)
 ordered_at low (t ∷ times) zero zero h le lt = omega arith
 ordered_at low (t ∷ times) zero (suc j) h le lt = at_least t times j h.1 (omega (arith, lt))
@@ -25,7 +26,7 @@ ordered_at low (t ∷ times) (suc i) zero h le lt = absurd (omega arith)
 ordered_at low (t ∷ times) (suc i) (suc j) h le lt = ordered_at t times i j h.1 (omega (arith, le)) (omega (arith, lt))
 
 -- what the lines want, one behind the other, does not fall
-wants_from : (line : Line) (times : List ℕ) (from most : ℕ) (words : List FanWord) → AreOrdered 0 times → most < length times → AreWordsFrom from most words
+wants_from : (line : Line) (times : List ℕ) (from most : ℕ) (words : List FanWord) → UpFrom 0 times → most < length times → AreWordsFrom from most words
     → NeverFall (tick line (get_or times from 0)) (map (want_at line times) words)
 wants_from line times from most [] h lt are = tt
 wants_from line times from most (w ∷ words) h lt are =
@@ -37,7 +38,7 @@ lower : (a b : ℕ) (ws : List Want) → a ≤ b → NeverFall b ws → NeverFal
 lower a b [] le h = tt
 lower a b (w ∷ ws) le h = let first = h.0 in (omega (arith, first, le), h.1)
 
-pub wants_never_fall : (line : Line) (times : List ℕ) (most : ℕ) (words : List FanWord) → AreOrdered 0 times → most < length times → AreWordsFrom 0 most words → NeverFall 0 (map (want_at line times) words)
+pub wants_never_fall : (line : Line) (times : List ℕ) (most : ℕ) (words : List FanWord) → UpFrom 0 times → most < length times → AreWordsFrom 0 most words → NeverFall 0 (map (want_at line times) words)
 wants_never_fall line times most words h lt are = lower 0 (tick line (get_or times 0 0)) (map (want_at line times) words) (omega arith) (wants_from line times 0 most words h lt are)
 
 pub words_there : (low most count : ℕ) (words : List FanWord) → AreWordsFrom low most words → most < count → All (λ w. w.moves < count) words
@@ -128,7 +129,7 @@ pub record AreGood (top : ℕ) (ws : List Want) : Type 0 where
   pub small : All (λ w. w.tick < top) ws
   pub alternate : Alternate false ws
 
-pub are_good : (line : Line) (times : List ℕ) (most top : ℕ) (words : List FanWord) (wants : List Want) → wants ≡ changes false (last_ones (map (want_at line times) words)) → AreOrdered 0 times → most < length times → AreWordsFrom 0 most words
+pub are_good : (line : Line) (times : List ℕ) (most top : ℕ) (words : List FanWord) (wants : List Want) → wants ≡ changes false (last_ones (map (want_at line times) words)) → UpFrom 0 times → most < length times → AreWordsFrom 0 most words
     → All (λ t. tick line t < top) times → AreGood top wants
 are_good line times most top words wants is ordered count are small =
     let all = map (want_at line times) words in

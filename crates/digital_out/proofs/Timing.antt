@@ -12,8 +12,8 @@ use Rattle.plan_types.specs.Clock.{tick, tick_limit, turn_ns}
 use Rattle.plan_types.specs.Lines.{Clocks, one_line}
 use Rattle.plan_types.specs.Machines.{IsValidBoard, IsValidMachine, board_at, no_board}
 use Rattle.plan_types.specs.Parts.{parts}
-use Rattle.plan_types.specs.Sections.{IsReadyLine, clocks_at, duration, end_time, section_end, turns_needed, turns_of_move}
-use Rattle.plan_types.specs.Numbers.{least_of}
+use Rattle.plan_types.specs.Sections.{IsReadyLine, clocks_at, duration, end_time, section_end, turns_needed, turns_of_move, first_turn, no_section}
+use Rattle.plan_types.specs.Numbers.{least_of, UpFrom}
 use Rattle.plan_types.specs.Speeds.{allowed_by, caps, greatest_speeds, places, speed_change}
 use Rattle.plan_types.specs.Valid.{IsValidLine, IsValidMove}
 use Rattle.gcode_program.specs.Held.{ArePlannable, IsNear}
@@ -21,8 +21,8 @@ use Rattle.section_plan.specs.Ends.{move_ends}
 use Rattle.section_plan.specs.Runs.{HaveOneLine, IsPlannable, IsShortMove}
 use Rattle.section_plan.proofs.Boards.{one-ready}
 use Rattle.section_plan.proofs.Shorts.{short-move}
-use Rattle.digital_out.specs.Ends.{AreOrdered, last_time, moves_in}
-use Rattle.digital_out.specs.Wants.{first_turn, no_section, own_clocks, own_line, section_ends}
+use Rattle.digital_out.specs.Ends.{last_time, moves_in}
+use Rattle.digital_out.specs.Wants.{own_clocks, own_line, section_ends}
 
 -- near moves are short
 near_short : (moves : List Move) → All IsValidMove moves → All IsNear moves → All IsShortMove moves
@@ -80,7 +80,7 @@ section_plannable m clocks sections i start d valid is can inside soon =
     })
 
 -- the ends of moves don't fall, from their beginning on, and none is behind the last
-pub ends_ordered : (cruise : ℕ) (moves : List Move) (speeds : List ℕ) (begin : ℕ) → AreOrdered begin (move_ends cruise moves speeds begin)
+pub ends_ordered : (cruise : ℕ) (moves : List Move) (speeds : List ℕ) (begin : ℕ) → UpFrom begin (move_ends cruise moves speeds begin)
 ends_ordered cruise [] speeds begin = tt
 ends_ordered cruise (m ∷ ms) [] begin = tt
 ends_ordered cruise (m ∷ ms) (g ∷ []) begin = tt
@@ -107,9 +107,9 @@ ends_counted cruise (m ∷ ms) (g ∷ []) begin count = absurd (omega (arith, co
 ends_counted cruise (m ∷ ms) (g ∷ h ∷ speeds) begin count = ap suc (ends_counted cruise ms (h ∷ speeds) (begin + duration (parts m g h cruise)) (omega (arith, count)))
 
 -- times behind times
-pub ordered_joined : (low mid : ℕ) (xs ys : List ℕ) → AreOrdered low xs → All (λ t. t ≤ mid) xs → low ≤ mid → AreOrdered mid ys → AreOrdered low (xs ++ ys)
+pub ordered_joined : (low mid : ℕ) (xs ys : List ℕ) → UpFrom low xs → All (λ t. t ≤ mid) xs → low ≤ mid → UpFrom mid ys → UpFrom low (xs ++ ys)
 ordered_joined low mid [] ys first small below second = earlier low mid ys below second where
-  earlier : (low mid : ℕ) (ys : List ℕ) → low ≤ mid → AreOrdered mid ys → AreOrdered low ys
+  earlier : (low mid : ℕ) (ys : List ℕ) → low ≤ mid → UpFrom mid ys → UpFrom low ys
   earlier low mid [] below h = tt
   earlier low mid (y ∷ ys) below h = (omega (arith, below, h.0), h.1)
 ordered_joined low mid (x ∷ xs) ys first small below second =
@@ -131,7 +131,7 @@ speeds_counted moves scv =
 pub record EndsSofar (m : Machine) (clocks : List Clocks) (sections : List Section) (times : List ℕ) (i ready : ℕ) : Type 0 where
   pub soon : ready + turns_needed (drop i sections) ≤ 60_000_520_001_260
   pub before : All (λ t. t ≤ ready * turn_ns) times
-  pub ordered : AreOrdered 0 times
+  pub ordered : UpFrom 0 times
   pub count : length times + moves_in (drop i sections) ≡ moves_in sections + 1
   pub whole : times ++ section_ends m clocks ready (drop i sections) ≡ first_turn * turn_ns ∷ section_ends m clocks first_turn sections
 
@@ -164,7 +164,7 @@ ends_more m clocks sections times new i ready end s is lt so added end_is late =
     let behind : over ≤ (end + 260) * turn_ns = omega (arith, ended) in
     let early : ready * turn_ns ≤ start * turn_ns = omega arith in
     let first : start * turn_ns ≤ over = end_behind m.cruise s.moves speeds (start * turn_ns) in
-    let ordered : AreOrdered 0 (times ++ here) = ordered_joined 0 (start * turn_ns) times here so.ordered (weaker (ready * turn_ns) (start * turn_ns) times early so.before) (omega arith) (ends_ordered m.cruise s.moves speeds (start * turn_ns)) in
+    let ordered : UpFrom 0 (times ++ here) = ordered_joined 0 (start * turn_ns) times here so.ordered (weaker (ready * turn_ns) (start * turn_ns) times early so.before) (omega arith) (ends_ordered m.cruise s.moves speeds (start * turn_ns)) in
     let small : All (λ t. t ≤ (end + 260) * turn_ns) (times ++ here) = All-append (λ (t : ℕ). t ≤ (end + 260) * turn_ns) times here
     (weaker (ready * turn_ns) ((end + 260) * turn_ns) times (omega (arith, early, first, behind)) so.before) (weaker over ((end + 260) * turn_ns) here behind (ends_before m.cruise s.moves speeds (start * turn_ns))) in
     let Rest : List Section → Type 0 = λ rs. times ++ section_ends m clocks ready rs ≡ first_turn * turn_ns ∷ section_ends m clocks first_turn sections in

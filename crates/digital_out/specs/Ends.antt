@@ -7,11 +7,6 @@ use Rattle.digital_out.specs.declared.word.FanWord.{FanWord}
 abbrev pub last_time : ℕ
 last_time = 60_000_520_001_260 * 1_000_000
 
--- times that don't fall, from one on
-abbrev pub AreOrdered : ℕ → List ℕ → Type 0
-AreOrdered low [] = Unit {0}
-AreOrdered low (t ∷ times) = (low ≤ t) × AreOrdered t times
-
 -- how many moves some sections have
 abbrev pub moves_in : List Section → ℕ
 moves_in [] = 0

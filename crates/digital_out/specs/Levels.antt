@@ -1,5 +1,6 @@
 -- What commands say of the level of an output.
 use Rattle.std.specs.Prelude.{ℕ, Bool, false, List, [], ◌∷◌, nat_lt, if◌then◌else◌, Option, Some, None}
+use Rattle.plan_types.specs.Numbers.{tick_before}
 use Rattle.digital_out.specs.declared.want.Want.{Want}
 use Rattle.digital_out.specs.declared.queue.OutEvent.{OutEvent}
 use Rattle.digital_out.specs.declared.queue.OutWhat.{OutWhat}
@@ -12,11 +13,6 @@ abbrev pub first_miss : ℕ → Bool → ℕ → List Want → Option ℕ
 first_miss max level last [] = missed_of max level last
 first_miss max level last (w ∷ ws) =
     if comes_late (missed_of max level last) w.tick then missed_of max level last else first_miss max w.on w.tick ws
-
--- a tick, where it is before another
-abbrev pub before : ℕ → Option ℕ → Option ℕ
-before until None = None
-before until (Some at) = if nat_lt at until then Some at else None
 
 -- the level of the last command before a tick, and at first this one
 abbrev pub last_level : Bool → ℕ → List Want → Bool
@@ -31,7 +27,7 @@ level_unless (Some at) level = false
 -- the level before a tick of an output that is off at first: that of the last command before it, and off
 -- where it was missed
 abbrev pub level_at : ℕ → ℕ → List Want → Bool
-level_at max until ws = level_unless (before until (first_miss max false 0 ws)) (last_level false until ws)
+level_at max until ws = level_unless (tick_before until (first_miss max false 0 ws)) (last_level false until ws)
 
 -- the tick at which an output is missed by what is told: by this one, or by a later one
 abbrev pub missed_by : ℕ → OutWhat → Option ℕ → Option ℕ

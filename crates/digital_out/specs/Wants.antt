@@ -5,25 +5,16 @@ use Rattle.plan_types.specs.declared.machine.FanDef.{FanDef}
 use Rattle.plan_types.specs.declared.machine.Machine.{Machine}
 use Rattle.plan_types.specs.declared.plan.Line.{Line}
 use Rattle.plan_types.specs.declared.plan.Section.{Section}
-use Rattle.plan_types.specs.declared.plan.SectionKind.TheVariants.{Moves}
 use Rattle.plan_types.specs.Clock.{tick, turn_ns}
 use Rattle.plan_types.specs.Lines.{Clocks, one_line}
 use Rattle.plan_types.specs.Machines.{board_at}
-use Rattle.plan_types.specs.Sections.{section_end}
+use Rattle.plan_types.specs.Sections.{section_end, first_turn}
 use Rattle.plan_types.specs.Speeds.{greatest_speeds}
 use Rattle.gcode_program.specs.Programs.{program_sections}
 use Rattle.section_plan.specs.Ends.{move_ends}
 use Rattle.digital_out.specs.declared.want.Want.{Want}
 use Rattle.digital_out.specs.declared.word.FanWord.{FanWord}
 use Rattle.digital_out.specs.Words.{words_in}
-
--- what stands for a section that is not there
-abbrev pub no_section : Section
-no_section = record { kind = Moves; moves = []; dwell = 0 }
-
--- the first turn in which a section may start
-abbrev pub first_turn : ℕ
-first_turn = 1_260
 
 -- a board's own clock line
 abbrev pub own_line : BoardDef → Line
@@ -65,13 +56,9 @@ changes level [] = []
 changes true (w ∷ ws) = if w.on then changes true ws else w ∷ changes false ws
 changes false (w ∷ ws) = if w.on then w ∷ changes true ws else changes false ws
 
--- the sections of a text, those that home among them
-abbrev pub sections_in : Machine → List ℕ → List Section
-sections_in m text = program_sections m text
-
 -- what all lines want of a fan
 abbrev pub all_wants : Machine → FanDef → List ℕ → List Want
-all_wants m f text = map (want_at (own_line (board_at m f.board)) (ends m (sections_in m text))) (words_in m text)
+all_wants m f text = map (want_at (own_line (board_at m f.board)) (ends m (program_sections m text))) (words_in m text)
 
 -- The wants of a text on a machine with a fan, in order of their ticks. The level is off at first.
 unfoldable pub wants : Machine → FanDef → List ℕ → List Want

@@ -1,9 +1,10 @@
 //! The law of levels.
 
 ghost use Rattle.std.specs.Prelude.{◌≡◌, ℕ, ◌≤◌, List, None, false};
+ghost use Rattle.plan_types.specs.Numbers.{tick_before};
 ghost use Rattle.digital_out.specs.Calls.{Call, AreFair, accepted, after_all, made, new_queue};
 ghost use Rattle.digital_out.specs.Outputs.{event_next};
-ghost use Rattle.digital_out.specs.Levels.{before, first_miss, level_at, missed_at};
+ghost use Rattle.digital_out.specs.Levels.{first_miss, level_at, missed_at};
 
 /// The law of levels: over every list of pushes and advances, the output is missed exactly where its commands
 /// say so, and where nothing more happens before a tick, it has the level that they say.
@@ -12,7 +13,7 @@ pub fn levels_follow_commands()
         (after_all (new_queue slots max) calls).time ≤ until →
         event_next until (after_all (new_queue slots max) calls) ≡ None →
         missed_at (made (new_queue slots max) calls)
-        ≡ before until (first_miss max false 0 (accepted (new_queue slots max) calls)) }
+        ≡ tick_before until (first_miss max false 0 (accepted (new_queue slots max) calls)) }
     ensures level { (slots max until : ℕ) (calls : List Call) → AreFair (new_queue slots max) calls →
         (after_all (new_queue slots max) calls).time ≤ until →
         event_next until (after_all (new_queue slots max) calls) ≡ None →

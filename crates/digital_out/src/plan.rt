@@ -1,14 +1,15 @@
 //! When the part fan of a text is switched.
 
 ghost use Rattle.std.specs.Prelude.{◌≡◌, ◌<◌, ◌≤◌, ◌+◌, ◌*◌, ◌-◌, ◌^◌, false, All, IfOk, length, map, slice_index_or};
+ghost use Rattle.plan_types.specs.Numbers.{UpFrom};
 ghost use Rattle.gcode_program.specs.Held.{ArePlannable};
 ghost use Rattle.gcode_program.specs.Programs.{program_end, program_sections};
 ghost use Rattle.plan_types.specs.Clock.{tick, tick_limit};
 ghost use Rattle.plan_types.specs.Machines.{IsValidBoard, IsValidFan, IsValidMachine, board_at};
-ghost use Rattle.plan_types.specs.Sections.{turns_of_move};
+ghost use Rattle.plan_types.specs.Sections.{turns_of_move, no_section};
 ghost use Rattle.plan_types.specs.Valid.{IsValidLine};
 ghost use Rattle.section_plan.specs.Runs.{IsPlannable};
-ghost use Rattle.digital_out.specs.Ends.{AreOrdered, AreWordsOf, last_time, moves_in};
+ghost use Rattle.digital_out.specs.Ends.{AreWordsOf, last_time, moves_in};
 ghost use Rattle.digital_out.specs.Rising.{Alternate, AreRising, NeverFall};
 ghost use Rattle.digital_out.specs.Wants as specs;
 ghost use Rattle.digital_out.specs.Wants.{all_wants, ends, own_clocks, own_line, want_at};
@@ -66,7 +67,7 @@ fn own_clocks(alloc: Global, machine: &Machine) -> Result<Vec<Lines>, OutOfMemor
 /// The section of a number.
 fn section_at(sections: &[Section], i: usize) -> &Section
     requires { i < length sections.now }
-    ensures { result.now ≡ slice_index_or sections.now i specs.no_section }
+    ensures { result.now ≡ slice_index_or sections.now i no_section }
 {
     &sections[i]
 }
@@ -76,7 +77,7 @@ fn ends_of(alloc: Global, machine: &Machine, sections: &[Section]) -> Result<Vec
     requires machine { IsValidMachine machine.now }
     requires sections { ArePlannable sections.now }
     ensures value { IfOk result (λ times. times.items ≡ ends machine.now sections.now) }
-    ensures ordered { IfOk result (λ times. AreOrdered 0 times.items) }
+    ensures ordered { IfOk result (λ times. UpFrom 0 times.items) }
     ensures soon { IfOk result (λ times. All (λ t. t ≤ last_time) times.items) }
     ensures count { IfOk result (λ times. length times.items ≡ moves_in sections.now + 1) }
 {

@@ -2,7 +2,7 @@
 
 ghost use Rattle.std.specs.Prelude.{◌≡◌, ◌++◌, ◌≤◌, true, IfOk, OnOk};
 ghost use Rattle.gcode_program.specs.Readings as readings;
-ghost use Rattle.gcode_state.specs.States.{weight};
+ghost use Rattle.gcode_state.specs.States.{weight, one_if};
 ghost use Rattle.plan_types.specs.Machines.{IsValidMachine};
 ghost use Rattle.text_core.specs.Lines.{lines_of};
 ghost use Rattle.digital_out.specs.Words as specs;
@@ -24,7 +24,7 @@ pub struct FanWord {
 }
 
 fn one_if(named: bool) -> u64
-    ensures value { result ≡ readings.one_if named }
+    ensures value { result ≡ one_if named }
     ensures small { result ≤ 1 }
 {
     if named { 1 } else { 0 }

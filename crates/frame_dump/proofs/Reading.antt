@@ -2,10 +2,12 @@
 use Rattle.std.proofs.Common.{◌≡◌, ◌∙◌, ℕ, ◌+◌, ◌-◌, get_or, take, drop, subst, ◌<◌, ◌≤◌, Bool, true, false, List, [], ◌∷◌, ◌++◌, length, refl, ap, sym, arith, append-nil, append_assoc, Option, Some, None}
 use Rattle.std.specs.Prelude.{Result, Ok, Err}
 use Rattle.std.proofs.lemmas.Bool.Decides.{nat_tests}
+use Rattle.plan_types.specs.Numbers.{is_above}
+use Rattle.text_core.specs.Bytes.{Text}
 use Rattle.frame_dump.proofs.Dumping.{rest_all}
 use Rattle.frame_dump.specs.declared.fault.TraceFault.{TraceFault}
 use Rattle.frame_dump.specs.declared.trace.TraceTurn.{TraceTurn}
-use Rattle.frame_dump.specs.Traces.{AreTurns, Text, before_bytes, byte_of, hex_bytes, hex_value, is_above, rising, turn_of, turns_from, with_first}
+use Rattle.frame_dump.specs.Traces.{AreTurns, before_bytes, byte_of, hex_bytes, hex_value, rising, turn_of, turns_from, with_first}
 use Rattle.frame_dump.specs.Sofar.{BytesSofar, low_after, low_behind, with_bytes, with_turns}
 
 start : (o : Option (List ℕ)) → with_bytes [] o ≡ o

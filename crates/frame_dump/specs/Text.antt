@@ -1,6 +1,7 @@
 -- The text of a dump and of a replay.
 use Rattle.std.specs.Prelude.{ℕ, ℤ, ◌+◌, ◌/◌, ◌%◌, Bool, true, false, List, [], ◌∷◌, ◌++◌, codes, decimal, nat_lt, if◌then◌else◌}
 use Rattle.std.specs.Fmt.{signed_decimal}
+use Rattle.report_text.specs.Text.{direction_word}
 use Rattle.text_core.specs.Bytes.{before}
 use Rattle.plan_types.specs.declared.plan.BoardState.{BoardState}
 use Rattle.plan_types.specs.declared.plan.BoardState.TheVariants.{Running, Shut}
@@ -80,11 +81,6 @@ line_text (line.Open bytes) = joined (codes "open " ∷ decimal bytes ∷ codes 
 abbrev pub dump_text : List DumpLine → List ℕ
 dump_text [] = []
 dump_text (l ∷ lines) = line_text l ++ dump_text lines
-
--- the end of a pulse's line: its direction
-abbrev pub direction_word : Bool → List ℕ
-direction_word true = codes " +\n"
-direction_word false = codes " -\n"
 
 -- the line of a pulse of a board
 abbrev pub pulse_text : List ℕ → Pulse → List ℕ

@@ -1,7 +1,8 @@
 -- The reading of a trace: its first fault, or its turns.
-use Rattle.std.specs.Prelude.{◌≡◌, ℕ, ◌+◌, ◌-◌, ◌*◌, ◌<◌, ◌≤◌, ◌&&◌, Bool, true, false, List, [], ◌∷◌, codes, length, nat_lt, nat_le, if◌then◌else◌, Option, Some, None, Result, Ok, Err, Vec, ⊤}
+use Rattle.std.specs.Prelude.{◌≡◌, ℕ, ◌+◌, ◌-◌, ◌*◌, ◌≤◌, ◌&&◌, List, [], ◌∷◌, codes, length, nat_lt, nat_le, if◌then◌else◌, Option, Some, None, Result, Ok, Err, Vec, ⊤}
 use Rattle.std.specs.Str.{bytes_eq}
-use Rattle.text_core.specs.Bytes.{capital, is_digit}
+use Rattle.plan_types.specs.Numbers.{is_above}
+use Rattle.text_core.specs.Bytes.{capital, is_digit, Text}
 use Rattle.text_core.specs.Lines.{lines_of}
 use Rattle.text_core.specs.Numbers.{is_natural, value_of}
 use Rattle.text_core.specs.Words.{worded_lines}
@@ -10,10 +11,6 @@ use Rattle.plan_types.specs.declared.cause.TraceKind.TheVariants.{BadLine, NotRi
 use Rattle.frame_dump.specs.declared.fault.TraceFault.{TraceFault}
 use Rattle.frame_dump.specs.declared.fault.TraceFault.TheVariants.{At, Memory}
 use Rattle.frame_dump.specs.declared.trace.TraceTurn.{TraceTurn}
-
--- a text or a word, as its bytes
-abbrev pub Text : Type 0
-Text = List ℕ
 
 -- the value of a hexadecimal digit, in capital or small letters
 abbrev pub hex_value : ℕ → Option ℕ
@@ -58,11 +55,6 @@ abbrev pub turn_of : List Text → Option TraceTurn
 turn_of (word ∷ number ∷ digits ∷ []) =
     if bytes_eq word (codes "turn") then turn_with (turn_number number) (content_of digits) else None
 turn_of other = None
-
--- a number is above the last one, where there is one
-abbrev pub is_above : ℕ → Option ℕ → Bool
-is_above number None = true
-is_above number (Some last) = nat_lt last number
 
 -- a turn has to be above the last one
 abbrev pub rising : Option ℕ → Option TraceTurn → Result TraceTurn TraceKind

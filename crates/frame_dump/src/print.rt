@@ -2,8 +2,9 @@
 
 ghost use Rattle.std.specs.Prelude.{◌≡◌, ◌++◌, ◌<◌, ◌≤◌, OnOk, IfOk};
 ghost use Rattle.std.specs.Fmt.{signed_decimal};
+ghost use Rattle.report_text.specs.Text.{direction_word};
 ghost use Rattle.frame_dump.specs.Text as specs;
-ghost use Rattle.frame_dump.specs.Text.{arguments_text, command_name, command_text, steps_text, direction_word, dump_text, hex_digit, hex_text, kind_word, line_text, param_text, params_text, pulse_text, replay_text, state_text, taken_word};
+ghost use Rattle.frame_dump.specs.Text.{arguments_text, command_name, command_text, steps_text, dump_text, hex_digit, hex_text, kind_word, line_text, param_text, params_text, pulse_text, replay_text, state_text, taken_word};
 
 use crate::line::DumpLine;
 use crate::playing::Replayed;

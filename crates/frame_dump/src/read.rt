@@ -1,9 +1,10 @@
 //! The reading of a trace.
 
 ghost use Rattle.std.specs.Prelude.{◌≡◌, ◌+◌, ◌<◌, ◌≤◌, ◌^◌, ◌++◌, ◌∷◌, [], List, ℕ, Ok, Some, None, codes, IfNone, IfSome, IfOk, IfErr, OnOk, length, true, false};
+ghost use Rattle.plan_types.specs.Numbers.{is_above};
 ghost use Rattle.text_core.specs.Lines.{lines_of};
 ghost use Rattle.text_core.specs.Words.{words_of, worded_lines};
-ghost use Rattle.frame_dump.specs.Traces.{Answers, AnswersTurns, AreTurns, turns_from, IsFaultAt, byte_of, content_of, hex_bytes, hex_value, is_above, reading, rising, turn_number, turn_of};
+ghost use Rattle.frame_dump.specs.Traces.{Answers, AnswersTurns, AreTurns, turns_from, IsFaultAt, byte_of, content_of, hex_bytes, hex_value, reading, rising, turn_number, turn_of};
 
 use crate::fault::TraceFault;
 use crate::trace::{Trace, TraceTurn};

@@ -1,5 +1,6 @@
 -- How far a reading has come.
 use Rattle.std.proofs.Common.{◌≡◌, ℕ, ◌+◌, ◌≤◌, ◌<◌, ◌*◌, ◌-◌, ◌^◌, Bool, true, false, List, [], ◌∷◌, ◌++◌, length, refl, sym, ap, ◌∙◌, arith, append_assoc, Ok}
+use Rattle.gcode_state.specs.States.{one_if}
 use Rattle.plan_types.specs.declared.cause.LineKind.{LineKind}
 use Rattle.plan_types.specs.declared.machine.Machine.{Machine}
 use Rattle.plan_types.specs.declared.plan.Move.{Move}
@@ -9,7 +10,7 @@ use Rattle.gcode_state.specs.declared.state.State.{State}
 use Rattle.gcode_state.specs.declared.state.Action.{Action}
 use Rattle.gcode_state.specs.declared.state.Action.TheVariants as actions
 use Rattle.gcode_program.specs.declared.cut.Cut.{Cut}
-use Rattle.gcode_program.specs.Readings.{Deed, Outcome, behind_action, deed_of, outcome, line_result, is_passed, one_if, is_stop}
+use Rattle.gcode_program.specs.Readings.{Deed, Outcome, behind_action, deed_of, outcome, line_result, is_passed, is_stop}
 use Rattle.gcode_program.specs.Cuts.{sections_of}
 use Rattle.gcode_program.specs.Taken.{taken}
 

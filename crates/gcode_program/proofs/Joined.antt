@@ -1,11 +1,12 @@
 -- Lines read one behind the other.
 use Rattle.std.proofs.Common.{◌≡◌, ℕ, suc, ◌+◌, ◌++◌, Bool, List, [], ◌∷◌, length, Option, Some, Ok, Err, ap, arith, refl, sym, ◌∙◌}
 use Rattle.std.specs.Prelude.{Result}
+use Rattle.gcode_state.specs.States.{one_if}
 use Rattle.plan_types.specs.declared.cause.LineKind.{LineKind}
 use Rattle.gcode_state.specs.declared.state.State.{State}
 use Rattle.gcode_state.specs.declared.state.Action.{Action}
 use Rattle.gcode_state.specs.declared.state.Action.TheVariants as actions
-use Rattle.gcode_program.specs.Readings.{Deed, deed_of, line_result, is_passed, outcome, with_front, one_if, Outcome, behind_action, behind_line}
+use Rattle.gcode_program.specs.Readings.{Deed, deed_of, line_result, is_passed, outcome, with_front, Outcome, behind_action, behind_line}
 use Rattle.gcode_program.specs.Pieces.{final, state_if, state_behind, bytes_of}
 
 same_state : (s t : State) → Some s ≡ Some t → s ≡ t

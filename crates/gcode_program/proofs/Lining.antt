@@ -4,6 +4,7 @@ use Rattle.std.proofs.lemmas.Bool.Decides.{nat_tests}
 use Rattle.std.proofs.lemmas.List.{drop-drop, drop_more, length-append, length-drop, take-append-drop}
 use Rattle.std.proofs.lemmas.List.Elements.{All-append, All-nil}
 use Rattle.std.specs.Prelude.{Result, OnOk, is_some, not, ◌⊎◌, ◌==◌}
+use Rattle.gcode_state.specs.States.{one_if}
 use Rattle.text_core.specs.Lines.{lines_of, with_first}
 use Rattle.plan_types.specs.declared.cause.LineKind.{LineKind}
 use Rattle.plan_types.specs.declared.machine.Machine.{Machine}
@@ -20,7 +21,7 @@ use Rattle.gcode_program.specs.declared.reading.Reading.{Reading}
 use Rattle.gcode_program.specs.Items.{IsGood, ending, items_by, items_of, opening_by}
 use Rattle.gcode_program.specs.Programs.{outcome_of, program_end, program_sections}
 use Rattle.gcode_program.specs.Reader.{AreReading, HasNoEnd, IsAll, IsComing, IsKnown, IsOn, IsRead, items_from, stop_by}
-use Rattle.gcode_program.specs.Readings.{Outcome, applied_line, behind_action, behind_line, deed_of, is_large, is_passed, is_stop, line_result, one_if, outcome}
+use Rattle.gcode_program.specs.Readings.{Outcome, applied_line, behind_action, behind_line, deed_of, is_large, is_passed, is_stop, line_result, outcome}
 use Rattle.gcode_program.proofs.Behind.{goes_on}
 use Rattle.gcode_program.proofs.Telling.{end_good, told_all}
 

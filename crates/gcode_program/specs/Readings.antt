@@ -1,5 +1,5 @@
 -- The reading of a whole text: which lines are accepted, what they do, and how the reading stops.
-use Rattle.std.specs.Prelude.{ℕ, ◌+◌, ◌==◌, ◌&&◌, Bool, true, false, nat_lt, nat_le, List, [], ◌∷◌, ◌++◌, length, if◌then◌else◌, Result, Ok, Err}
+use Rattle.std.specs.Prelude.{ℕ, ◌+◌, ◌&&◌, Bool, true, false, nat_lt, nat_le, List, [], ◌∷◌, ◌++◌, length, if◌then◌else◌, Result, Ok, Err}
 use Rattle.plan_types.specs.declared.cause.LineKind.{LineKind}
 use Rattle.plan_types.specs.declared.cause.LineKind.TheVariants as kinds
 use Rattle.plan_types.specs.declared.plan.ReadStop.{ReadStop}
@@ -14,7 +14,7 @@ use Rattle.gcode_state.specs.declared.state.Action.{Action}
 use Rattle.gcode_state.specs.declared.state.Action.TheVariants as actions
 use Rattle.gcode_state.specs.declared.state.StateFault.{StateFault}
 use Rattle.gcode_state.specs.declared.state.StateFault.TheVariants as states
-use Rattle.gcode_state.specs.States.{applied}
+use Rattle.gcode_state.specs.States.{applied, one_if}
 
 -- why a line is refused that isn't read
 abbrev pub text_kind : FaultKind → LineKind
@@ -78,10 +78,6 @@ pub record Outcome : Type 0 where
   pub deeds : List Deed
   pub passed : ℕ
   pub stop : ReadStop
-
--- 1 where something holds, else 0
-abbrev pub one_if : Bool → ℕ
-one_if passed = if passed then 1 else 0
 
 -- an outcome with more deeds before it
 abbrev pub with_front : List Deed → ℕ → Outcome → Outcome

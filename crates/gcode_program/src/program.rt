@@ -1,6 +1,7 @@
 //! The reading of a whole text.
 
 ghost use Rattle.std.specs.Prelude.{◌≡◌, ◌++◌, ◌≤◌, IfOk};
+ghost use Rattle.gcode_state.specs.States.{one_if};
 ghost use Rattle.plan_types.specs.Machines.{IsValidMachine};
 ghost use Rattle.gcode_program.specs.Readings as specs;
 ghost use Rattle.gcode_program.specs.Cuts.{closed};
@@ -94,7 +95,7 @@ pub fn read_program(alloc: Global, machine: &Machine, text: &[u8]) -> Result<Pro
 }
 
 pub(crate) fn one_if(passed: bool) -> u64
-    ensures value { result ≡ specs.one_if passed }
+    ensures value { result ≡ one_if passed }
     ensures small { result ≤ 1 }
 {
     if passed { 1 } else { 0 }

@@ -5,9 +5,9 @@ use Rattle.std.specs.List.{list_all}
 use Rattle.std.specs.Str.{bytes_eq}
 use Rattle.std.specs.Str.Parse.{digits_value}
 use Rattle.std.proofs.lemmas.Bool.Decides.{nat_tests}
-use Rattle.command_words.specs.Forms.{Text, asked, check, dump, fan, form_of, form_of_three, form_of_two, is_name, is_numeral, make, make_of, mesh, moves_of, number_of, replay, run, scene, seed_of}
+use Rattle.command_words.specs.Forms.{asked, check, dump, fan, form_of, form_of_three, form_of_two, is_name, is_numeral, make, make_of, mesh, moves_of, number_of, replay, run, scene, seed_of}
 
-number-few : (most limit : ℕ) (text : Text) (n : ℕ) → number_of most limit text ≡ Some n → n ≤ limit
+number-few : (most limit : ℕ) (text : List ℕ) (n : ℕ) → number_of most limit text ≡ Some n → n ≤ limit
 number-few most limit text n e = by (is_numeral most text) (nat_le (digits_value 10 text) limit) refl e where
   by : (a b : Bool) → nat_le (digits_value 10 text) limit ≡ b → (if a && b then Some (digits_value 10 text) else None) ≡ Some n → n ≤ limit
   by true true small is = (let same : digits_value 10 text ≡ n = cc in let under : digits_value 10 text ≤ limit = grind (arith, nat_tests) in omega (arith, same, under))
@@ -19,7 +19,7 @@ made-few None b seed moves e = absurd cc
 made-few (Some s) None seed moves e = absurd cc
 made-few (Some s) (Some n) seed moves e = cc
 
-two-few : (w a b : Text) (seed moves : ℕ) → form_of_two w a b ≡ Some (make seed moves) → moves ≤ 1_000_000
+two-few : (w a b : List ℕ) (seed moves : ℕ) → form_of_two w a b ≡ Some (make seed moves) → moves ≤ 1_000_000
 two-few w a b seed moves e = by (bytes_eq w (codes "run")) (bytes_eq w (codes "make")) (bytes_eq w (codes "fan")) e where
   by : (x y z : Bool) → (if x then Some (run a b) else (if y then make_of (seed_of a) (moves_of b) else (if z then Some (fan a b) else None))) ≡ Some (make seed moves) → moves ≤ 1_000_000
   by true y z is = absurd cc
@@ -27,7 +27,7 @@ two-few w a b seed moves e = by (bytes_eq w (codes "run")) (bytes_eq w (codes "m
   by false false true is = absurd cc
   by false false false is = absurd cc
 
-three-never : (w a b c : Text) (seed moves : ℕ) → form_of_three w a b c ≡ Some (make seed moves) → ⊥
+three-never : (w a b c : List ℕ) (seed moves : ℕ) → form_of_three w a b c ≡ Some (make seed moves) → ⊥
 three-never w a b c seed moves e = by (bytes_eq w (codes "run")) (bytes_eq w (codes "check")) (bytes_eq w (codes "dump")) (bytes_eq w (codes "replay")) (bytes_eq w (codes "mesh")) e where
   by : (v w x y z : Bool) → (if v then Some (scene a b c) else (if w then Some (check a b c) else (if x then Some (dump a b c) else (if y then Some (replay a b c) else (if z then Some (mesh a b c) else None))))) ≡ Some (make seed moves) → ⊥
   by true w x y z is = cc
@@ -37,7 +37,7 @@ three-never w a b c seed moves e = by (bytes_eq w (codes "run")) (bytes_eq w (co
   by false false false false true is = cc
   by false false false false false is = cc
 
-form-few : (words : List Text) (seed moves : ℕ) → form_of words ≡ Some (make seed moves) → moves ≤ 1_000_000
+form-few : (words : List (List ℕ)) (seed moves : ℕ) → form_of words ≡ Some (make seed moves) → moves ≤ 1_000_000
 form-few [] seed moves e = absurd cc
 form-few (w ∷ []) seed moves e = absurd cc
 form-few (w ∷ a ∷ []) seed moves e = absurd cc
@@ -45,7 +45,7 @@ form-few (w ∷ a ∷ b ∷ []) seed moves e = two-few w a b seed moves e
 form-few (w ∷ a ∷ b ∷ c ∷ []) seed moves e = absurd (three-never w a b c seed moves e)
 form-few (w ∷ a ∷ b ∷ c ∷ d ∷ words) seed moves e = absurd cc
 
-pub few-moves : (words : List Text) (seed moves : ℕ) → asked words ≡ Some (make seed moves) → moves ≤ 1_000_000
+pub few-moves : (words : List (List ℕ)) (seed moves : ℕ) → asked words ≡ Some (make seed moves) → moves ≤ 1_000_000
 few-moves words seed moves e = by (list_all is_name words) e where
   by : (b : Bool) → (if b then form_of words else None) ≡ Some (make seed moves) → moves ≤ 1_000_000
   by true is = form-few words seed moves is

@@ -3,10 +3,9 @@
 ghost use Rattle.std.specs.Prelude.{◌≡◌, ◌<◌, ◌≤◌, ◌+◌, ◌-◌, ◌*◌, ℕ, List, [], ◌∷◌, Some, false, length, None, ◌++◌, min};
 ghost use Rattle.plan_types.specs.declared.levels.Level.{Level};
 ghost use Rattle.plan_types.specs.declared.machine.Machine.{Machine};
-ghost use Rattle.plan_types.specs.Clock.{board_tick, clock_of, turn_ns};
+ghost use Rattle.plan_types.specs.Clock.{board_tick, clock_of, turn_ns, run_turns};
 ghost use Rattle.plan_types.specs.Lines.{Clocks, lines_tick};
 ghost use Rattle.plan_types.specs.Machines.{IsValidMachine, board_at};
-ghost use Rattle.clock_line.specs.Early.{run_turns};
 ghost use Rattle.laws_board.specs.sections.Parts.{AreTracked};
 ghost use Rattle.board_sim.specs.Rig.{Rig};
 ghost use Rattle.board_sim.specs.RigRuns.{AllSound};

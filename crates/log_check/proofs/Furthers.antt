@@ -12,10 +12,10 @@ use Rattle.log_text.specs.declared.line.LogLine.{LogLine}
 use Rattle.log_text.specs.declared.line.LogLine.TheVariants as line
 use Rattle.log_text.specs.Said.{Said, board_freq, board_line, board_tick, board_told, board_turn, counts_line, counts_passed, counts_with, cut_line, cut_with, drift_line, end_line, end_with, is_corexy, is_up, kind_of, known, line_said, machine_boards, machine_if, machine_line, machine_with, note_if, pulse_line, pulse_told, pulse_with, same, section_line, section_turn, section_with}
 use Rattle.log_text.specs.Names.{board_from, stepper_from}
-use Rattle.log_text.specs.Words.{Text, is_turn, labelled, number}
+use Rattle.log_text.specs.Words.{is_turn, labelled, number}
 use Rattle.plan_types.specs.declared.cause.MisfitKind.TheVariants.{BadLine, Unknown}
 use Rattle.plan_types.specs.Machines.{board_at, stepper_at}
-use Rattle.text_core.specs.Bytes.{before, begins}
+use Rattle.text_core.specs.Bytes.{before, begins, Text}
 use Rattle.text_core.specs.Lines.{lines_of, with_first}
 use Rattle.text_core.specs.Trims.{without_return}
 use Rattle.text_core.specs.Words.{is_inside, is_none_left, line_words, words_of, worded_lines}

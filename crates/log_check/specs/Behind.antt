@@ -3,7 +3,7 @@ use Rattle.std.specs.Prelude.{ℕ, suc, ◌*◌, ◌==◌, Bool, true, false, Li
 use Rattle.log_text.specs.declared.line.LogLine.{LogLine}
 use Rattle.log_text.specs.declared.line.LogLine.TheVariants as line
 use Rattle.log_text.specs.Said.{Said, line_said}
-use Rattle.log_text.specs.Words.{Text}
+use Rattle.text_core.specs.Bytes.{Text}
 use Rattle.plan_types.specs.declared.machine.Machine.{Machine}
 use Rattle.plan_types.specs.declared.plan.Line.{Line}
 use Rattle.plan_types.specs.declared.plan.Pulse.{Pulse}

@@ -15,11 +15,11 @@ use Rattle.plan_types.specs.declared.plan.Held.{Held}
 use Rattle.plan_types.specs.Lines.{Clocks, lines_tick}
 use Rattle.clock_line.specs.Fits.{may_hold}
 use Rattle.plan_types.specs.Machines.{stepper_at}
-use Rattle.plan_types.specs.Sections.{clocks_at, turns_of_move}
+use Rattle.plan_types.specs.Sections.{clocks_at, turns_of_move, is_home, first_turn}
 use Rattle.section_plan.specs.Runs.{move_ns, steps_of_move}
 use Rattle.log_check.specs.Behind.{told_line}
 use Rattle.log_check.specs.declared.tally.Tally.{Tally}
-use Rattle.log_check.specs.Points.{Point, first_turn, section_at}
+use Rattle.log_check.specs.Points.{Point, section_at}
 use Rattle.log_check.specs.Pulses.{pulse_fault}
 
 -- no pulses yet
@@ -43,11 +43,6 @@ same_kind Moves Moves = true
 same_kind Moves (Home a) = false
 same_kind (Home a) Moves = false
 same_kind (Home a) (Home b) = a == b
-
--- whether a section homes
-abbrev pub is_home : SectionKind → Bool
-is_home Moves = false
-is_home (Home a) = true
 
 -- a board's first clock line holds from before a turn on, and has ticks for so many moves behind it
 abbrev pub has_room : Line → ℕ → ℕ → Bool

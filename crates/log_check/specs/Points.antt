@@ -4,25 +4,16 @@ use Rattle.log_text.specs.declared.line.LogLine.{LogLine}
 use Rattle.plan_types.specs.declared.machine.Machine.{Machine}
 use Rattle.plan_types.specs.declared.plan.Planned.{Planned}
 use Rattle.plan_types.specs.declared.plan.Section.{Section}
-use Rattle.plan_types.specs.declared.plan.SectionKind.TheVariants.{Moves}
 use Rattle.plan_types.specs.Lines.{Clocks}
-use Rattle.plan_types.specs.Sections.{base_tick, for_each_stepper, section_end, section_plans}
+use Rattle.plan_types.specs.Sections.{base_tick, for_each_stepper, section_end, section_plans, no_section}
 use Rattle.log_check.specs.declared.further.Further.{Further}
 use Rattle.log_check.specs.declared.tally.Tally.{Tally}
 use Rattle.log_check.specs.Behind.{begun, clocks, is_cut, is_ended, pulses, start, told}
 use Rattle.log_check.specs.Pulses.{tally_of}
 
--- what stands for a section that is not there
-abbrev pub no_section : Section
-no_section = record { kind = Moves; moves = []; dwell = 0 }
-
 -- the section of a number
 abbrev pub section_at : List Section → ℕ → Section
 section_at sections i = slice_index_or sections i no_section
-
--- the first turn in which a section may start
-abbrev pub first_turn : ℕ
-first_turn = 1_260
 
 -- the plans of all steppers in the present section, which is the last one of so many and started in a turn
 abbrev pub plans_by : Machine → List Section → List Clocks → ℕ → ℕ → List (List Planned)

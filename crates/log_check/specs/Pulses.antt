@@ -1,15 +1,11 @@
 -- A pulse of a stepper, judged by the planned step of its place.
-use Rattle.std.specs.Prelude.{ℕ, zero, suc, ◌-◌, Bool, false, List, [], ◌∷◌, length, max, nat_lt, slice_index_or, if◌then◌else◌, Option, Some, None}
+use Rattle.std.specs.Prelude.{ℕ, zero, suc, ◌-◌, Bool, List, [], ◌∷◌, length, max, nat_lt, slice_index_or, if◌then◌else◌, Option, Some, None}
 use Rattle.plan_types.specs.declared.cause.MisfitKind.{MisfitKind}
 use Rattle.plan_types.specs.declared.cause.MisfitKind.TheVariants.{Direction, Early, Late, Extra}
 use Rattle.plan_types.specs.declared.plan.Planned.{Planned}
 use Rattle.plan_types.specs.declared.plan.Pulse.{Pulse}
-use Rattle.plan_types.specs.Plan.{opposite, window}
+use Rattle.plan_types.specs.Plan.{opposite, window, no_step}
 use Rattle.log_check.specs.declared.tally.Tally.{Tally}
-
--- what stands for a planned step that is not there
-abbrev pub no_step : Planned
-no_step = record { tick = 0; up = false }
 
 -- the tick of the planned step before that of a place, and before the first one that at which the section begins
 abbrev pub tick_before : ℕ → List Planned → ℕ → ℕ

@@ -3,7 +3,7 @@
 ghost use Rattle.std.specs.Prelude.{◌≡◌, ◌<◌, ◌≤◌, ◌^◌, [], length, slice_index_or};
 ghost use Rattle.log_text.specs.There.{IsThere};
 ghost use Rattle.plan_types.specs.Machines.{IsValidMachine, stepper_at};
-ghost use Rattle.plan_types.specs.Sections.{clocks_at};
+ghost use Rattle.plan_types.specs.Sections.{clocks_at, is_home};
 ghost use Rattle.log_check.specs.Faults as specs;
 ghost use Rattle.log_check.specs.Faults.{no_tally};
 ghost use Rattle.log_check.specs.Points.{section_at};
@@ -81,7 +81,7 @@ fn same_kind(one: SectionKind, other: SectionKind) -> bool
 
 /// Whether a section homes.
 fn is_home(kind: SectionKind) -> bool
-    ensures { result ≡ specs.is_home kind }
+    ensures { result ≡ is_home kind }
 {
     match kind {
         SectionKind::Moves => false,

@@ -1,6 +1,7 @@
 -- What a line of a log says: the lines of a report, by the names of the machine.
 use Rattle.std.specs.Prelude.{ℕ, ◌&&◌, ◌==◌, Bool, true, false, List, [], ◌∷◌, codes, length, if◌then◌else◌, Option, Some, None, Result, Ok, Err}
 use Rattle.std.specs.Str.{bytes_eq}
+use Rattle.text_core.specs.Bytes.{Text}
 use Rattle.plan_types.specs.declared.cause.MisfitKind.{MisfitKind}
 use Rattle.plan_types.specs.declared.cause.MisfitKind.TheVariants.{BadLine, Unknown}
 use Rattle.plan_types.specs.declared.machine.Machine.{Machine}
@@ -11,7 +12,7 @@ use Rattle.text_core.specs.Words.{is_none_left}
 use Rattle.log_text.specs.declared.line.LogLine.{LogLine}
 use Rattle.log_text.specs.declared.line.LogLine.TheVariants as line
 use Rattle.log_text.specs.Names.{board_from, stepper_from}
-use Rattle.log_text.specs.Words.{Text, is_turn, labelled, number}
+use Rattle.log_text.specs.Words.{is_turn, labelled, number}
 
 -- what a line says, or why it can't be one of a log
 abbrev pub Said : Type 0

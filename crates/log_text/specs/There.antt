@@ -3,14 +3,14 @@ use Rattle.std.specs.Prelude.{◌<◌, ◌^◌, length}
 use Rattle.plan_types.specs.declared.machine.Machine.{Machine}
 use Rattle.log_text.specs.declared.line.LogLine.{LogLine}
 use Rattle.log_text.specs.declared.line.LogLine.TheVariants as line
-use Rattle.log_text.specs.Words.{turn_limit}
+use Rattle.plan_types.specs.Clock.{run_turns}
 
 -- the line of a section that starts in a turn in which one may
 abbrev pub IsEarly : LogLine → Type 0
 IsEarly line.Note = ⊥
 IsEarly (line.Board b turn tick) = ⊥
 IsEarly (line.Line b turn tick from) = ⊥
-IsEarly (line.Section i turn kind) = turn < turn_limit
+IsEarly (line.Section i turn kind) = turn < run_turns
 IsEarly (line.Pulse s tick up) = ⊥
 IsEarly (line.Cut i) = ⊥
 IsEarly line.End = ⊥
@@ -19,9 +19,9 @@ IsEarly line.End = ⊥
 -- and a time has 64 bits
 abbrev pub IsThere : Machine → LogLine → Type 0
 IsThere m line.Note = Unit {0}
-IsThere m (line.Board b turn tick) = (b < length m.boards) × (turn < turn_limit)
+IsThere m (line.Board b turn tick) = (b < length m.boards) × (turn < run_turns)
 IsThere m (line.Line b turn tick from) = (b < length m.boards) × (from < 2 ^ 64)
-IsThere m (line.Section i turn kind) = turn < turn_limit
+IsThere m (line.Section i turn kind) = turn < run_turns
 IsThere m (line.Pulse s tick up) = s < length m.steppers
 IsThere m (line.Cut i) = Unit {0}
 IsThere m line.End = Unit {0}

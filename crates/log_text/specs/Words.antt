@@ -1,24 +1,18 @@
 -- Numbers among the words of a line.
 use Rattle.std.specs.Prelude.{ℕ, ◌&&◌, Bool, List, [], ◌∷◌, nat_le, nat_lt, if◌then◌else◌, Option, Some, None}
 use Rattle.std.specs.Str.{bytes_eq}
+use Rattle.plan_types.specs.Clock.{run_turns}
+use Rattle.text_core.specs.Bytes.{Text}
 use Rattle.text_core.specs.Numbers.{is_natural, value_of}
-
--- a text or a word, as its bytes
-abbrev pub Text : Type 0
-Text = List ℕ
 
 -- the number that a word spells by digits alone, of at most 64 bits
 abbrev pub number : Text → Option ℕ
 number word =
     if is_natural word && nat_le (value_of word) 18_446_744_073_709_551_615 then Some (value_of word) else None
 
--- the turn before which sections start
-abbrev pub turn_limit : ℕ
-turn_limit = 4_611_686_018_427_387_904
-
 -- a turn in which a section may start
 abbrev pub is_turn : ℕ → Bool
-is_turn turn = nat_lt turn turn_limit
+is_turn turn = nat_lt turn run_turns
 
 -- a number with the words behind it
 abbrev pub with_words : Option ℕ → List Text → Option (ℕ × List Text)

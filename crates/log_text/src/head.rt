@@ -6,7 +6,7 @@ ghost use Rattle.text_core.specs.Words.{words_of};
 ghost use Rattle.log_text.specs.Names.{board_from};
 ghost use Rattle.log_text.specs.Said as specs;
 ghost use Rattle.log_text.specs.There.{IsThere};
-ghost use Rattle.log_text.specs.Words.{turn_limit};
+ghost use Rattle.plan_types.specs.Clock.{run_turns};
 
 use crate::line::LogLine;
 use crate::name::board_named;
@@ -82,7 +82,7 @@ fn board_told(
     tick: u64,
 ) -> Result<LogLine, MisfitKind>
     requires machine { IsValidMachine machine.now }
-    requires turn { turn < turn_limit }
+    requires turn { turn < run_turns }
     ensures value { result ≡ specs.board_told machine.now freq turn tick (board_from 0 name.now machine.now.boards) }
     ensures there { IfOk result (IsThere machine.now) }
 {

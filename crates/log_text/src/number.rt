@@ -3,7 +3,7 @@
 ghost use Rattle.std.specs.Prelude.{◌≡◌, ◌<◌, ◌^◌, IfSome, IfNone, Some, None};
 ghost use Rattle.text_core.specs.Words.{words_of};
 ghost use Rattle.log_text.specs.Words as specs;
-ghost use Rattle.log_text.specs.Words.{turn_limit};
+ghost use Rattle.plan_types.specs.Clock.{run_turns};
 
 use text_core::{natural, next_word};
 

@@ -17,7 +17,7 @@ use Rattle.plan_types.specs.declared.plan.SectionKind.TheVariants.{Home, Moves}
 use Rattle.plan_types.specs.Lines.{Clocks}
 use Rattle.plan_types.specs.Clock.{turn_ns}
 use Rattle.plan_types.specs.declared.plan.Line.{Line}
-use Rattle.plan_types.specs.Sections.{clocks_at, section_end}
+use Rattle.plan_types.specs.Sections.{clocks_at, section_end, is_home}
 use Rattle.plan_types.specs.Speeds.{greatest_speeds}
 use Rattle.section_feed.proofs.Ends.{end-after}
 use Rattle.section_feed.specs.declared.section.SectionStream.{SectionStream}
@@ -37,13 +37,13 @@ use Rattle.motion_work.specs.Told.{Told}
 use Rattle.motion_stream.specs.declared.course.Course.{Course}
 use Rattle.motion_stream.specs.Courses.{GoesAs, HomesOn, IsGoingOn, IsLaid}
 use Rattle.motion_stream.specs.Motions.{answered}
-use Rattle.motion_stream.specs.Seen.{EndsBy, Going, IsContinued, homes_by, items_read, moves_end, sections_in}
+use Rattle.motion_stream.specs.Seen.{EndsBy, Going, IsContinued, items_read, moves_end, sections_in}
 
 clash : true ≡ false → ⊥
 clash p = cc
 
 -- one that does not home is of moves, and one that does is not
-pub moves_kind : (kind : SectionKind) → homes_by kind ≡ false → kind ≡ Moves
+pub moves_kind : (kind : SectionKind) → is_home kind ≡ false → kind ≡ Moves
 moves_kind Moves e = refl
 moves_kind (Home axis) e = absurd (clash e)
 
@@ -69,7 +69,7 @@ pub continued_sooner : (m : Machine) (next later : ℕ) (g : Going) (x : Started
 continued_sooner m next later g x le c = record { section = c.section; moves = c.moves; start = c.start; ends = ends_sooner g.kind m next later x le c.ends; last = c.last; moving = c.moving; same = λ b j lt below. c.same b j lt (omega (arith, below, le)) }
 
 -- it goes on where a turn goes by
-pub goes_by : (kind : SectionKind) (m : Machine) (clocks : List Clocks) (next later : ℕ) (g h : Going) → (homes_by kind ≡ false → (all : List Move) → IsFuture g.goes g.moves all → later + 1 ≤ section_end m clocks all g.start) → h.goes ≡ g.goes → h.moves ≡ g.moves
+pub goes_by : (kind : SectionKind) (m : Machine) (clocks : List Clocks) (next later : ℕ) (g h : Going) → (is_home kind ≡ false → (all : List Move) → IsFuture g.goes g.moves all → later + 1 ≤ section_end m clocks all g.start) → h.goes ≡ g.goes → h.moves ≡ g.moves
     → h.start ≡ g.start → h.last ≡ g.last → h.moving ≡ g.moving → GoesAs kind m clocks next g → GoesAs kind m clocks later h
 goes_by Moves m clocks next later g h late goes moves start last moving i = record {
   late = λ all f. subst (λ n. later + 1 ≤ section_end m clocks all n) (sym start) (late refl all (subst (λ (ms : List Move). IsFuture g.goes ms all) moves (subst (λ b. IsFuture b h.moves all) goes f)));
@@ -105,19 +105,19 @@ goes_longer Moves m clocks next g h on future start last moving i = record {
 goes_longer (Home axis) m clocks next g h on future start last moving i = absurd (clash (sym on ∙ i.whole))
 
 -- one that homes
-pub homes_on : (kind : SectionKind) (m : Machine) (clocks : List Clocks) (next : ℕ) (g : Going) → homes_by kind ≡ true → GoesAs kind m clocks next g → HomesOn m clocks g
+pub homes_on : (kind : SectionKind) (m : Machine) (clocks : List Clocks) (next : ℕ) (g : Going) → is_home kind ≡ true → GoesAs kind m clocks next g → HomesOn m clocks g
 homes_on Moves m clocks next g e i = absurd (clash (sym e))
 homes_on (Home axis) m clocks next g e i = i
 
-pub planned_home : (kind : SectionKind) (m : Machine) (clocks : List Clocks) (s : Started) → homes_by kind ≡ true → IsHomed m clocks s → IsPlanned kind m clocks s
+pub planned_home : (kind : SectionKind) (m : Machine) (clocks : List Clocks) (s : Started) → is_home kind ≡ true → IsHomed m clocks s → IsPlanned kind m clocks s
 planned_home Moves m clocks s e h = absurd (clash (sym e))
 planned_home (Home axis) m clocks s e h = h
 
-pub laid_home : (kind : SectionKind) (m : Machine) (clocks : List Clocks) (low : ℕ) (s : Started) → homes_by kind ≡ true → s.end + 268 ≤ low → IsLaid kind m clocks low s
+pub laid_home : (kind : SectionKind) (m : Machine) (clocks : List Clocks) (low : ℕ) (s : Started) → is_home kind ≡ true → s.end + 268 ≤ low → IsLaid kind m clocks low s
 laid_home Moves m clocks low s e over = absurd (clash (sym e))
 laid_home (Home axis) m clocks low s e over = over
 
-pub lines_home : (kind : SectionKind) (end : ℕ) (clocks : List Clocks) → homes_by kind ≡ true → lines_of kind end clocks ≡ map (lines_by (end + 276)) clocks
+pub lines_home : (kind : SectionKind) (end : ℕ) (clocks : List Clocks) → is_home kind ≡ true → lines_of kind end clocks ≡ map (lines_by (end + 276)) clocks
 lines_home Moves end clocks e = absurd (clash (sym e))
 lines_home (Home axis) end clocks e = refl
 

@@ -2,6 +2,7 @@
 use Rattle.std.proofs.Common.{◌≡◌, ℕ, ◌+◌, ◌-◌, ◌/◌, ◌≤◌, ◌^◌, All, Bool, true, false, max, List, [], ◌∷◌, ◌++◌, refl, ap, sym, subst, ◌∙◌, arith, inl, inr}
 use Rattle.std.proofs.lemmas.List.Elements.{All-append, All-cons, All-nil}
 use Rattle.std.specs.Prelude.{◌&&◌, Option, Some, None, is_some, nat_lt, if◌then◌else◌}
+use Rattle.plan_types.specs.Sections.{is_home}
 use Rattle.gcode_program.specs.declared.items.Item.{Item}
 use Rattle.gcode_program.specs.declared.items.Item.TheVariants as items
 use Rattle.gcode_program.specs.Items.{items_of, moves_in}
@@ -27,7 +28,7 @@ use Rattle.motion_stream.specs.declared.course.Open.TheVariants as opens
 use Rattle.motion_stream.specs.Clear.{EndsOutside, IsClearTo, clear_by, clear_of, never, next_begin, settled_turn}
 use Rattle.motion_stream.specs.Courses.{IsCourseOf, IsEarly, IsGoing, IsGoingOn, IsIdle, IsLater, IsTold}
 use Rattle.motion_stream.specs.Motions.{IsPlannerOf, Planner, is_none_left}
-use Rattle.motion_stream.specs.Seen.{AreWhole, EndsBy, Going, IsContinued, Seen, homes_by, items_read, moves_end, sections_in}
+use Rattle.motion_stream.specs.Seen.{AreWhole, EndsBy, Going, IsContinued, Seen, items_read, moves_end, sections_in}
 use Rattle.motion_stream.proofs.Drawing.{whole_none}
 use Rattle.motion_stream.proofs.Wholing.{source_front}
 
@@ -64,8 +65,8 @@ settled_before true t = omega arith
 settled_before false t = omega arith
 
 -- one of moves ends when those do that are settled, or later, and one that homes no sooner than it starts
-ends_at : (kind : SectionKind) (m : Machine) (s : SectionStream) (homes : Bool) (c : Course) (seen : Seen) (n : ℕ) (x : Started) (i : IsGoingOn m s homes c seen.told seen.begun seen.going) → homes ≡ homes_by kind → c.next ≡ seen.next → IsContinued m seen.next i.g x → EndsBy kind m seen.next x
-    → n ≤ (if homes_by kind then max c.next c.start else max (settled_turn s) c.next) → n ≤ x.end
+ends_at : (kind : SectionKind) (m : Machine) (s : SectionStream) (homes : Bool) (c : Course) (seen : Seen) (n : ℕ) (x : Started) (i : IsGoingOn m s homes c seen.told seen.begun seen.going) → homes ≡ is_home kind → c.next ≡ seen.next → IsContinued m seen.next i.g x → EndsBy kind m seen.next x
+    → n ≤ (if is_home kind then max c.next c.start else max (settled_turn s) c.next) → n ≤ x.end
 ends_at Moves m s homes c seen n x i is next c_is ends le =
     let settled = settled_before (nat_lt (settled_to (queue_of s) / turn_ns) never) (settled_to (queue_of s) / turn_ns) in
     let r = moves-later m i.t.clocks i.g.start homes s i.g.moves x.section.moves i.g.released i.on (subst (λ t. IsFuture t i.g.moves x.section.moves) (sym i.takes) c_is.moves) in

@@ -24,7 +24,7 @@ use Rattle.plan_types.specs.Clock.{turn_ns}
 use Rattle.plan_types.specs.Lines.{Clocks, lines_tick}
 use Rattle.plan_types.specs.Machines.{board_at}
 use Rattle.plan_types.specs.Plan.{max_error}
-use Rattle.plan_types.specs.Sections.{clocks_at}
+use Rattle.plan_types.specs.Sections.{clocks_at, is_home, first_start}
 use Rattle.motion_work.specs.Known.{AreHeldBy, lines_by}
 use Rattle.motion_work.proofs.Staying.{lines_by_all}
 use Rattle.section_feed.proofs.Telling.{batch-behind}
@@ -37,7 +37,7 @@ use Rattle.step_feed.specs.Pacing.{Release, batch_at}
 use Rattle.motion_work.specs.Feeds.{units_at}
 use Rattle.motion_work.specs.Homes.{no_end}
 use Rattle.motion_work.specs.Seen.{AreAllSent, AreDone, AreStarted, IsOpen, Started, ready_after, waits}
-use Rattle.motion_work.specs.Told.{Told, first_start, heard, lines_in, tells_homed, told_at, told_of}
+use Rattle.motion_work.specs.Told.{Told, heard, lines_in, tells_homed, told_at, told_of}
 use Rattle.motion_work.proofs.Homing.{homed_cut}
 use Rattle.motion_work.proofs.Sending.{sent_more}
 use Rattle.motion_work.proofs.Telling.{board_clocks, told_of_are}
@@ -54,7 +54,7 @@ use Rattle.motion_stream.proofs.Laid.{laid_later, laid_more}
 use Rattle.motion_stream.specs.Courses.{AreLaid, AreAhead, HomesOn, IsConnected, IsCourseBy, IsCourseOf, IsEarly, IsGoing, IsGoingOn, IsIdle, IsLater, IsTold, IsUptake, row_at}
 use Rattle.motion_stream.specs.Gone.{HasHeardBy}
 use Rattle.motion_stream.specs.Motions.{IsLonger, IsMore, answered, begun_with, going_with, hears_answer, lines_kept, read_on, waits_by, with_answer, with_further, with_lines}
-use Rattle.motion_stream.specs.Seen.{Going, Seen, count_of, homes_by, items_read, sections_in}
+use Rattle.motion_stream.specs.Seen.{Going, Seen, count_of, items_read, sections_in}
 use Rattle.motion_stream.specs.Texts.{HasGrown, IsSourceOf, ended_after, text_after}
 use Rattle.motion_stream.proofs.Drawing.{boards_in_all, later_easy, units_snoc, uptake_kept}
 use Rattle.motion_stream.proofs.Opening.{source_on}
@@ -395,8 +395,8 @@ both true b e = (refl, e)
 both false b e = absurd (clash (sym e))
 
 -- whether a section waits for it
-waiting_is : (m : Machine) (s : SectionStream) (homes : Bool) (c : Course) (told : Option Told) (begun : List Started) (going : Option Going) (i : IsGoingOn m s homes c told begun going) (next : ℕ) → c.next ≡ next → (homes && nat_le c.start c.next) ≡ (homes_by i.g.kind && nat_le i.g.start next)
-waiting_is m s homes c told begun going i next at = ap (λ b. b && nat_le c.start c.next) i.homes_is ∙ ap (λ n. homes_by i.g.kind && nat_le n c.next) i.start_is ∙ ap (λ n. homes_by i.g.kind && nat_le i.g.start n) at
+waiting_is : (m : Machine) (s : SectionStream) (homes : Bool) (c : Course) (told : Option Told) (begun : List Started) (going : Option Going) (i : IsGoingOn m s homes c told begun going) (next : ℕ) → c.next ≡ next → (homes && nat_le c.start c.next) ≡ (is_home i.g.kind && nat_le i.g.start next)
+waiting_is m s homes c told begun going i next at = ap (λ b. b && nat_le c.start c.next) i.homes_is ∙ ap (λ n. is_home i.g.kind && nat_le n c.next) i.start_is ∙ ap (λ n. is_home i.g.kind && nat_le i.g.start n) at
 
 -- a word that answers no section that waits
 unheard : (m : Machine) (o : Open) (c : Course) (told : Option Told) (begun : List Started) (going : Option Going) (next : ℕ) → waits_by o c.start c.next ≡ false → IsGoing m o c told begun going → c.next ≡ next → hears_answer m next going ≡ None
@@ -438,7 +438,7 @@ answer_told m s old new seen i began small nothing goes ready on lines source re
     let begun = seen.begun ++ x ∷ [] in
     let few = h.few in
     let p = place in
-    let home : homes_by g.kind ≡ true = sym i.homes_is in
+    let home : is_home g.kind ≡ true = sym i.homes_is in
     let homes = homes_on g.kind m i.t.clocks old.next g home i.goes_as in
     let st : g.start ≤ seen.next = omega (arith, began, same) in
     let tiny : seen.next < no_end = omega (arith, small, same) in
@@ -465,7 +465,7 @@ answer_told m s old new seen i began small nothing goes ready on lines source re
       uptake = uptake_kept old new (old.next + 260) (new.next + 260) seen.fresh on lines (omega (arith, next)) h.uptake;
     }
   where
-    told_by : (told : Option Told) → told ≡ Some i.t → HomesOn m i.t.clocks i.g → homes_by i.g.kind ≡ true → i.g.start ≤ seen.next → seen.next < no_end → IsTold m old told seen.begun seen.going → IsTold m new told (seen.begun ++ answered m seen.next i.g ∷ []) None
+    told_by : (told : Option Told) → told ≡ Some i.t → HomesOn m i.t.clocks i.g → is_home i.g.kind ≡ true → i.g.start ≤ seen.next → seen.next < no_end → IsTold m old told seen.begun seen.going → IsTold m new told (seen.begun ++ answered m seen.next i.g ∷ []) None
     told_by None e homes home st tiny c = absurd (none_some i.t e)
     told_by (Some u) e homes home st tiny d =
         let g = i.g in

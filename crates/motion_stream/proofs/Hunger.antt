@@ -14,7 +14,7 @@ use Rattle.plan_types.specs.declared.plan.ReadEnd.{ReadEnd}
 use Rattle.plan_types.specs.declared.plan.Section.{Section}
 use Rattle.plan_types.specs.declared.plan.SectionKind.{SectionKind}
 use Rattle.plan_types.specs.Clock.{turn_ns}
-use Rattle.plan_types.specs.Sections.{end_time}
+use Rattle.plan_types.specs.Sections.{end_time, is_home}
 use Rattle.plan_types.specs.Speeds.{greatest_speeds}
 use Rattle.section_feed.specs.declared.section.SectionStream.{SectionStream}
 use Rattle.section_stream.specs.Looking.{IsFuture}
@@ -29,7 +29,7 @@ use Rattle.motion_stream.specs.declared.course.Open.TheVariants as opens
 use Rattle.motion_stream.specs.Courses.{IsCourseOf, IsEarly, IsStopped, IsGoing, IsGoingOn, IsTold}
 use Rattle.motion_stream.specs.Hunger.{AreSettled, HasEnough, HasNoEnd, IsReadOn, IsSated, IsShort, Lacks, awaits, wanted, wanted_by}
 use Rattle.motion_stream.specs.Motions.{IsPlannerOf, Planner, hungry, is_none_left, lacks, waits_by, wants}
-use Rattle.motion_stream.specs.Seen.{Going, Seen, homes_by, items_read, sections_in}
+use Rattle.motion_stream.specs.Seen.{Going, Seen, items_read, sections_in}
 use Rattle.motion_stream.specs.Texts.{MayBecome}
 use Rattle.motion_stream.proofs.Wholing.{source_front}
 
@@ -50,7 +50,7 @@ awaits_is m (opens.Goes s homes) c told begun going k i =
     ap (λ h. waits_by (opens.Goes s h) c.start k) i.homes_is ∙ ap (λ n. waits_by (opens.Goes s (homes_of i.g)) n k) i.start_is ∙ sym (ap (λ g. awaits g k) i.is)
   where
     homes_of : Going → Bool
-    homes_of g = homes_by g.kind
+    homes_of g = is_home g.kind
 
 wanted_is : (m : Machine) (c : Course) (told : Option Told) (begun : List Started) (going : Option Going) (k : ℕ) → IsTold m c told begun going → waits_by c.current c.start k ≡ awaits going k → wants (record { machine = m; course = c }) k ≡ wanted_by told going k
 wanted_is m c None begun going k i w = ap (λ b. if b then (if waits_by c.current c.start k then Some k else (if nat_lt k 64 then None else Some (k - 64))) else Some k) i.0

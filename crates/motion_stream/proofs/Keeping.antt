@@ -5,6 +5,7 @@ use Rattle.std.proofs.Props.{props}
 use Rattle.std.proofs.lemmas.Bool.Decides.{eqb_tells}
 use Rattle.std.proofs.lemmas.List.Elements.{All-head, All-nil, All-tail}
 use Rattle.std.specs.Prelude.{Option, Some, None}
+use Rattle.plan_types.specs.Sections.{first_start}
 use Rattle.msg_code.specs.declared.talk.Note.{Note}
 use Rattle.msg_code.specs.declared.talk.NoteNews.{NoteNews}
 use Rattle.msg_code.specs.declared.talk.NoteNews.TheVariants as news
@@ -15,7 +16,7 @@ use Rattle.plan_types.specs.Lines.{Clocks}
 use Rattle.motion_work.specs.Further.{AreFurther, noted_lines, told_on}
 use Rattle.motion_work.specs.Puts.{IsPut, IsReadNews, Put, begun_notes}
 use Rattle.motion_work.specs.Seen.{AreStarted, Started, ready_after}
-use Rattle.motion_work.specs.Told.{Told, first_start, heard, told_at, told_of}
+use Rattle.motion_work.specs.Told.{Told, heard, told_at, told_of}
 use Rattle.motion_work.specs.Turns.{done_notes}
 use Rattle.motion_work.proofs.Putting.{started_last}
 use Rattle.motion_work.proofs.Turning.{none_behind}

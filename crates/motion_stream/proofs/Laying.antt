@@ -2,6 +2,7 @@
 use Rattle.std.proofs.Common.{◌≡◌, ℕ, ◌+◌, ◌<◌, ◌≤◌, Bool, true, false, List, [], ◌∷◌, ◌++◌, All, length, append-nil, append_assoc, length-append, refl, ap, sym, subst, ◌∙◌, arith, inl, inr}
 use Rattle.std.proofs.lemmas.List.Elements.{All-append, All-cons, All-nil}
 use Rattle.std.specs.Prelude.{◌&&◌, nat_le, Option, Some, None, if◌then◌else◌}
+use Rattle.plan_types.specs.Sections.{is_home}
 use Rattle.msg_code.specs.declared.talk.WordMsg.{WordMsg}
 use Rattle.motion_stream.specs.declared.course.Course.{Course}
 use Rattle.gcode_program.specs.Readers.{section_with}
@@ -23,7 +24,7 @@ use Rattle.motion_work.proofs.Putting.{begun_stay, done_stay, out_more, put_more
 use Rattle.motion_stream.specs.Courses.{IsCourseOf, IsTold}
 use Rattle.motion_stream.specs.Motions.{Can, Hears, IsMore, IsPlannerOf, Makes, Planner, Reads, answered, begun_with, ended_in, going_with, hears_answer, read_on, with_lines, with_word}
 use Rattle.motion_stream.specs.Puts.{ArePutBy, IsBehind, IsNew, IsPutOf}
-use Rattle.motion_stream.specs.Seen.{AreWhole, EndsBy, Going, Seen, homes_by, nothing_seen}
+use Rattle.motion_stream.specs.Seen.{AreWhole, EndsBy, Going, Seen, nothing_seen}
 use Rattle.motion_stream.proofs.ByKind.{answered_board, whole_moves}
 use Rattle.motion_stream.specs.Texts.{MayBecome, ended_after, text_after}
 use Rattle.motion_stream.proofs.Drawing.{boards_in_all, units_snoc}
@@ -146,16 +147,16 @@ none_going m c (Some t) begun going h e = absurd (some_none e) where
   some_none e = cc
 
 -- An answer leaves of the whole sections that may be those where the one that homes ends by it.
-ends_home : (kind : SectionKind) (m : Machine) (next : ℕ) (x : Started) → homes_by kind ≡ true → x.end ≡ next → x.start ≤ next → EndsBy kind m next x
+ends_home : (kind : SectionKind) (m : Machine) (next : ℕ) (x : Started) → is_home kind ≡ true → x.end ≡ next → x.start ≤ next → EndsBy kind m next x
 ends_home Moves m next x home end start = absurd cc
 ends_home (Home axis) m next x home end start = omega (arith, end, start)
 
-one_whole : (m : Machine) (told : Option Told) (next : ℕ) (begun all : List Started) (g : Going) (waits : Bool) → (homes_by g.kind && nat_le g.start next) ≡ waits → AreWhole m told next (begun_with begun (if waits then Some (answered m next g) else None)) (going_with (Some g) (if waits then Some (answered m next g) else None)) all → (told ≡ None → ⊥)
+one_whole : (m : Machine) (told : Option Told) (next : ℕ) (begun all : List Started) (g : Going) (waits : Bool) → (is_home g.kind && nat_le g.start next) ≡ waits → AreWhole m told next (begun_with begun (if waits then Some (answered m next g) else None)) (going_with (Some g) (if waits then Some (answered m next g) else None)) all → (told ≡ None → ⊥)
     → AreWhole m told next begun (Some g) all
 one_whole m told next begun all g false e w on = w
 one_whole m None next begun all g true e w on = absurd (on refl)
 one_whole m (Some t) next begun all g true e w on =
-    let home = both (homes_by g.kind) (nat_le g.start next) e in
+    let home = both (is_home g.kind) (nat_le g.start next) e in
     let start : g.start ≤ next = elim (leb_tells g.start next) [ inl p ↦ p.1 | inr p ↦ absurd (clash (sym home.1 ∙ p.0)) ] in (
       answered m next g,
       w,
@@ -181,7 +182,7 @@ going_whole : (m : Machine) (told : Option Told) (next : ℕ) (begun all : List 
     → AreWhole m told next begun going all
 going_whole m told next begun all going false on w = w
 going_whole m told next begun all None true on w = w
-going_whole m told next begun all (Some g) true on w = one_whole m told next begun all g (homes_by g.kind && nat_le g.start next) refl w (λ e. some_none (on e)) where
+going_whole m told next begun all (Some g) true on w = one_whole m told next begun all g (is_home g.kind && nat_le g.start next) refl w (λ e. some_none (on e)) where
   some_none : Some g ≡ None → ⊥
   some_none e = cc
 

@@ -29,7 +29,7 @@ use Rattle.motion_work.specs.Homes.{last_step}
 use Rattle.motion_work.specs.Known.{AreHeldBy, lines_by}
 use Rattle.motion_work.proofs.Staying.{lines_by_all}
 use Rattle.plan_types.specs.Machines.{IsValidMachine}
-use Rattle.plan_types.specs.Sections.{clocks_at, turns_of_move}
+use Rattle.plan_types.specs.Sections.{clocks_at, turns_of_move, is_home}
 use Rattle.plan_types.specs.Valid.{IsValidLine, IsValidMove}
 use Rattle.gcode_program.specs.Held.{IsNear}
 use Rattle.section_plan.specs.Runs.{IsPlannable, IsReadyBoard, move_ns}
@@ -45,7 +45,7 @@ use Rattle.motion_stream.proofs.Drawing.{same_go, some_same, uptake_kept}
 use Rattle.motion_stream.proofs.Laid.{laid_later}
 use Rattle.motion_stream.specs.Courses.{AreAhead, GoesAs, IsConnected, IsCourseBy, IsCourseOf, IsEarly, IsGoing, IsIdle, IsLater, IsTold}
 use Rattle.motion_stream.specs.Gone.{HasOpened, TellsAs}
-use Rattle.motion_stream.specs.Seen.{AreWhole, Going, Seen, count_of, homes_by, items_read, sections_in}
+use Rattle.motion_stream.specs.Seen.{AreWhole, Going, Seen, count_of, items_read, sections_in}
 use Rattle.motion_stream.proofs.ByKind.{starts_late}
 use Rattle.motion_stream.specs.Steps.{AreBegun, IsBegun, IsDue, IsNotDue}
 use Rattle.motion_stream.specs.Texts.{IsSourceOf}
@@ -164,7 +164,7 @@ fresh_as (Home axis) m clocks next dwell start last moving moves ends tells soon
 
 pub section_begun : (m : Machine) (old new : Course) (seen : Seen) (k start dwell last moving : ℕ) (kind : SectionKind) (rest : List Item) (s : SectionStream) (homes : Bool) (n : NoteNews) → IsCourseBy m old seen (k + 260) (k + 261) → old.next ≡ k + 1 → k < 2 ^ 42
     → IsDueIn m old seen k start dwell kind rest → old.source.items.items ≡ items.Begin kind dwell ∷ rest → HasOpened m old.lines.each.items kind start rest new.source.items.items s last moving
-    → IsOpened old new start → new.current ≡ opens.Goes s homes → homes ≡ homes_by kind → new.ready ≡ old.ready → n ≡ news.Start old.place kind start last moving
+    → IsOpened old new start → new.current ≡ opens.Goes s homes → homes ≡ is_home kind → new.ready ≡ old.ready → n ≡ news.Start old.place kind start last moving
     → (next : Seen) × IsBegun m seen next k (Some n) × IsCourseOf m new next
 section_begun m old new seen k start dwell last moving kind rest s homes n h next small d its opened o current homes_is ready told =
     let t = d.t in
@@ -179,7 +179,7 @@ section_begun m old new seen k start dwell last moving kind rest s homes n h nex
     let from = opened.next in
     let held : map (lines_by (start + 17)) t.clocks ≡ t.clocks =
     lines_by_all t.clocks (start + 17) (subst (λ (cs : List Clocks). (b : ℕ) → b < length cs → AreHeldBy (start + 17) (clocks_at cs b).held) d.is.lines (λ b lt. subst (λ n. AreHeldBy n (clocks_at old.lines.each.items b).held) (let e : k + 261 + 16 ≡ start + 17 = omega (arith, exact) in e) (h.uptake.held b lt))) in
-    let on : IsSectionOn m t.clocks start (homes_by kind) s opened.moves (λ b. []) = subst (λ c. IsSectionOn m c start (homes_by kind) s opened.moves (λ b. [])) d.is.lines opened.on in
+    let on : IsSectionOn m t.clocks start (is_home kind) s opened.moves (λ b. []) = subst (λ c. IsSectionOn m c start (is_home kind) s opened.moves (λ b. [])) d.is.lines opened.on in
     let tells : TellsAs kind m t.clocks start opened.moves opened.ends last moving = subst (λ c. TellsAs kind m c start opened.moves opened.ends last moving) d.is.lines opened.tells in (
       with_begun seen seen.begun (Some g),
       record {

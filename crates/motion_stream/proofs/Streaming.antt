@@ -8,7 +8,7 @@ use Rattle.plan_types.specs.declared.machine.Machine.{Machine}
 use Rattle.plan_types.specs.declared.plan.Move.{Move}
 use Rattle.plan_types.specs.declared.plan.SectionKind.TheVariants.{Moves}
 use Rattle.plan_types.specs.Lines.{Clocks}
-use Rattle.plan_types.specs.Sections.{for_each_stepper, latest, section_end, stepper_end}
+use Rattle.plan_types.specs.Sections.{for_each_stepper, latest, section_end, stepper_end, is_home}
 use Rattle.section_feed.specs.declared.section.SectionStream.{SectionStream}
 use Rattle.section_feed.specs.Going.{IsPackedTo}
 use Rattle.section_feed.specs.On.{IsSectionOn}
@@ -39,7 +39,7 @@ use Rattle.motion_stream.specs.Courses.{AreAhead, IsConnected, IsCourseBy, IsEar
 use Rattle.motion_stream.specs.Gone.{HasEnded, HasGivenRows, released_in}
 use Rattle.motion_stream.specs.Rows.{AreJoined, batches_of, units_in}
 use Rattle.motion_stream.specs.Motions.{answered}
-use Rattle.motion_stream.specs.Seen.{AreWhole, EndsBy, Going, IsContinued, Seen, count_of, homes_by, items_read, moves_end}
+use Rattle.motion_stream.specs.Seen.{AreWhole, EndsBy, Going, IsContinued, Seen, count_of, items_read, moves_end}
 use Rattle.motion_stream.proofs.ByKind.{all_of, answered_board, answered_items, continued_sooner, ends_late, ends_sooner, goes_by, moves_kind, whole_moves}
 use Rattle.motion_stream.specs.Steps.{IsPassed}
 use Rattle.motion_stream.proofs.Drawing.{IsKept, ahead_next, batches_are, behind, boards_in_all, course_on, front_units, later_easy, no_units, same_go, some_same, told_kept, units_snoc}
@@ -179,7 +179,7 @@ drawn_passed m old new s later homes own seen k batches i h kept ready start nex
     let same = h.next in
     let on = drawn.on m i.t.clocks g.start homes g.moves g.released i.on in
     let takes : is_taking (queue_of later) ≡ g.goes = drawn.takes ∙ i.takes in
-    let after : homes_by g.kind ≡ false → (all : List Move) → IsFuture g.goes g.moves all → new.next + 1 ≤ section_end m i.t.clocks all g.start = λ off all f.
+    let after : is_home g.kind ≡ false → (all : List Move) → IsFuture g.goes g.moves all → new.next + 1 ≤ section_end m i.t.clocks all g.start = λ off all f.
     let turn = drawn.next in
     let l = section-left m i.t.clocks g.start homes later g.moves all (more_released g k own) (next_of later + 251) on (subst (λ t. IsFuture t g.moves all) (sym takes) f) packed (omega (arith, turn, at, small)) (left (i.homes_is ∙ off)) in
     omega (arith, l, turn, next, at) in (

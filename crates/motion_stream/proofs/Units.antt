@@ -10,7 +10,7 @@ use Rattle.plan_types.specs.declared.plan.SectionKind.{SectionKind}
 use Rattle.plan_types.specs.declared.plan.SectionKind.TheVariants.{Home, Moves}
 use Rattle.plan_types.specs.Lines.{Clocks}
 use Rattle.plan_types.specs.Machines.{board_at}
-use Rattle.plan_types.specs.Sections.{clocks_at}
+use Rattle.plan_types.specs.Sections.{clocks_at, is_home}
 use Rattle.section_units.specs.Plans.{IsFrontOnBy, section_on}
 use Rattle.section_units.proofs.Fronting.{section_front, section_whole}
 use Rattle.motion_work.specs.Homes.{before_turn}
@@ -24,7 +24,7 @@ use Rattle.motion_stream.specs.Courses.{IsCourseOf}
 use Rattle.motion_stream.specs.Motions.{Can, IsPlannerOf, Makes, Planner}
 use Rattle.motion_stream.specs.Puts.{ArePutBy}
 use Rattle.motion_stream.specs.News.{tells_read}
-use Rattle.motion_stream.specs.Seen.{Seen, homes_by}
+use Rattle.motion_stream.specs.Seen.{Seen}
 use Rattle.motion_stream.specs.Texts.{MayBecome}
 use Rattle.motion_stream.specs.Turns.{HaveUnits, HaveUnitsBy, IsTurnOf}
 use Rattle.motion_stream.specs.Wholes.{ArePlanned, AreSentIn, IsToldOf}
@@ -32,7 +32,7 @@ use Rattle.motion_stream.proofs.Laying.{turn_kept}
 use Rattle.motion_stream.proofs.Planning.{are_planned}
 
 -- what a planned section releases on a board are the first units of its plan
-planned_front : (kind : SectionKind) (m : Machine) (clocks : List Clocks) (s : Started) (b : ℕ) → b < length m.boards → IsPlanned kind m clocks s → IsFrontOnBy (homes_by kind) m (lines_of kind s.end clocks) s.section.moves s.start b (get_or s.boards b [])
+planned_front : (kind : SectionKind) (m : Machine) (clocks : List Clocks) (s : Started) (b : ℕ) → b < length m.boards → IsPlanned kind m clocks s → IsFrontOnBy (is_home kind) m (lines_of kind s.end clocks) s.section.moves s.start b (get_or s.boards b [])
 planned_front Moves m clocks s b there h = section_whole false (clocks_at clocks b) (board_at m b).freq (board_at m b).slots (section_on m clocks s.section.moves s.start b (get_or s.boards b [])) (h.boards.each b there)
 planned_front (Home axis) m clocks s b there h =
     let known = lines_of (Home axis) s.end clocks in
@@ -62,7 +62,7 @@ units_by m clocks turn ready (s ∷ begun) started sent =
             later = x.later;
             are = x.are;
             behind = x.behind;
-            planned = section_front (homes_by s.section.kind) (clocks_at lines b) (board_at m b).freq (board_at m b).slots s.start _ _ x.sent x.later (subst (IsFrontOnBy (homes_by s.section.kind) m lines s.section.moves s.start b) x.are all);
+            planned = section_front (is_home s.section.kind) (clocks_at lines b) (board_at m b).freq (board_at m b).slots s.start _ _ x.sent x.later (subst (IsFrontOnBy (is_home s.section.kind) m lines s.section.moves s.start b) x.are all);
             longest = x.is;
           },
       units_by m clocks turn (s.end + 260) begun started.1 sent.1,

@@ -23,7 +23,7 @@ use Rattle.plan_types.specs.declared.plan.SectionKind.{SectionKind}
 use Rattle.plan_types.specs.declared.plan.SectionKind.TheVariants.{Home, Moves}
 use Rattle.plan_types.specs.Lines.{Clocks}
 use Rattle.plan_types.specs.Machines.{IsValidMachine}
-use Rattle.plan_types.specs.Sections.{clocks_at, section_end}
+use Rattle.plan_types.specs.Sections.{clocks_at, section_end, is_home}
 use Rattle.plan_types.specs.Valid.{IsValidMove}
 use Rattle.section_feed.specs.Boards.{MayStart}
 use Rattle.section_feed.specs.declared.section.SectionStream.{SectionStream}
@@ -45,7 +45,7 @@ use Rattle.motion_stream.specs.declared.course.Open.TheVariants as opens
 use Rattle.motion_stream.specs.declared.source.Source.{Source}
 use Rattle.motion_stream.specs.Courses.{GoesAs, IsCourseOf, IsGoing, IsGoingOn, IsTold}
 use Rattle.motion_stream.specs.Motions.{IsPlannerOf, Planner}
-use Rattle.motion_stream.specs.Seen.{AreWhole, EndsBy, Going, Seen, homes_by, items_read, moves_end, sections_in}
+use Rattle.motion_stream.specs.Seen.{AreWhole, EndsBy, Going, Seen, items_read, moves_end, sections_in}
 use Rattle.motion_stream.proofs.ByKind.{can}
 use Rattle.motion_stream.specs.Texts.{IsSourceOf, MayBecome}
 use Rattle.motion_stream.specs.Wholes.{AreOf}
@@ -123,7 +123,7 @@ plan_end (Home axis) m clocks moves start = no_end
 
 -- it is planned so, and may be so
 one_planned : (kind : SectionKind) (m : Machine) (clocks : List Clocks) (next : ℕ) (g : Going) (moves : List Move) (boards : List (List Release)) (x : Started) → x ≡ record { section = section_with g.kind moves g.dwell; start = g.start; end = plan_end kind m clocks moves g.start; last = g.last; moving = g.moving; boards = boards } → IsFuture g.goes g.moves moves
-    → GoesAs kind m clocks next g → (kind ≡ Moves → section_end m clocks moves g.start < no_end) → g.start < no_end → map (lines_by (no_end + 276)) clocks ≡ clocks → AreOnBoardsBy (homes_by kind) m clocks moves g.start boards → IsPlanned kind m clocks x
+    → GoesAs kind m clocks next g → (kind ≡ Moves → section_end m clocks moves g.start < no_end) → g.start < no_end → map (lines_by (no_end + 276)) clocks ≡ clocks → AreOnBoardsBy (is_home kind) m clocks moves g.start boards → IsPlanned kind m clocks x
 one_planned Moves m clocks next g moves boards x e future i known start held are =
     subst (IsMoved m clocks) (sym e) (record { end = refl; known = known refl; last = i.last; moving = i.moving; boards = are })
 one_planned (Home axis) m clocks next g moves boards x e future i known start held are =
@@ -165,7 +165,7 @@ going_whole m c s homes seen whole i at small held may f = ∥∥₁_map (told-w
       let soon = i.soon in
       let known : g.kind ≡ Moves → section_end m t.clocks f.moves g.start < no_end = λ kind. known_end m t.clocks g.start g.dwell f.moves whole (sections_in seen.begun) f.later i.on.machine (f.are ∙ ap (λ k. sections_in seen.begun ++ section_with k f.moves g.dwell ∷ f.later) kind) i.on.may_start in
       let x : Started = record { section = section_with g.kind f.moves g.dwell; start = g.start; end = plan_end g.kind m t.clocks f.moves g.start; last = g.last; moving = g.moving; boards = boards } in
-      let are : AreOnBoardsBy (homes_by g.kind) m t.clocks f.moves g.start boards = subst (λ b. AreOnBoardsBy b m t.clocks f.moves g.start boards) i.homes_is told.are in
+      let are : AreOnBoardsBy (is_home g.kind) m t.clocks f.moves g.start boards = subst (λ b. AreOnBoardsBy b m t.clocks f.moves g.start boards) i.homes_is told.are in
       let tiny : g.start < no_end = omega (arith, soon, small) in (
         seen.begun ++ x ∷ [],
         record {

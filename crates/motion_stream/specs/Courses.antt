@@ -9,7 +9,7 @@ use Rattle.plan_types.specs.declared.plan.SectionKind.{SectionKind}
 use Rattle.plan_types.specs.declared.plan.SectionKind.TheVariants.{Home, Moves}
 use Rattle.plan_types.specs.Lines.{Clocks}
 use Rattle.plan_types.specs.Machines.{IsValidMachine}
-use Rattle.plan_types.specs.Sections.{clocks_at, for_each_stepper, latest, section_end, stepper_end}
+use Rattle.plan_types.specs.Sections.{clocks_at, for_each_stepper, latest, section_end, stepper_end, is_home}
 use Rattle.section_feed.specs.declared.section.SectionStream.{SectionStream}
 use Rattle.section_feed.specs.On.{IsSectionOn}
 use Rattle.section_feed.specs.Queues.{is_taking}
@@ -27,7 +27,7 @@ use Rattle.motion_work.specs.Told.{Told}
 use Rattle.motion_stream.specs.declared.course.Course.{Course}
 use Rattle.motion_stream.specs.declared.course.Open.{Open}
 use Rattle.motion_stream.specs.declared.course.Open.TheVariants as opens
-use Rattle.motion_stream.specs.Seen.{Going, Seen, count_of, homes_by, items_read}
+use Rattle.motion_stream.specs.Seen.{Going, Seen, count_of, items_read}
 use Rattle.motion_stream.specs.Texts.{IsSourceOf}
 
 -- the units of a board in a turn, of some turns one behind the other
@@ -69,7 +69,7 @@ pub record IsGoingOn (m : Machine) (s : SectionStream) (homes : Bool) (c : Cours
     (begun : List Started) (going : Option Going) : Type 0 where
   pub g : Going
   pub is : going ≡ Some g
-  pub homes_is : homes ≡ homes_by g.kind
+  pub homes_is : homes ≡ is_home g.kind
   pub t : Told
   pub told_is : told ≡ Some t
   pub on : IsSectionOn m t.clocks g.start homes s g.moves g.released

@@ -12,11 +12,10 @@ use Rattle.plan_types.specs.Clock.{turn_ns}
 use Rattle.motion_work.specs.Homes.{last_step, moving_in, no_end}
 use Rattle.motion_work.specs.Seen.{AreBoardClocks}
 use Rattle.motion_stream.specs.Courses.{IsStopped}
-use Rattle.motion_stream.specs.Seen.{homes_by}
 use Rattle.plan_types.specs.declared.plan.SectionKind.{SectionKind}
 use Rattle.plan_types.specs.declared.plan.SectionKind.TheVariants.{Home, Moves}
 use Rattle.plan_types.specs.Machines.{IsValidMachine}
-use Rattle.plan_types.specs.Sections.{clocks_at}
+use Rattle.plan_types.specs.Sections.{clocks_at, is_home}
 use Rattle.section_feed.specs.AllBoards.{ArePast, AreReleased, last_of}
 use Rattle.section_feed.specs.Queues.{IsDrawn, drawn_to, is_taking}
 use Rattle.section_feed.specs.Sections.{boards_in, next_of, queue_of}
@@ -78,7 +77,7 @@ pub record HasOpened (m : Machine) (clocks : List Clocks) (kind : SectionKind) (
   pub ends : Bool
   pub items_are : waiting ≡ (moves_in moves ++ ending ends) ++ left
   pub takes : is_taking (queue_of s) ≡ not ends
-  pub on : IsSectionOn m clocks start (homes_by kind) s moves (λ b. [])
+  pub on : IsSectionOn m clocks start (is_home kind) s moves (λ b. [])
   pub next : next_of s + 250 ≡ start
   pub tells : TellsAs kind m clocks start moves ends last moving
   pub stops : is_taking (queue_of s) ≡ true → IsStopped left

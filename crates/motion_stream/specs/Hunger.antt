@@ -10,18 +10,18 @@ use Rattle.plan_types.specs.declared.machine.Machine.{Machine}
 use Rattle.plan_types.specs.declared.plan.Move.{Move}
 use Rattle.plan_types.specs.declared.plan.ReadEnd.{ReadEnd}
 use Rattle.plan_types.specs.Clock.{turn_ns}
-use Rattle.plan_types.specs.Sections.{end_time}
+use Rattle.plan_types.specs.Sections.{end_time, is_home}
 use Rattle.plan_types.specs.Speeds.{greatest_speeds}
 use Rattle.section_stream.specs.Looking.{IsFuture}
 use Rattle.motion_work.specs.Seen.{Started, ready_after}
 use Rattle.motion_work.specs.Told.{Told}
-use Rattle.motion_stream.specs.Seen.{Going, Seen, homes_by, sections_in}
+use Rattle.motion_stream.specs.Seen.{Going, Seen, sections_in}
 use Rattle.motion_stream.specs.Texts.{MayBecome}
 
 -- a section that goes on homes, has started by turn k, and so waits for its answer
 abbrev pub awaits : Option Going → ℕ → Bool
 awaits None k = false
-awaits (Some g) k = homes_by g.kind && nat_le g.start k
+awaits (Some g) k = is_home g.kind && nat_le g.start k
 
 -- The word that must be taken before the batches of turn k, by what is known of connecting: while connecting,
 -- and while a homing section that has started waits for its answer, that of the same turn; else that of 64

@@ -8,7 +8,7 @@ use Rattle.msg_code.specs.declared.talk.WordMsg.{WordMsg}
 use Rattle.msg_code.specs.declared.unit.Batch.{Batch}
 use Rattle.plan_types.specs.declared.machine.Machine.{Machine}
 use Rattle.plan_types.specs.Clock.{turn_ns}
-use Rattle.plan_types.specs.Sections.{clocks_at}
+use Rattle.plan_types.specs.Sections.{clocks_at, is_home}
 use Rattle.plan_types.specs.declared.plan.Move.{Move}
 use Rattle.section_stream.specs.Looking.{IsFuture}
 use Rattle.section_feed.specs.Queues.{is_taking, settled_to}
@@ -21,7 +21,7 @@ use Rattle.motion_stream.specs.declared.course.Open.{Open}
 use Rattle.motion_stream.specs.declared.course.Open.TheVariants as opens
 use Rattle.motion_stream.specs.Courses.{IsCourseOf}
 use Rattle.motion_stream.specs.Puts.{IsBehind, IsPutOf}
-use Rattle.motion_stream.specs.Seen.{Going, Seen, homes_by}
+use Rattle.motion_stream.specs.Seen.{Going, Seen}
 use Rattle.motion_stream.specs.Texts.{ended_after, text_after}
 
 -- a machine on a printer, and where it is
@@ -137,7 +137,7 @@ answered m next g = record {
 -- where it homes and has started. Else the answer is passed over.
 abbrev pub hears_answer : Machine → ℕ → Option Going → Option Started
 hears_answer m next None = None
-hears_answer m next (Some g) = if homes_by g.kind && nat_le g.start next then Some (answered m next g) else None
+hears_answer m next (Some g) = if is_home g.kind && nat_le g.start next then Some (answered m next g) else None
 
 -- the sections that are known whole, and the one that goes on, behind that
 abbrev pub begun_with : List Started → Option Started → List Started

@@ -1,5 +1,5 @@
 -- What a motion machine has seen of a text that is read in pieces, and begun.
-use Rattle.std.specs.Prelude.{◌≡◌, ℕ, ◌+◌, ◌*◌, ◌/◌, ◌<◌, ◌≤◌, Bool, true, false, not, List, [], ◌∷◌, ◌++◌, length, map, max, slice_index_or, Option, Some, None}
+use Rattle.std.specs.Prelude.{◌≡◌, ℕ, ◌+◌, ◌*◌, ◌/◌, ◌<◌, ◌≤◌, Bool, false, not, List, [], ◌∷◌, ◌++◌, length, map, max, slice_index_or, Option, Some, None}
 use Rattle.gcode_program.specs.declared.items.Item.{Item}
 use Rattle.gcode_program.specs.declared.items.Item.TheVariants as items
 use Rattle.gcode_program.specs.Items.{ending, items_of, moves_in}
@@ -19,11 +19,6 @@ use Rattle.motion_work.specs.declared.told.BoardLine.{BoardLine}
 use Rattle.motion_work.specs.Seen.{Started}
 use Rattle.motion_work.specs.Told.{Told}
 use Rattle.motion_stream.specs.Texts.{MayBecome}
-
--- a section of a kind homes
-abbrev pub homes_by : SectionKind → Bool
-homes_by Moves = false
-homes_by (Home axis) = true
 
 -- A section that was begun and whose end is not known: its kind, the dwells before it, the turn in which it
 -- starts, its moves that were read, whether more may follow, of one that homes the turn of its last planned

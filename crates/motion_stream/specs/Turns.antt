@@ -1,5 +1,6 @@
 -- What a planner puts in a turn, told by the sections that were begun.
 use Rattle.std.specs.Prelude.{◌≡◌, ℕ, ◌+◌, ◌<◌, ◌≤◌, All, List, [], ◌∷◌, ◌++◌, length, slice_index_or, Option, Some, None}
+use Rattle.plan_types.specs.Sections.{is_home}
 use Rattle.gcode_program.specs.Programs.{program_sections}
 use Rattle.plan_types.specs.declared.machine.Machine.{Machine}
 use Rattle.plan_types.specs.declared.plan.Section.{Section}
@@ -9,7 +10,7 @@ use Rattle.section_units.specs.Plans.{AreSentOn, IsFrontOnBy}
 use Rattle.motion_work.specs.Puts.{IsPut, Put}
 use Rattle.motion_work.specs.Seen.{Started, lines_of, ready_after}
 use Rattle.motion_work.specs.Told.{Told}
-use Rattle.motion_stream.specs.Seen.{homes_by, sections_in}
+use Rattle.motion_stream.specs.Seen.{sections_in}
 use Rattle.motion_stream.specs.Wholes.{IsToldOf}
 
 -- The units of a section on a board that are released before a turn, whether it homes or not. Those of each
@@ -21,7 +22,7 @@ pub record HasUnits (m : Machine) (clocks : List Clocks) (turn : ℕ) (s : Start
   pub later : List Release
   pub are : slice_index_or s.boards b [] ≡ sent ++ later
   pub behind : All (λ r. turn ≤ r.turn) later
-  pub planned : IsFrontOnBy (homes_by s.section.kind) m (lines_of s.section.kind s.end clocks) s.section.moves s.start b
+  pub planned : IsFrontOnBy (is_home s.section.kind) m (lines_of s.section.kind s.end clocks) s.section.moves s.start b
       sent
   pub longest : AreSentOn m (lines_of s.section.kind s.end clocks) s.section.moves s.start b sent
 

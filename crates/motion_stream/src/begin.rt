@@ -1,13 +1,14 @@
 //! The section that is begun in a turn.
 
 ghost use Rattle.std.specs.Prelude.{◌≡◌, ◌+◌, ◌<◌, ◌^◌, ◌∷◌, IfNone, IfOk, IfSome, Some};
+ghost use Rattle.plan_types.specs.Sections.{is_home};
 ghost use Rattle.gcode_program.specs.declared.items.Item.TheVariants as told;
 ghost use Rattle.plan_types.specs.declared.plan.SectionKind.TheVariants.{Home, Moves};
 ghost use Rattle.motion_stream.specs.Courses.{IsCourseBy};
 ghost use Rattle.motion_stream.specs.News.{IsPlain};
 ghost use Rattle.motion_stream.specs.Motions.{AreEarly};
 ghost use Rattle.motion_stream.specs.Gone.{HasOpened, MayOpen};
-ghost use Rattle.motion_stream.specs.Seen.{Seen, homes_by};
+ghost use Rattle.motion_stream.specs.Seen.{Seen};
 ghost use Rattle.motion_stream.specs.Steps.{Begins, IsDue, IsNotDue};
 
 use crate::OutOfMemory;
@@ -141,7 +142,7 @@ fn open_section(
 
 /// Whether a section of a kind homes.
 fn homes_by(kind: SectionKind) -> bool
-    ensures { result ≡ homes_by kind }
+    ensures { result ≡ is_home kind }
 {
     match kind {
         SectionKind::Moves => false,

@@ -1,5 +1,6 @@
 -- What words tell of the boards' clocks.
-use Rattle.std.specs.Prelude.{ℕ, ◌+◌, ◌*◌, ◌%◌, ◌^◌, ◌==◌, ◌&&◌, ◌||◌, Bool, true, false, List, [], ◌∷◌, map, max, nat_le, nat_lt, Option, Some, None, if◌then◌else◌}
+use Rattle.std.specs.Prelude.{ℕ, ◌*◌, ◌%◌, ◌^◌, ◌==◌, ◌&&◌, ◌||◌, Bool, true, false, List, [], ◌∷◌, map, max, nat_le, nat_lt, Option, Some, None, if◌then◌else◌}
+use Rattle.plan_types.specs.Sections.{first_start}
 use Rattle.msg_code.specs.declared.talk.WordMsg.{WordMsg}
 use Rattle.msg_code.specs.declared.talk.WordNews.{WordNews}
 use Rattle.msg_code.specs.declared.talk.WordNews.TheVariants as news
@@ -59,10 +60,6 @@ told_of m w = if nat_lt w.turn last_turn then told_in m w.turn w.news else None
 pub record Told : Type 0 where
   pub first : ℕ
   pub clocks : List Clocks
-
--- a section starts in turn 1,260 or later, and 260 turns after connecting ended
-abbrev pub first_start : ℕ → ℕ
-first_start turn = max 1_260 (turn + 260)
 
 -- where clock lines were told, connecting ended in a turn
 abbrev pub told_at : ℕ → Option (List Clocks) → Option Told

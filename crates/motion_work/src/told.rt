@@ -1,10 +1,11 @@
 //! What words tell of the boards' clocks.
 
 ghost use Rattle.std.specs.Prelude.{◌≡◌, ℕ, ◌+◌, ◌*◌, ◌<◌, ◌≤◌, ◌^◌, ◌++◌, List, [], ◌∷◌, Option, Some, None, IfOk, OnOk, length, map, max, IfSome, IfNone, MatchOption};
+ghost use Rattle.plan_types.specs.Sections.{first_start};
 ghost use Rattle.plan_types.specs.Lines.{one_line};
 ghost use Rattle.plan_types.specs.Machines.{IsValidBoard, IsValidMachine};
 ghost use Rattle.plan_types.specs.Valid.{IsValidLine};
-ghost use Rattle.motion_work.specs.Told.{are_fit, first_start, is_fit, lines_in, told_by, told_in, told_of};
+ghost use Rattle.motion_work.specs.Told.{are_fit, is_fit, lines_in, told_by, told_in, told_of};
 ghost use Rattle.std.specs.Prelude.{All, true};
 
 use crate::OutOfMemory;

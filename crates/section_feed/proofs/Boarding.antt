@@ -15,7 +15,7 @@ use Rattle.section_stream.specs.declared.stepper.StepperStream.{StepperStream}
 use Rattle.section_stream.specs.Pieces.{AreInTurns, Piece}
 use Rattle.section_stream.proofs.Cutting.{past-more, piece-late, turns-more}
 use Rattle.section_stream.specs.Steppers.{IsCaughtUp, IsDueFrom, IsPlannedTo, IsStepperOf, KnowsTo, StepperKind, clocks_of, kind_of, known_of, planned_turn}
-use Rattle.section_feed.specs.Ordering.{of_stepper}
+use Rattle.section_units.specs.Sections.{of_stepper}
 use Rattle.section_feed.specs.Boards.{AreUpTo, HasGiven, IsLasting, IsUpTo, most_ns}
 use Rattle.section_feed.specs.Changes.{GoOn, GoesOn}
 use Rattle.section_feed.proofs.Lasts.{board-small, kept-lasting, last-soon, lines-small, tick-small}

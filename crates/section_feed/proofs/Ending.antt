@@ -3,6 +3,8 @@ use Rattle.std.proofs.Common.{◌≡◌, ℕ, ◌*◌, ◌<◌, ◌≤◌, Optio
 use Rattle.std.proofs.Math.Logic.{∥∥₁_map, ∥∥₁_elim, ∥∥₁_prop}
 use Rattle.std.proofs.Props.{props}
 use Rattle.std.proofs.lemmas.List.{append-nil}
+use Rattle.step_ticks.specs.Streaming.{last_step_tick}
+use Rattle.section_units.specs.Sections.{of_stepper}
 use Rattle.plan_types.specs.Lines.{Clocks, lines_tick}
 use Rattle.plan_types.specs.Plan.{AreSpaced}
 use Rattle.plan_types.specs.Sections.{TimedPart}
@@ -13,11 +15,11 @@ use Rattle.section_units.specs.Packed.{ArePackedBy}
 use Rattle.section_stream.specs.declared.stepper.StepperStream.{StepperStream}
 use Rattle.section_stream.specs.Plans.{lines_of}
 use Rattle.section_stream.specs.Steppers.{StepperKind, clocks_of, kind_of, packed_step}
-use Rattle.section_feed.specs.Ordering.{AreInOrder, of_stepper}
+use Rattle.section_feed.specs.Ordering.{AreInOrder}
 use Rattle.section_feed.specs.Boards.{AreUpTo}
 use Rattle.section_feed.specs.Feeding.{AreFeeding}
 use Rattle.section_feed.specs.Wholes.{AreDone, ArePast, IsBefore, IsOver, IsReleased, IsSetTo, sent_plan}
-use Rattle.section_stream.specs.Pieces.{IsLastOf, last_step, steps_in}
+use Rattle.section_stream.specs.Pieces.{IsLastOf, steps_in}
 use Rattle.section_stream.proofs.Packed.{last-told}
 use Rattle.section_stream.proofs.Stretches.{last-after}
 use Rattle.section_units.specs.Units.{as_sent}
@@ -64,9 +66,9 @@ pub before-later : (clocks : Clocks) (turn later t : ℕ) → turn ≤ later →
 before-later clocks turn later t h is = record { before = λ j l. is.before j (omega arith) }
 
 -- steps that are spaced are at most the last one
-pub spaced-last : (b : ℕ) (steps : List Planned) → AreSpaced b steps → All (λ q. q.tick ≤ last_step b steps) steps
+pub spaced-last : (b : ℕ) (steps : List Planned) → AreSpaced b steps → All (λ q. q.tick ≤ last_step_tick b steps) steps
 spaced-last b [] h = All-nil (λ (q : Planned). q.tick ≤ b)
-spaced-last b (s ∷ steps) h = All-cons (λ (q : Planned). q.tick ≤ last_step s.tick steps) s steps (last-after s.tick steps h.1) (spaced-last s.tick steps h.1)
+spaced-last b (s ∷ steps) h = All-cons (λ (q : Planned). q.tick ≤ last_step_tick s.tick steps) s steps (last-after s.tick steps h.1) (spaced-last s.tick steps h.1)
 
 pub over-later : (clocks : Clocks) (turn later : ℕ) (o : Option ℕ) → turn ≤ later → IsOver clocks turn o → IsOver clocks later o
 over-later clocks turn later None order is = tt

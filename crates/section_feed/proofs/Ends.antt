@@ -4,6 +4,7 @@ use Rattle.std.proofs.lemmas.Bool.{eq-eqb}
 use Rattle.std.proofs.lemmas.Bool.Decides.{eqb_tells}
 use Rattle.std.proofs.lemmas.List.FromFn.{get_or-map-range_with_len, length-map-range_with_len}
 use Rattle.std.specs.List.{range_with_len}
+use Rattle.step_ticks.specs.Streaming.{last_step_tick}
 use Rattle.plan_types.specs.declared.machine.Machine.{Machine}
 use Rattle.plan_types.specs.declared.machine.StepperDef.{StepperDef}
 use Rattle.plan_types.specs.declared.plan.Move.{Move}
@@ -21,7 +22,7 @@ use Rattle.section_units.specs.Units.{as_sent}
 use Rattle.section_stream.specs.Looking.{IsFuture}
 use Rattle.section_stream.specs.Moving.{given_count}
 use Rattle.section_stream.specs.declared.stepper.StepperStream.{StepperStream}
-use Rattle.section_stream.specs.Pieces.{IsLastOf, last_step}
+use Rattle.section_stream.specs.Pieces.{IsLastOf}
 use Rattle.section_stream.specs.Steppers.{packed_step}
 use Rattle.section_stream.proofs.Stretches.{last-sent}
 use Rattle.section_feed.specs.declared.board.BoardStream.{BoardStream}
@@ -113,7 +114,7 @@ plan-is m clocks moves turn b k s homing same own =
     one ∙ two
 
 -- the turn of the last step
-pub last-some : (clocks : Clocks) (base : ℕ) (s : Planned) (steps : List Planned) → last_turn clocks (s ∷ steps) ≡ lines_turn clocks (last_step base (s ∷ steps))
+pub last-some : (clocks : Clocks) (base : ℕ) (s : Planned) (steps : List Planned) → last_turn clocks (s ∷ steps) ≡ lines_turn clocks (last_step_tick base (s ∷ steps))
 last-some clocks base s [] = refl
 last-some clocks base s (t ∷ steps) = last-some clocks s.tick t steps
 

@@ -15,7 +15,7 @@ use Rattle.plan_types.specs.Board.{TicksRise, last_of, steps_of}
 use Rattle.plan_types.specs.Clock.{tick, turn_ns}
 use Rattle.plan_types.specs.Lines.{AreHeld, Clocks, board_over, come, lines_board, lines_tick, lines_turn, tick_over}
 use Rattle.plan_types.specs.Machines.{board_at, stepper_at}
-use Rattle.plan_types.specs.Plan.{AreSpaced, Fits, IsPulseOf, cancel_reach, filtered, max_error, on_board, spaced}
+use Rattle.plan_types.specs.Plan.{AreSpaced, Fits, IsPulseOf, cancel_reach, filtered, max_error, on_board, spaced, pulse_of}
 use Rattle.plan_types.specs.Sections.{clocks_at, section_parts, section_plans, segment_of, stepper_plan}
 use Rattle.plan_types.specs.Steps.{raw_steps}
 use Rattle.clock_line.specs.Kept.{AreKept, clocks_of}
@@ -25,7 +25,7 @@ use Rattle.step_feed.specs.Pacing.{ArePaced, Release, units_of}
 use Rattle.step_feed.specs.Units.{StepUnit}
 use Rattle.section_units.specs.Merged.{plan_at}
 use Rattle.section_units.specs.Plans.{IsFrontOnBy, plans_on}
-use Rattle.section_units.specs.Sections.{AreBegunBy, AreChained, IsUnit, dir_after, of_stepper, pulse_of, steps_said, ticks_meant}
+use Rattle.section_units.specs.Sections.{AreBegunBy, AreChained, IsUnit, dir_after, of_stepper, steps_said, ticks_meant}
 use Rattle.section_units.specs.Units.{as_sent, sent}
 use Rattle.section_stream.proofs.Adding.{board-from}
 use Rattle.section_feed.specs.Fewer.{AreFirstLines, AreSameTo, HoldBehind, PlansAgree}

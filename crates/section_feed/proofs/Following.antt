@@ -31,7 +31,6 @@ use Rattle.section_feed.specs.AllBoards.{ArePast, AreReleased, last_of}
 use Rattle.section_feed.specs.Fronts.{IsBoardFront, parts_of}
 use Rattle.section_feed.specs.Kinds.{board_kinds, steppers_on}
 use Rattle.section_feed.specs.On.{IsSectionOn}
-use Rattle.section_feed.specs.Ordering as feed
 use Rattle.section_feed.specs.Queues.{IsDrawn, drawn_to, is_taking}
 use Rattle.section_feed.specs.Sections.{boards_in, queue_of, sets_of}
 use Rattle.section_feed.specs.Sets.{BoardSet, start_set}
@@ -39,11 +38,6 @@ use Rattle.section_feed.specs.Wholes.{IsReleased, IsSetTo, sent_plan}
 use Rattle.section_feed.proofs.Ends.{has-number, plan-is, plans-many, section-ends, section-parts}
 use Rattle.section_feed.proofs.Fronting.{section-front, section-past, section-released}
 use Rattle.section_feed.proofs.Setting.{set_with}
-
--- the units of one stepper, in the words of both crates
-pub same-of : (oid : ℕ) (us : List StepUnit) → feed.of_stepper oid us ≡ of_stepper oid us
-same-of oid [] = refl
-same-of oid (u ∷ us) = elim (eqb_tells u.stepper oid) [ inl p ↦ rw p.0 (ap (λ x. u ∷ x) (same-of oid us)) | inr p ↦ rw p.0 (same-of oid us) ]
 
 -- what the stepper of an object id is in a section, which homes or not
 abbrev pub kinds-on : Bool → Machine → List Clocks → ℕ → ℕ → ℕ → Rattle.section_stream.specs.Steppers.StepperKind
@@ -80,7 +74,7 @@ front-on homing m clocks all turn b rs late f =
     let freq = (board_at m b).freq in
     let plans = plans_on m clocks all turn b in
     let count = length (steppers_on b m.steppers) in
-    let none : (oid : ℕ) → count ≤ oid → of_stepper oid (units_of rs) ≡ [] = λ oid h. sym (same-of oid (units_of rs)) ∙ f.others oid h in
+    let none : (oid : ℕ) → count ≤ oid → of_stepper oid (units_of rs) ≡ [] = f.others in
     record {
       spaced = λ oid. elim (leb_tells count oid) as (λ _. AreSpaced base (plan_at plans oid)) [
         | inl p ↦ subst (AreSpaced base) (sym (other-plan m clocks all turn b oid p.1)) tt
@@ -88,11 +82,11 @@ front-on homing m clocks all turn b rs late f =
       ];
       begun = λ oid. elim (leb_tells count oid) as (λ _. AreBegunBy homing own base (of_stepper oid (units_of rs))) [
         | inl p ↦ subst (AreBegunBy homing own base) (sym (none oid p.1)) tt
-        | inr p ↦ let h = p.1 in subst (AreBegunBy homing own base) (same-of oid (units_of rs)) (f.units oid (omega (arith, h))).begun
+        | inr p ↦ let h = p.1 in (f.units oid (omega (arith, h))).begun
       ];
       fits = λ oid. elim (leb_tells count oid) as (λ _. Fits freq base (steps_said oid false (of_stepper oid (units_of rs))) (plan_at plans oid)) [
         | inl p ↦ subst (λ us. Fits freq base (steps_said oid false us) (plan_at plans oid)) (sym (none oid p.1)) tt
-        | inr p ↦ let h = p.1 in subst (λ us. Fits freq base (steps_said oid false us) (plan_at plans oid)) (same-of oid (units_of rs)) (subst (Fits freq base (steps_said oid false (feed.of_stepper oid (units_of rs)))) (sym (one-plan m clocks all turn b oid (omega (arith, h)))) (f.units oid (omega (arith, h))).fits)
+        | inr p ↦ let h = p.1 in subst (Fits freq base (steps_said oid false (of_stepper oid (units_of rs)))) (sym (one-plan m clocks all turn b oid (omega (arith, h)))) (f.units oid (omega (arith, h))).fits
       ];
       from = turn - 250;
       exact = omega arith;
@@ -100,20 +94,20 @@ front-on homing m clocks all turn b rs late f =
     }
 
 -- units of steppers with numbers below a bound, which stand in their order
-own-below : (count : ℕ) (us : List StepUnit) → ((oid : ℕ) → count ≤ oid → feed.of_stepper oid us ≡ []) → All (λ (u : StepUnit). u.stepper < count) us
+own-below : (count : ℕ) (us : List StepUnit) → ((oid : ℕ) → count ≤ oid → of_stepper oid us ≡ []) → All (λ (u : StepUnit). u.stepper < count) us
 own-below count [] none = All-nil (λ (u : StepUnit). u.stepper < count)
 own-below count (u ∷ us) none =
     All-cons (λ (v : StepUnit). v.stepper < count) u us
     (elim (leb_tells count u.stepper) as (λ _. u.stepper < count) [ inl p ↦ absurd (some u.stepper refl (none u.stepper p.1)) | inr p ↦ (let h = p.1 in omega (arith, h)) ])
-    (own-below count us (λ oid h. elim (eqb_tells u.stepper oid) as (λ _. feed.of_stepper oid us ≡ []) [ inl p ↦ absurd (some oid p.1 (none oid h)) | inr p ↦ sym (feed-other oid p.1) ∙ none oid h ]))
+    (own-below count us (λ oid h. elim (eqb_tells u.stepper oid) as (λ _. of_stepper oid us ≡ []) [ inl p ↦ absurd (some oid p.1 (none oid h)) | inr p ↦ sym (feed-other oid p.1) ∙ none oid h ]))
   where
     clash : {xs : List StepUnit} → u ∷ xs ≡ [] → ⊥
     clash e = cc
 
-    some : (oid : ℕ) → u.stepper ≡ oid → feed.of_stepper oid (u ∷ us) ≡ [] → ⊥
+    some : (oid : ℕ) → u.stepper ≡ oid → of_stepper oid (u ∷ us) ≡ [] → ⊥
     some oid same e = elim (eqb_tells u.stepper oid) [ inl p ↦ clash (rw p.0 at e) | inr p ↦ p.1 same ]
 
-    feed-other : (oid : ℕ) → (u.stepper ≡ oid → ⊥) → feed.of_stepper oid (u ∷ us) ≡ feed.of_stepper oid us
+    feed-other : (oid : ℕ) → (u.stepper ≡ oid → ⊥) → of_stepper oid (u ∷ us) ≡ of_stepper oid us
     feed-other oid other = elim (eqb_tells u.stepper oid) [ inl p ↦ absurd (other p.1) | inr p ↦ rw p.0 refl ]
 
 behind-order : (u : StepUnit) (low : ℕ) (us : List StepUnit) → feed.order_of u ≤ low → u.stepper < 256 → All (λ (v : StepUnit). v.stepper < 256) us → feed.AreInOrder low us → AreBehind u us
@@ -148,8 +142,8 @@ sent-on homing m clocks all turn b rs small f =
     record {
       in_order = order-pairs 0 (units_of rs) (λ k d l. (let h = below k d l in omega (arith, h, few, small))) f.in_order;
       longest = λ oid. elim (leb_tells count oid) as (λ _. AreLongestOf own freq base (plan_at plans oid) (of_stepper oid (units_of rs))) [
-        | inl p ↦ subst (λ us. AreLongestOf own freq base (plan_at plans oid) us) (sym (sym (same-of oid (units_of rs)) ∙ f.others oid p.1)) tt
-        | inr p ↦ let h = p.1 in subst (λ us. AreLongestOf own freq base (plan_at plans oid) us) (same-of oid (units_of rs)) (subst (λ ps. AreLongestOf own freq base ps (feed.of_stepper oid (units_of rs))) (sym (one-plan m clocks all turn b oid (omega (arith, h)))) (f.longest oid (omega (arith, h))))
+        | inl p ↦ subst (λ us. AreLongestOf own freq base (plan_at plans oid) us) (sym (f.others oid p.1)) tt
+        | inr p ↦ let h = p.1 in subst (λ ps. AreLongestOf own freq base ps (of_stepper oid (units_of rs))) (sym (one-plan m clocks all turn b oid (omega (arith, h)))) (f.longest oid (omega (arith, h)))
       ];
     }
 
@@ -209,10 +203,10 @@ section-on m clocks turn homing s moves released e b on drawn all past is h =
     let here = subst (λ ps. ∥ IsReleased homing own (board_at m b).freq (board_at m b).slots (turn - 250) (base b) (kinds b) count ps (released b) ∥₁) parts at in
     ∥∥₁_elim front ∥∥₁_prop (λ f. ∥∥₁_map here (λ w. section_ended homing own (board_at m b).freq (board_at m b).slots (section_on m clocks moves turn b (released b)) f within (λ oid. elim (leb_tells count oid) as (λ _. length (steps_said oid false (of_stepper oid units)) ≡ length (plan_at plans oid)) [
       | inl p ↦ (
-          let none : of_stepper oid units ≡ [] = sym (same-of oid units) ∙ w.others oid p.1 in
+          let none : of_stepper oid units ≡ [] = w.others oid p.1 in
           ap (λ us. length (steps_said oid false us)) none ∙ sym (ap (λ (ps : List Planned). length ps) (other-plan m clocks moves turn b oid p.1)))
       | inr p ↦ (
           let lt = p.1 in
           let inside : oid < count = omega (arith, lt) in
-          ap (λ us. length (steps_said oid false us)) (sym (same-of oid units)) ∙ (w.packed oid inside).whole ∙ sym (ap (λ (ps : List Planned). length ps) (one-plan m clocks moves turn b oid inside)))
+          (w.packed oid inside).whole ∙ sym (ap (λ (ps : List Planned). length ps) (one-plan m clocks moves turn b oid inside)))
     ])))

@@ -18,7 +18,7 @@ use Rattle.step_feed.specs.Units.{StepUnit}
 use Rattle.step_feed.specs.Pacing.{Release, units_of}
 use Rattle.step_feed.specs.Streams.{first_turn, slots_of}
 use Rattle.section_units.specs.Fronts.{AreFirstOfBy}
-use Rattle.section_units.specs.Sections.{steps_said}
+use Rattle.section_units.specs.Sections.{steps_said, of_stepper}
 use Rattle.plan_types.specs.Packing.{open_windows}
 use Rattle.plan_types.specs.Plan.{max_error}
 use Rattle.section_units.specs.Sent.{AreLongestOf}
@@ -41,7 +41,7 @@ use Rattle.section_feed.specs.AllBoards.{ArePast, AreReleased}
 use Rattle.section_feed.specs.Boards.{AreUpTo, IsUpTo}
 use Rattle.section_feed.specs.Feeding.{AreFeeding, IsBoardOf, count_of, first_of, lines_of, slots_in, time_of}
 use Rattle.section_feed.specs.Fronts.{IsBoardFront, parts_of}
-use Rattle.section_feed.specs.Ordering.{AreInOrder, of_stepper, order_of}
+use Rattle.section_feed.specs.Ordering.{AreInOrder, order_of}
 use Rattle.section_feed.specs.Rests.{AreRested}
 use Rattle.section_feed.specs.Queues.{IsDrawn, IsQueueOf, begin_in, cruise_in, drawn_to, is_taking, waiting_end, waiting_parts}
 use Rattle.section_feed.specs.Sections.{IsSectionOf, boards_in, boards_of, queue_of, sets_of}

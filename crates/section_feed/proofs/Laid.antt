@@ -4,6 +4,7 @@ use Rattle.std.proofs.Math.Logic.{∥∥₁_elim}
 use Rattle.std.proofs.Props.{props}
 use Rattle.std.proofs.lemmas.List.Elements.{All-tail}
 use Rattle.std.proofs.lemmas.List.FromFn.{get_or-map-range_with_len, length-map-range_with_len}
+use Rattle.step_ticks.specs.Streaming.{last_step_tick}
 use Rattle.plan_types.specs.declared.machine.Machine.{Machine}
 use Rattle.plan_types.specs.declared.plan.Move.{Move}
 use Rattle.plan_types.specs.declared.plan.Planned.{Planned}
@@ -14,7 +15,7 @@ use Rattle.clock_line.proofs.Turns.{turn-below}
 use Rattle.step_feed.specs.Pacing.{Release}
 use Rattle.step_feed.specs.declared.stream.FeedStream.{FeedStream}
 use Rattle.section_stream.specs.declared.stepper.StepperStream.{StepperStream}
-use Rattle.section_stream.specs.Pieces.{IsLastOf, last_step, steps_in}
+use Rattle.section_stream.specs.Pieces.{IsLastOf, steps_in}
 use Rattle.section_stream.specs.Plans.{lines_of}
 use Rattle.section_stream.specs.Steppers.{StepperKind, packed_step}
 use Rattle.section_stream.proofs.Packed.{last-told}
@@ -24,7 +25,7 @@ use Rattle.section_feed.specs.Boards.{AreUpTo}
 use Rattle.section_feed.specs.Feeding.{AreFeeding}
 use Rattle.section_feed.specs.Going.{most_ahead}
 use Rattle.section_feed.specs.On.{IsSectionOn}
-use Rattle.section_feed.specs.Ordering.{of_stepper}
+use Rattle.section_units.specs.Sections.{of_stepper}
 use Rattle.section_feed.specs.Queues.{IsDrawn}
 use Rattle.section_feed.specs.Released.{last_in}
 use Rattle.section_feed.specs.Sections.{boards_in, next_of, queue_of}
@@ -33,7 +34,7 @@ use Rattle.section_feed.proofs.Ends.{end-above, map-same}
 use Rattle.section_feed.proofs.Lasting.{latest-within}
 
 -- the last one of some steps is as they all are
-last-all : (P : ℕ → Type 0) (before : ℕ) (steps : List Planned) → (steps ≡ [] → ⊥) → All (λ q. P q.tick) steps → P (last_step before steps)
+last-all : (P : ℕ → Type 0) (before : ℕ) (steps : List Planned) → (steps ≡ [] → ⊥) → All (λ q. P q.tick) steps → P (last_step_tick before steps)
 last-all P before [] some all = absurd (some refl)
 last-all P before (s ∷ []) some all = all 0 s (omega arith)
 last-all P before (s ∷ t ∷ steps) some all = last-all P s.tick (t ∷ steps) (λ e. cc) (All-tail (λ (q : Planned). P q.tick) s (t ∷ steps) all)
@@ -41,7 +42,7 @@ last-all P before (s ∷ t ∷ steps) some all = last-all P s.tick (t ∷ steps)
 last-laid : (clocks : Clocks) (turn before : ℕ) (o : Option ℕ) (steps : List Planned) → 0 < turn → IsLastOf o before steps → All (λ q. q.tick < lines_tick clocks (turn * turn_ns)) steps → turn_where clocks o < turn
 last-laid clocks turn before None steps some last early = some
 last-laid clocks turn before (Some t) steps some last early =
-    let at : last_step before steps < lines_tick clocks (turn * turn_ns) = last-all (λ n. n < lines_tick clocks (turn * turn_ns)) before steps last.1 early in
+    let at : last_step_tick before steps < lines_tick clocks (turn * turn_ns) = last-all (λ n. n < lines_tick clocks (turn * turn_ns)) before steps last.1 early in
     let same = last.0 in
     let e : turn - 1 + 1 ≡ turn = omega arith in
     let here : t < lines_tick clocks (turn * turn_ns) = omega arith in

@@ -4,6 +4,7 @@ use Rattle.std.proofs.Math.Logic.{∥∥₁_map, ∥∥₁_elim, ∥∥₁_prop}
 use Rattle.std.proofs.Props.{props}
 use Rattle.std.proofs.lemmas.Grind.{merely}
 use Rattle.std.proofs.lemmas.List.{append-nil}
+use Rattle.section_units.specs.Sections.{of_stepper}
 use Rattle.plan_types.specs.Lines.{Clocks}
 use Rattle.plan_types.specs.Sections.{TimedPart}
 use Rattle.step_feed.specs.declared.stream.FeedStream.{FeedStream}
@@ -12,7 +13,7 @@ use Rattle.step_feed.specs.Pacing.{Release}
 use Rattle.step_feed.specs.Streams.{IsFedOf}
 use Rattle.section_stream.specs.declared.stepper.StepperStream.{StepperStream}
 use Rattle.section_stream.specs.Steppers.{IsStepperOf, StepperKind, kind_of}
-use Rattle.section_feed.specs.Ordering.{AreInOrder, last_order, of_stepper}
+use Rattle.section_feed.specs.Ordering.{AreInOrder, last_order}
 use Rattle.section_feed.specs.Boards.{AreUpTo, HasGiven, HaveGiven, HaveKinds}
 use Rattle.section_feed.specs.Changes.{GoOn}
 use Rattle.section_feed.specs.Feeding.{AreFeeding}

@@ -28,7 +28,7 @@ use Rattle.section_units.specs.Units.{as_sent}
 use Rattle.section_units.proofs.Completing.{completed}
 use Rattle.section_stream.specs.declared.stepper.StepperStream.{StepperStream}
 use Rattle.section_stream.specs.Looking.{IsFuture}
-use Rattle.section_stream.specs.Pieces.{last_step}
+use Rattle.step_ticks.specs.Streaming.{last_step_tick}
 use Rattle.section_stream.proofs.Later.{turn-from}
 use Rattle.section_stream.proofs.Stretches.{spaced-above}
 use Rattle.section_feed.specs.declared.board.BoardStream.{BoardStream}
@@ -37,7 +37,6 @@ use Rattle.section_feed.specs.Boards.{AreUpTo, IsLasting}
 use Rattle.section_feed.specs.Feeding.{AreFeeding, IsBoardOf, count_of, first_of, lines_of, slots_in, time_of, turn_of}
 use Rattle.section_feed.specs.Kinds.{steppers_on}
 use Rattle.section_feed.specs.On.{CanComplete, IsSectionOn}
-use Rattle.section_feed.specs.Ordering as feed
 use Rattle.section_feed.specs.Queues.{is_taking}
 use Rattle.section_feed.specs.Released.{steppers_in}
 use Rattle.section_feed.specs.Rests.{AreAllRested, AreRested}
@@ -47,7 +46,7 @@ use Rattle.section_feed.specs.Wholes.{IsSetTo, sent_plan}
 use Rattle.section_feed.proofs.Lasts.{kept-lasting}
 use Rattle.section_feed.proofs.Ending.{spaced-last}
 use Rattle.section_feed.proofs.Ends.{end-most, has-number, last-some, plan-is, section-parts, set-of}
-use Rattle.section_feed.proofs.Following.{base-on, kinds-on, one-plan, other-plan, plan-on, plan-spaced, same-of, set-to, section-sent}
+use Rattle.section_feed.proofs.Following.{base-on, kinds-on, one-plan, other-plan, plan-on, plan-spaced, set-to, section-sent}
 use Rattle.section_feed.proofs.Fronting.{one-pushed, one-rested, queue-left}
 
 -- the steps of a plan that ends in a turn
@@ -59,7 +58,7 @@ sent-turn clocks inverted (s ∷ t ∷ steps) = sent-turn clocks inverted (t ∷
 pub steps-within : (clocks : Clocks) (base end : ℕ) (steps : List Planned) → AreKept clocks → AreSpaced base steps → last_turn clocks steps ≤ end → All (λ q. q.tick < lines_tick clocks ((end + 1) * turn_ns)) steps
 steps-within clocks base end [] kept spaced h = All-nil (λ (q : Planned). q.tick < lines_tick clocks ((end + 1) * turn_ns))
 steps-within clocks base end (s ∷ steps) kept spaced h =
-    let last = last_step base (s ∷ steps) in
+    let last = last_step_tick base (s ∷ steps) in
     let e = last-some clocks base s steps in
     let after = turn-after clocks last end kept (omega arith) in
     let at = spaced-last base (s ∷ steps) spaced in
@@ -100,13 +99,13 @@ open-front homing m clocks all turn b goes time packed steppers feeds order part
     let kinds = kinds-on homing m clocks turn b in
     let kept = kept-lasting own lasting in
     let low = next_turn feeds + 250 in
-    let pushed : (oid : ℕ) → pushed_of oid released feeds.waiting.items ≡ feed.of_stepper oid f.units = λ oid. ap (of_stepper oid) (sym f.fed.pushed_is) ∙ sym (same-of oid f.units) in
+    let pushed : (oid : ℕ) → pushed_of oid released feeds.waiting.items ≡ of_stepper oid f.units = λ oid. ap (of_stepper oid) (sym f.fed.pushed_is) in
     let others : (oid : ℕ) → n ≤ oid → pushed_of oid released feeds.waiting.items ≡ [] = λ oid h. pushed oid ∙ f.given.others oid (omega arith) in
     let plan : (oid : ℕ) → sent_plan (kinds oid) own base (parts ++ more) ≡ plan-on m clocks all turn b oid = λ oid. ap (sent_plan (kinds oid) own base) whole in
     let given : (oid : ℕ) → oid < n → AreFirstOfBy homing own freq oid base (plan-on m clocks all turn b oid) (pushed_of oid released feeds.waiting.items) = λ oid h.
-    subst (λ us. AreFirstOfBy homing own freq oid base (plan-on m clocks all turn b oid) us) (sym (pushed oid)) (subst (λ p. AreFirstOfBy homing own freq oid base p (feed.of_stepper oid f.units)) (plan oid) (first-of steppers oid (omega arith) refl)) in
+    subst (λ us. AreFirstOfBy homing own freq oid base (plan-on m clocks all turn b oid) us) (sym (pushed oid)) (subst (λ p. AreFirstOfBy homing own freq oid base p (of_stepper oid f.units)) (plan oid) (first-of steppers oid (omega arith) refl)) in
     let rest : (oid : ℕ) → oid < n → All (λ q. low ≤ lines_turn own q.tick) (drop (length (steps_said oid false (pushed_of oid released feeds.waiting.items))) (plan-on m clocks all turn b oid)) = λ oid h.
-    subst (λ us. All (λ (q : Planned). low ≤ lines_turn own q.tick) (drop (length (steps_said oid false us)) (plan-on m clocks all turn b oid))) (sym (pushed oid)) (subst (λ p. All (λ (q : Planned). low ≤ lines_turn own q.tick) (drop (length (steps_said oid false (feed.of_stepper oid f.units))) p)) (plan oid) (rest-of steppers oid (omega arith) refl)) in
+    subst (λ us. All (λ (q : Planned). low ≤ lines_turn own q.tick) (drop (length (steps_said oid false us)) (plan-on m clocks all turn b oid))) (sym (pushed oid)) (subst (λ p. All (λ (q : Planned). low ≤ lines_turn own q.tick) (drop (length (steps_said oid false (of_stepper oid f.units))) p)) (plan oid) (rest-of steppers oid (omega arith) refl)) in
     record {
       slots_some = slots;
       none = other-plan m clocks all turn b;
@@ -127,11 +126,11 @@ open-front homing m clocks all turn b goes time packed steppers feeds order part
     none-left : (k : ℕ) → All (λ (q : Planned). next_turn feeds + lead ≤ lines_turn (clocks_at clocks b) q.tick) (drop k [])
     none-left k = subst (All (λ (q : Planned). next_turn feeds + lead ≤ lines_turn (clocks_at clocks b) q.tick)) (sym (drop_all k [] (omega arith))) (All-nil (λ (q : Planned). next_turn feeds + lead ≤ lines_turn (clocks_at clocks b) q.tick))
 
-    first-of : (ss : List StepperStream) (oid : ℕ) → oid < length ss → ss ≡ steppers → AreFirstOfBy homing (clocks_at clocks b) (board_at m b).freq oid (base-on clocks turn b) (sent_plan (kinds-on homing m clocks turn b oid) (clocks_at clocks b) (base-on clocks turn b) (parts ++ more)) (feed.of_stepper oid f.units)
+    first-of : (ss : List StepperStream) (oid : ℕ) → oid < length ss → ss ≡ steppers → AreFirstOfBy homing (clocks_at clocks b) (board_at m b).freq oid (base-on clocks turn b) (sent_plan (kinds-on homing m clocks turn b oid) (clocks_at clocks b) (base-on clocks turn b) (parts ++ more)) (of_stepper oid f.units)
     first-of [] oid h is = absurd (omega arith)
     first-of (s ∷ ss) oid h is = one-pushed homing (clocks_at clocks b) goes time packed steppers feeds order (board_at m b).freq (kinds-on homing m clocks turn b) (base-on clocks turn b) parts more released s oid (subst (λ (xs : List StepperStream). oid < length xs) is h) up none after set f
 
-    rest-of : (ss : List StepperStream) (oid : ℕ) → oid < length ss → ss ≡ steppers → All (λ q. next_turn feeds + 250 ≤ lines_turn (clocks_at clocks b) q.tick) (drop (length (steps_said oid false (feed.of_stepper oid f.units))) (sent_plan (kinds-on homing m clocks turn b oid) (clocks_at clocks b) (base-on clocks turn b) (parts ++ more)))
+    rest-of : (ss : List StepperStream) (oid : ℕ) → oid < length ss → ss ≡ steppers → All (λ q. next_turn feeds + 250 ≤ lines_turn (clocks_at clocks b) q.tick) (drop (length (steps_said oid false (of_stepper oid f.units))) (sent_plan (kinds-on homing m clocks turn b oid) (clocks_at clocks b) (base-on clocks turn b) (parts ++ more)))
     rest-of [] oid h is = absurd (omega arith)
     rest-of (s ∷ ss) oid h is = one-rested homing (clocks_at clocks b) goes time packed steppers feeds order (board_at m b).freq (next_turn feeds + 250) (kinds-on homing m clocks turn b) (base-on clocks turn b) parts more released s oid (subst (λ (xs : List StepperStream). oid < length xs) is h) up none after set (kept-lasting (clocks_at clocks b) lasting) rested f
 

@@ -3,12 +3,13 @@ use Rattle.std.proofs.Common.{◌≡◌, ℕ, zero, suc, ◌+◌, ◌<◌, ◌�
 use Rattle.std.proofs.lemmas.Bool.{eq-eqb}
 use Rattle.std.proofs.lemmas.List.{take_more}
 use Rattle.std.proofs.lemmas.Bool.Decides.{nat_tests}
+use Rattle.section_units.specs.Sections.{of_stepper}
 use Rattle.plan_types.specs.Lines.{Clocks}
 use Rattle.step_feed.specs.Units.{StepUnit}
 use Rattle.step_feed.specs.Pacing.{Release}
 use Rattle.step_feed.specs.Streams.{IsFedOf}
 use Rattle.step_feed.specs.declared.stream.FeedStream.{FeedStream}
-use Rattle.section_feed.specs.Ordering.{of_stepper, AreInOrder, last_order, order_of}
+use Rattle.section_feed.specs.Ordering.{AreInOrder, last_order, order_of}
 
 pub ne-eqb : (a b : ℕ) → (a ≡ b → ⊥) → eqb a b ≡ false
 ne-eqb a b h = grind (arith, nat_tests)

@@ -17,7 +17,7 @@ use Rattle.clock_line.proofs.Turns.{tick_over-mono}
 use Rattle.step_feed.specs.declared.stream.FeedStream.{FeedStream}
 use Rattle.step_feed.specs.Pacing.{Release, units_of}
 use Rattle.section_units.specs.Fronts.{AreFirstOfBy}
-use Rattle.section_units.specs.Sections.{steps_said}
+use Rattle.section_units.specs.Sections.{steps_said, of_stepper}
 use Rattle.section_units.proofs.Fronting.{first_front}
 use Rattle.section_stream.specs.declared.stepper.StepperStream.{StepperStream}
 use Rattle.section_stream.specs.Pieces.{steps_in}
@@ -31,12 +31,11 @@ use Rattle.section_feed.specs.Boards.{AreUpTo}
 use Rattle.section_feed.specs.Feeding.{AreFeeding}
 use Rattle.section_feed.specs.Going.{most_ahead}
 use Rattle.section_feed.specs.On.{IsSectionOn}
-use Rattle.section_feed.specs.Ordering.{of_stepper}
 use Rattle.section_feed.specs.Sections.{boards_in, boards_of, next_of}
 use Rattle.section_feed.specs.Sets.{BoardSet}
 use Rattle.section_feed.specs.Wholes.{IsSetTo}
 use Rattle.section_feed.proofs.Ends.{set-of}
-use Rattle.section_feed.proofs.Following.{same-of, set-to}
+use Rattle.section_feed.proofs.Following.{set-to}
 use Rattle.section_feed.proofs.Fronting.{none-front}
 use Rattle.section_feed.proofs.Orders.{of-append}
 use Rattle.section_feed.proofs.Staying.{IsEarly, IsReleaseEarly, begun-early, fits-before, of-each, releases-early}
@@ -67,10 +66,10 @@ steppers-early : (homing : Bool) (clocks : Clocks) (goes : Bool) (time turn : �
     → AreFeeding steppers feed clocks order kinds base parts released → All (IsReleaseEarly (lines_tick clocks (turn * turn_ns))) released
 steppers-early homing clocks goes time turn steppers fed order freq kinds base parts released up set f =
     let bound = lines_tick clocks (turn * turn_ns) in
-    releases-early bound released (of-each (IsEarly bound) (units_of released) (λ oid. subst (All (IsEarly bound)) (same-of oid (units_of released)) (elim (leb_tells (length steppers) oid) as (λ _. All (IsEarly bound) (of_stepper oid (units_of released))) [
+    releases-early bound released (of-each (IsEarly bound) (units_of released) (λ oid. elim (leb_tells (length steppers) oid) as (λ _. All (IsEarly bound) (of_stepper oid (units_of released))) [
       | inl p ↦ (let none = none-front (of_stepper oid (units_of released)) (of_stepper oid fed.waiting.items) (sym (ap (of_stepper oid) f.fed.pushed_is ∙ of-append oid (units_of released) fed.waiting.items) ∙ f.given.others oid p.1) in subst (All (IsEarly bound)) (sym none) (All-nil (IsEarly bound)))
       | inr p ↦ (let h = p.1 in here steppers oid (omega (arith, h)) refl)
-    ])))
+    ]))
   where
     here : (ss : List StepperStream) (oid : ℕ) → oid < length ss → ss ≡ steppers → All (IsEarly (lines_tick clocks (turn * turn_ns))) (of_stepper oid (units_of released))
     here [] oid h is = absurd (omega arith)

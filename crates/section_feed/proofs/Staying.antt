@@ -18,7 +18,7 @@ use Rattle.plan_types.specs.Board.{last_of, steps_of}
 use Rattle.plan_types.specs.Clock.{tick, turn_ns}
 use Rattle.plan_types.specs.Lines.{Clocks, lines_board, lines_tick, lines_turn}
 use Rattle.plan_types.specs.Machines.{board_at, stepper_at}
-use Rattle.plan_types.specs.Plan.{AreSpaced, Fits, cancel_reach, filtered, max_error, on_board, planned_steps, spaced}
+use Rattle.plan_types.specs.Plan.{AreSpaced, Fits, cancel_reach, filtered, max_error, on_board, planned_steps, spaced, pulse_of}
 use Rattle.plan_types.specs.Sections.{clocks_at, end_time, for_each_stepper, last_turn, latest, section_end, section_parts, section_plans, segment_of, stepper_end, stepper_plan}
 use Rattle.plan_types.specs.Speeds.{greatest_speeds}
 use Rattle.plan_types.specs.Steps.{raw_steps}
@@ -32,7 +32,7 @@ use Rattle.section_units.specs.Sent.{AreLongest, AreSent, step_at}
 use Rattle.plan_types.specs.declared.plan.Window.{Window}
 use Rattle.plan_types.specs.Packing.{open_windows}
 use Rattle.section_units.specs.Plans.{AreSentOn, AreSentToOn, AreOnBoardsBy, board_plans, plans_on}
-use Rattle.section_units.specs.Sections.{AreBegunBy, AreChained, BoardSection, IsUnit, IsWholeBy, dir_after, of_stepper, pulse_of, section_steps, steps_said, ticks_meant}
+use Rattle.section_units.specs.Sections.{AreBegunBy, AreChained, BoardSection, IsUnit, IsWholeBy, dir_after, of_stepper, section_steps, steps_said, ticks_meant}
 use Rattle.section_stream.proofs.Adding.{added-before, added-least, board-from, turn-added}
 use Rattle.section_stream.proofs.Later.{sent-all}
 use Rattle.section_feed.specs.Boards.{IsLasting, MayTake}

@@ -12,7 +12,7 @@ use Rattle.section_stream.specs.declared.stepper.StepperStream.{StepperStream}
 use Rattle.section_stream.specs.Apart.{AreApart, IsNearby}
 use Rattle.section_stream.specs.Pieces.{AreInTurns, Piece, last_turn}
 use Rattle.section_stream.specs.Steppers.{IsCaughtUp, IsStepperOf, StepperKind, clocks_of, kind_of, known_of, planned_turn}
-use Rattle.section_feed.specs.Ordering.{of_stepper}
+use Rattle.section_units.specs.Sections.{of_stepper}
 
 -- no section ends as late as this, in nanoseconds: in 500 years
 abbrev pub most_ns : ℕ

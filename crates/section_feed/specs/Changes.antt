@@ -5,7 +5,7 @@ use Rattle.plan_types.specs.Sections.{TimedPart}
 use Rattle.msg_code.specs.declared.unit.Unit.{Unit as StepUnit}
 use Rattle.section_stream.specs.declared.stepper.StepperStream.{StepperStream}
 use Rattle.section_stream.specs.Steppers.{IsDueFrom, kind_of}
-use Rattle.section_feed.specs.Ordering.{of_stepper}
+use Rattle.section_units.specs.Sections.{of_stepper}
 use Rattle.section_feed.specs.Boards.{HasGiven, IsUpTo}
 use Rattle.section_feed.specs.Rested.{IsRested}
 

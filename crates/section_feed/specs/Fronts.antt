@@ -1,5 +1,6 @@
 -- The units that a board has released of a section whose moves may go on.
 use Rattle.std.specs.Prelude.{◌≡◌, ℕ, ◌<◌, ◌≤◌, Bool, List, []}
+use Rattle.section_units.specs.Sections.{of_stepper}
 use Rattle.plan_types.specs.declared.plan.Move.{Move}
 use Rattle.plan_types.specs.Lines.{Clocks}
 use Rattle.plan_types.specs.Sections.{TimedPart, timed_moves}
@@ -9,7 +10,7 @@ use Rattle.section_units.specs.Fronts.{AreFirstOfBy}
 use Rattle.section_units.specs.Sent.{AreLongestOf}
 use Rattle.section_stream.specs.Steppers.{StepperKind}
 use Rattle.section_feed.specs.declared.section.SectionStream.{SectionStream}
-use Rattle.section_feed.specs.Ordering.{AreInOrder, of_stepper}
+use Rattle.section_feed.specs.Ordering.{AreInOrder}
 use Rattle.section_feed.specs.Queues.{begin_in, cruise_in}
 use Rattle.section_feed.specs.Sections.{queue_of}
 use Rattle.section_feed.specs.Wholes.{sent_plan}

@@ -1,11 +1,6 @@
 -- How the units of a board's steppers stand in one list.
-use Rattle.std.specs.Prelude.{ℕ, ◌+◌, ◌*◌, ◌<◌, ◌==◌, List, [], ◌∷◌, if◌then◌else◌}
+use Rattle.std.specs.Prelude.{ℕ, ◌+◌, ◌*◌, ◌<◌, List, [], ◌∷◌}
 use Rattle.step_feed.specs.Units.{StepUnit}
-
--- the units of one stepper
-abbrev pub of_stepper : ℕ → List StepUnit → List StepUnit
-of_stepper oid [] = []
-of_stepper oid (u ∷ us) = if u.stepper == oid then u ∷ of_stepper oid us else of_stepper oid us
 
 -- where a unit stands: by its first tick, and then by the number of its stepper, which is below 256
 abbrev pub order_of : StepUnit → ℕ

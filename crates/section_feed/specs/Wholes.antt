@@ -8,14 +8,14 @@ use Rattle.plan_types.specs.Sections.{TimedPart, latest}
 use Rattle.step_feed.specs.Units.{StepUnit}
 use Rattle.step_feed.specs.Pacing.{ArePaced, Release, units_of}
 use Rattle.section_units.specs.Packed.{ArePackedBy}
-use Rattle.section_units.specs.Sections.{set_to}
+use Rattle.section_units.specs.Sections.{set_to, of_stepper}
 use Rattle.section_units.specs.Units.{as_sent}
 use Rattle.section_stream.specs.declared.stepper.StepperStream.{StepperStream}
 use Rattle.section_stream.specs.Fronts.{plan_of}
 use Rattle.section_stream.specs.Pieces.{Piece, steps_in}
 use Rattle.section_stream.specs.Plans.{segments_for}
 use Rattle.section_stream.specs.Steppers.{IsStepperOf, StepperKind, clocks_of, kind_of, packed_step}
-use Rattle.section_feed.specs.Ordering.{AreInOrder, of_stepper}
+use Rattle.section_feed.specs.Ordering.{AreInOrder}
 
 -- the planned steps of a stepper for these parts of moves, in the directions that are sent
 abbrev pub sent_plan : StepperKind → Clocks → ℕ → List TimedPart → List Planned

@@ -2,6 +2,7 @@
 use Rattle.std.proofs.Common.{◌≡◌, ℕ, ◌+◌, ◌*◌, ◌<◌, ◌≤◌, zero, suc, Bool, Option, Some, None, List, [], ◌∷◌, ◌++◌, All, length, drop, get_or, arith, refl, ap, sym, ◌∙◌, append_assoc, length-append, subst}
 use Rattle.std.proofs.lemmas.List.{append-nil, length-drop}
 use Rattle.std.proofs.lemmas.List.Elements.{All-append, All-nil}
+use Rattle.step_ticks.specs.Streaming.{last_step_tick}
 use Rattle.plan_types.specs.Clock.{tick, turn_ns}
 use Rattle.plan_types.specs.declared.plan.Line.{Line}
 use Rattle.plan_types.specs.declared.plan.Planned.{Planned}
@@ -24,7 +25,7 @@ use Rattle.section_units.proofs.Packing.{piece_end}
 use Rattle.section_stream.specs.declared.stepper.StepperStream.{StepperStream}
 use Rattle.section_stream.specs.Fronts.{plan_of}
 use Rattle.section_stream.specs.Packs.{held_of, is_inverted, waiting_of}
-use Rattle.section_stream.specs.Pieces.{AreInTurns, ArePieces, Piece, last_step, last_turn, placed_in, steps_in}
+use Rattle.section_stream.specs.Pieces.{AreInTurns, ArePieces, Piece, last_turn, placed_in, steps_in}
 use Rattle.section_stream.specs.Plans.{lines_of, segments_for}
 use Rattle.section_stream.specs.Steppers.{IsCaughtUp, IsStepperOf, StepperKind, clocks_of, kind_of, known_of}
 use Rattle.section_stream.proofs.Adding.{added-before, board-from}
@@ -90,7 +91,7 @@ counts clocks oid behind reset up ws steps (p ∷ placed) packs =
     let rest = counts clocks oid p.last reset (Some (first_up steps)) (drop n ws) (drop n steps) placed packs.3 in
     omega (arith, inside, l, rest)
 
-windows-behind : (e b : ℕ) (xs ys : List Planned) → drop (length xs) (open_windows e b (xs ++ ys)) ≡ open_windows e (last_step b xs) ys
+windows-behind : (e b : ℕ) (xs ys : List Planned) → drop (length xs) (open_windows e b (xs ++ ys)) ≡ open_windows e (last_step_tick b xs) ys
 windows-behind e b [] ys = refl
 windows-behind e b (x ∷ xs) ys = windows-behind e x.tick xs ys
 
@@ -116,7 +117,7 @@ pieces-longest clocks oid reset up e behind from turn (p ∷ ps) rest kept are t
     omega (arith, one, two)) in
     let us = units_on clocks oid reset up p.steps p.placed in
     let one = piece_longest clocks oid reset up behind ws (open_windows e behind plan) p.steps more p.placed (piece_of e behind p.steps more) (length-windows e behind p.steps) are.0 cut in
-    let next = last_step behind p.steps in
+    let next = last_step_tick behind p.steps in
     let vs = units_on clocks oid reset (up_after up p.steps p.placed) (steps_in ps) (placed_in ps) in
     let two = pieces-longest clocks oid reset (up_after up p.steps p.placed) e next p.turn turn ps rest kept are.2 turns.3 past late in
     let end : end_of_units behind us ≡ next = piece_end clocks oid e behind reset up p.steps p.placed are.0 ∙ end-is behind p.steps in

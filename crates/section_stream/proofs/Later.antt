@@ -9,21 +9,21 @@ use Rattle.plan_types.specs.declared.plan.Planned.{Planned}
 use Rattle.plan_types.specs.declared.plan.Pulse.{Pulse}
 use Rattle.plan_types.specs.Lines.{Clocks, lines_tick, lines_turn}
 use Rattle.plan_types.specs.declared.plan.Segment.{Segment}
-use Rattle.plan_types.specs.Plan.{AreSpaced, Fits, max_error, planned_steps}
-use Rattle.step_ticks.specs.Streaming.{left_steps}
+use Rattle.plan_types.specs.Plan.{AreSpaced, Fits, max_error, planned_steps, pulse_of}
+use Rattle.step_ticks.specs.Streaming.{left_steps, last_step_tick}
 use Rattle.plan_types.specs.Sections.{TimedPart, last_turn}
 use Rattle.clock_line.specs.Kept.{AreKept}
 use Rattle.std.proofs.lemmas.Bool.{cases_lt}
 use Rattle.clock_line.proofs.Turns.{tick_over-mono, turn-after, turn-mono}
 use Rattle.msg_code.specs.declared.unit.Unit.{Unit as StepUnit}
 use Rattle.section_units.specs.Packed.{ArePackedBy, dir_behind}
-use Rattle.section_units.specs.Sections.{AreBegunBy, AreChained, IsUnit, dir_after, pulse_of, set_to, steps_said, ticks_meant}
+use Rattle.section_units.specs.Sections.{AreBegunBy, AreChained, IsUnit, dir_after, set_to, steps_said, ticks_meant}
 use Rattle.section_units.specs.Units.{as_sent, sent, units_on}
 use Rattle.section_units.proofs.Packing.{said_join}
 use Rattle.section_stream.specs.declared.stepper.StepperStream.{StepperStream}
 use Rattle.section_stream.specs.Fronts.{HasMore, HasStepsLeft, plan_of}
 use Rattle.section_stream.specs.Packs.{held_of, is_inverted, waiting_of}
-use Rattle.section_stream.specs.Pieces.{ArePieces, Piece, last_step, placed_in, steps_in}
+use Rattle.section_stream.specs.Pieces.{ArePieces, Piece, placed_in, steps_in}
 use Rattle.section_stream.specs.Plans.{lines_of, segments_for}
 use Rattle.section_stream.specs.Steppers.{IsCaughtUp, IsStepperOf, StartFrom, clocks_of, kind_of, known_of, packed_to, units_of}
 use Rattle.section_stream.proofs.Adding.{board-from}
@@ -254,7 +254,7 @@ left-late s base turn parts out pieces given are kept caught left =
     subst (λ (ks : List Planned). turn ≤ last_turn clocks ks) (sym l.are) (last-from-late clocks turn steps l.step l.rest (λ k d lt. turn-from clocks turn _ kept (here k d lt)))
 
 -- steps of which the last one of a front is in a turn or later, and behind a tick, end in that turn or later
-last-from-front : (clocks : Clocks) (low b : ℕ) (xs ys : List Planned) → AreKept clocks → AreSpaced b (xs ++ ys) → b < last_step b xs → low ≤ lines_turn clocks (last_step b xs) → low ≤ last_turn clocks (xs ++ ys)
+last-from-front : (clocks : Clocks) (low b : ℕ) (xs ys : List Planned) → AreKept clocks → AreSpaced b (xs ++ ys) → b < last_step_tick b xs → low ≤ lines_turn clocks (last_step_tick b xs) → low ≤ last_turn clocks (xs ++ ys)
 last-from-front clocks low b [] ys kept spaced some late = absurd (omega arith)
 last-from-front clocks low b (x ∷ []) ys kept spaced some late =
     let above = spaced-above x.tick x.tick ys (omega arith) spaced.1 in
@@ -277,6 +277,6 @@ packed-late s base turn parts out pieces given are kept some late =
     let whole : plan_of s base parts ≡ out ++ r.rest = ap (λ (gs : List Segment). planned_steps s.steps.gear s.steps.lines gs base) (sym (append-nil (segments_for s.drive parts))) ∙ r.whole in
     let plan : as_sent inverted (plan_of s base parts) ≡ steps ++ (held ++ as_sent inverted r.rest) = ap (as_sent inverted) whole ∙ sent-append inverted out r.rest ∙ ap (λ xs. xs ++ as_sent inverted r.rest) are.packed.split ∙ append_assoc steps held (as_sent inverted r.rest) in
     let spaced = subst (AreSpaced base) plan (spaced-sent inverted base (plan_of s base parts) (spaced-AreSpaced base _)) in
-    let last : packed_to s ≡ last_step base steps = are.packed.last_is in
+    let last : packed_to s ≡ last_step_tick base steps = are.packed.last_is in
     let at = turn-from clocks turn (packed_to s) kept late in
     subst (λ (ks : List Planned). turn ≤ last_turn clocks ks) (sym plan) (last-from-front clocks turn base steps (held ++ as_sent inverted r.rest) kept spaced (omega (arith, some, last)) (subst (λ t. turn ≤ lines_turn clocks t) last at))

@@ -18,11 +18,11 @@ use Rattle.section_plan.specs.declared.drive.Drive.{Drive}
 use Rattle.section_units.specs.Units.{as_sent, first_up, set_in, told, unit_of, units_on}
 use Rattle.step_pack.specs.declared.Placed.{Placed}
 use Rattle.step_ticks.specs.declared.stream.StepStream.{StepStream}
-use Rattle.step_ticks.specs.Streaming.{IsStepsOf}
+use Rattle.step_ticks.specs.Streaming.{IsStepsOf, last_step_tick}
 use Rattle.section_stream.specs.declared.pack.PackStream.{PackStream}
 use Rattle.section_stream.specs.Packing.{ArePacked}
 use Rattle.section_stream.specs.Packs.{IsPackedOf, held_of, is_inverted, last_packed, waiting_of}
-use Rattle.section_stream.specs.Pieces.{ArePieces, Piece, last_step, placed_in, steps_in}
+use Rattle.section_stream.specs.Pieces.{ArePieces, Piece, placed_in, steps_in}
 use Rattle.section_stream.specs.Plans.{lines_of, segments_for}
 use Rattle.section_stream.specs.Rows.{AreInRow}
 use Rattle.section_stream.specs.Stepping.{AreCaughtUp, AreInStep, AreStepping, IsLeftFrom, IsPackedBehind}
@@ -64,7 +64,7 @@ pieces-before e before bound [] are early = All-nil (λ (p : Placed). p.first < 
 pieces-before e before bound (p ∷ pieces) are early =
     let P : Planned → Type 0 = λ s. s.tick < bound in
     let split = all-split P p.steps (steps_in pieces) early in
-    All-append (λ (q : Placed). q.first < bound) p.placed (placed_in pieces) (piece-before e before bound p.steps p.placed are.0 split.0) (pieces-before e (last_step before p.steps) bound pieces are.2 split.1)
+    All-append (λ (q : Placed). q.first < bound) p.placed (placed_in pieces) (piece-before e before bound p.steps p.placed are.0 split.0) (pieces-before e (last_step_tick before p.steps) bound pieces are.2 split.1)
   where
     all-split : (P : Planned → Type 0) (xs ys : List Planned) → All P (xs ++ ys) → All P xs × All P ys
     all-split P [] ys h = (All-nil P, h)

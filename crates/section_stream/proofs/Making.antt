@@ -1,6 +1,7 @@
 -- The units of all pieces are those of a section.
 use Rattle.std.proofs.Common.{◌≡◌, ℕ, Bool, true, false, Option, Some, None, List, [], ◌∷◌, ◌++◌, drop, refl, ap, sym, ◌∙◌, append_assoc, subst}
 use Rattle.std.proofs.lemmas.List.{append-nil}
+use Rattle.step_ticks.specs.Streaming.{last_step_tick}
 use Rattle.plan_types.specs.Lines.{Clocks}
 use Rattle.plan_types.specs.Plan.{AreSpaced, max_error}
 use Rattle.plan_types.specs.declared.plan.Planned.{Planned}
@@ -12,11 +13,11 @@ use Rattle.section_units.specs.Sections.{dir_after, set_to}
 use Rattle.section_units.specs.Units.{as_sent, first_up, sent, set_in, told, unit_of, units_on, up_after}
 use Rattle.section_units.proofs.Fronting.{first_front, first_longer, first_packed}
 use Rattle.section_units.proofs.Packing.{next_packed, none_packed}
-use Rattle.section_stream.specs.Pieces.{ArePieces, Piece, last_step, placed_in, steps_in}
+use Rattle.section_stream.specs.Pieces.{ArePieces, Piece, placed_in, steps_in}
 use Rattle.section_stream.proofs.Packed.{AreOn, pieces-on, units-more}
 use Rattle.section_stream.proofs.Stretches.{last-append, spaced-split}
 
-pub end-is : (base : ℕ) (steps : List Planned) → end_of_plan base steps ≡ last_step base steps
+pub end-is : (base : ℕ) (steps : List Planned) → end_of_plan base steps ≡ last_step_tick base steps
 end-is base [] = refl
 end-is base (s ∷ steps) = end-is s.tick steps
 
@@ -54,8 +55,8 @@ pieces-packed homing clocks freq oid base before (p ∷ ps) plan us up packed is
     let one : ArePackedBy homing clocks freq oid base (plan ++ p.steps) (us ++ units_on clocks oid (set_to homing base) (dir_told us) p.steps p.placed) =
     next_packed homing clocks freq oid base plan p.steps us p.placed packed (rw ends split.0) (rw ends pieces.0) pieces.1 in
     let two : ArePackedBy homing clocks freq oid base (plan ++ p.steps) (us ++ here) = subst (λ o. ArePackedBy homing clocks freq oid base (plan ++ p.steps) (us ++ units_on clocks oid (set_to homing base) o p.steps p.placed)) is one in
-    let end : end_of_plan base (plan ++ p.steps) ≡ last_step before p.steps = end-is base (plan ++ p.steps) ∙ last-append base plan p.steps ∙ ap (λ b. last_step b p.steps) (sym (end-is base plan) ∙ ends) in
-    let rest = pieces-packed homing clocks freq oid base (last_step before p.steps) ps (plan ++ p.steps) (us ++ here) (up_after up p.steps p.placed) two (units-told clocks oid (set_to homing base) us up p.steps p.placed is) end pieces.2 split.1 in
+    let end : end_of_plan base (plan ++ p.steps) ≡ last_step_tick before p.steps = end-is base (plan ++ p.steps) ∙ last-append base plan p.steps ∙ ap (λ b. last_step_tick b p.steps) (sym (end-is base plan) ∙ ends) in
+    let rest = pieces-packed homing clocks freq oid base (last_step_tick before p.steps) ps (plan ++ p.steps) (us ++ here) (up_after up p.steps p.placed) two (units-told clocks oid (set_to homing base) us up p.steps p.placed is) end pieces.2 split.1 in
     let on = pieces-on (max_error freq) before (p ∷ []) (pieces.0, pieces.1, tt) in
     let onto : AreOn p.placed p.steps = subst (λ xs. AreOn p.placed xs) (append-nil p.steps) (subst (λ xs. AreOn xs (p.steps ++ [])) (append-nil p.placed) on) in
     let all : units_on clocks oid (set_to homing base) up (p.steps ++ steps_in ps) (p.placed ++ placed_in ps) ≡ here ++ units_on clocks oid (set_to homing base) (up_after up p.steps p.placed) (steps_in ps) (placed_in ps) = units-more clocks oid (set_to homing base) up p.placed (placed_in ps) p.steps (steps_in ps) onto in

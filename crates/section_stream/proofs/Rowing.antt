@@ -18,7 +18,7 @@ use Rattle.step_pack.proofs.Signed.{covered_rise}
 use Rattle.section_units.specs.Units.{first_up, set_in, told, unit_of, units_on}
 use Rattle.section_stream.specs.declared.pack.PackStream.{PackStream}
 use Rattle.section_stream.specs.Packs.{last_packed, waiting_of}
-use Rattle.section_stream.specs.Pieces.{last_step}
+use Rattle.step_ticks.specs.Streaming.{last_step_tick}
 use Rattle.section_stream.specs.Rows.{AreInRow}
 use Rattle.section_stream.proofs.Laying.{HasUnits, first-tick, rest-of}
 use Rattle.section_stream.proofs.Stretches.{last-after}
@@ -67,7 +67,7 @@ record IsBy (end : ℕ) (w : Window) : Type 0 where
   by : w.high ≤ end
   small : w.high < tick_limit
 
-windows-by : (e before : ℕ) (steps : List Planned) → AreSpaced before steps → All (λ s. s.tick < tick_limit) steps → All (IsBy (last_step before steps)) (windows_of e before steps)
+windows-by : (e before : ℕ) (steps : List Planned) → AreSpaced before steps → All (λ s. s.tick < tick_limit) steps → All (IsBy (last_step_tick before steps)) (windows_of e before steps)
 windows-by e before [] spaced small = All-nil (IsBy before)
 windows-by e before (s ∷ []) spaced small =
     let h = small 0 s (omega arith) in
@@ -75,7 +75,7 @@ windows-by e before (s ∷ []) spaced small =
 windows-by e before (s ∷ n ∷ steps) spaced small =
     let h = small 0 s (omega arith) in
     let last = last-after s.tick (n ∷ steps) spaced.1 in
-    All-cons (IsBy (last_step s.tick (n ∷ steps))) (record { low = s.tick - min e ((s.tick - before) / 2); high = s.tick; up = s.up }) (windows_of e s.tick (n ∷ steps)) (record { by = last; small = h })
+    All-cons (IsBy (last_step_tick s.tick (n ∷ steps))) (record { low = s.tick - min e ((s.tick - before) / 2); high = s.tick; up = s.up }) (windows_of e s.tick (n ∷ steps)) (record { by = last; small = h })
     (windows-by e s.tick (n ∷ steps) spaced.1 (rest-of (λ (q : Planned). q.tick < tick_limit) s (n ∷ steps) small))
 
 rise-up : (f : ℕ → ℕ) (count k : ℕ) → ((i : ℕ) → i + 1 < count → f i < f (i + 1)) → k < count → f 0 ≤ f k
@@ -105,8 +105,8 @@ units-row clocks oid reset up b end ws steps (p ∷ placed) run packs by h =
       units-row clocks oid reset (Some (first_up steps)) p.last end (drop t.count ws) (drop t.count steps) placed (run_drop b p.last t.count ws run some inside late) packs.3 (All-drop (IsBy end) t.count ws by) (omega arith),
     )
 
-pub piece-row : (clocks : Clocks) (oid : ℕ) (reset : Option ℕ) (up : Option Bool) (e last : ℕ) (steps : List Planned) (placed : List Placed) → PacksPlaced last (windows_of e last steps) placed → AreSpaced last steps → All (λ s. s.tick < tick_limit) steps → AreInRow clocks last (last_step last steps) (units_on clocks oid reset up steps placed)
-piece-row clocks oid reset up e last steps placed packs spaced small = units-row clocks oid reset up last (last_step last steps) (windows_of e last steps) steps placed (spaced_run e last steps spaced) packs (windows-by e last steps spaced small) (last-after last steps spaced)
+pub piece-row : (clocks : Clocks) (oid : ℕ) (reset : Option ℕ) (up : Option Bool) (e last : ℕ) (steps : List Planned) (placed : List Placed) → PacksPlaced last (windows_of e last steps) placed → AreSpaced last steps → All (λ s. s.tick < tick_limit) steps → AreInRow clocks last (last_step_tick last steps) (units_on clocks oid reset up steps placed)
+piece-row clocks oid reset up e last steps placed packs spaced small = units-row clocks oid reset up last (last_step_tick last steps) (windows_of e last steps) steps placed (spaced_run e last steps spaced) packs (windows-by e last steps spaced small) (last-after last steps spaced)
 
 -- the units begin where their windows do, or later
 units-from : (clocks : Clocks) (oid : ℕ) (reset : Option ℕ) (up : Option Bool) (b t : ℕ) (ws : List Window) (steps : List Planned) (placed : List Placed) → PacksPlaced b ws placed → All (λ w. t ≤ w.low) ws → All (λ u. t ≤ u.first) (units_on clocks oid reset up steps placed)
@@ -136,10 +136,10 @@ piece-from clocks oid reset up e last t steps placed packs late = units-from clo
 
 -- those of the units that are made so far
 pub has-row : (clocks : Clocks) (oid : ℕ) (reset : Option ℕ) (first : Option Bool) (e last : ℕ) (steps : List Planned) (placed : List Placed) (old new : List StepUnit) (up : Option Bool) (next i : ℕ) → HasUnits clocks oid reset first steps placed old new up next i → PacksPlaced last (windows_of e last steps) placed → AreSpaced last steps → All (λ s. s.tick < tick_limit) steps
-    → AreInRow clocks 0 last old → AreInRow clocks 0 (last_step last steps) new
+    → AreInRow clocks 0 last old → AreInRow clocks 0 (last_step_tick last steps) new
 has-row clocks oid reset first e last steps placed old new up next i has packs spaced small row =
-    let all = row-join clocks 0 last (last_step last steps) old (units_on clocks oid reset first steps placed) row (piece-row clocks oid reset first e last steps placed packs spaced small) in
-    row-front clocks 0 (last_step last steps) new (units_on clocks oid reset up (drop next steps) (drop i placed)) (rw has.units all)
+    let all = row-join clocks 0 last (last_step_tick last steps) old (units_on clocks oid reset first steps placed) row (piece-row clocks oid reset first e last steps placed packs spaced small) in
+    row-front clocks 0 (last_step_tick last steps) new (units_on clocks oid reset up (drop next steps) (drop i placed)) (rw has.units all)
 
 -- the units begin before a tick where their steps are
 windows-before : (e before t : ℕ) (steps : List Planned) → All (λ s. s.tick < t) steps → All (λ w. w.high < t) (windows_of e before steps)

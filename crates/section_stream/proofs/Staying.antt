@@ -18,14 +18,14 @@ use Rattle.plan_types.specs.Parts.{parts}
 use Rattle.plan_types.specs.Plan.{Fits, cancel_reach, filtered, max_error, on_board, planned_steps, spaced}
 use Rattle.plan_types.specs.Sections.{TimedPart, duration, segment_of, timed, timed_moves}
 use Rattle.plan_types.specs.Steps.{counts_passed, raw_steps, segment_steps}
-use Rattle.step_ticks.specs.Streaming.{AreSteps, last_of}
+use Rattle.step_ticks.specs.Streaming.{AreSteps, last_step_tick}
 use Rattle.step_ticks.proofs.Within.{steps-within}
 use Rattle.step_pack.specs.declared.Placed.{Placed}
 use Rattle.step_pack.specs.Placing.{placed_ticks}
 use Rattle.step_pack.proofs.Expanding.{placed_within}
 use Rattle.step_pack.proofs.Piecewise.{within_open}
 use Rattle.section_plan.specs.declared.drive.Drive.{Drive}
-use Rattle.section_stream.specs.Pieces.{ArePieces, Piece, last_step, placed_in, steps_in}
+use Rattle.section_stream.specs.Pieces.{ArePieces, Piece, placed_in, steps_in}
 use Rattle.section_stream.specs.Plans.{segments_for}
 
 -- later steps behind others
@@ -45,7 +45,7 @@ raw-after g f end (x ∷ xs) h =
     (λ k d l. (let w = own k d l in let from = w.after in omega arith))
     (raw-after g f end xs (rest-of (λ (s : Segment). end ≤ s.start) x xs h))
 
-spaced-append : (b : ℕ) (xs ys : List Planned) → spaced b (xs ++ ys) ≡ spaced b xs ++ spaced (last_of b (spaced b xs)) ys
+spaced-append : (b : ℕ) (xs ys : List Planned) → spaced b (xs ++ ys) ≡ spaced b xs ++ spaced (last_step_tick b (spaced b xs)) ys
 spaced-append b [] ys = refl
 spaced-append b (x ∷ xs) ys = ap (λ zs. record { tick = max x.tick (b + 4); up = x.up } ∷ zs) (spaced-append (max x.tick (b + 4)) xs ys)
 
@@ -77,11 +77,11 @@ steps-front gear clocks reach end last_end last waiting base segments more asked
     let e = are.kept_is.whole new after in
     let all : filtered (cancel_reach f) (raw_steps gear f (segments ++ more)) ≡ are.kept ++ left = ap (filtered (cancel_reach f)) (raw-append gear f segments more) ∙ ap (λ r. filtered r (raw ++ new)) (sym are.reach_is) ∙ e in
     let front = spaced base (map (on_board clocks) are.kept) in
-    let tail = spaced (last_of base front) (map (on_board clocks) left) in
+    let tail = spaced (last_step_tick base front) (map (on_board clocks) left) in
     record {
       rest = tail;
       whole = ap (λ ks. spaced base (map (on_board clocks) ks)) all ∙ ap (spaced base) (map-append (on_board clocks) are.kept left) ∙ spaced-append base (map (on_board clocks) are.kept) (map (on_board clocks) left) ∙ ap (λ xs. xs ++ tail) (sym are.out_is);
-      later = λ t low from up. spaced-later (last_of base front) low (map (on_board clocks) left) (board-later clocks t low left up (from new after));
+      later = λ t low from up. spaced-later (last_step_tick base front) low (map (on_board clocks) left) (board-later clocks t low left up (from new after));
     }
 
 pub segments-after : (drive : Drive) (line : Line) (end : ℕ) (more : List TimedPart) → drive.line ≡ line → All (λ t. end ≤ tick line t.begin) more → All (λ s. end ≤ s.start) (segments_for drive more)
@@ -117,7 +117,7 @@ moves-after cruise (m ∷ ms) (g ∷ k ∷ speeds) begin low h =
     (timed-after m 0 begin low (parts m g k cruise) h) (moves-after cruise ms (k ∷ speeds) (begin + duration (parts m g k cruise)) low (omega arith))
 
 -- ticks in the windows of pieces
-in-append : (e b : ℕ) (ticks others : List ℕ) (xs ys : List Planned) → AreInWindows ticks (open_windows e b xs) → AreInWindows others (open_windows e (last_step b xs) ys) → AreInWindows (ticks ++ others) (open_windows e b (xs ++ ys))
+in-append : (e b : ℕ) (ticks others : List ℕ) (xs ys : List Planned) → AreInWindows ticks (open_windows e b xs) → AreInWindows others (open_windows e (last_step_tick b xs) ys) → AreInWindows (ticks ++ others) (open_windows e b (xs ++ ys))
 in-append e b [] others [] ys h k = k
 in-append e b [] others (x ∷ xs) ys h k = absurd (nil-cons h)
   where
@@ -134,7 +134,7 @@ pub pieces-within : (e base : ℕ) (ps : List Piece) → ArePieces e base ps →
 pieces-within e base [] h = refl
 pieces-within e base (p ∷ ps) h =
     let here = within_open e base p.steps (placed_ticks p.placed) (placed_within base (windows_of e base p.steps) p.placed h.0) in
-    let later = pieces-within e (last_step base p.steps) ps h.2 in
+    let later = pieces-within e (last_step_tick base p.steps) ps h.2 in
     subst (λ ts. AreInWindows ts (open_windows e base (p.steps ++ steps_in ps))) (sym (ticks-append p.placed (placed_in ps))) (in-append e base (placed_ticks p.placed) (placed_ticks (placed_in ps)) p.steps (steps_in ps) here later)
 
 -- pulses in open windows fit
@@ -179,7 +179,7 @@ steps-left gear clocks reach end last_end last waiting base segments asked out a
     go [] more all = absurd (omega arith)
     go (x ∷ xs) more all =
         let front = spaced base (map (on_board clocks) are.kept) in
-        let b = last_of base front in
+        let b = last_step_tick base front in
         let t = max (on_board clocks x).tick (b + 4) in
         let one : planned_steps gear clocks segments base ≡ front ++ spaced b (map (on_board clocks) (x ∷ xs)) = ap (λ ks. spaced base (map (on_board clocks) ks)) all ∙ ap (spaced base) (map-append (on_board clocks) are.kept (x ∷ xs)) ∙ spaced-append base (map (on_board clocks) are.kept) (map (on_board clocks) (x ∷ xs)) in
         record {

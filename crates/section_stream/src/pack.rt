@@ -1,6 +1,7 @@
 //! A stepper's planned steps, packed piece by piece.
 
 ghost use Rattle.std.specs.Prelude.{◌≡◌, ◌<◌, ◌^◌, All};
+ghost use Rattle.step_ticks.specs.Streaming.{last_step_tick};
 ghost use Rattle.section_stream.specs.Packing.{ArePackable};
 
 use crate::OutOfMemory;
@@ -55,7 +56,7 @@ impl PackStream {
     ghost use Rattle.plan_types.specs.Plan.{AreSpaced};
     ghost use Rattle.msg_code.specs.declared.unit.Unit.{Unit as StepUnit};
     ghost use Rattle.section_units.specs.Units.{as_sent};
-    ghost use Rattle.section_stream.specs.Pieces.{Piece, last_step};
+    ghost use Rattle.section_stream.specs.Pieces.{Piece};
     ghost use Rattle.section_stream.specs.Packing.{IsPieceTo};
     ghost use Rattle.section_stream.specs.Rows.{AreInRow};
     ghost use Rattle.section_stream.specs.Packs.{IsPackedOf, error_of, held_of, is_inverted, last_packed, last_pushed, oid_of, reset_of, step_packed, waiting_of};
@@ -99,7 +100,7 @@ impl PackStream {
             (given : List StepUnit) → IsPackedOf self.old clocks base pushed pieces given →
             IsPackedOf self.new clocks base (pushed ++ as_sent (is_inverted self.old) steps.now) pieces given) }
         ensures items { OnOk result (held_of self.new ≡ held_of self.old ++ as_sent (is_inverted self.old) steps.now) }
-        ensures last { OnOk result (last_pushed self.new ≡ last_step (last_pushed self.old) steps.now) }
+        ensures last { OnOk result (last_pushed self.new ≡ last_step_tick (last_pushed self.old) steps.now) }
         ensures refused { OnErr result (last_pushed self.new ≡ last_pushed self.old) }
         ensures packed { last_packed self.new ≡ last_packed self.old }
         ensures oid { oid_of self.new ≡ oid_of self.old }

@@ -6,7 +6,7 @@ ghost use Rattle.plan_types.specs.Lines.{last_from};
 ghost use Rattle.plan_types.specs.Packing.{windows_of};
 ghost use Rattle.plan_types.specs.Plan.{AreSpaced};
 ghost use Rattle.step_pack.specs.Placing.{PacksPlaced};
-ghost use Rattle.section_stream.specs.Pieces.{last_step};
+ghost use Rattle.step_ticks.specs.Streaming.{last_step_tick};
 ghost use Rattle.section_stream.specs.Rows.{AreInRow};
 ghost use Rattle.section_units.specs.Units.{set_in, sent, told, units_on, up_after};
 
@@ -68,7 +68,7 @@ pub fn add_units(
     ensures early { (t : ℕ) → All (λ s. s.tick < t) steps.now → All (λ u. u.first < t) units.old.items →
         All (λ u. u.first < t) units.new.items }
     ensures row { AreInRow lines.now 0 last units.old.items →
-        AreInRow lines.now 0 (last_step last steps.now) units.new.items }
+        AreInRow lines.now 0 (last_step_tick last steps.now) units.new.items }
 {
     let mut up = up;
     let mut next = 0;

@@ -12,13 +12,13 @@ use Rattle.plan_types.specs.declared.plan.Pulse.{Pulse}
 use Rattle.plan_types.specs.declared.plan.Triple.{Triple}
 use Rattle.plan_types.specs.Lines.{Clocks, lines_tick, lines_turn}
 use Rattle.plan_types.specs.Packing.{ticks_of}
-use Rattle.plan_types.specs.Plan.{AreSpaced, Fits}
+use Rattle.plan_types.specs.Plan.{AreSpaced, Fits, pulse_of}
 use Rattle.step_feed.specs.Fed.{behind, last_turn}
 use Rattle.step_feed.specs.Pacing.{Release, lead, units_of}
 use Rattle.step_feed.specs.Units.{StepUnit}
 use Rattle.section_units.specs.Completed.{IsCompletionBy, IsOpenFrontBy}
 use Rattle.section_units.specs.Packed.{dir_behind, end_of_plan, end_of_units}
-use Rattle.section_units.specs.Sections.{AreBegunBy, AreChained, IsUnit, dir_after, of_stepper, pulse_of, set_to, steps_said, ticks_meant}
+use Rattle.section_units.specs.Sections.{AreBegunBy, AreChained, IsUnit, dir_after, of_stepper, set_to, steps_said, ticks_meant}
 use Rattle.section_units.proofs.Fronting.{units_append}
 use Rattle.section_units.proofs.Merging.{of_append, of_one, of_other}
 use Rattle.section_units.proofs.Packing.{chains_join, fits_join, plan_ends, said_join}

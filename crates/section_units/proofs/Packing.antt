@@ -12,7 +12,7 @@ use Rattle.plan_types.specs.declared.plan.Window.{Window}
 use Rattle.plan_types.specs.Board.{last_of, steps_of, TicksRise}
 use Rattle.plan_types.specs.Lines.{Clocks}
 use Rattle.plan_types.specs.Packing.{window_at, windows_of, RunOn, tick_at, ticks_of, last_tick, Covers}
-use Rattle.plan_types.specs.Plan.{AreSpaced, Fits, max_error}
+use Rattle.plan_types.specs.Plan.{AreSpaced, Fits, max_error, pulse_of}
 use Rattle.step_pack.specs.declared.Placed.{Placed}
 use Rattle.step_pack.specs.Placing.{PacksPlaced, placed_ticks}
 use Rattle.step_pack.proofs.Expanding.{triple_expands, placed_within}
@@ -20,7 +20,7 @@ use Rattle.step_pack.proofs.Fitting.{as_many, ending, fitting}
 use Rattle.step_pack.proofs.Rows.{run_drop, spaced_run}
 use Rattle.step_pack.proofs.Signed.{covered_rise}
 use Rattle.step_feed.specs.Units.{StepUnit}
-use Rattle.section_units.specs.Sections.{dir_after, pulse_of, steps_said, ticks_meant, IsUnit, AreChained, AreBegunBy, set_to}
+use Rattle.section_units.specs.Sections.{dir_after, steps_said, ticks_meant, IsUnit, AreChained, AreBegunBy, set_to}
 use Rattle.section_units.specs.Units.{unit_of, told, first_up, units_on}
 use Rattle.section_units.specs.Packed.{ArePackedBy, dir_behind, end_of_plan, end_of_units, units_from, units_next}
 

@@ -6,7 +6,7 @@ use Rattle.plan_types.specs.Lines.{Clocks, lines_tick, lines_turn}
 use Rattle.plan_types.specs.declared.plan.Planned.{Planned}
 use Rattle.plan_types.specs.declared.plan.Pulse.{Pulse}
 use Rattle.plan_types.specs.Packing.{ticks_of}
-use Rattle.plan_types.specs.Plan.{AreSpaced, Fits}
+use Rattle.plan_types.specs.Plan.{AreSpaced, Fits, pulse_of}
 use Rattle.plan_types.specs.Board.{last_of, steps_of, IsExpansion, TicksRise}
 use Rattle.step_feed.specs.Units.{StepUnit}
 use Rattle.step_feed.specs.Pacing.{Release, ArePaced, units_of}
@@ -33,10 +33,6 @@ of_stepper oid (u ∷ us) = if u.stepper == oid then u ∷ of_stepper oid us els
 -- the whole ticks that a unit means
 abbrev pub ticks_meant : StepUnit → List ℕ
 ticks_meant u = ticks_of u.first u.triple
-
--- a step of the stepper of an object id, as a pulse
-abbrev pub pulse_of : ℕ → Planned → Pulse
-pulse_of oid s = record { tick = s.tick; stepper = oid; up = s.up }
 
 -- the direction behind one that may be told
 abbrev pub dir_after : Bool → Option Bool → Bool

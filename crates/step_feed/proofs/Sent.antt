@@ -8,7 +8,7 @@ use Rattle.msg_dict.specs.Own.{own_formats}
 use Rattle.msg_code.specs.declared.cmd.Cmd.{Cmd}
 use Rattle.msg_code.specs.declared.cmd.Cmd.TheVariants as cmd
 use Rattle.msg_code.specs.Text.{command_text}
-use Rattle.msg_code.specs.Units.{reset_commands, dir_number, dir_commands, step_command, unit_commands, unit_text}
+use Rattle.msg_code.specs.Units.{reset_commands, bit, dir_commands, step_command, unit_commands, unit_text}
 use Rattle.msg_code.proofs.Sizes.{own_length, numbers_length}
 use Rattle.step_feed.specs.Units.{StepUnit, queue_bytes, dir_bytes, reset_bytes, unit_bytes}
 

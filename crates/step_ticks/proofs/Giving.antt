@@ -15,11 +15,11 @@ use Rattle.plan_types.specs.Clock.{tick}
 use Rattle.plan_types.specs.Lines.{Clocks, lines_board}
 use Rattle.plan_types.specs.Steps.{segment_steps, raw_steps}
 use Rattle.plan_types.specs.Numbers.{gap}
-use Rattle.plan_types.specs.Plan.{cancel, cancel_reach, opposite, filtered, on_board, spaced}
+use Rattle.plan_types.specs.Plan.{cancel, cancel_reach, opposite, filtered, on_board, spaced, no_step}
 use Rattle.clock_line.specs.Kept.{added}
 use Rattle.clock_line.proofs.Boards.{board-added}
-use Rattle.step_ticks.specs.Due.{IsDropped, IsKept, is_due, no_step}
-use Rattle.step_ticks.specs.Streaming.{AreRising, AreSteps, IsKeptOf, due_steps, last_of}
+use Rattle.step_ticks.specs.Due.{IsDropped, IsKept, is_due}
+use Rattle.step_ticks.specs.Streaming.{AreRising, AreSteps, IsKeptOf, due_steps, last_step_tick}
 use Rattle.step_ticks.proofs.Lists.{filtered-All}
 
 cond-at : (b c : Bool) (xs ys : List Planned) → b ≡ c → cond b xs ys ≡ cond c xs ys
@@ -66,11 +66,11 @@ kept-last reach end raw kept a given near = record {
 }
 
 -- spacing behind what was given
-spaced-more : (base : ℕ) (xs : List Planned) (y : Planned) → spaced base (xs ++ y ∷ []) ≡ spaced base xs ++ record { tick = max y.tick (last_of base (spaced base xs) + 4); up = y.up } ∷ []
+spaced-more : (base : ℕ) (xs : List Planned) (y : Planned) → spaced base (xs ++ y ∷ []) ≡ spaced base xs ++ record { tick = max y.tick (last_step_tick base (spaced base xs) + 4); up = y.up } ∷ []
 spaced-more base [] y = refl
 spaced-more base (x ∷ xs) y = ap (λ zs. record { tick = max x.tick (base + 4); up = x.up } ∷ zs) (spaced-more (max x.tick (base + 4)) xs y)
 
-last-more : (base : ℕ) (xs : List Planned) (y : Planned) → last_of base (xs ++ y ∷ []) ≡ y.tick
+last-more : (base : ℕ) (xs : List Planned) (y : Planned) → last_step_tick base (xs ++ y ∷ []) ≡ y.tick
 last-more base [] y = refl
 last-more base (x ∷ xs) y = last-more x.tick xs y
 
@@ -89,7 +89,7 @@ gives : (gear : Gear) (clocks : Clocks) (reach end last_end last : ℕ) (a : Pla
 gives gear clocks reach end last_end last a waiting base segments asked out t s kept due is =
     let f = on_board clocks in
     let more : map f (s.kept ++ a ∷ []) ≡ map f s.kept ++ f a ∷ [] = map-append f s.kept (a ∷ []) in
-    let same : max (lines_board clocks a.tick) (last_of base (spaced base (map f s.kept)) + 4) ≡ t = ap (λ n. max (lines_board clocks a.tick) (n + 4)) (ap (last_of base) (sym s.out_is) ∙ sym s.last_is) ∙ sym is in
+    let same : max (lines_board clocks a.tick) (last_step_tick base (spaced base (map f s.kept)) + 4) ≡ t = ap (λ n. max (lines_board clocks a.tick) (n + 4)) (ap (last_step_tick base) (sym s.out_is) ∙ sym s.last_is) ∙ sym is in
     record {
       kept = s.kept ++ a ∷ [];
       reach_is = s.reach_is;

@@ -1,11 +1,7 @@
 -- Whether a step is due, and whether it is dropped.
 use Rattle.std.specs.Prelude.{◌≡◌, ℕ, ◌+◌, ◌<◌, List, Bool, true, false, length, nat_lt, ◌&&◌, slice_index_or}
 use Rattle.plan_types.specs.declared.plan.Planned.{Planned}
-use Rattle.plan_types.specs.Plan.{cancel}
-
--- no step, for a list that has none at a place
-abbrev pub no_step : Planned
-no_step = record { tick = 0; up = false }
+use Rattle.plan_types.specs.Plan.{cancel, no_step}
 
 -- a step that comes before a tick, and so long before the end of what is known that no later one cancels it
 abbrev pub is_due : ℕ → ℕ → ℕ → Planned → Bool

@@ -28,9 +28,9 @@ pub record IsKeptOf (reach end : ℕ) (raw kept waiting : List Planned) : Type 0
       filtered reach (raw ++ more) ≡ kept ++ filtered reach (waiting ++ more)
 
 -- the tick of the last step, or one before them all
-abbrev pub last_of : ℕ → List Planned → ℕ
-last_of base [] = base
-last_of base (s ∷ steps) = last_of s.tick steps
+abbrev pub last_step_tick : ℕ → List Planned → ℕ
+last_step_tick base [] = base
+last_step_tick base (s ∷ steps) = last_step_tick s.tick steps
 
 -- Of these segments the steps out were given, the last at tick last, and none was asked for from tick asked on;
 -- waiting are raw steps that are not decided.
@@ -40,7 +40,7 @@ pub record AreSteps (gear : Gear) (clocks : Clocks) (reach end last_end last : �
   pub reach_is : reach ≡ cancel_reach clocks.first.freq
   pub kept_is : IsKeptOf reach end (raw_steps gear clocks.first.freq segments) kept waiting
   pub out_is : out ≡ spaced base (map (on_board clocks) kept)
-  pub last_is : last ≡ last_of base out
+  pub last_is : last ≡ last_step_tick base out
   pub due : All (λ k. IsTrue (is_due reach asked end k)) kept
   pub rising : AreRising 0 waiting
   pub before : All (λ k. k.tick ≤ last_end) waiting

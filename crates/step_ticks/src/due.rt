@@ -1,9 +1,10 @@
 //! Whether a raw step is due, and whether it is dropped.
 
 ghost use Rattle.std.specs.Prelude.{◌≡◌, ℕ, ◌+◌, ◌<◌, ◌≤◌, ◌^◌, All, false, true, length, slice_index_or, drop};
+ghost use Rattle.plan_types.specs.Plan.{no_step};
 ghost use Rattle.plan_types.specs.Clock.{tick_limit};
 ghost use Rattle.step_ticks.specs.Ticks.{IsOnBoard};
-ghost use Rattle.step_ticks.specs.Due.{IsDropped, IsKept, is_due, no_step};
+ghost use Rattle.step_ticks.specs.Due.{IsDropped, IsKept, is_due};
 
 use crate::thin::cancels;
 use plan_types::Planned;

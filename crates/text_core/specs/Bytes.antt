@@ -63,3 +63,7 @@ without test (b ∷ bs) = if test b then bs else b ∷ bs
 -- the two texts are one where capitals count as small letters
 abbrev pub same_small : List ℕ → List ℕ → Bool
 same_small text name = bytes_eq (map small text) (map small name)
+
+-- a text or a word, as its bytes
+abbrev pub Text : Type 0
+Text = List ℕ

@@ -3,6 +3,7 @@ use Rattle.std.proofs.Common.{◌≡◌, ℕ, ◌+◌, ◌<◌, ◌≤◌, ◌^�
 use Rattle.std.specs.Prelude.{⊤}
 use Rattle.std.proofs.lemmas.Bool.Decides.{nat_tests}
 use Rattle.std.specs.Str.{bytes_eq}
+use Rattle.text_core.specs.Words.{words_of}
 use Rattle.plan_types.specs.declared.machine.Machine.{Machine}
 use Rattle.plan_types.specs.declared.machine.BoardDef.{BoardDef}
 use Rattle.text_core.specs.Bytes.{before}
@@ -15,7 +16,7 @@ use Rattle.wire_scene.specs.declared.scene.Deed.TheVariants.{Drop, Repeat, Garbl
 use Rattle.wire_scene.specs.declared.line.Item.{Item}
 use Rattle.wire_scene.specs.declared.line.Item.TheVariants.{OnLine, AtPin, Wrong}
 use Rattle.plan_types.specs.declared.cause.SceneKind.TheVariants.{BadLine}
-use Rattle.wire_scene.specs.Words.{words_of, number_in}
+use Rattle.wire_scene.specs.Words.{number_in}
 use Rattle.wire_scene.specs.Entries.{board_from, pin_from, pins_on, delayed, garbled, deed_in, on_line, entry_item, line_item, connect_item, level_in, moment, moment_of, at_pin, at_board, pin_item, switch_item, meant_by}
 use Rattle.wire_scene.specs.Valid.{IsValidDeed, IsValidEntry, IsValidSwitch}
 use Rattle.wire_scene.specs.Reading.{items}

@@ -1,4 +1,3 @@
-pub mod FirstWord
 pub mod Lasts
 pub mod Rising
 pub mod Fitting

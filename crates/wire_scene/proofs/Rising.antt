@@ -4,7 +4,7 @@ use Rattle.std.proofs.lemmas.Bool.Decides.{nat_tests}
 use Rattle.std.proofs.lemmas.List.Elements.{All-push, All-weaker, All-nil}
 use Rattle.std.proofs.lemmas.List.Quantifiers.{all_pairs_push}
 use Rattle.wire_scene.specs.Scenes.{last_where}
-use Rattle.wire_scene.specs.Reading.{is_above}
+use Rattle.plan_types.specs.Numbers.{is_above}
 use Rattle.wire_scene.proofs.Lasts.{last_more, map_cond}
 
 -- the last mark of a place

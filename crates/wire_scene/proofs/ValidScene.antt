@@ -4,6 +4,7 @@ use Rattle.std.proofs.lemmas.Bool.{and_parts, eqb-true}
 use Rattle.std.proofs.lemmas.Bool.Decides.{nat_tests}
 use Rattle.std.proofs.lemmas.List.{append-nil, append_assoc}
 use Rattle.std.proofs.lemmas.List.Elements.{All-push, All-nil}
+use Rattle.plan_types.specs.Numbers.{is_above}
 use Rattle.text_core.specs.Lines.{lines_of}
 use Rattle.plan_types.specs.declared.cause.SceneKind.{SceneKind}
 use Rattle.plan_types.specs.declared.cause.SceneKind.TheVariants.{TooMany, TooLarge}
@@ -16,7 +17,7 @@ use Rattle.wire_scene.specs.declared.scene.Scene.{Scene}
 use Rattle.wire_scene.specs.declared.line.Item.{Item}
 use Rattle.wire_scene.specs.declared.line.Item.TheVariants.{Nothing, OnLine, AtPin, Wrong}
 use Rattle.wire_scene.specs.Scenes.{is_on, is_of, way_number, last_number, last_tick}
-use Rattle.wire_scene.specs.Reading.{items, entry_of, switch_of, entries_among, switches_among, is_above, refusal, fault_of, or_later, first_fault, scene_of, unless, reading}
+use Rattle.wire_scene.specs.Reading.{items, entry_of, switch_of, entries_among, switches_among, refusal, fault_of, or_later, first_fault, scene_of, unless, reading}
 use Rattle.wire_scene.specs.Valid.{IsValidEntry, IsValidSwitch, IsValidScene}
 use Rattle.wire_scene.proofs.Rising.{AreTopped, IsBelow, Rise, IsAbove, last_mark, topped_none, topped_more, rise_more}
 use Rattle.wire_scene.proofs.Fitting.{IsFit, AreFit, items_fit}

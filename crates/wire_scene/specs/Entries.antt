@@ -1,6 +1,7 @@
 -- What a line of a scene says by itself: nothing, an entry, or a fault.
 use Rattle.std.specs.Prelude.{ℕ, ◌+◌, Bool, true, false, List, [], ◌∷◌, if◌then◌else◌, Option, Some, None, codes, slice_index_or, nat_lt}
 use Rattle.std.specs.Str.{bytes_eq}
+use Rattle.text_core.specs.Words.{words_of}
 use Rattle.plan_types.specs.declared.cause.SceneKind.TheVariants.{BadLine, UnknownBoard}
 use Rattle.plan_types.specs.declared.machine.BoardDef.{BoardDef}
 use Rattle.plan_types.specs.Machines.{no_board}
@@ -12,7 +13,7 @@ use Rattle.wire_scene.specs.declared.scene.Deed.{Deed}
 use Rattle.wire_scene.specs.declared.scene.Deed.TheVariants.{Drop, Repeat, Delay, Garble}
 use Rattle.wire_scene.specs.declared.line.Item.{Item}
 use Rattle.wire_scene.specs.declared.line.Item.TheVariants.{Nothing, OnLine, AtPin, Wrong}
-use Rattle.wire_scene.specs.Words.{words_of, number_in}
+use Rattle.wire_scene.specs.Words.{number_in}
 
 -- the number of the first board of a name, where they are counted from k on
 abbrev pub board_from : ℕ → List BoardDef → List ℕ → Option ℕ

@@ -1,5 +1,6 @@
 -- The reading of a scene: its first fault, or its entries.
-use Rattle.std.specs.Prelude.{◌≡◌, ℕ, ◌+◌, Bool, true, List, [], ◌∷◌, ◌++◌, if◌then◌else◌, nat_lt, nat_le, length, Option, Some, None, Result, Ok, Err, ⊤}
+use Rattle.std.specs.Prelude.{◌≡◌, ℕ, ◌+◌, Bool, List, [], ◌∷◌, ◌++◌, if◌then◌else◌, nat_lt, nat_le, length, Option, Some, None, Result, Ok, Err, ⊤}
+use Rattle.plan_types.specs.Numbers.{is_above}
 use Rattle.text_core.specs.Lines.{lines_of}
 use Rattle.plan_types.specs.declared.cause.SceneKind.{SceneKind}
 use Rattle.plan_types.specs.declared.cause.SceneKind.TheVariants.{NotRising, TooMany, TooLarge}
@@ -39,11 +40,6 @@ entries_among (item ∷ items) = entry_of item ++ entries_among items
 abbrev pub switches_among : List Item → List Switch
 switches_among [] = []
 switches_among (item ∷ items) = switch_of item ++ switches_among items
-
--- a number is above the last one, if there is one
-abbrev pub is_above : ℕ → Option ℕ → Bool
-is_above n None = true
-is_above n (Some last) = nat_lt last n
 
 -- the fault of an entry behind so many: its number has to rise, and there are at most 100,000
 abbrev pub refusal : Bool → ℕ → Option SceneKind

@@ -2,14 +2,14 @@
 
 ghost use Rattle.std.specs.Prelude.{◌≡◌, ◌<◌, ◌≤◌, All, length, IfSome, IsTrue};
 ghost use Rattle.plan_types.specs.Machines.{IsValidBoard};
-ghost use Rattle.wire_scene.specs.Words.{words_of};
+ghost use Rattle.text_core.specs.Words.{words_of};
 ghost use Rattle.wire_scene.specs.Entries as specs;
 ghost use Rattle.wire_scene.specs.Entries.{board_from, pin_from, pins_on, deed_in, moment_of, on_line, line_item, connect_item, at_pin, switch_item, meant, is_on_boards};
 
 use crate::scene::{Deed, Entry, Switch, Way};
-use crate::word::{is_end, next_word, number_in};
+use crate::word::number_in;
 use plan_types::{BoardDef, Name, SceneKind};
-use text_core::{cut, without_return};
+use text_core::{cut, is_end, next_word, without_return};
 
 /// The most turns that a block is delayed by.
 const LONGEST: u64 = 100_000;

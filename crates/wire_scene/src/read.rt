@@ -1,10 +1,11 @@
 //! The reading of a scene.
 
 ghost use Rattle.std.specs.Prelude.{◌≡◌, ◌+◌, ◌<◌, ◌≤◌, [], ◌∷◌, ◌++◌, length, IsTrue, IfNone, IfOk, OnOk};
+ghost use Rattle.plan_types.specs.Numbers.{is_above};
 ghost use Rattle.plan_types.specs.Machines.{IsValidMachine};
 ghost use Rattle.wire_scene.specs.Entries.{is_on_boards};
 ghost use Rattle.wire_scene.specs.Scenes as specs;
-ghost use Rattle.wire_scene.specs.Reading.{Answers, reading, fault_of, refusal, is_above, entry_of, switch_of};
+ghost use Rattle.wire_scene.specs.Reading.{Answers, reading, fault_of, refusal, entry_of, switch_of};
 ghost use Rattle.wire_scene.specs.Steps.{IsInStep};
 ghost use Rattle.wire_scene.specs.Valid.{IsValidScene};
 

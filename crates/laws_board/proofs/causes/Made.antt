@@ -2,6 +2,7 @@
 use Rattle.std.proofs.Common.{◌≡◌, ℕ, zero, suc, ◌+◌, ◌/◌, inl, inr, Bool, true, false, not, List, [], ◌∷◌, ◌++◌, Option, Some, None, refl, ap, sym, ◌∙◌, subst, append_assoc, append-nil}
 use Rattle.std.specs.Prelude.{◌&&◌, ◌||◌, ◌%◌, ◌^◌, slice_index_or}
 use Rattle.std.proofs.lemmas.Bool.Decides.{leb_tells}
+use Rattle.msg_code.specs.Units.{bit}
 use Rattle.plan_types.specs.declared.plan.BoardState.{BoardState}
 use Rattle.plan_types.specs.declared.plan.BoardState.TheVariants.{Running, Shut}
 use Rattle.board_step.specs.Steps.{Pending}
@@ -187,6 +188,6 @@ pub config_by : (r : Rig) (taken : List Meant) → Ready taken r.controller → 
 config_by r taken d e =
     let b = r.controller in
     ap (λ (s : BoardState). (acts_running s r cmd.GetConfig).answers) d.running
-    ∙ ap (λ (x : Bool). cmd.Config (board.bit x) b.crc (board.bit (board.is_shut b.state)) (b.slots % 2 ^ 16) ∷ []) (d.complete e)
-    ∙ ap (λ (x : ℕ). cmd.Config 1 x (board.bit (board.is_shut b.state)) (b.slots % 2 ^ 16) ∷ []) d.crc
-    ∙ ap (λ (s : BoardState). cmd.Config 1 0 (board.bit (board.is_shut s)) (b.slots % 2 ^ 16) ∷ []) d.running
+    ∙ ap (λ (x : Bool). cmd.Config (bit x) b.crc (bit (board.is_shut b.state)) (b.slots % 2 ^ 16) ∷ []) (d.complete e)
+    ∙ ap (λ (x : ℕ). cmd.Config 1 x (bit (board.is_shut b.state)) (b.slots % 2 ^ 16) ∷ []) d.crc
+    ∙ ap (λ (s : BoardState). cmd.Config 1 0 (bit (board.is_shut s)) (b.slots % 2 ^ 16) ∷ []) d.running

@@ -4,6 +4,7 @@ use Rattle.std.specs.Prelude.{◌&&◌, nat_le, if◌then◌else◌}
 use Rattle.std.proofs.lemmas.Bool.Decides.{leb_tells}
 use Rattle.std.proofs.lemmas.List.{append_cancel_left}
 use Rattle.std.proofs.lemmas.List.Elements.{All-head}
+use Rattle.plan_types.specs.Sections.{is_home}
 use Rattle.plan_types.specs.declared.machine.Machine.{Machine}
 use Rattle.plan_types.specs.declared.plan.Section.{Section}
 use Rattle.plan_types.specs.declared.plan.SectionKind.{SectionKind}
@@ -19,7 +20,7 @@ use Rattle.motion_stream.specs.declared.course.Open.TheVariants as opens
 use Rattle.motion_stream.specs.Courses.{IsGoing}
 use Rattle.motion_stream.specs.Motions.{IsMore, answered, begun_with, going_with, hears_answer, waits_by, with_word}
 use Rattle.motion_stream.specs.Puts.{IsBehind}
-use Rattle.motion_stream.specs.Seen.{AreWhole, Going, IsContinued, Seen, homes_by}
+use Rattle.motion_stream.specs.Seen.{AreWhole, Going, IsContinued, Seen}
 use Rattle.motion_stream.specs.Wholes.{HasNoAnswer}
 use Rattle.session_work.specs.declared.table.MotionTurn.{MotionTurn}
 use Rattle.laws_board.specs.plans.Answers.{AnyHomed, EndByWords, EndsByWord, TakesAnswer, WaitsIn}
@@ -107,9 +108,9 @@ HaveAnswers k done ws (s ∷ begun) = ((axis : ℕ) → s.section.kind ≡ Home 
 -- the section that goes on homes, and starts by a turn; or none goes on, and the last one does
 abbrev pub Homing : ℕ → List Started → Option Going → Type 0
 Homing k begun None = LastHomes k begun
-Homing k begun (Some g) = (homes_by g.kind ≡ true) × (g.start ≤ k)
+Homing k begun (Some g) = (is_home g.kind ≡ true) × (g.start ≤ k)
 
-home_axis : (kind : SectionKind) → homes_by kind ≡ true → (axis : ℕ) × (kind ≡ Home axis)
+home_axis : (kind : SectionKind) → is_home kind ≡ true → (axis : ℕ) × (kind ≡ Home axis)
 home_axis Moves e = absurd (clash (sym e))
 home_axis (Home axis) e = (axis, refl)
 
@@ -123,7 +124,7 @@ homing_by : (m : Machine) (k next : ℕ) (begun : List Started) (going : Option 
     → Homing k (begun_with begun (if tells then hears_answer m next going else None)) (going_with going (if tells then hears_answer m next going else None))
 homing_by m k next begun None true h = h
 homing_by m k next begun None false h = h
-homing_by m k next begun (Some g) true h = homing_ends m k next begun g (homes_by g.kind && nat_le g.start next) h
+homing_by m k next begun (Some g) true h = homing_ends m k next begun g (is_home g.kind && nat_le g.start next) h
 homing_by m k next begun (Some g) false h = h
 
 pub homing_word : (m : Machine) (seen : Seen) (k : ℕ) (w : WordMsg) → Homing k seen.begun seen.going → Homing k (with_word m seen w).begun (with_word m seen w).going
@@ -135,7 +136,7 @@ WaitsSince k done ws start = WaitsIn start no_end 0 0 done × (start ≤ k → A
 
 abbrev pub Waits : ℕ → List MotionTurn → List WordMsg → Option Going → Type 0
 Waits k done ws None = Unit {0}
-Waits k done ws (Some g) = homes_by g.kind ≡ true → WaitsSince k done ws g.start
+Waits k done ws (Some g) = is_home g.kind ≡ true → WaitsSince k done ws g.start
 
 -- Each section that was begun and homes has its answer, but the one that goes on, which waits.
 pub record HaveHeard (k : ℕ) (done : List MotionTurn) (ws : List WordMsg) (begun : List Started) (going : Option Going) : Type 0 where
@@ -161,7 +162,7 @@ not_late : (a k : ℕ) → nat_le a k ≡ false → a ≤ k → ⊥
 not_late a k e late = elim (leb_tells a k) [ inl p ↦ clash (sym p.0 ∙ e) | inr p ↦ let far = p.1 in omega (arith, far, late) ]
 
 -- that tells of an answer: it ends the section that goes on, where that homes and has started
-word_ends : (m : Machine) (k : ℕ) (done : List MotionTurn) (ws : List WordMsg) (w : WordMsg) (begun : List Started) (g : Going) (homes late : Bool) → homes_by g.kind ≡ homes → nat_le g.start k ≡ late → k ≤ no_end → tells_homed w.news ≡ true → HaveHeard k done ws begun (Some g)
+word_ends : (m : Machine) (k : ℕ) (done : List MotionTurn) (ws : List WordMsg) (w : WordMsg) (begun : List Started) (g : Going) (homes late : Bool) → is_home g.kind ≡ homes → nat_le g.start k ≡ late → k ≤ no_end → tells_homed w.news ≡ true → HaveHeard k done ws begun (Some g)
     → HaveHeard k done (ws ++ w ∷ []) (begun_with begun (if homes && late then Some (answered m k g) else None)) (going_with (Some g) (if homes && late then Some (answered m k g) else None))
 word_ends m k done ws w begun g true true home start small tells a = record {
   known = answers_snoc k done (ws ++ w ∷ []) begun (answered m k g) (answers_more k done ws w begun a.known) (record { waits = waits_less g.start no_end k 0 0 done small (a.waits home).0; took = inl (refl, any_last ws w tells) });
@@ -177,7 +178,7 @@ by_word : (m : Machine) (k : ℕ) (done : List MotionTurn) (ws : List WordMsg) (
     → HaveHeard k done (ws ++ w ∷ []) (begun_with begun (if tells then hears_answer m k going else None)) (going_with going (if tells then hears_answer m k going else None))
 by_word m k done ws w begun None true t small a = record { known = answers_more k done ws w begun a.known; waits = tt }
 by_word m k done ws w begun None false t small a = record { known = answers_more k done ws w begun a.known; waits = tt }
-by_word m k done ws w begun (Some g) true t small a = word_ends m k done ws w begun g (homes_by g.kind) (nat_le g.start k) refl refl small t a
+by_word m k done ws w begun (Some g) true t small a = word_ends m k done ws w begun g (is_home g.kind) (nat_le g.start k) refl refl small t a
 by_word m k done ws w begun (Some g) false t small a = record {
   known = answers_more k done ws w begun a.known;
   waits = λ h. let v = a.waits h in (v.0, λ late any. elim (any_snoc ws w any) [ inl b ↦ v.1 late b | inr homed ↦ clash (sym homed ∙ t) ]);
@@ -195,7 +196,7 @@ pub heard_piece : (k : ℕ) (done : List MotionTurn) (ws : List WordMsg) (begun 
 heard_piece k done ws begun None None more a = a
 heard_piece k done ws begun None (Some g) more a = absurd more
 heard_piece k done ws begun (Some g) None more a = absurd more
-heard_piece k done ws begun (Some g) (Some h) more a = record { known = a.known; waits = λ home. subst (WaitsSince k done ws) (sym more.start) (a.waits (ap homes_by (sym more.kind) ∙ home)) }
+heard_piece k done ws begun (Some g) (Some h) more a = record { known = a.known; waits = λ home. subst (WaitsSince k done ws) (sym more.start) (a.waits (ap is_home (sym more.kind) ∙ home)) }
 
 -- the words of a turn are all taken
 answers_end : (k : ℕ) (done : List MotionTurn) (t : MotionTurn) (begun : List Started) → length done ≡ k → HaveAnswers k done t.words begun → HaveAnswers (k + 1) (done ++ t ∷ []) [] begun
@@ -213,12 +214,12 @@ answers_end k done t (s ∷ begun) long h = (
   answers_end k done t begun long h.1,
 )
 
-waiting_now : (m : Machine) (o : Open) (c : Course) (told : Option Told) (begun : List Started) (g : Going) (k : ℕ) → IsGoing m o c told begun (Some g) → homes_by g.kind ≡ true → g.start ≤ k → waits_by o c.start k ≡ true
+waiting_now : (m : Machine) (o : Open) (c : Course) (told : Option Told) (begun : List Started) (g : Going) (k : ℕ) → IsGoing m o c told begun (Some g) → is_home g.kind ≡ true → g.start ≤ k → waits_by o c.start k ≡ true
 waiting_now m opens.Nothing c told begun g k i home late = absurd (none_some (sym i.none))
 waiting_now m (opens.Goes s homes) c told begun g k i home late =
     let same : i.g ≡ g = sym (some_same g i.g i.is) in
     let start : c.start ≡ g.start = i.start_is ∙ ap (λ (x : Going). x.start) same in
-    ap (λ b. b && nat_le c.start k) (i.homes_is ∙ ap (λ (x : Going). homes_by x.kind) same ∙ home) ∙ elim (leb_tells c.start k) [ inl p ↦ p.0 | inr p ↦ absurd (let far = p.1 in omega (arith, far, start, late)) ]
+    ap (λ b. b && nat_le c.start k) (i.homes_is ∙ ap (λ (x : Going). is_home x.kind) same ∙ home) ∙ elim (leb_tells c.start k) [ inl p ↦ p.0 | inr p ↦ absurd (let far = p.1 in omega (arith, far, start, late)) ]
 
 waits_end : (m : Machine) (c : Course) (told : Option Told) (begun : List Started) (going : Option Going) (k n : ℕ) (done : List MotionTurn) (t : MotionTurn) → IsGoing m c.current c told begun going → length done ≡ k → n ≡ length (words_in (done ++ t ∷ []))
     → (waits_by c.current c.start k ≡ true → k < n) → Waits k done t.words going → Waits (k + 1) (done ++ t ∷ []) [] going
@@ -251,7 +252,7 @@ going_waits m seen next k news done (Some g) long is e v = λ home. elim (is.sec
   | inr p ↦
       let (h, old, kind, start) = p in
       let own : Waits (k + 1) done [] (Some h) = subst (Waits (k + 1) done []) old v in
-      subst (WaitsSince (k + 1) done []) (sym start) (own (ap homes_by (sym kind) ∙ home))
+      subst (WaitsSince (k + 1) done []) (sym start) (own (ap is_home (sym kind) ∙ home))
 ]
 
 pub heard_turn : (m : Machine) (seen next : Seen) (k : ℕ) (news : List NoteNews) (done : List MotionTurn) → length done ≤ k + 1 → IsBehind m seen next k news → HaveHeard (k + 1) done [] seen.begun seen.going → HaveHeard (k + 1) done [] next.begun next.going
@@ -261,7 +262,7 @@ heard_turn m seen next k news done long is a = record {
 }
 
 -- all whole sections, of which one that still goes on and homes has no end
-last_open : (m : Machine) (next : ℕ) (begun more : List Started) (g : Going) (s : Started) → begun ++ more ≡ begun ++ s ∷ [] → All HasNoAnswer more → IsContinued m next g s → homes_by g.kind ≡ true → s.end ≡ no_end
+last_open : (m : Machine) (next : ℕ) (begun more : List Started) (g : Going) (s : Started) → begun ++ more ≡ begun ++ s ∷ [] → All HasNoAnswer more → IsContinued m next g s → is_home g.kind ≡ true → s.end ≡ no_end
 last_open m next begun more g s e unanswered c home =
     let axis = home_axis g.kind home in
     All-head HasNoAnswer s [] (subst (All HasNoAnswer) (append_cancel_left begun more (s ∷ []) e) unanswered) axis.0 (ap (λ (x : Section). x.kind) c.section ∙ axis.1)
@@ -278,7 +279,7 @@ all_end m told next k done begun all more None a w e unanswered = subst (EndByWo
 all_end m None next k done begun all more (Some g) a w e unanswered = absurd w
 all_end m (Some t) next k done begun all more (Some g) a (s, are, c) e unanswered =
     let ends = λ (axis : ℕ) (home : s.section.kind ≡ Home axis).
-    (let homes : homes_by g.kind ≡ true = ap homes_by (ap (λ (x : Section). x.kind) (sym c.section) ∙ home) in
+    (let homes : is_home g.kind ≡ true = ap is_home (ap (λ (x : Section). x.kind) (sym c.section) ∙ home) in
     let none = last_open m next begun more g s (sym e ∙ are) unanswered c homes in
     let At : ℕ → Type 0 = λ n. WaitsIn n s.end 0 0 done in
     let To : ℕ → Type 0 = λ n. WaitsIn g.start n 0 0 done in

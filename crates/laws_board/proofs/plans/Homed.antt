@@ -10,7 +10,7 @@ use Rattle.plan_types.specs.declared.plan.SectionKind.{SectionKind}
 use Rattle.plan_types.specs.declared.plan.SectionKind.TheVariants.{Moves, Home}
 use Rattle.plan_types.specs.Lines.{Clocks}
 use Rattle.plan_types.specs.Machines.{board_at}
-use Rattle.plan_types.specs.Sections.{clocks_at, section_end}
+use Rattle.plan_types.specs.Sections.{clocks_at, section_end, is_home}
 use Rattle.section_units.specs.Sections.{AreBefore}
 use Rattle.step_feed.specs.Pacing.{Release, batch_at}
 use Rattle.link_work.specs.Turn.{Orders}
@@ -26,7 +26,7 @@ use Rattle.motion_work.proofs.Turning.{planned_late}
 use Rattle.session_work.specs.declared.table.MotionTurn.{MotionTurn}
 use Rattle.session_work.specs.Rows.{gather, item}
 use Rattle.laws_board.specs.plans.Given.{TookBatches}
-use Rattle.laws_board.specs.plans.Homed.{AreOutInTime, ArePlannedBefore, TookControlsIn, is_home, is_set_in, run_on, runs_on, stops_of}
+use Rattle.laws_board.specs.plans.Homed.{AreOutInTime, ArePlannedBefore, TookControlsIn, is_set_in, run_on, runs_on, stops_of}
 use Rattle.laws_board.specs.plans.Planned.{Plans}
 use Rattle.motion_work.proofs.Following.{homed_before, homed_front}
 use Rattle.laws_board.proofs.plans.Cutting.{homing_cut}

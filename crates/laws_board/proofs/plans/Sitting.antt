@@ -2,6 +2,7 @@
 use Rattle.std.proofs.Common.{◌≡◌, ◌≢◌, ℕ, zero, suc, ◌+◌, ◌<◌, ◌≤◌, Bool, true, false, cond, List, [], ◌∷◌, ◌++◌, get_or, map, take, length, refl, ap, sym, ◌∙◌, arith, inl, inr}
 use Rattle.std.specs.Prelude.{◌==◌}
 use Rattle.std.proofs.lemmas.Bool.Decides.{eqb_tells}
+use Rattle.plan_types.specs.Plan.{pulse_of}
 use Rattle.plan_types.specs.declared.machine.StepperDef.{StepperDef}
 use Rattle.plan_types.specs.declared.plan.Planned.{Planned}
 use Rattle.plan_types.specs.declared.plan.Pulse.{Pulse}
@@ -9,7 +10,7 @@ use Rattle.plan_types.specs.Board.{steps_of}
 use Rattle.plan_types.specs.Lines.{Clocks}
 use Rattle.plan_types.specs.Machines.{no_stepper}
 use Rattle.section_units.specs.Plans.{board_plans}
-use Rattle.section_units.specs.Sections.{AreBegunBy, dir_after, pulse_of, steps_said, ticks_meant}
+use Rattle.section_units.specs.Sections.{AreBegunBy, dir_after, steps_said, ticks_meant}
 use Rattle.section_units.specs.Units.{as_sent}
 use Rattle.step_feed.specs.Units.{StepUnit}
 use Rattle.laws_board.proofs.plans.Placing.{count_on}

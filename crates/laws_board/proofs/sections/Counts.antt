@@ -2,8 +2,9 @@
 use Rattle.std.proofs.Common.{◌≡◌, ℕ, suc, ◌+◌, ◌<◌, ◌≤◌, List, [], ◌∷◌, ◌++◌, length, refl, ap, sym, ◌∙◌, arith, inl, inr, append-nil}
 use Rattle.std.proofs.lemmas.Bool.Decides.{leb_tells}
 use Rattle.std.specs.Prelude.{Bool}
+use Rattle.plan_types.specs.Numbers.{UpFrom}
 use Rattle.plan_types.specs.Board.{Group, last_of, end_of, ticks_before, ticks_from, left, unless_left, groups_from, last_before}
-use Rattle.board_sim.specs.Fair.{UpFrom, RiseFrom}
+use Rattle.board_sim.specs.Fair.{RiseFrom}
 use Rattle.board_sim.proofs.Steps.{split_ticks}
 use Rattle.step_feed.specs.Rings.{one_from, count_from}
 use Rattle.laws_board.specs.sections.Known.{AreBelow}

@@ -2,12 +2,13 @@
 use Rattle.std.proofs.Common.{◌≡◌, ◌≢◌, ℕ, Bool, true, false, ◌+◌, ◌^◌, ◌<◌, ◌≤◌, ◌⊎◌, ◌&&◌, List, [], ◌++◌, length, map, set, get_or, Option, Some, None, refl, ap, sym, ◌∙◌, subst, arith, inl, inr, append_assoc, append-nil}
 use Rattle.std.proofs.lemmas.List.{get_or-set_same, get_or-set_other, length-set, map-append}
 use Rattle.std.specs.Prelude.{slice_index, nat_lt, ◌==◌, if◌then◌else◌}
+use Rattle.plan_types.specs.Plan.{pulse_of}
 use Rattle.plan_types.specs.declared.plan.Pulse.{Pulse}
 use Rattle.plan_types.specs.declared.plan.Triple.{Triple}
 use Rattle.plan_types.specs.Board.{pending_steps, steps_of}
 use Rattle.board_step.specs.Steps.{Pending, IsFair, ticks_at, with_ticks}
 use Rattle.board_step.proofs.Whole.{whole}
-use Rattle.board_sim.specs.Board.{Controller, Done, stepper_at, with_stepper, quiet, is_none_pending, first_of, refusal, takes_triple, queue_step, set_dir, reset, make_stepper, pulse_of, timer_too_close}
+use Rattle.board_sim.specs.Board.{Controller, Done, stepper_at, with_stepper, quiet, is_none_pending, first_of, refusal, takes_triple, queue_step, set_dir, reset, make_stepper, timer_too_close}
 use Rattle.board_sim.specs.Fair.{IsFairOn, pending_at}
 use Rattle.board_sim.specs.Halted.{is_halted}
 use Rattle.board_sim.specs.RigRuns.{IsHalted}

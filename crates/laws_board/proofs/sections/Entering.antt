@@ -8,8 +8,7 @@ use Rattle.plan_types.specs.declared.plan.Planned.{Planned}
 use Rattle.plan_types.specs.Board.{last_of, steps_of, TicksRise}
 use Rattle.plan_types.specs.Clock.{turn_ns}
 use Rattle.plan_types.specs.Lines.{Clocks, lines_tick}
-use Rattle.plan_types.specs.Plan.{Fits}
-use Rattle.board_sim.specs.Board.{pulse_of}
+use Rattle.plan_types.specs.Plan.{Fits, pulse_of}
 use Rattle.board_sim.proofs.Steps.{rise_up}
 use Rattle.step_feed.specs.Units.{StepUnit}
 use Rattle.step_feed.specs.Pacing.{Release, units_of}

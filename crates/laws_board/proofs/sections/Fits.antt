@@ -3,6 +3,8 @@ use Rattle.std.proofs.Common.{◌≡◌, ◌≢◌, ℕ, suc, Bool, true, false,
 use Rattle.std.proofs.lemmas.List.{get_or-set_same, get_or-set_other, get_or_past, length-set}
 use Rattle.std.proofs.lemmas.Bool.Decides.{leb_tells, eqb_tells}
 use Rattle.std.specs.Prelude.{slice_index, nat_lt, ◌==◌, if◌then◌else◌}
+use Rattle.plan_types.specs.Numbers.{UpFrom}
+use Rattle.plan_types.specs.Plan.{pulse_of}
 use Rattle.plan_types.specs.declared.plan.BoardState.TheVariants.{Running, Shut}
 use Rattle.plan_types.specs.declared.plan.Pulse.{Pulse}
 use Rattle.plan_types.specs.declared.plan.Triple.{Triple}
@@ -11,8 +13,8 @@ use Rattle.board_step.specs.Steps.{Pending, IsFair, Follows, ticks_at, with_tick
 use Rattle.board_step.proofs.Whole.{whole}
 use Rattle.msg_code.specs.declared.cmd.Cmd.{Cmd}
 use Rattle.msg_code.specs.declared.cmd.Cmd.TheVariants as cmd
-use Rattle.board_sim.specs.Board.{Controller, Done, stepper_at, with_stepper, quiet, is_none_pending, first_of, refusal, takes_triple, queue_step, set_dir, reset, make_stepper, acts, pulse_of, timer_too_close, command_request}
-use Rattle.board_sim.specs.Fair.{IsFairOn, IsFairCommand, steps_taken, meant_on, meant_by, only, UpFrom, RiseFrom}
+use Rattle.board_sim.specs.Board.{Controller, Done, stepper_at, with_stepper, quiet, is_none_pending, first_of, refusal, takes_triple, queue_step, set_dir, reset, make_stepper, acts, timer_too_close, command_request}
+use Rattle.board_sim.specs.Fair.{IsFairOn, IsFairCommand, steps_taken, meant_on, meant_by, only, RiseFrom}
 use Rattle.board_sim.proofs.Steps.{only_same, only_other, rise_push, rise_up, end_any}
 use Rattle.board_sim.specs.Halted.{is_halted}
 use Rattle.board_world.specs.Units.{IsMade, FindsStepper}

@@ -3,11 +3,12 @@
 use Rattle.std.proofs.Common.{◌≡◌, ◌≢◌, ℕ, zero, suc, Bool, true, false, ◌≤◌, ◌⊎◌, List, [], ◌∷◌, ◌++◌, length, map, get_or, set, Option, Some, None, refl, ap, sym, ◌∙◌, subst, arith, inl, inr, append_assoc, append-nil}
 use Rattle.std.proofs.lemmas.List.{length-map, length-set, get_or-set_other}
 use Rattle.std.proofs.lemmas.Bool.Decides.{leb_tells}
+use Rattle.plan_types.specs.Plan.{pulse_of}
 use Rattle.plan_types.specs.declared.plan.BoardState.TheVariants.{Running}
 use Rattle.plan_types.specs.declared.plan.Pulse.{Pulse}
 use Rattle.plan_types.specs.Board.{Group, end_of, pending_steps, groups_from}
 use Rattle.board_step.specs.Steps.{Pending}
-use Rattle.board_sim.specs.Board.{Controller, Passed, stepper_at, slot_to, slot_before, pulse_of, emptied, passes_on}
+use Rattle.board_sim.specs.Board.{Controller, Passed, stepper_at, slot_to, slot_before, emptied, passes_on}
 use Rattle.board_sim.specs.Board as board
 use Rattle.board_sim.specs.Rig.{halt, halts, with_steppers}
 use Rattle.board_sim.specs.Fair.{IsKept, RiseFrom, only}

@@ -1,6 +1,7 @@
 -- A board that a unit reached too late names that unit.
 use Rattle.std.proofs.Common.{◌≡◌, ℕ, ◌<◌, List, [], ◌∷◌, ◌++◌, Option, Some, None, ap, sym, ◌∙◌, subst, arith, inl, inr, append_assoc, append-nil}
 use Rattle.std.specs.Prelude.{slice_index}
+use Rattle.link_work.specs.Late.{IsSteps}
 use Rattle.plan_types.specs.declared.plan.BoardState.{BoardState}
 use Rattle.plan_types.specs.declared.plan.Triple.{Triple}
 use Rattle.board_step.specs.Steps.{Pending}
@@ -12,7 +13,7 @@ use Rattle.board_sim.specs.Rig.{Rig, takes, takes_all}
 use Rattle.board_sim.specs.Fair.{Meant, commands_of, IsFairOn, IsFairCommand, IsFairRunning, AreFair}
 use Rattle.board_world.specs.Shut.{IsRefused, Shuts, ShutBy, WasShut}
 use Rattle.board_world.specs.World.{Core, Step, Do, Turn, takes_in, happens, in_turn, run, AllFair}
-use Rattle.laws_board.specs.sections.Late.{IsIn, IsStep}
+use Rattle.laws_board.specs.sections.Late.{IsIn}
 
 -- the command that shut the board down was fair
 fair_at : (r : Rig) (xs : List Meant) (m : Meant) (ys : List Meant) → AreFair r (xs ++ m ∷ ys)
@@ -38,9 +39,9 @@ late_first now (Some q) t first ticks r f = elim r.1 [
 
 -- what shut the board down is a triple with this first tick
 abbrev Names : Meant → ℕ → ℕ → Type 0
-Names m now first = IsStep m.command × (slice_index m.ticks 0 ≡ first) × (first < now)
+Names m now first = IsSteps m.command × (slice_index m.ticks 0 ≡ first) × (first < now)
 
-one_names : (b : Controller) (c : Cmd) (ticks : List ℕ) (first : ℕ) → Shuts b c 1 first → IsFairCommand b c ticks → IsStep c × (slice_index ticks 0 ≡ first) × (first < b.tick)
+one_names : (b : Controller) (c : Cmd) (ticks : List ℕ) (first : ℕ) → Shuts b c 1 first → IsFairCommand b c ticks → IsSteps c × (slice_index ticks 0 ≡ first) × (first < b.tick)
 one_names b (cmd.QueueStep oid interval count add) ticks first s f =
     let l = late_first b.tick (stepper_at b oid) (record { interval = interval; count = count; add = add }) first ticks s f in
     (tt, l.0, l.1)

@@ -2,6 +2,7 @@
 use Rattle.std.proofs.Common.{◌≡◌, ℕ, zero, suc, Bool, false, ◌+◌, ◌/◌, ◌<◌, ◌≤◌, ◌⊎◌, List, [], ◌∷◌, ◌++◌, map, get_or, set, Option, Some, None, refl, ap, sym, ◌∙◌, subst, arith, inl, inr, append_assoc}
 use Rattle.std.proofs.lemmas.List.{append_cancel_left, append_cancel_right, length-map, map-append}
 use Rattle.std.proofs.lemmas.Bool.Decides.{leb_tells}
+use Rattle.plan_types.specs.Plan.{pulse_of}
 use Rattle.plan_types.specs.declared.plan.BoardState.{BoardState}
 use Rattle.plan_types.specs.declared.plan.BoardState.TheVariants.{Running, Shut}
 use Rattle.plan_types.specs.declared.plan.Planned.{Planned}
@@ -10,7 +11,7 @@ use Rattle.plan_types.specs.Board.{Group, steps_of, pending_steps, ticks_before,
 use Rattle.board_step.specs.Steps.{Pending}
 use Rattle.board_trig.specs.declared.trigger.Trigger.{Trigger}
 use Rattle.board_trig.specs.Trigger as trig
-use Rattle.board_sim.specs.Board.{Controller, Passed, stepper_at, slot_to, slot_before, pulse_of, passes_on}
+use Rattle.board_sim.specs.Board.{Controller, Passed, stepper_at, slot_to, slot_before, passes_on}
 use Rattle.board_sim.specs.Board as board
 use Rattle.board_sim.specs.Rig.{Rig, Slot, slot_at, levels_of, becomes, earliest, runs_to, rests_to, happens_to, happens, goes_on, at_of, passes_by, pass, passes, all_left}
 use Rattle.board_sim.specs.Rig as rig

@@ -5,6 +5,7 @@ use Rattle.std.proofs.lemmas.List.{take-append-drop}
 use Rattle.std.proofs.lemmas.List.Elements.{All-head, All-tail}
 use Rattle.std.specs.Prelude.{slice_index}
 use Rattle.std.specs.List.{flat_map}
+use Rattle.link_work.specs.Late.{IsSteps}
 use Rattle.plan_types.specs.declared.levels.Level.{Level}
 use Rattle.plan_types.specs.declared.machine.BoardDef.{BoardDef}
 use Rattle.plan_types.specs.declared.plan.BoardState.TheVariants.{Shut}
@@ -21,7 +22,7 @@ use Rattle.step_feed.specs.Units.{StepUnit}
 use Rattle.step_feed.specs.Pacing.{Release, batch_at, units_of}
 use Rattle.link_work.specs.Turn.{Orders}
 use Rattle.link_work.specs.Runs.{queued_in}
-use Rattle.laws_board.specs.sections.Late.{IsIn, IsStep, IsLateUnit}
+use Rattle.laws_board.specs.sections.Late.{IsIn, IsLateUnit}
 use Rattle.section_units.specs.Sections.{AreBegunBy, AreChained, BoardSection, base_of, of_stepper, ticks_meant}
 use Rattle.laws_board.specs.sections.Courses.{IsGoodRun}
 use Rattle.laws_board.specs.sections.Homes.{AreOrdersIn, IsControlIn, IsHomeRun, IsSectionBy, RunSection}
@@ -63,27 +64,27 @@ among_all P x (y ∷ xs) (inl e) all = subst P (sym e) (All-head P y xs all)
 among_all P x (y ∷ xs) (inr a) all = among_all P x xs a (All-tail P y xs all)
 
 -- no control command is a triple
-not_both : (clocks : Clocks) (ss : List RunSection) (turn : ℕ) (c : Cmd) → IsControlIn clocks ss turn c → IsStep c → ⊥
+not_both : (clocks : Clocks) (ss : List RunSection) (turn : ℕ) (c : Cmd) → IsControlIn clocks ss turn c → IsSteps c → ⊥
 not_both clocks ss turn (cmd.QueueStep oid interval count add) k s = k
 not_both clocks ss turn _ k s = s
 
-no_control : (clocks : Clocks) (ss : List RunSection) (turn : ℕ) (m : Meant) (cs : List Cmd) → Among m (map plain cs) → All (IsControlIn clocks ss turn) cs → IsStep m.command → ⊥
+no_control : (clocks : Clocks) (ss : List RunSection) (turn : ℕ) (m : Meant) (cs : List Cmd) → Among m (map plain cs) → All (IsControlIn clocks ss turn) cs → IsSteps m.command → ⊥
 no_control clocks ss turn m [] a h s = a
-no_control clocks ss turn m (c ∷ cs) (inl e) h s = not_both clocks ss turn c (All-head (IsControlIn clocks ss turn) c cs h) (let At : Meant → Type 0 = λ x. IsStep x.command in subst At e s)
+no_control clocks ss turn m (c ∷ cs) (inl e) h s = not_both clocks ss turn c (All-head (IsControlIn clocks ss turn) c cs h) (let At : Meant → Type 0 = λ x. IsSteps x.command in subst At e s)
 no_control clocks ss turn m (c ∷ cs) (inr a) h s = no_control clocks ss turn m cs a (All-tail (IsControlIn clocks ss turn) c cs h) s
 
-no_reset : (m : Meant) (oid : ℕ) (o : Option ℕ) → Among m (map plain (reset_commands oid o)) → IsStep m.command → ⊥
+no_reset : (m : Meant) (oid : ℕ) (o : Option ℕ) → Among m (map plain (reset_commands oid o)) → IsSteps m.command → ⊥
 no_reset m oid None a s = a
-no_reset m oid (Some tick) (inl e) s = let At : Meant → Type 0 = λ x. IsStep x.command in subst At e s
+no_reset m oid (Some tick) (inl e) s = let At : Meant → Type 0 = λ x. IsSteps x.command in subst At e s
 no_reset m oid (Some tick) (inr a) s = a
 
-no_dir : (m : Meant) (oid : ℕ) (o : Option Bool) → Among m (map plain (dir_commands oid o)) → IsStep m.command → ⊥
+no_dir : (m : Meant) (oid : ℕ) (o : Option Bool) → Among m (map plain (dir_commands oid o)) → IsSteps m.command → ⊥
 no_dir m oid None a s = a
-no_dir m oid (Some up) (inl e) s = let At : Meant → Type 0 = λ x. IsStep x.command in subst At e s
+no_dir m oid (Some up) (inl e) s = let At : Meant → Type 0 = λ x. IsSteps x.command in subst At e s
 no_dir m oid (Some up) (inr a) s = a
 
 -- a unit's triple
-in_unit : (m : Meant) (u : StepUnit) → Among m (unit_orders u) → IsStep m.command → m.ticks ≡ ticks_meant u
+in_unit : (m : Meant) (u : StepUnit) → Among m (unit_orders u) → IsSteps m.command → m.ticks ≡ ticks_meant u
 in_unit m u a s =
     let rest = map plain (dir_commands u.stepper u.up) ++ record { command = step_command u; ticks = ticks_meant u } ∷ [] in
     let At : List Meant → Type 0 = λ x. Among m x in
@@ -95,7 +96,7 @@ in_unit m u a s =
       ]
     ]
 
-in_units : (m : Meant) (us : List StepUnit) → Among m (units_orders us) → IsStep m.command → (u : StepUnit) × Among u us × (m.ticks ≡ ticks_meant u)
+in_units : (m : Meant) (us : List StepUnit) → Among m (units_orders us) → IsSteps m.command → (u : StepUnit) × Among u us × (m.ticks ≡ ticks_meant u)
 in_units m [] a s = absurd a
 in_units m (u ∷ us) a s = elim (among_split m (unit_orders u) (units_orders us) a) [
   | inl p ↦ (u, inl refl, in_unit m u p s)
@@ -124,7 +125,7 @@ among_map s (x ∷ ss) (inr a) = inr (among_map s ss a)
 abbrev FromSection : List RunSection → Meant → Type 0
 FromSection ss m = (s : RunSection) × (r : Release) × Among s ss × Among r s.section.releases × (m.ticks ≡ ticks_meant r.unit)
 
-in_turns : (clocks : Clocks) (m : Meant) (ss : List RunSection) (k : ℕ) (os : List Orders) → AreOrdersIn clocks ss k os → Among m (flat_map queued_in os) → IsStep m.command → FromSection ss m
+in_turns : (clocks : Clocks) (m : Meant) (ss : List RunSection) (k : ℕ) (os : List Orders) → AreOrdersIn clocks ss k os → Among m (flat_map queued_in os) → IsSteps m.command → FromSection ss m
 in_turns clocks m ss k [] h a s = absurd a
 in_turns clocks m ss k (o ∷ os) h a s = elim (among_split m (queued_in o) (flat_map queued_in os) a) [
   | inl p ↦ elim (among_split m (map plain o.control.commands) (units_orders o.batch.units) p) [

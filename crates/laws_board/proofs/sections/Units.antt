@@ -2,7 +2,7 @@
 use Rattle.std.proofs.Common.{◌≡◌, ◌≢◌, ℕ, Bool, true, false, ◌%◌, ◌^◌, List, [], ◌∷◌, ◌++◌, map, Option, Some, None, refl, ap, sym, ◌∙◌, subst, inl, inr, append_assoc}
 use Rattle.std.proofs.lemmas.Bool.Decides.{eqb_tells}
 use Rattle.std.specs.Prelude.{◌==◌, if◌then◌else◌}
-use Rattle.msg_code.specs.Units.{reset_commands, dir_commands, dir_number, step_command}
+use Rattle.msg_code.specs.Units.{reset_commands, dir_commands, bit, step_command}
 use Rattle.board_world.specs.Orders.{plain, unit_orders}
 use Rattle.step_feed.specs.Units.{StepUnit}
 use Rattle.laws_board.specs.sections.Known.{Sent, sent_at, Known, knows, known_from, more_steps, IsGoodTriple, IsGoodReset, IsGood, AreGoodFrom}
@@ -24,7 +24,7 @@ at_own other a b = elim (eqb_tells other other) [ inl p ↦ rw p.0 refl | inr p 
 pub at_others : {A : Type 0} (other oid : ℕ) (a b : A) → other ≢ oid → (if other == oid then a else b) ≡ b
 at_others other oid a b ne = elim (eqb_tells other oid) [ inl p ↦ absurd (ne p.1) | inr p ↦ rw p.0 refl ]
 
-dir_is : (up : Bool) → (dir_number up == 1) ≡ up
+dir_is : (up : Bool) → (bit up == 1) ≡ up
 dir_is true = refl
 dir_is false = refl
 
@@ -54,7 +54,7 @@ reset_known turn k u (Some tick) = at_own u.stepper (record k { clock = tick % 2
 
 dir_known : (turn : ℕ) (k : Known) (u : StepUnit) (o : Option Bool) → known_from u.stepper k (dirs turn u o) ≡ record k { up = dir_after k.up o }
 dir_known turn k u None = refl
-dir_known turn k u (Some up) = at_own u.stepper (record k { up = dir_number up == 1 }) k ∙ ap (λ x. record k { up = x }) (dir_is up)
+dir_known turn k u (Some up) = at_own u.stepper (record k { up = bit up == 1 }) k ∙ ap (λ x. record k { up = x }) (dir_is up)
 
 pub ahead_known : (turn : ℕ) (k : Known) (u : StepUnit) → known_from u.stepper k (ahead_of_step turn u) ≡ record k { clock = clock_after k.clock u.reset; up = dir_after k.up u.up }
 ahead_known turn k u =
@@ -75,7 +75,7 @@ reset_others turn oid k u (Some tick) ne = at_others u.stepper oid (record k { c
 
 dir_others : (turn oid : ℕ) (k : Known) (u : StepUnit) (o : Option Bool) → u.stepper ≢ oid → known_from oid k (dirs turn u o) ≡ k
 dir_others turn oid k u None ne = refl
-dir_others turn oid k u (Some up) ne = at_others u.stepper oid (record k { up = dir_number up == 1 }) k ne
+dir_others turn oid k u (Some up) ne = at_others u.stepper oid (record k { up = bit up == 1 }) k ne
 
 pub ahead_others : (turn oid : ℕ) (k : Known) (u : StepUnit) → u.stepper ≢ oid → known_from oid k (ahead_of_step turn u) ≡ k
 ahead_others turn oid k u ne =

@@ -6,7 +6,7 @@ use Rattle.plan_types.specs.declared.plan.Pulse.{Pulse}
 use Rattle.plan_types.specs.Board.{last_of, steps_of, Continues}
 use Rattle.plan_types.specs.Clock.{turn_ns}
 use Rattle.plan_types.specs.Lines.{Clocks, lines_tick, lines_turn}
-use Rattle.board_sim.specs.Board.{pulse_of}
+use Rattle.plan_types.specs.Plan.{pulse_of}
 use Rattle.clock_line.proofs.Turns.{turn-below}
 use Rattle.step_feed.specs.Units.{StepUnit}
 use Rattle.step_feed.specs.Rings.{one_from, count_from}

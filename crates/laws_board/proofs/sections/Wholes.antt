@@ -3,10 +3,11 @@ use Rattle.std.proofs.Common.{◌≡◌, ℕ, suc, Bool, ◌+◌, ◌≤◌, Lis
 use Rattle.std.proofs.lemmas.List.{map-append}
 use Rattle.std.proofs.lemmas.Bool.Decides.{eqb_tells}
 use Rattle.std.specs.List.{flat_map}
+use Rattle.plan_types.specs.Numbers.{UpFrom}
 use Rattle.plan_types.specs.declared.plan.Pulse.{Pulse}
 use Rattle.plan_types.specs.Board.{Group, last_of, steps_of, pending_steps}
-use Rattle.board_sim.specs.Board.{pulse_of}
-use Rattle.board_sim.specs.Fair.{UpFrom, RiseFrom, only}
+use Rattle.plan_types.specs.Plan.{pulse_of}
+use Rattle.board_sim.specs.Fair.{RiseFrom, only}
 use Rattle.link_work.specs.Turn.{Orders}
 use Rattle.link_work.specs.Runs.{queued_in}
 use Rattle.laws_board.specs.sections.Known.{Sent, sent_at, sent_in, orders_in}

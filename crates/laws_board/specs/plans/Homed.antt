@@ -1,20 +1,13 @@
 -- What one board has of the sections of a run in which axes home.
-use Rattle.std.specs.Prelude.{◌≡◌, ℕ, ◌+◌, ◌<◌, ◌&&◌, Bool, true, false, List, [], ◌∷◌, All, map, nat_le, Option, Some, None, if◌then◌else◌}
+use Rattle.std.specs.Prelude.{◌≡◌, ℕ, ◌+◌, ◌<◌, ◌&&◌, Bool, true, List, [], ◌∷◌, All, map, nat_le, Option, Some, None, if◌then◌else◌}
 use Rattle.plan_types.specs.declared.machine.Machine.{Machine}
-use Rattle.plan_types.specs.declared.plan.SectionKind.{SectionKind}
-use Rattle.plan_types.specs.declared.plan.SectionKind.TheVariants.{Moves, Home}
 use Rattle.plan_types.specs.Lines.{Clocks}
-use Rattle.plan_types.specs.Sections.{section_end}
+use Rattle.plan_types.specs.Sections.{section_end, is_home}
 use Rattle.section_units.specs.Sections.{AreBefore}
 use Rattle.link_work.specs.Turn.{Orders}
 use Rattle.laws_board.specs.sections.Homes.{IsControlIn, RunSection}
 use Rattle.motion_work.specs.Homes.{no_end}
 use Rattle.motion_work.specs.Seen.{Started, part_on}
-
--- a section homes an axis
-abbrev pub is_home : SectionKind → Bool
-is_home Moves = false
-is_home (Home axis) = true
 
 -- the section that a board has of one that was begun, and whether it homes an axis
 abbrev pub run_on : Machine → List Clocks → ℕ → Started → RunSection

@@ -5,7 +5,7 @@ use Rattle.plan_types.specs.declared.plan.Triple.{Triple}
 use Rattle.plan_types.specs.Board.{last_of, steps_of, AreTicksOf, Continues, TicksRise}
 use Rattle.msg_code.specs.declared.cmd.Cmd.{Cmd}
 use Rattle.msg_code.specs.declared.cmd.Cmd.TheVariants as cmd
-use Rattle.board_sim.specs.Board.{pulse_of}
+use Rattle.plan_types.specs.Plan.{pulse_of}
 use Rattle.board_sim.specs.Fair.{Meant}
 use Rattle.step_feed.specs.Rings.{count_from}
 use Rattle.link_work.specs.Turn.{Orders}

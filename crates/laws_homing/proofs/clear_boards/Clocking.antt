@@ -7,11 +7,11 @@ use Rattle.plan_types.specs.declared.clock.BoardClock.{BoardClock}
 use Rattle.plan_types.specs.declared.plan.Held.{Held}
 use Rattle.plan_types.specs.declared.plan.Line.{Line}
 use Rattle.plan_types.specs.Board.{ahead, nearest}
-use Rattle.plan_types.specs.Clock.{board_tick, own_tick, rate, tick, turn_ns}
+use Rattle.plan_types.specs.Clock.{board_tick, own_tick, rate, tick, turn_ns, run_turns}
 use Rattle.plan_types.specs.Lines.{AreHeld, Clocks, lines_tick, lines_turn, tick_over}
 use Rattle.plan_types.specs.Machines.{IsValidFreq}
 use Rattle.board_step.proofs.Whole.{nearest_is}
-use Rattle.clock_line.specs.Early.{is_in_run, run_turns, turn_in_run, turn_tick}
+use Rattle.clock_line.specs.Early.{is_in_run, turn_in_run, turn_tick}
 use Rattle.clock_line.specs.Kept.{AreKept}
 use Rattle.clock_line.specs.Samples.{ppm_size}
 use Rattle.clock_line.proofs.Holding.{passed, tick-zero}

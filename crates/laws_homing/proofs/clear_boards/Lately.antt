@@ -5,10 +5,9 @@ use Rattle.std.specs.List.{Contains}
 use Rattle.std.proofs.lemmas.Bool.Decides.{leb_tells}
 use Rattle.plan_types.specs.declared.levels.Level.{Level}
 use Rattle.plan_types.specs.declared.machine.BoardDef.{BoardDef}
-use Rattle.plan_types.specs.Clock.{board_tick, clock_of, turn_ns}
+use Rattle.plan_types.specs.Clock.{board_tick, clock_of, turn_ns, run_turns}
 use Rattle.plan_types.specs.Lines.{Clocks, lines_tick}
 use Rattle.plan_types.specs.Sections.{clocks_at}
-use Rattle.clock_line.specs.Early.{run_turns}
 use Rattle.wire_scene.specs.declared.scene.Entry.{Entry}
 use Rattle.msg_code.specs.declared.talk.State.{State}
 use Rattle.board_sim.specs.Fair.{commands_of}

@@ -10,7 +10,7 @@ use Rattle.board_trig.specs.Nexts.{IsNextOf, ReportsAt}
 use Rattle.board_trig.specs.Trigger as trig
 use Rattle.board_trig.proofs.Nexts.{is_next}
 use Rattle.msg_code.specs.declared.cmd.Cmd.{Cmd}
-use Rattle.board_sim.specs.Board.{bit}
+use Rattle.msg_code.specs.Units.{bit}
 use Rattle.board_sim.specs.Rig.{Passed, Rig, Slot, all_left, at_of, earliest, goes_on, happens, happens_to, levels_of, moment_in, moment_of, pass, passes_by, rested, rests_to, runs_to, slot_at, told}
 use Rattle.board_sim.specs.RigRuns.{AreRegular, IsRegular}
 use Rattle.board_sim.proofs.Bound.{map_at, one_slot, same_or_not, slot_range}

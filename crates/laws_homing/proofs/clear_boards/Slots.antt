@@ -3,6 +3,7 @@ use Rattle.std.proofs.Common.{◌≡◌, ◌≢◌, ℕ, zero, suc, ◌+◌, ◌
 use Rattle.std.specs.Prelude.{if◌then◌else◌, slice_index_or, nat_le, nat_lt}
 use Rattle.std.proofs.lemmas.Bool.Decides.{leb_tells}
 use Rattle.std.proofs.lemmas.List.{get_or-set_other, get_or-set_same, length-map, length-set}
+use Rattle.plan_types.specs.Numbers.{tick_before}
 use Rattle.plan_types.specs.declared.levels.Level.{Level}
 use Rattle.plan_types.specs.declared.plan.BoardState.{BoardState}
 use Rattle.plan_types.specs.declared.plan.BoardState.TheVariants.{Running, Shut}
@@ -88,7 +89,7 @@ pub record Next (levels : List Level) (until : ℕ) (t : Trigger) (e : Happening
   pub comes : Comes levels until t e
   pub whole : MovesOn t.sampling → IsNextOf levels until t e
 
-expiry_under : (until : ℕ) (o e : Option ℕ) → trig.before until o ≡ e → trig.or_until until e ≤ until
+expiry_under : (until : ℕ) (o e : Option ℕ) → tick_before until o ≡ e → trig.or_until until e ≤ until
 expiry_under until o None at = omega arith
 expiry_under until o (Some n) at = let x = (was_before until o n at).1 in omega (arith, x)
 

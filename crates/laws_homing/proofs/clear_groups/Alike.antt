@@ -1,6 +1,7 @@
 -- Clock lines by which turns begin at the same ticks as by others: what follows the others follows them, and what is sent by them is the same.
 use Rattle.std.proofs.Common.{◌≡◌, ℕ, ◌+◌, ◌-◌, ◌*◌, ◌/◌, ◌^◌, ◌≤◌, ◌==◌, min, cond, Bool, true, false, List, [], ◌∷◌, ◌++◌, map, refl, ap, ◌∙◌, arith}
 use Rattle.std.specs.Prelude.{drop, take}
+use Rattle.msg_code.specs.Units.{bit}
 use Rattle.plan_types.specs.declared.machine.AxisDef.{AxisDef}
 use Rattle.plan_types.specs.declared.machine.Machine.{Machine}
 use Rattle.plan_types.specs.Lines.{Clocks}
@@ -16,7 +17,7 @@ use Rattle.trigger_group.specs.declared.round.Round.TheVariants.{Homes, Starts}
 use Rattle.trigger_group.specs.declared.seen.Seen.{Seen}
 use Rattle.trigger_group.specs.Group.{GroupState, orders, orders_to, round_of, steppers, stop, to_board}
 use Rattle.axis_homing.specs.declared.homing.Homing.{Homing}
-use Rattle.axis_homing.specs.Homing.{command_to, commands_to, flag, low, order_command, place_from}
+use Rattle.axis_homing.specs.Homing.{command_to, commands_to, low, order_command, place_from}
 use Rattle.laws_board.specs.sections.Parts.{AreTracked}
 use Rattle.laws_homing.specs.clear_boards.Ordered.{IsOrdered}
 use Rattle.laws_homing.specs.clear_groups.Sections.{IsAlike, IsFollowed}
@@ -95,7 +96,7 @@ one_alike m known lines b start most axis (order.Stop i) a low_so by = refl
 one_alike m known lines b start most axis order.Start a low_so by = ap (λ (n : ℕ). cmd.TrsyncStart (trigger_of m b) (low n) ((board_at m b).freq * 5 / 1_000) 2) (turn_alike known lines most start a low_so)
 one_alike m known lines b start most axis (order.Timeout turn) a low_so by = ap (λ (n : ℕ). cmd.TrsyncSetTimeout (trigger_of m b) (low n)) (turn_alike known lines most turn a by)
 one_alike m known lines b start most axis order.Home a low_so by =
-    ap (λ (n : ℕ). cmd.EndstopHome (place_from (trigger_of m b + 1) axis.pin (endstop_pins m b)) (low n) ((board_at m b).freq * 15 / 1_000_000) 4 ((board_at m b).freq / 10_000) (flag axis.pressed) (trigger_of m b) 1)
+    ap (λ (n : ℕ). cmd.EndstopHome (place_from (trigger_of m b + 1) axis.pin (endstop_pins m b)) (low n) ((board_at m b).freq * 15 / 1_000_000) 4 ((board_at m b).freq / 10_000) (bit axis.pressed) (trigger_of m b) 1)
     (turn_alike known lines most start a low_so)
 one_alike m known lines b start most axis order.Trigger a low_so by = refl
 

@@ -6,10 +6,9 @@ use Rattle.plan_types.specs.declared.levels.Level.{Level}
 use Rattle.plan_types.specs.declared.machine.Machine.{Machine}
 use Rattle.plan_types.specs.declared.plan.SectionKind.{SectionKind}
 use Rattle.plan_types.specs.declared.plan.SectionKind.TheVariants.{Home, Moves}
-use Rattle.plan_types.specs.Clock.{board_tick, clock_of}
+use Rattle.plan_types.specs.Clock.{board_tick, clock_of, run_turns}
 use Rattle.plan_types.specs.Lines.{Clocks}
 use Rattle.plan_types.specs.Machines.{IsValidMachine, axis_at, board_at}
-use Rattle.clock_line.specs.Early.{run_turns}
 use Rattle.clock_line.specs.Samples.{ppm_size}
 use Rattle.msg_code.specs.declared.talk.Note.{Note}
 use Rattle.msg_code.specs.declared.talk.NoteNews.{NoteNews}

@@ -3,11 +3,11 @@ use Rattle.std.proofs.Common.{◌≡◌, ◌⊎◌, ℕ, ◌+◌, ◌*◌, ◌%�
 use Rattle.plan_types.specs.declared.levels.Level.{Level}
 use Rattle.plan_types.specs.declared.machine.Machine.{Machine}
 use Rattle.plan_types.specs.Board.{nearest}
-use Rattle.plan_types.specs.Clock.{board_tick, clock_of, turn_ns}
+use Rattle.plan_types.specs.Clock.{board_tick, clock_of, turn_ns, run_turns}
 use Rattle.plan_types.specs.Lines.{Clocks, lines_tick, lines_turn}
 use Rattle.plan_types.specs.Machines.{IsValidMachine, board_at}
 use Rattle.plan_types.specs.Sections.{clocks_at}
-use Rattle.clock_line.specs.Early.{run_turns, turn_in_run, turn_tick}
+use Rattle.clock_line.specs.Early.{turn_in_run, turn_tick}
 use Rattle.wire_scene.specs.declared.scene.Entry.{Entry}
 use Rattle.wire_scene.specs.declared.scene.Switch.{Switch}
 use Rattle.msg_code.specs.declared.cmd.Cmd.{Cmd}

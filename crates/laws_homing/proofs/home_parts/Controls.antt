@@ -5,7 +5,7 @@ use Rattle.plan_types.specs.declared.machine.Machine.{Machine}
 use Rattle.plan_types.specs.Clock.{turn_ns}
 use Rattle.plan_types.specs.Lines.{Clocks, lines_tick}
 use Rattle.plan_types.specs.Machines.{IsValidMachine}
-use Rattle.plan_types.specs.Sections.{clocks_at}
+use Rattle.plan_types.specs.Sections.{clocks_at, is_home}
 use Rattle.clock_line.specs.Early.{turn_tick}
 use Rattle.clock_line.specs.Kept.{AreKept}
 use Rattle.wire_scene.specs.declared.scene.Entry.{Entry}
@@ -21,7 +21,7 @@ use Rattle.laws_board.specs.sections.Homes.{IsControlIn, RunSection}
 use Rattle.motion_work.specs.Seen.{Started}
 use Rattle.motion_work.specs.Told.{Told}
 use Rattle.session_work.specs.declared.table.MotionTurn.{MotionTurn}
-use Rattle.laws_board.specs.plans.Homed.{TookControlsIn, is_home}
+use Rattle.laws_board.specs.plans.Homed.{TookControlsIn}
 use Rattle.laws_board.specs.plans.Planned.{Plans}
 use Rattle.laws_homing.specs.home_plans.Notes.{CameNotes, HoldControlsIn, KnowBases, ShowsSections, WasBegun}
 use Rattle.laws_homing.proofs.home_plans.Controlling.{all_hold}

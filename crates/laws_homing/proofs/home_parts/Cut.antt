@@ -15,7 +15,7 @@ use Rattle.plan_types.specs.Clock.{turn_ns}
 use Rattle.plan_types.specs.Lines.{Clocks, lines_tick}
 use Rattle.plan_types.specs.Machines.{board_at}
 use Rattle.plan_types.specs.Plan.{AreSpaced, Fits, max_error}
-use Rattle.plan_types.specs.Sections.{clocks_at, section_end}
+use Rattle.plan_types.specs.Sections.{clocks_at, section_end, is_home}
 use Rattle.clock_line.proofs.Turns.{turn-below}
 use Rattle.msg_code.specs.declared.unit.Batch.{Batch}
 use Rattle.step_feed.specs.Pacing.{Release, batch_at, units_of}
@@ -45,7 +45,7 @@ use Rattle.session_work.specs.Bares.{bare_batch}
 use Rattle.session_work.specs.Rows.{gather, item}
 use Rattle.session_work.proofs.Each.{item_copies}
 use Rattle.laws_board.specs.plans.Given.{TookBatches}
-use Rattle.laws_board.specs.plans.Homed.{TookControlsIn, is_home, runs_on, stops_of}
+use Rattle.laws_board.specs.plans.Homed.{TookControlsIn, runs_on, stops_of}
 use Rattle.laws_board.specs.plans.Planned.{AreBare, Plans, put_of, puts_of}
 use Rattle.motion_work.proofs.Sending.{cut_before, cut_front}
 use Rattle.motion_work.proofs.Following.{homed_before, homed_front}

@@ -3,6 +3,7 @@ use Rattle.std.proofs.Common.{◌≡◌, ◌⊎◌, ℕ, suc, ◌+◌, ◌-◌, 
 use Rattle.std.specs.Prelude.{◌&&◌, if◌then◌else◌}
 use Rattle.std.proofs.lemmas.Bool.Decides.{leb_tells}
 use Rattle.std.proofs.lemmas.List.{length-map, map-append}
+use Rattle.plan_types.specs.Sections.{is_home}
 use Rattle.plan_types.specs.declared.levels.Level.{Level}
 use Rattle.plan_types.specs.declared.machine.Machine.{Machine}
 use Rattle.plan_types.specs.declared.plan.SectionKind.{SectionKind}
@@ -22,7 +23,7 @@ use Rattle.motion_work.specs.Seen.{Started}
 use Rattle.motion_work.specs.Told.{Told}
 use Rattle.session_work.specs.declared.table.MotionTurn.{MotionTurn}
 use Rattle.laws_board.specs.sections.Homes.{RunSection}
-use Rattle.laws_board.specs.plans.Homed.{is_home, is_set_in, stops_of}
+use Rattle.laws_board.specs.plans.Homed.{is_set_in, stops_of}
 use Rattle.laws_board.specs.plans.Planned.{Plans, put_of}
 use Rattle.laws_board.proofs.plans.Running.{started_in}
 use Rattle.laws_homing.specs.home_runs.Sections.{TakesSetUp}

@@ -16,7 +16,7 @@ use Rattle.board_trig.specs.Nexts.{ExpiresAt, IsNextOf, SwitchesAt}
 use Rattle.board_trig.proofs.Nexts.{is_next}
 use Rattle.msg_code.specs.declared.cmd.Cmd.{Cmd}
 use Rattle.msg_code.specs.declared.cmd.Cmd.TheVariants as cmd
-use Rattle.board_sim.specs.Board.{bit}
+use Rattle.msg_code.specs.Units.{bit}
 use Rattle.board_sim.specs.Rig.{Passed, Rig, Slot, acts_running, all_left, at_of, becomes, earliest, goes_on, happens, happens_to, make_trigger, pass, passes_by, rested, rests_to, runs_to, slot_at, takes, told}
 use Rattle.board_sim.specs.RigRuns.{AllSound, IsSound}
 use Rattle.board_sim.proofs.Bound.{map_at, one_slot, same_or_not, set_other, slot_range}

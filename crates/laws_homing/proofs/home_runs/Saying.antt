@@ -3,6 +3,7 @@ use Rattle.std.proofs.Common.{◌≡◌, ℕ, zero, suc, ◌+◌, ◌/◌, ◌%�
 use Rattle.std.specs.Prelude.{if◌then◌else◌, slice_index_or, nat_lt}
 use Rattle.std.proofs.lemmas.List.{get_or-set_same}
 use Rattle.std.proofs.lemmas.Bool.Decides.{leb_tells}
+use Rattle.msg_code.specs.Units.{bit}
 use Rattle.plan_types.specs.declared.levels.Level.{Level}
 use Rattle.plan_types.specs.declared.plan.BoardState.{BoardState}
 use Rattle.plan_types.specs.declared.plan.BoardState.TheVariants.{Running, Shut}
@@ -16,7 +17,7 @@ use Rattle.board_trig.specs.declared.trigger.TrigEvent.{TrigEvent}
 use Rattle.board_trig.specs.Trigger as trig
 use Rattle.msg_code.specs.declared.cmd.Cmd.{Cmd}
 use Rattle.msg_code.specs.declared.cmd.Cmd.TheVariants as cmd
-use Rattle.board_sim.specs.Board.{Controller, Done as BoardDone, bit, stepper_at, is_none_pending, first_of, refusal, takes_triple, queue_step, set_dir, reset, make_stepper, acts as board_acts, acts_running as board_running, takes as board_takes, stop, quiet as board_quiet, with_stepper, stepper_active}
+use Rattle.board_sim.specs.Board.{Controller, Done as BoardDone, stepper_at, is_none_pending, first_of, refusal, takes_triple, queue_step, set_dir, reset, make_stepper, acts as board_acts, acts_running as board_running, takes as board_takes, stop, quiet as board_quiet, with_stepper, stepper_active}
 use Rattle.board_sim.specs.Rig.{Rig, Slot, Passed, becomes, slot_at, expires_at_once, set_timeout, trigger, acts, acts_running, takes, takes_all, tell, told, happens_to, happens, runs_to, rests_to, earliest, at_of, goes_on, passes_by, pass, all_left, passes}
 use Rattle.board_sim.specs.Turn.{says_shut}
 use Rattle.board_sim.proofs.Bound.{slot_range}

@@ -3,6 +3,7 @@ use Rattle.std.proofs.Common.{◌≡◌, ℕ, ◌*◌, ◌/◌, ◌<◌, ◌≤�
 use Rattle.std.specs.Prelude.{if◌then◌else◌, slice_index_or}
 use Rattle.std.proofs.lemmas.Bool.Decides.{eqb_tells}
 use Rattle.std.proofs.lemmas.List.{get_or-set_same}
+use Rattle.msg_code.specs.Units.{bit}
 use Rattle.plan_types.specs.declared.levels.Level.{Level}
 use Rattle.plan_types.specs.declared.machine.AxisDef.{AxisDef}
 use Rattle.plan_types.specs.declared.machine.Machine.{Machine}
@@ -33,7 +34,7 @@ use Rattle.trigger_group.specs.declared.order.Order.TheVariants as order
 use Rattle.trigger_group.specs.declared.round.Round.TheVariants.{Homes}
 use Rattle.trigger_group.specs.declared.seen.Seen.{Seen}
 use Rattle.trigger_group.specs.Group.{orders_to, round_of, steppers, stop, to_board}
-use Rattle.axis_homing.specs.Homing.{commands_to, flag, low, order_command}
+use Rattle.axis_homing.specs.Homing.{commands_to, low, order_command}
 use Rattle.laws_homing.specs.missed_groups.Minds.{Hits, Minds}
 use Rattle.laws_homing.specs.missed_groups.Ticks.{IsReader, IsSwitchTick, readings_from}
 use Rattle.laws_homing.proofs.clear_groups.SetUp.{AllSetting, IsSetting, first_at, homes_setting, running}
@@ -66,7 +67,7 @@ pub record Able (oid : ℕ) (T : ℕ → Type 0) (Q : Type 0) (r : Rig) : Type 0
   pub minds : slot.trigger.can ≡ true → Minds T Q r.pins slot
 
 -- the readings
-flag_is : (b : Bool) → (flag b == 1) ≡ b
+flag_is : (b : Bool) → (bit b == 1) ≡ b
 flag_is true = refl
 flag_is false = refl
 

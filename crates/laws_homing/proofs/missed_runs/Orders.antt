@@ -14,7 +14,7 @@ use Rattle.msg_code.specs.declared.cmd.Cmd.TheVariants as cmd
 use Rattle.msg_code.specs.declared.talk.State.{State}
 use Rattle.msg_code.specs.declared.unit.Control.{Control}
 use Rattle.msg_code.specs.declared.unit.Unit.{Unit as StepUnit}
-use Rattle.msg_code.specs.Units.{dir_commands, dir_number, reset_commands, step_command}
+use Rattle.msg_code.specs.Units.{dir_commands, bit, reset_commands, step_command}
 use Rattle.wire_scene.specs.declared.scene.Entry.{Entry}
 use Rattle.wire_scene.specs.declared.scene.Switch.{Switch}
 use Rattle.board_world.specs.Orders.{plain, unit_orders, unit_ticks, units_orders}
@@ -208,9 +208,9 @@ module _ (O : Order → Type 0) (C : Cmd → Type 0) (b : ℕ) (frees : (c : Cmd
 
       one : (r : Option ℕ) (d : Option Bool) → AllSo C (map plain (reset_commands u.stepper r) ++ (map plain (dir_commands u.stepper d) ++ record { command = step_command u; ticks = unit_ticks u } ∷ []))
       one None None = (steps, tt)
-      one None (Some d) = (frees (cmd.SetNextStepDir u.stepper (dir_number d)) tt, (steps, tt))
+      one None (Some d) = (frees (cmd.SetNextStepDir u.stepper (bit d)) tt, (steps, tt))
       one (Some r) None = (frees (cmd.ResetStepClock u.stepper (r % 2 ^ 32)) tt, (steps, tt))
-      one (Some r) (Some d) = (frees (cmd.ResetStepClock u.stepper (r % 2 ^ 32)) tt, (frees (cmd.SetNextStepDir u.stepper (dir_number d)) tt, (steps, tt)))
+      one (Some r) (Some d) = (frees (cmd.ResetStepClock u.stepper (r % 2 ^ 32)) tt, (frees (cmd.SetNextStepDir u.stepper (bit d)) tt, (steps, tt)))
 
   units_are : (us : List StepUnit) → AllSo C (units_orders us)
   units_are [] = tt

@@ -1,5 +1,6 @@
 -- What the endstops of a board read in a run.
 use Rattle.std.specs.Prelude.{◌≡◌, ◌⊎◌, ◌+◌, ◌*◌, ◌/◌, ℕ, List, [], ◌∷◌, Some, length, slice_index_or}
+use Rattle.msg_code.specs.Units.{bit}
 use Rattle.plan_types.specs.declared.levels.Level.{Level}
 use Rattle.plan_types.specs.declared.machine.AxisDef.{AxisDef}
 use Rattle.plan_types.specs.declared.machine.Machine.{Machine}
@@ -11,7 +12,7 @@ use Rattle.board_trig.specs.declared.sampling.Homing.{Homing as Readings}
 use Rattle.wire_scene.specs.declared.scene.Switch.{Switch}
 use Rattle.board_asking.specs.Machine.{endstop_pins, trigger_of}
 use Rattle.axis_homing.specs.declared.homing.Homing.{Homing}
-use Rattle.axis_homing.specs.Homing.{flag, low}
+use Rattle.axis_homing.specs.Homing.{low}
 use Rattle.host_reactor.specs.Notes.{noted}
 use Rattle.host_reactor.specs.Runs.{Came, known_by}
 use Rattle.laws_homing.specs.switch_runs.Reading.{IsComplete}
@@ -32,7 +33,7 @@ readings m b axis clock = record {
   sample_ticks = (board_at m b).freq * 15 / 1_000_000;
   sample_count = 4;
   rest_ticks = (board_at m b).freq / 10_000;
-  pin_value = flag axis.pressed;
+  pin_value = bit axis.pressed;
   reason = 1;
 }
 

@@ -6,8 +6,8 @@ use Rattle.plan_types.specs.declared.cause.MisfitKind.{MisfitKind}
 use Rattle.plan_types.specs.declared.cause.MisfitKind.TheVariants as misfit
 use Rattle.plan_types.specs.declared.plan.Planned.{Planned}
 use Rattle.plan_types.specs.declared.plan.Pulse.{Pulse}
-use Rattle.plan_types.specs.Plan.{Fits, IsPulseOf, opposite, window}
-use Rattle.log_check.specs.Pulses.{no_step, pulse_fault, step_fault, tick_before}
+use Rattle.plan_types.specs.Plan.{Fits, IsPulseOf, opposite, window, no_step}
+use Rattle.log_check.specs.Pulses.{pulse_fault, step_fault, tick_before}
 use Rattle.laws_report.specs.logs.Follows.{in_order}
 
 pub length-in_order : {A : Type 0} (xs : List A) → length (in_order xs) ≡ length xs

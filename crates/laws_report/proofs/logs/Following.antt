@@ -6,13 +6,13 @@ use Rattle.std.proofs.lemmas.List.FromFn.{get_or-map-range_with_len, length-map-
 use Rattle.log_text.specs.declared.line.LogLine.{LogLine}
 use Rattle.log_text.specs.declared.line.LogLine.TheVariants as line
 use Rattle.log_text.specs.Said.{Said, line_said}
-use Rattle.log_text.specs.Words.{Text}
+use Rattle.text_core.specs.Bytes.{Text}
 use Rattle.log_check.specs.declared.tally.Tally.{Tally}
 use Rattle.log_check.specs.declared.further.Further.{Further}
 use Rattle.log_check.specs.Behind.{begun, clocks, further_of, further_said, is_cut, pulses, start, with_one}
 use Rattle.log_check.specs.Faults.{fault_at, have_room, is_short, lacks, may_start, no_tally, ready, same_kind, section_fault}
 use Rattle.log_check.specs.Points.{bases_by, plans, point, section_at}
-use Rattle.log_check.specs.Pulses.{no_step, tally_of, tick_before}
+use Rattle.log_check.specs.Pulses.{tally_of, tick_before}
 use Rattle.log_check.specs.Verdicts.{Verdict, by_fault, by_line, end_cause, verdict}
 use Rattle.log_check.proofs.Tests.{both-first, both-second}
 use Rattle.log_check.proofs.Pointing.{board-first}
@@ -27,7 +27,7 @@ use Rattle.plan_types.specs.declared.plan.Pulse.{Pulse}
 use Rattle.plan_types.specs.declared.plan.Section.{Section}
 use Rattle.plan_types.specs.declared.plan.SectionKind.{SectionKind}
 use Rattle.plan_types.specs.declared.plan.SectionKind.TheVariants.{Moves, Home}
-use Rattle.plan_types.specs.Plan.{Fits, IsPulseOf}
+use Rattle.plan_types.specs.Plan.{Fits, IsPulseOf, no_step}
 use Rattle.plan_types.specs.Sections.{base_tick, for_each_stepper}
 
 -- each line fits behind the lines before it

@@ -6,13 +6,13 @@ use Rattle.std.proofs.lemmas.List.FromFn.{length-map-range_with_len}
 use Rattle.log_text.specs.declared.line.LogLine.{LogLine}
 use Rattle.log_text.specs.declared.line.LogLine.TheVariants as line
 use Rattle.log_text.specs.Said.{line_said}
-use Rattle.log_text.specs.Words.{Text}
+use Rattle.text_core.specs.Bytes.{Text}
 use Rattle.log_check.specs.declared.tally.Tally.{Tally}
 use Rattle.log_check.specs.declared.further.Further.{Further}
 use Rattle.log_check.specs.Behind.{begun, clocks, further_said, is_cut, is_ended, pulses, told}
 use Rattle.log_check.specs.Faults.{fault_at, fault_if, have_room, is_short, lacks, may_cut, may_follow, may_start, no_tally, open_fault, ready, same_kind, section_fault}
 use Rattle.log_check.specs.Points.{plans, point, section_at}
-use Rattle.log_check.specs.Pulses.{no_step, tick_before}
+use Rattle.log_check.specs.Pulses.{tick_before}
 use Rattle.log_check.specs.Verdicts.{Verdict, by_fault, by_line, end_cause, verdict}
 use Rattle.laws_report.specs.logs.Follows.{FitsHere, FollowsPlan, IsNext, IsWholeHere, StandsWell, all_said, base_at, freq_at, further_among, in_order, ok_line, plan_at}
 use Rattle.laws_report.proofs.logs.Fitting.{fits-last, length-in_order, no-pulse-fault}
@@ -25,7 +25,7 @@ use Rattle.plan_types.specs.declared.plan.Pulse.{Pulse}
 use Rattle.plan_types.specs.declared.plan.Section.{Section}
 use Rattle.plan_types.specs.declared.plan.SectionKind.{SectionKind}
 use Rattle.plan_types.specs.declared.plan.SectionKind.TheVariants.{Moves, Home}
-use Rattle.plan_types.specs.Plan.{Fits, IsPulseOf}
+use Rattle.plan_types.specs.Plan.{Fits, IsPulseOf, no_step}
 
 -- a line whose end was not told is judged by itself
 pub open-only : (m : Machine) (sections : List Section) (further : List Further) (before : List LogLine) (l : LogLine) → is_ended before ≡ false → open_fault m sections (point m sections further before) l ≡ None → fault_at m sections (point m sections further before) l ≡ None

@@ -11,9 +11,9 @@ use Rattle.plan_types.specs.declared.plan.Section.{Section}
 use Rattle.gcode_state.specs.declared.state.State.{State}
 use Rattle.gcode_state.specs.declared.state.Action.{Action}
 use Rattle.gcode_state.specs.declared.state.Action.TheVariants as actions
-use Rattle.gcode_state.specs.States.{coordinates_of}
+use Rattle.gcode_state.specs.States.{coordinates_of, one_if}
 use Rattle.gcode_program.specs.Cuts.{closed, left, sections_of}
-use Rattle.gcode_program.specs.Readings.{Deed, Outcome, applied_line, deed_of, is_large, is_passed, is_stop, line_result, one_if, outcome}
+use Rattle.gcode_program.specs.Readings.{Deed, Outcome, applied_line, deed_of, is_large, is_passed, is_stop, line_result, outcome}
 use Rattle.gcode_program.specs.Readings as readings
 use Rattle.bed_mesh.specs.declared.mesh.Mesh.{Mesh}
 use Rattle.bed_mesh.specs.Cuts.{ends}

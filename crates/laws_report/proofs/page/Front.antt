@@ -11,15 +11,15 @@ use Rattle.plan_types.specs.declared.plan.SectionKind.{SectionKind}
 use Rattle.plan_types.specs.Lines.{Clocks, one_line}
 use Rattle.plan_types.specs.Machines.{stepper_at}
 use Rattle.plan_types.specs.Plan.{Fits}
-use Rattle.plan_types.specs.Sections.{base_tick, clocks_at, section_end, section_plans, stepper_plan}
+use Rattle.plan_types.specs.Sections.{base_tick, clocks_at, section_end, section_plans, stepper_plan, is_home, first_turn}
 use Rattle.report_text.specs.declared.line.ReportLine.{ReportLine}
 use Rattle.report_text.specs.declared.line.ReportLine.TheVariants as report
 use Rattle.log_text.specs.declared.line.LogLine.{LogLine}
 use Rattle.log_text.specs.declared.line.LogLine.TheVariants as line
 use Rattle.log_check.specs.declared.further.Further.{Further}
 use Rattle.log_check.specs.Behind.{begun, clocks, is_cut, is_ended, pulses, start, told_line, with_further}
-use Rattle.log_check.specs.Faults.{is_home, may_cut, ready}
-use Rattle.log_check.specs.Points.{end_by, first_turn, plans_by, section_at}
+use Rattle.log_check.specs.Faults.{may_cut, ready}
+use Rattle.log_check.specs.Points.{end_by, plans_by, section_at}
 use Rattle.laws_report.specs.logs.Follows.{FitsHere, IsNext, IsWholeHere, base_at, freq_at, further_among, in_order, plan_at}
 use Rattle.laws_report.proofs.logs.Following.{no-plan}
 use Rattle.laws_report.proofs.logs.Standing.{onto}

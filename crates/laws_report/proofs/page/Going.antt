@@ -9,10 +9,9 @@ use Rattle.plan_types.specs.declared.plan.SectionKind.{SectionKind}
 use Rattle.plan_types.specs.Lines.{Clocks}
 use Rattle.plan_types.specs.Machines.{stepper_at}
 use Rattle.plan_types.specs.Plan.{Fits}
-use Rattle.plan_types.specs.Sections.{base_tick, clocks_at, section_end, stepper_plan}
+use Rattle.plan_types.specs.Sections.{base_tick, clocks_at, section_end, stepper_plan, is_home}
 use Rattle.report_text.specs.declared.line.ReportLine.{ReportLine}
 use Rattle.report_text.specs.declared.line.ReportLine.TheVariants as report
-use Rattle.log_check.specs.Faults.{is_home}
 use Rattle.log_check.specs.Points.{section_at}
 use Rattle.laws_report.specs.logs.Follows.{in_order}
 use Rattle.laws_report.specs.reports.Logged.{logged}

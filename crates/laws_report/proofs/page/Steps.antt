@@ -4,8 +4,9 @@ use Rattle.std.specs.Prelude.{◌&&◌}
 use Rattle.std.specs.List.{range_with_len}
 use Rattle.std.proofs.lemmas.List.Elements.{All-head, All-tail}
 use Rattle.std.proofs.lemmas.List.Sums.{sum_by-cons}
+use Rattle.plan_types.specs.Sections.{is_home}
 use Rattle.log_check.specs.Behind.{begun, is_cut, pulses}
-use Rattle.log_check.specs.Faults.{is_home, may_cut}
+use Rattle.log_check.specs.Faults.{may_cut}
 use Rattle.log_check.specs.Points.{section_at}
 use Rattle.log_text.specs.declared.line.LogLine.{LogLine}
 use Rattle.log_text.specs.declared.line.LogLine.TheVariants as line

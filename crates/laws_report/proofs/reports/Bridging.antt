@@ -14,7 +14,7 @@ use Rattle.plan_types.specs.declared.plan.SectionKind.TheVariants.{Home}
 use Rattle.plan_types.specs.Lines.{Clocks}
 use Rattle.plan_types.specs.Machines.{IsValidMachine, stepper_at}
 use Rattle.plan_types.specs.Plan.{Fits}
-use Rattle.plan_types.specs.Sections.{base_tick, clocks_at, section_end, stepper_plan}
+use Rattle.plan_types.specs.Sections.{base_tick, clocks_at, section_end, stepper_plan, no_section}
 use Rattle.report_text.specs.declared.line.ReportLine.{ReportLine}
 use Rattle.report_text.specs.declared.line.ReportLine.TheVariants as report
 use Rattle.log_check.specs.Behind.{pulses}
@@ -29,7 +29,6 @@ use Rattle.laws_report.proofs.reports.Running.{told-more}
 use Rattle.laws_run.specs.home_headline.Cuts.{cuts_of}
 use Rattle.laws_report.specs.reports.Cuts.{cuts_in, lines_before}
 use Rattle.laws_report.specs.reports.Shown.{lines_behind, pulses_before, pulses_in, section_turn, sections_shown}
-use Rattle.log_check.specs.Points.{no_section}
 use Rattle.laws_report.specs.reports.Headline.{kind_of, moves_of, plan_by}
 use Rattle.laws_report.specs.reports.Promises.{FollowsPlanBy}
 use Rattle.laws_report.proofs.reports.Ends.{section_end-after}

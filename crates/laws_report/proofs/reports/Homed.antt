@@ -14,7 +14,7 @@ use Rattle.plan_types.specs.declared.plan.SectionKind.TheVariants.{Home, Moves}
 use Rattle.plan_types.specs.Lines.{Clocks}
 use Rattle.plan_types.specs.Machines.{IsValidMachine, axis_at, stepper_at}
 use Rattle.plan_types.specs.Plan.{Fits}
-use Rattle.plan_types.specs.Sections.{base_tick, clocks_at, section_end, stepper_plan}
+use Rattle.plan_types.specs.Sections.{base_tick, clocks_at, section_end, stepper_plan, is_home}
 use Rattle.gcode_program.specs.Cuts.{homes}
 use Rattle.gcode_program.specs.Programs.{outcome_of}
 use Rattle.gcode_program.proofs.Homing.{axis_valid}
@@ -26,7 +26,6 @@ use Rattle.log_text.specs.declared.line.LogLine.{LogLine}
 use Rattle.log_text.specs.declared.line.LogLine.TheVariants as line
 use Rattle.log_check.specs.declared.further.Further.{Further}
 use Rattle.log_check.specs.Behind.{begun, clocks, further_of, with_one}
-use Rattle.log_check.specs.Faults.{is_home}
 use Rattle.log_check.specs.Points.{section_at}
 use Rattle.laws_report.specs.logs.Follows.{all_said, further_among, in_order, ok_line}
 use Rattle.laws_report.proofs.logs.Standing.{onto}

@@ -29,7 +29,7 @@ use Rattle.laws_board.proofs.plans.Rows.{Among, row_from, row_later, row_past}
 use Rattle.laws_run.specs.home_headline.Cuts.{EndsIn, TellEnds, TellsSwitch, cut_in, cuts_of}
 use Rattle.laws_run.proofs.home_headline.Ended.{cut_same}
 use Rattle.laws_report.specs.reports.Cuts.{HaveCuts, IsCutOf, cuts_in, lines_before, scene_line}
-use Rattle.log_check.specs.Points.{no_section}
+use Rattle.plan_types.specs.Sections.{no_section}
 use Rattle.laws_report.specs.reports.Headline.{kind_of}
 use Rattle.laws_report.specs.reports.Shown.{begins, lines_behind, section_turn}
 use Rattle.log_check.specs.Points.{section_at}

@@ -7,7 +7,7 @@ use Rattle.plan_types.specs.Machines.{board_at}
 use Rattle.report_text.specs.declared.line.ReportLine.{ReportLine}
 use Rattle.report_text.specs.declared.line.ReportLine.TheVariants as report
 use Rattle.log_check.specs.Faults.{have_room}
-use Rattle.log_text.specs.Words.{turn_limit}
+use Rattle.plan_types.specs.Clock.{run_turns}
 use Rattle.laws_report.specs.reports.Logged.{IsLong}
 use Rattle.laws_report.specs.reports.Retold.{all_retold}
 use Rattle.laws_report.specs.reports.Headline.{moves_of}
@@ -16,7 +16,7 @@ use Rattle.laws_report.specs.reports.Shown.{section_turn}
 -- a line has numbers of 64 bits, its turn is one in which a section may start, a cut line is of a board that is there, as is its pin, and
 -- so is a further clock line
 abbrev pub IsSmall : Machine → ReportLine → Type 0
-IsSmall m (report.Section i turn kind) = IsLong i × (turn < turn_limit)
+IsSmall m (report.Section i turn kind) = IsLong i × (turn < run_turns)
 IsSmall m (report.Pulse board stepper tick up) = IsLong tick
 IsSmall m (report.Cut i board pin tick from) = IsLong i × (board < length m.boards) × (pin < length (board_at m board).pins) × IsLong tick × IsLong from
 IsSmall m (report.Drift board sent clock from) = (board < length m.boards) × IsLong sent × IsLong clock × IsLong from

@@ -18,7 +18,7 @@ use Rattle.plan_types.specs.declared.plan.SectionKind.TheVariants.{Moves}
 use Rattle.plan_types.specs.Lines.{Clocks}
 use Rattle.plan_types.specs.Machines.{IsValidMachine, stepper_at}
 use Rattle.plan_types.specs.Plan.{Fits}
-use Rattle.plan_types.specs.Sections.{base_tick, clocks_at, stepper_plan}
+use Rattle.plan_types.specs.Sections.{base_tick, clocks_at, stepper_plan, no_section}
 use Rattle.io_core.specs.declared.traits.Files.{Ghosts as Files}
 use Rattle.io_core.specs.declared.traits.Sink.{Ghosts as Sink}
 use Rattle.report_text.specs.declared.line.ReportLine.{ReportLine}
@@ -72,7 +72,6 @@ use Rattle.laws_run.proofs.run_lines.Further.{Reach, reach}
 use Rattle.laws_run.proofs.run_lines.Heads.{ShowStarts, first_heads, whole_heads}
 use Rattle.laws_run.specs.run_ends.Boards.{counts_of}
 use Rattle.laws_report.specs.reports.Body.{cause_of}
-use Rattle.log_check.specs.Points.{no_section}
 use Rattle.laws_report.specs.reports.Headline.{kind_of, moves_of}
 use Rattle.laws_board.proofs.plans.Rows.{begun_row}
 use Rattle.laws_run.specs.home_headline.Cuts.{TellEnds}

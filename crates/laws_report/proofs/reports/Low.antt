@@ -12,7 +12,7 @@ use Rattle.plan_types.specs.Clock.{tick, turn_ns}
 use Rattle.plan_types.specs.Lines.{Clocks}
 use Rattle.plan_types.specs.Machines.{IsValidMachine, stepper_at}
 use Rattle.plan_types.specs.Plan.{Fits}
-use Rattle.plan_types.specs.Sections.{base_tick, clocks_at, stepper_plan}
+use Rattle.plan_types.specs.Sections.{base_tick, clocks_at, stepper_plan, no_section}
 use Rattle.gcode_program.specs.Held.{ArePlannable}
 use Rattle.gcode_program.proofs.Plannable.{sections_plannable}
 use Rattle.motion_work.specs.Seen.{Started}
@@ -32,7 +32,6 @@ use Rattle.laws_run.specs.run_headline.Told.{AreTold}
 use Rattle.laws_run.specs.run_headline.Timely.{AreSound}
 use Rattle.laws_run.specs.run_lines.Due.{BoardsHave, StandApart, begun_lines}
 use Rattle.laws_run.specs.run_limits.Limits.{AreLow, greatest_tick, start_limit}
-use Rattle.log_check.specs.Points.{no_section}
 use Rattle.laws_report.specs.reports.Headline.{moves_of, plan_by}
 use Rattle.laws_report.specs.reports.Promises.{FollowsPlanBy, sections_over}
 use Rattle.laws_run.specs.home_headline.Cuts.{cuts_of}

@@ -6,7 +6,7 @@ use Rattle.std.proofs.lemmas.Slice.Eq.{bytes_eq-Decides}
 use Rattle.plan_types.specs.declared.machine.BoardDef.{BoardDef}
 use Rattle.plan_types.specs.declared.machine.StepperDef.{StepperDef}
 use Rattle.log_text.specs.Names.{board_from, stepper_from}
-use Rattle.log_text.specs.Words.{Text}
+use Rattle.text_core.specs.Bytes.{Text}
 
 pub same-text : (xs ys : Text) → xs ≡ ys → bytes_eq xs ys ≡ true
 same-text xs ys e = (bytes_eq-Decides xs ys).1 e

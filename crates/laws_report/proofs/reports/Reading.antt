@@ -8,7 +8,7 @@ use Rattle.report_text.specs.Text.{report_text}
 use Rattle.text_core.specs.Lines.{lines_of}
 use Rattle.text_core.specs.Words.{is_none_left, line_words, worded_lines}
 use Rattle.log_text.specs.Said.{Said}
-use Rattle.log_text.specs.Words.{Text}
+use Rattle.text_core.specs.Bytes.{Text}
 use Rattle.laws_report.specs.logs.Follows.{all_said, ok_line}
 use Rattle.laws_report.specs.reports.Logged.{AreOfRun, logged}
 use Rattle.laws_report.specs.reports.Names.{HasNames}

@@ -3,6 +3,7 @@ use Rattle.std.proofs.Common.{◌≡◌, ℕ, Bool, true, false, ◌⊎◌, List
 use Rattle.std.proofs.lemmas.Bool.Decides.{eqb_tells}
 use Rattle.std.proofs.lemmas.List.{map-append}
 use Rattle.std.specs.Prelude.{◌+◌, ◌==◌, if◌then◌else◌}
+use Rattle.plan_types.specs.Plan.{pulse_of}
 use Rattle.plan_types.specs.Board.{steps_of}
 use Rattle.plan_types.specs.Clock.{board_tick, clock_of}
 use Rattle.plan_types.specs.declared.machine.BoardDef.{BoardDef}
@@ -13,7 +14,7 @@ use Rattle.plan_types.specs.declared.plan.Triple.{Triple}
 use Rattle.board_step.specs.Steps.{Pending, ticks_at}
 use Rattle.msg_code.specs.declared.cmd.Cmd.{Cmd}
 use Rattle.msg_code.specs.declared.cmd.Cmd.TheVariants as cmd
-use Rattle.board_sim.specs.Board.{Controller, Done, acts_running, first_of, is_shut, new_controller, pulse_of, queue_step, quiet, refusal, stepper_at, takes, takes_triple}
+use Rattle.board_sim.specs.Board.{Controller, Done, acts_running, first_of, is_shut, new_controller, queue_step, quiet, refusal, stepper_at, takes, takes_triple}
 use Rattle.board_sim.specs.Fair.{IsCut, Meant, commands_of, meant_by, meant_on, meant_running, only, steps_taken}
 use Rattle.board_sim.specs.Halted.{KeptPart, meant_behind}
 use Rattle.board_sim.specs.Rig.{Rig, new_rig, takes_all, takes as rig_takes}

@@ -15,16 +15,16 @@ use Rattle.plan_types.specs.declared.plan.Section.{Section}
 use Rattle.plan_types.specs.Lines.{Clocks, one_line}
 use Rattle.plan_types.specs.Machines.{IsValidMachine, stepper_at}
 use Rattle.plan_types.specs.Plan.{Fits}
-use Rattle.plan_types.specs.Sections.{base_tick, clocks_at, section_end, section_plans, stepper_plan}
+use Rattle.plan_types.specs.Sections.{base_tick, clocks_at, section_end, section_plans, stepper_plan, is_home, first_turn, no_section}
 use Rattle.report_text.specs.declared.line.ReportLine.{ReportLine}
 use Rattle.report_text.specs.declared.line.ReportLine.TheVariants as report
 use Rattle.log_text.specs.declared.line.LogLine.{LogLine}
 use Rattle.log_text.specs.declared.line.LogLine.TheVariants as line
-use Rattle.log_text.specs.Words.{Text}
+use Rattle.text_core.specs.Bytes.{Text}
 use Rattle.log_check.specs.declared.further.Further.{Further}
 use Rattle.log_check.specs.Behind.{begun, clocks, further_of, further_said, is_cut, is_ended, pulses, start, told as told_so, told_line, with_further, with_one}
-use Rattle.log_check.specs.Faults.{fault_at, fault_if, have_room, is_home, is_short, may_cut, may_follow, may_start, ready}
-use Rattle.log_check.specs.Points.{end_by, first_turn, no_section, plans, plans_by, point, section_at}
+use Rattle.log_check.specs.Faults.{fault_at, fault_if, have_room, is_short, may_cut, may_follow, may_start, ready}
+use Rattle.log_check.specs.Points.{end_by, plans, plans_by, point, section_at}
 use Rattle.log_check.specs.Verdicts.{verdict}
 use Rattle.laws_report.specs.logs.Follows.{FitsHere, IsNext, IsWholeHere, base_at, freq_at, in_order, plan_at}
 use Rattle.laws_report.proofs.logs.Fitting.{length-in_order}

@@ -3,6 +3,8 @@ use Rattle.std.proofs.Common.{◌≡◌, ◌∙◌, ℕ, zero, suc, ◌<◌, ◌
 use Rattle.std.specs.Prelude.{◌&&◌, ◌==◌, codes, decimal, Ok, Err, if◌then◌else◌}
 use Rattle.std.specs.Str.{bytes_eq}
 use Rattle.std.proofs.lemmas.Bool.Decides.{nat_tests}
+use Rattle.plan_types.specs.Clock.{run_turns}
+use Rattle.text_core.specs.Bytes.{Text}
 use Rattle.text_core.specs.Numbers.{value_of}
 use Rattle.plan_types.specs.declared.cause.Cause.{Cause}
 use Rattle.plan_types.specs.declared.cause.Cause.TheVariants as cause
@@ -30,7 +32,7 @@ use Rattle.report_text.specs.Words.{axis_word, cfg_word, line_word, mesh_word, m
 use Rattle.log_text.specs.declared.line.LogLine.TheVariants as line
 use Rattle.log_text.specs.Names.{board_from, stepper_from}
 use Rattle.log_text.specs.Said.{Said, board_freq, board_tick, board_told, board_turn, counts_passed, counts_with, cut_with, drift_from, drift_tick, drift_told, drift_turn, is_corexy, is_up, kind_of, known, line_said, machine_boards, machine_if, machine_with, pulse_told, pulse_with, same, section_turn, section_with}
-use Rattle.log_text.specs.Words.{Text, is_turn, labelled, number, turn_limit, with_words}
+use Rattle.log_text.specs.Words.{is_turn, labelled, number, with_words}
 use Rattle.laws_report.specs.reports.Logged.{IsCauseOn, IsKind, IsOfRun, logged}
 use Rattle.laws_report.specs.reports.Names.{HasNames, is_word}
 use Rattle.laws_report.specs.reports.Spelled.{end_words, kind_words, sign, spaced, words_said}
@@ -180,7 +182,7 @@ end-are-words m (cause.Mesh line kind) names on = (refl, (refl, (decimal-word li
 end-are-words m cause.NoFan names on = (refl, (refl, tt))
 end-are-words m (cause.Misfit line kind) names on = (refl, (refl, (decimal-word line on, (misfit-word kind, tt))))
 
-long-turn : (turn : ℕ) → turn < turn_limit → turn < 2 ^ 64
+long-turn : (turn : ℕ) → turn < run_turns → turn < 2 ^ 64
 long-turn turn low = omega (arith, low)
 
 few-long : (n : ℕ) → n ≤ 16 → n < 2 ^ 64
@@ -227,7 +229,7 @@ label name n words small =
       if-true true e o = refl
       if-true false e o = cc
 
-is-turn : (turn : ℕ) → turn < turn_limit → is_turn turn ≡ true
+is-turn : (turn : ℕ) → turn < run_turns → is_turn turn ≡ true
 is-turn turn low = grind (arith, nat_tests)
 
 ok-if : (a : Bool) (said other : Said) → a ≡ true → (if a then said else other) ≡ said
@@ -256,7 +258,7 @@ machine-said m corexy boards steppers valid c b s =
       same-back false true e = cc
       same-back false false e = refl
 
-board-said : (m : Machine) (board freq turn tick : ℕ) → IsValidMachine m → HasNames m → board < length m.boards → freq ≡ (board_at m board).freq → turn < turn_limit → tick < 2 ^ 64
+board-said : (m : Machine) (board freq turn tick : ℕ) → IsValidMachine m → HasNames m → board < length m.boards → freq ≡ (board_at m board).freq → turn < run_turns → tick < 2 ^ 64
     → line_said m (words_said m (report.Board board freq turn tick)) ≡ Ok (line.Board board turn tick)
 board-said m board freq turn tick valid names inside f t long =
     let name = (board_at m board).name in
@@ -271,7 +273,7 @@ board-said m board freq turn tick valid names inside f t long =
     ∙ (ap (board_told m freq turn tick) (board-at m.boards board no_board inside names.boards_differ)
     ∙ ok-if ((board_at m board).freq == freq) (Ok (line.Board board turn tick)) (Err Unknown) same_freq))))
 
-section-said : (m : Machine) (i turn : ℕ) (kind : SectionKind) → i < 2 ^ 64 → turn < turn_limit → IsKind kind → line_said m (words_said m (report.Section i turn kind)) ≡ Ok (line.Section i turn kind)
+section-said : (m : Machine) (i turn : ℕ) (kind : SectionKind) → i < 2 ^ 64 → turn < run_turns → IsKind kind → line_said m (words_said m (report.Section i turn kind)) ≡ Ok (line.Section i turn kind)
 section-said m i turn kind long t axis =
     let first = label (codes "turn") turn (kind_words kind) (long-turn turn t) in
     ap (section_turn (number (decimal i))) first

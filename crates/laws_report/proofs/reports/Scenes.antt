@@ -4,6 +4,7 @@ use Rattle.std.specs.Prelude.{Result, Ok, Err, codes, if◌then◌else◌}
 use Rattle.std.specs.Str.{bytes_eq}
 use Rattle.std.proofs.lemmas.Bool.Decides.{leb_tells}
 use Rattle.std.proofs.lemmas.List.Elements.{All-cons, All-nil}
+use Rattle.text_core.specs.Words.{words_of}
 use Rattle.plan_types.specs.declared.cause.SceneKind.TheVariants.{TooLarge}
 use Rattle.plan_types.specs.declared.machine.BoardDef.{BoardDef}
 use Rattle.plan_types.specs.declared.machine.Machine.{Machine}
@@ -21,7 +22,7 @@ use Rattle.wire_scene.specs.declared.scene.Way.{Way}
 use Rattle.wire_scene.specs.declared.scene.Way.TheVariants.{Down, Up}
 use Rattle.wire_scene.specs.Entries.{at_board, at_pin, board_from, connect_item, deed_in, entry_item, line_item, meant, meant_by, moment_of, on_line, pin_from, pin_item, pins_on, switch_item}
 use Rattle.wire_scene.specs.Reading.{first_fault, items, reading, scene_of, switch_of, switches_among, unless}
-use Rattle.wire_scene.specs.Words.{number_in, words_of}
+use Rattle.wire_scene.specs.Words.{number_in}
 use Rattle.laws_report.specs.reports.Read.{IsSceneFor}
 use Rattle.laws_run.proofs.run_limits.Few.{lines_few}
 

@@ -17,7 +17,7 @@ use Rattle.plan_types.specs.declared.plan.SectionKind.TheVariants.{Moves}
 use Rattle.plan_types.specs.Clock.{tick, turn_ns}
 use Rattle.plan_types.specs.Lines.{Clocks, one_line}
 use Rattle.plan_types.specs.Machines.{IsValidMachine, board_at}
-use Rattle.plan_types.specs.Sections.{clocks_at}
+use Rattle.plan_types.specs.Sections.{clocks_at, first_start}
 use Rattle.msg_code.specs.declared.talk.State.{State}
 use Rattle.msg_code.specs.declared.talk.WordNews.TheVariants as word
 use Rattle.report_text.specs.declared.line.ReportLine.{ReportLine}
@@ -25,7 +25,7 @@ use Rattle.report_text.specs.declared.line.ReportLine.TheVariants as report
 use Rattle.wire_scene.specs.declared.scene.Scene.{Scene}
 use Rattle.wire_scene.specs.declared.scene.Switch.{Switch}
 use Rattle.board_asking.specs.declared.asking.Asking.{Asking}
-use Rattle.board_asking.specs.Connecting.{board_lines, connected_lines, first_start, listen_all, ready_all, turn_tick}
+use Rattle.board_asking.specs.Connecting.{board_lines, connected_lines, listen_all, ready_all, turn_tick}
 use Rattle.link_work.specs.Switches.{pins_of}
 use Rattle.link_work.specs.Turn.{Orders}
 use Rattle.host_reactor.specs.declared.ordered.Known.{Known}

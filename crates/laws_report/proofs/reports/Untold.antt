@@ -5,6 +5,7 @@ use Rattle.std.proofs.Math.Nat.{mul-mod_left}
 use Rattle.std.proofs.lemmas.Bool.Decides.{eqb_tells, leb_tells}
 use Rattle.std.proofs.lemmas.List.{length-map}
 use Rattle.std.proofs.lemmas.List.Elements.{All-head}
+use Rattle.plan_types.specs.Sections.{first_start}
 use Rattle.plan_types.specs.declared.cause.Cause.{Cause}
 use Rattle.plan_types.specs.declared.clock.BoardClock.{BoardClock}
 use Rattle.plan_types.specs.declared.machine.BoardDef.{BoardDef}
@@ -35,7 +36,7 @@ use Rattle.laws_board.proofs.clocks.Lines as lining
 use Rattle.laws_board.proofs.clocks.Turning as turning
 use Rattle.laws_run.proofs.clear_runs.Bare.{listened}
 use Rattle.motion_work.specs.Further.{WasHeard, noted_lines, told_on}
-use Rattle.motion_work.specs.Told.{Told, are_fit, first_start, first_told, heard, is_fit, lines_in, told_at, told_in, told_of}
+use Rattle.motion_work.specs.Told.{Told, are_fit, first_told, heard, is_fit, lines_in, told_at, told_in, told_of}
 use Rattle.session_work.specs.declared.table.MotionTurn.{MotionTurn}
 use Rattle.session_work.specs.declared.table.ReactorTurn.{ReactorTurn}
 use Rattle.session_work.specs.Leads.{last_words}

@@ -14,7 +14,7 @@ use Rattle.report_text.specs.declared.line.ReportLine.{ReportLine}
 use Rattle.report_text.specs.declared.line.ReportLine.TheVariants as report
 use Rattle.report_text.specs.Text.{report_text}
 use Rattle.log_check.specs.Behind.{clocks}
-use Rattle.log_check.specs.Points.{first_turn}
+use Rattle.plan_types.specs.Sections.{first_turn}
 use Rattle.log_check.specs.Verdicts.{log_verdict}
 use Rattle.laws_report.specs.logs.Follows.{in_order}
 use Rattle.laws_report.specs.reports.Further.{further_told}

@@ -3,11 +3,10 @@ use Rattle.std.proofs.Common.{◌≡◌, ◌∙◌, ℕ, ◌<◌, Bool, true, fa
 use Rattle.std.specs.Prelude.{◌&&◌, ◌||◌, ◌==◌, nat_lt}
 use Rattle.std.specs.List.{list_all}
 use Rattle.std.proofs.lemmas.Bool.Decides.{nat_tests}
-use Rattle.text_core.specs.Bytes.{before, begins, is_blank}
+use Rattle.text_core.specs.Bytes.{before, begins, is_blank, Text}
 use Rattle.text_core.specs.Lines.{lines_of}
 use Rattle.text_core.specs.Trims.{without_return}
 use Rattle.text_core.specs.Words.{is_inside, line_words, words_of}
-use Rattle.log_text.specs.Words.{Text}
 use Rattle.laws_report.specs.reports.Names.{is_plain, is_word}
 use Rattle.laws_report.specs.reports.Spelled.{spaced}
 use Rattle.laws_report.proofs.reports.Digits.{both-true}

@@ -1,11 +1,12 @@
 -- A report's printed lines as a log: they follow the plan of a text, as far as the run came.
 use Rattle.std.specs.Prelude.{◌≡◌, ◌⊎◌, ℕ, ◌+◌, ◌<◌, zero, suc, Bool, true, false, List, [], ◌∷◌, ◌++◌, length, map}
+use Rattle.plan_types.specs.Sections.{first_turn}
 use Rattle.log_check.specs.declared.further.Further.{Further}
 use Rattle.log_text.specs.declared.line.LogLine.{LogLine}
 use Rattle.log_text.specs.declared.line.LogLine.TheVariants as line
 use Rattle.log_check.specs.Behind.{begun, clocks, is_cut, is_ended, start, told}
 use Rattle.log_check.specs.Faults.{may_cut, may_follow}
-use Rattle.log_check.specs.Points.{end_by, first_turn, section_at}
+use Rattle.log_check.specs.Points.{end_by, section_at}
 use Rattle.laws_report.specs.logs.Follows.{FitsHere, IsNext, IsWholeHere, all_said, further_among, in_order, ok_line}
 use Rattle.plan_types.specs.declared.machine.Machine.{Machine}
 use Rattle.plan_types.specs.declared.plan.Section.{Section}

@@ -10,7 +10,7 @@ use Rattle.report_text.specs.declared.line.ReportLine.{ReportLine}
 use Rattle.report_text.specs.declared.line.ReportLine.TheVariants as report
 use Rattle.log_text.specs.declared.line.LogLine.{LogLine}
 use Rattle.log_text.specs.declared.line.LogLine.TheVariants as line
-use Rattle.log_text.specs.Words.{turn_limit}
+use Rattle.plan_types.specs.Clock.{run_turns}
 
 -- what a line of a run's report says in a log
 abbrev pub logged : ReportLine → LogLine
@@ -54,8 +54,8 @@ abbrev pub IsOfRun : Machine → ReportLine → Type 0
 IsOfRun m (report.Machine corexy boards steppers) =
     (corexy ≡ m.corexy) × (boards ≡ length m.boards) × (steppers ≡ length m.steppers)
 IsOfRun m (report.Board board freq turn tick) =
-    (board < length m.boards) × (freq ≡ (board_at m board).freq) × (turn < turn_limit) × IsLong tick
-IsOfRun m (report.Section i turn kind) = IsLong i × (turn < turn_limit) × IsKind kind
+    (board < length m.boards) × (freq ≡ (board_at m board).freq) × (turn < run_turns) × IsLong tick
+IsOfRun m (report.Section i turn kind) = IsLong i × (turn < run_turns) × IsKind kind
 IsOfRun m (report.Pulse board stepper tick up) =
     (stepper < length m.steppers) × (board ≡ (stepper_at m stepper).board) × IsLong tick
 IsOfRun m (report.Cut i board pin tick from) =

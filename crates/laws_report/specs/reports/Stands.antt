@@ -5,12 +5,11 @@ use Rattle.plan_types.specs.declared.plan.Section.{Section}
 use Rattle.plan_types.specs.Lines.{Clocks}
 use Rattle.plan_types.specs.Machines.{IsValidMachine, stepper_at}
 use Rattle.plan_types.specs.Plan.{Fits}
-use Rattle.plan_types.specs.Sections.{base_tick, clocks_at}
+use Rattle.plan_types.specs.Sections.{base_tick, clocks_at, first_turn}
 use Rattle.report_text.specs.declared.line.ReportLine.{ReportLine}
 use Rattle.report_text.specs.declared.line.ReportLine.TheVariants as report
 use Rattle.log_check.specs.Behind.{clocks}
 use Rattle.log_check.specs.Faults.{have_room}
-use Rattle.log_check.specs.Points.{first_turn}
 use Rattle.laws_report.specs.logs.Follows.{in_order}
 use Rattle.laws_report.specs.reports.Further.{AllMayStand, further_told}
 use Rattle.laws_report.specs.reports.Logged.{AreOfRun, logged}

@@ -7,12 +7,11 @@ use Rattle.plan_types.specs.declared.plan.SectionKind.TheVariants.{Home}
 use Rattle.plan_types.specs.Lines.{Clocks}
 use Rattle.plan_types.specs.Machines.{stepper_at}
 use Rattle.plan_types.specs.Plan.{Fits}
-use Rattle.plan_types.specs.Sections.{base_tick, clocks_at, section_end, stepper_plan}
+use Rattle.plan_types.specs.Sections.{base_tick, clocks_at, section_end, stepper_plan, first_turn}
 use Rattle.report_text.specs.declared.line.ReportLine.{ReportLine}
 use Rattle.report_text.specs.declared.line.ReportLine.TheVariants as report
 use Rattle.log_check.specs.Behind.{clocks}
 use Rattle.log_check.specs.Faults.{have_room}
-use Rattle.log_check.specs.Points.{first_turn}
 use Rattle.laws_report.specs.logs.Follows.{in_order}
 use Rattle.laws_report.specs.reports.Further.{AllMayStand, further_told}
 use Rattle.laws_report.specs.reports.Logged.{AreOfRun, logged}

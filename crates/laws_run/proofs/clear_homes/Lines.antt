@@ -5,10 +5,9 @@ use Rattle.std.proofs.lemmas.Bool.Decides.{leb_tells}
 use Rattle.std.proofs.lemmas.List.{length-map}
 use Rattle.plan_types.specs.declared.machine.Machine.{Machine}
 use Rattle.plan_types.specs.declared.plan.Held.{Held}
-use Rattle.plan_types.specs.Clock.{turn_ns}
+use Rattle.plan_types.specs.Clock.{turn_ns, run_turns}
 use Rattle.plan_types.specs.Lines.{Clocks, last_from, lines_tick}
 use Rattle.plan_types.specs.Sections.{clocks_at}
-use Rattle.clock_line.specs.Early.{run_turns}
 use Rattle.clock_line.specs.Kept.{AreKept}
 use Rattle.clock_line.proofs.Turns.{turn-after, turn_within}
 use Rattle.wire_scene.specs.declared.scene.Switch.{Switch}

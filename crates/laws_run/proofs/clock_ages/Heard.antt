@@ -7,7 +7,7 @@ use Rattle.plan_types.specs.declared.clock.BoardClock.{BoardClock}
 use Rattle.plan_types.specs.declared.machine.Machine.{Machine}
 use Rattle.plan_types.specs.declared.plan.Line.{Line}
 use Rattle.plan_types.specs.Lines.{Clocks, one_line}
-use Rattle.plan_types.specs.Sections.{clocks_at}
+use Rattle.plan_types.specs.Sections.{clocks_at, first_start}
 use Rattle.msg_code.specs.declared.talk.NoteNews.{NoteNews}
 use Rattle.msg_code.specs.declared.talk.NoteNews.TheVariants as news
 use Rattle.msg_code.specs.declared.talk.WordMsg.{WordMsg}
@@ -18,7 +18,7 @@ use Rattle.host_reactor.specs.Report.{drift_lines, turn_at}
 use Rattle.laws_board.specs.turns.Turns.{BoardTurn}
 use Rattle.motion_work.specs.declared.told.BoardLine.{BoardLine}
 use Rattle.motion_work.specs.Further.{WasHeard}
-use Rattle.motion_work.specs.Told.{Told, are_fit, first_start, first_told, heard, lines_in, told_at, told_by, told_in, told_of}
+use Rattle.motion_work.specs.Told.{Told, are_fit, first_told, heard, lines_in, told_at, told_by, told_in, told_of}
 use Rattle.motion_work.specs.Told.{last_turn as last_word}
 use Rattle.motion_stream.specs.Uptakes.{TellsOf}
 use Rattle.laws_board.specs.plans.Lines.{drifts_of}

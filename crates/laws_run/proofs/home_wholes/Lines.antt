@@ -10,7 +10,7 @@ use Rattle.plan_types.specs.declared.plan.SectionKind.{SectionKind}
 use Rattle.plan_types.specs.declared.plan.SectionKind.TheVariants.{Home, Moves}
 use Rattle.plan_types.specs.Clock.{clock_of}
 use Rattle.plan_types.specs.Machines.{IsValidMachine, board_at, stepper_at}
-use Rattle.plan_types.specs.Sections.{clocks_at, stepper_plan}
+use Rattle.plan_types.specs.Sections.{clocks_at, stepper_plan, is_home}
 use Rattle.msg_code.specs.declared.talk.ShutNews.{ShutNews}
 use Rattle.msg_code.specs.declared.talk.State.{State}
 use Rattle.wire_scene.specs.declared.scene.Scene.{Scene}
@@ -36,7 +36,7 @@ use Rattle.laws_board.proofs.orders.Going.{own_on}
 use Rattle.laws_run.specs.lanes.Boards.{IsInWhole, behind}
 use Rattle.laws_run.specs.lanes.Turns.{came_before}
 use Rattle.laws_board.specs.plans.Boards.{TookStates, as_told, lines_between, times_of}
-use Rattle.laws_board.specs.plans.Homed.{is_home, stops_of}
+use Rattle.laws_board.specs.plans.Homed.{stops_of}
 use Rattle.laws_board.specs.plans.Lines.{TellTurns, TookNotes, pulses_of}
 use Rattle.laws_board.specs.plans.Planned.{Plans}
 use Rattle.laws_board.proofs.plans.Fitting.{between, plan_is}

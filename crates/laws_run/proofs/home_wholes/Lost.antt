@@ -1,5 +1,6 @@
 -- In a run in which axes home the stepper of the first unit that comes too late isn't halted when its board takes that.
 use Rattle.std.proofs.Common.{◌≡◌, ℕ, ◌+◌, ◌-◌, ◌≤◌, false, List, [], ◌∷◌, ◌++◌, length, refl, ap, sym, subst, arith, inl, inr}
+use Rattle.plan_types.specs.Sections.{is_home}
 use Rattle.plan_types.specs.declared.levels.Level.{Level}
 use Rattle.plan_types.specs.declared.machine.Machine.{Machine}
 use Rattle.plan_types.specs.declared.plan.Planned.{Planned}
@@ -28,7 +29,7 @@ use Rattle.laws_board.specs.sections.Homes.{BeginLeftOf, IsBegunFor, IsHomeRun, 
 use Rattle.laws_board.specs.sections.Known.{Sent, sent_in}
 use Rattle.laws_board.specs.sections.Links.{steps_of}
 use Rattle.laws_board.proofs.sections.Stepping.{none_heed}
-use Rattle.laws_board.specs.plans.Homed.{is_home, stops_of}
+use Rattle.laws_board.specs.plans.Homed.{stops_of}
 use Rattle.laws_homing.specs.home_parts.Cuts.{cuts_on}
 use Rattle.laws_homing.specs.home_plans.Notes.{CameNotes}
 use Rattle.laws_board.specs.plans.Rows.{AreInARow}

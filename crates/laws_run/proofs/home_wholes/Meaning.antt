@@ -8,7 +8,7 @@ use Rattle.plan_types.specs.Board.{steps_of}
 use Rattle.plan_types.specs.Lines.{Clocks}
 use Rattle.msg_code.specs.declared.cmd.Cmd.{Cmd}
 use Rattle.msg_code.specs.declared.cmd.Cmd.TheVariants as cmd
-use Rattle.board_sim.specs.Board.{pulse_of}
+use Rattle.plan_types.specs.Plan.{pulse_of}
 use Rattle.board_world.specs.Orders.{plain, unit_orders, units_orders}
 use Rattle.step_feed.specs.Units.{StepUnit}
 use Rattle.step_feed.specs.Pacing.{Release, ArePaced, batch_at, units_of}

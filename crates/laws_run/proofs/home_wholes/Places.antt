@@ -3,6 +3,7 @@ use Rattle.std.proofs.Common.{◌≡◌, ℕ, zero, suc, true, false, cond, ◌+
 use Rattle.std.specs.Prelude.{◌&&◌}
 use Rattle.std.proofs.lemmas.Bool.Decides.{eqb_tells, leb_tells}
 use Rattle.std.proofs.lemmas.List.{take-append-le, take_all}
+use Rattle.plan_types.specs.Sections.{is_home}
 use Rattle.plan_types.specs.declared.clock.BoardClock.{BoardClock}
 use Rattle.plan_types.specs.declared.levels.Level.{Level}
 use Rattle.plan_types.specs.declared.machine.Machine.{Machine}
@@ -20,7 +21,7 @@ use Rattle.laws_board.specs.clocks.Runs.{IsInRun, orders_in}
 use Rattle.laws_board.proofs.clocks.Lines.{as_long, run_before}
 use Rattle.laws_board.proofs.clocks.Orders.{order_length}
 use Rattle.motion_work.specs.Seen.{Started}
-use Rattle.laws_board.specs.plans.Homed.{is_home, is_set_in, stops_of}
+use Rattle.laws_board.specs.plans.Homed.{is_set_in, stops_of}
 use Rattle.laws_homing.proofs.home_runs.Settled.{later_orders}
 use Rattle.laws_homing.specs.home_plans.Notes.{CameNotes, WasBegun}
 use Rattle.laws_board.specs.plans.Rows.{AreInARow}

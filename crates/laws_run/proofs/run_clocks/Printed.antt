@@ -7,14 +7,13 @@ use Rattle.plan_types.specs.declared.plan.Line.{Line}
 use Rattle.plan_types.specs.Clock.{clock_of}
 use Rattle.plan_types.specs.Lines.{Clocks}
 use Rattle.plan_types.specs.Machines.{IsValidMachine, board_at}
-use Rattle.plan_types.specs.Sections.{clocks_at}
+use Rattle.plan_types.specs.Sections.{clocks_at, first_start}
 use Rattle.report_text.specs.declared.line.ReportLine.{ReportLine}
 use Rattle.io_core.specs.declared.traits.Files.{Ghosts as Files}
 use Rattle.io_core.specs.declared.traits.Sink.{Ghosts as Sink}
 use Rattle.wire_scene.specs.declared.scene.Scene.{Scene}
 use Rattle.wire_scene.specs.declared.scene.Switch.{Switch}
 use Rattle.link_work.specs.Switches.{pins_of}
-use Rattle.board_asking.specs.Connecting.{first_start}
 use Rattle.host_reactor.specs.declared.ordered.Phase.TheVariants.{Connecting, Running}
 use Rattle.host_reactor.specs.Notes.{noted}
 use Rattle.host_reactor.specs.Reactor.{Run}

@@ -3,6 +3,7 @@ use Rattle.std.proofs.Common.{◌≡◌, ◌⊎◌, ℕ, ◌+◌, Bool, true, fa
 use Rattle.std.specs.List.{flat_map}
 use Rattle.std.specs.Prelude.{◌==◌, if◌then◌else◌}
 use Rattle.std.proofs.lemmas.Grind.{flat_map-append}
+use Rattle.plan_types.specs.Sections.{first_start}
 use Rattle.plan_types.specs.declared.cause.Cause.{Cause}
 use Rattle.plan_types.specs.declared.machine.AxisDef.{AxisDef}
 use Rattle.plan_types.specs.declared.machine.Machine.{Machine}
@@ -21,7 +22,7 @@ use Rattle.report_text.specs.declared.line.ReportLine.{ReportLine}
 use Rattle.report_text.specs.declared.line.ReportLine.TheVariants as report
 use Rattle.wire_scene.specs.declared.scene.Switch.{Switch}
 use Rattle.board_asking.specs.declared.asking.Asking.{Asking}
-use Rattle.board_asking.specs.Connecting.{all_connected, board_lines, connected_lines, first_start, giving_up, listen_all, ready_all, turn_tick}
+use Rattle.board_asking.specs.Connecting.{all_connected, board_lines, connected_lines, giving_up, listen_all, ready_all, turn_tick}
 use Rattle.board_asking.specs.Drift.{stale}
 use Rattle.axis_homing.specs.declared.homing.HomingTurn.{HomingTurn}
 use Rattle.axis_homing.specs.Homing.{homing_turn}

@@ -29,7 +29,7 @@ use Rattle.laws_board.proofs.clocks.Lines.{as_long, told_lines}
 use Rattle.motion_work.specs.Boards.{parts_on}
 use Rattle.motion_work.specs.Seen.{AreMoves}
 use Rattle.motion_work.specs.Further.{WasHeard, noted_lines}
-use Rattle.motion_work.specs.Told.{Told, first_start, lines_in, told_of}
+use Rattle.motion_work.specs.Told.{Told, lines_in, told_of}
 use Rattle.session_work.specs.declared.table.MotionTurn.{MotionTurn}
 use Rattle.session_work.specs.declared.table.ReactorTurn.{ReactorTurn}
 use Rattle.session_work.specs.Leads.{last_words}
@@ -38,7 +38,7 @@ use Rattle.session_run.specs.Boards.{AreReactorTurns, came_from, came_in}
 use Rattle.board_world.specs.Orders.{units_orders}
 use Rattle.board_world.specs.World.{on_wire}
 use Rattle.link_work.specs.Limits.{bytes_in}
-use Rattle.plan_types.specs.Sections.{clocks_at}
+use Rattle.plan_types.specs.Sections.{clocks_at, first_start}
 use Rattle.laws_board.specs.sections.Events.{AreOwn}
 use Rattle.laws_board.specs.sections.Parts.{IsRun, MakesIn}
 use Rattle.laws_board.proofs.orders.Going.{own_on}

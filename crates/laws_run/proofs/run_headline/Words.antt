@@ -7,7 +7,7 @@ use Rattle.plan_types.specs.declared.plan.Line.{Line}
 use Rattle.plan_types.specs.Lines.{Clocks, one_line}
 use Rattle.plan_types.specs.Machines.{no_board}
 use Rattle.std.proofs.lemmas.Bool.Decides.{eqb_tells}
-use Rattle.plan_types.specs.Sections.{clocks_at}
+use Rattle.plan_types.specs.Sections.{clocks_at, first_start}
 use Rattle.msg_code.specs.declared.talk.NoteNews.{NoteNews}
 use Rattle.msg_code.specs.declared.talk.State.{State}
 use Rattle.msg_code.specs.declared.talk.WordMsg.{WordMsg}
@@ -28,7 +28,7 @@ use Rattle.laws_board.specs.clocks.Samples.{line_at}
 use Rattle.laws_board.proofs.clocks.Lines.{noted_phase}
 use Rattle.laws_board.proofs.clocks.Turning.{Goes, goes}
 use Rattle.motion_work.specs.Further.{noted_lines, told_on}
-use Rattle.motion_work.specs.Told.{Told, are_fit, first_start, first_told, is_fit, told_at, told_in, told_of}
+use Rattle.motion_work.specs.Told.{Told, are_fit, first_told, is_fit, told_at, told_in, told_of}
 use Rattle.motion_work.specs.Told.{last_turn as last_word}
 use Rattle.session_work.specs.declared.table.MotionTurn.{MotionTurn}
 use Rattle.session_work.specs.declared.table.ReactorTurn.{ReactorTurn}

@@ -2,6 +2,7 @@
 use Rattle.std.proofs.Common.{◌≡◌, ℕ, suc, ◌+◌, ◌-◌, ◌∙◌, ◌<◌, ◌≤◌, Bool, true, false, List, [], ◌∷◌, length, arith, inl, inr, refl, subst, sym, ap}
 use Rattle.std.specs.Prelude.{◌==◌, ◌&&◌, if◌then◌else◌, nat_le, Result, Ok, Err}
 use Rattle.std.proofs.lemmas.Bool.Decides.{leb_tells}
+use Rattle.gcode_state.specs.States.{one_if}
 use Rattle.plan_types.specs.declared.cause.LineKind.{LineKind}
 use Rattle.plan_types.specs.declared.cause.LineKind.TheVariants as kinds
 use Rattle.plan_types.specs.declared.machine.Machine.{Machine}
@@ -13,7 +14,7 @@ use Rattle.gcode_state.specs.declared.state.Action.TheVariants as actions
 use Rattle.gcode_state.specs.declared.state.State.{State}
 use Rattle.gcode_state.specs.Starts.{initial}
 use Rattle.gcode_program.specs.Programs.{outcome_of}
-use Rattle.gcode_program.specs.Readings.{Outcome, applied_line, behind_action, behind_line, is_large, is_passed, line_result, one_if, outcome}
+use Rattle.gcode_program.specs.Readings.{Outcome, applied_line, behind_action, behind_line, is_large, is_passed, line_result, outcome}
 
 -- a text has no more lines than bytes
 pub lines_few : (text : List ℕ) → length (lines_of text) ≤ length text

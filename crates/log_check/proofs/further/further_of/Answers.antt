@@ -2,7 +2,7 @@ use Rattle.std.proofs.Common.{◌≡◌, ℕ, Bool, true, false, List, refl, sym
 use Rattle.std.specs.Prelude.{not, codes}
 use Rattle.std.specs.Str.{bytes_eq}
 use Rattle.log_text.specs.Said.{line_said}
-use Rattle.log_text.specs.Words.{Text}
+use Rattle.text_core.specs.Bytes.{Text}
 use Rattle.text_core.specs.Words.{words_of}
 use Rattle.log_check.specs.Behind.{further_of}
 use Rattle.log_check.proofs.Furthers.{other-words}

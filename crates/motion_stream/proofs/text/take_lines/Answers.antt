@@ -1,5 +1,5 @@
 use Rattle.std.proofs.Common.{◌∙◌, ap, refl}
-use Rattle.motion_work.specs.Told.{first_start}
+use Rattle.plan_types.specs.Sections.{first_start}
 use Rattle.std.specs.Prelude.{true}
 use Rattle.motion_stream.proofs.Hearing.{lines_told}
 use Rattle.motion_stream.proofs.text.take_lines.Goals as goal

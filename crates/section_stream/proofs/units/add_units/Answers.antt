@@ -2,7 +2,7 @@ use Rattle.std.proofs.Common.{◌≡◌, ◌<◌, List, All, subst, sym, get_or,
 use Rattle.std.proofs.lemmas.List.{length-drop}
 use Rattle.msg_code.specs.declared.unit.Unit.{Unit as StepUnit}
 use Rattle.section_stream.proofs.Laying.{none-yet, next-here, no_placed, place-is, turn-small, has_own}
-use Rattle.section_stream.specs.Pieces.{last_step}
+use Rattle.step_ticks.specs.Streaming.{last_step_tick}
 use Rattle.section_stream.specs.Rows.{AreInRow}
 use Rattle.section_stream.proofs.Rowing.{has-early, has-row}
 use Rattle.section_stream.proofs.units.add_units.Goals as goal
@@ -35,7 +35,7 @@ returns-clause-own c = λ own. has_own c.args.lines.now c.args.oid c.args.reset 
 pub returns-in_err-push_back-clause-row : goal.returns-in_err-push_back-clause-row
 returns-in_err-push_back-clause-row c = λ row. (
     let has = has-row c.args.lines.now c.args.oid c.args.reset c.args.up c.args.max_error c.args.last c.args.steps.now c.args.placed.now c.args.units.now.items c.loop-one.units.items c.loop-one.up c.loop-one.next c.loop-one.one-index c.loop-one.invariant c.requires.packed c.requires.spaced c.requires.small row in
-    subst (λ (us : List StepUnit). AreInRow c.args.lines.now 0 (last_step c.args.last c.args.steps.now) us) (sym c.in_err-push_back.ensures.items) has)
+    subst (λ (us : List StepUnit). AreInRow c.args.lines.now 0 (last_step_tick c.args.last c.args.steps.now) us) (sym c.in_err-push_back.ensures.items) has)
 
 pub returns-clause-row : goal.returns-clause-row
 returns-clause-row c = λ row. has-row c.args.lines.now c.args.oid c.args.reset c.args.up c.args.max_error c.args.last c.args.steps.now c.args.placed.now c.args.units.now.items c.loop-one.units.items c.loop-one.up c.loop-one.next c.loop-one.one-index c.loop-one.invariant c.requires.packed c.requires.spaced c.requires.small row

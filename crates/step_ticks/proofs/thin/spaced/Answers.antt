@@ -3,8 +3,7 @@ use Rattle.std.proofs.lemmas.Grind.{common_steps}
 use Rattle.std.proofs.lemmas.List.{drop_more}
 use Rattle.plan_types.specs.declared.plan.Planned.{Planned}
 use Rattle.plan_types.specs.Lines.{Clocks, lines_board}
-use Rattle.plan_types.specs.Plan.{spaced, on_board}
-use Rattle.step_ticks.specs.Due.{no_step}
+use Rattle.plan_types.specs.Plan.{spaced, on_board, no_step}
 use Rattle.step_ticks.proofs.Lists.{spaced-AreSpaced}
 use Rattle.step_ticks.proofs.thin.spaced.Goals as goal
 

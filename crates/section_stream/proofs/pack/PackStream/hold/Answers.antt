@@ -1,6 +1,6 @@
 use Rattle.std.proofs.Common.{◌∙◌, ap}
 use Rattle.std.proofs.Math.Logic.{∥∥₁_map}
-use Rattle.section_stream.specs.Pieces.{last_step}
+use Rattle.step_ticks.specs.Streaming.{last_step_tick}
 use Rattle.section_units.specs.Units.{as_sent}
 use Rattle.section_stream.proofs.Stretches.{last-append, last-sent, packable-either}
 use Rattle.section_stream.proofs.Packed.{packed-held}
@@ -21,4 +21,4 @@ returns-clause-held c = λ clocks base pushed pieces given are. (
 pub returns-clause-last : goal.returns-clause-last
 returns-clause-last c =
     let s = c.args.self.now in
-    ap (last_step s.last) c.in_ok-add_sent.ensures.all ∙ last-append s.last s.held.items (as_sent s.inverted c.args.steps.now) ∙ last-sent s.inverted (last_step s.last s.held.items) c.args.steps.now
+    ap (last_step_tick s.last) c.in_ok-add_sent.ensures.all ∙ last-append s.last s.held.items (as_sent s.inverted c.args.steps.now) ∙ last-sent s.inverted (last_step_tick s.last s.held.items) c.args.steps.now

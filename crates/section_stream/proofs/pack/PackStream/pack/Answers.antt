@@ -13,7 +13,7 @@ use Rattle.section_stream.specs.Rows.{AreInRow}
 use Rattle.section_stream.proofs.Rowing.{piece-from, piece-row}
 use Rattle.plan_types.specs.declared.plan.Planned.{Planned}
 use Rattle.plan_types.specs.Lines.{lines_tick}
-use Rattle.section_stream.specs.Pieces.{last_step}
+use Rattle.step_ticks.specs.Streaming.{last_step_tick}
 use Rattle.section_stream.proofs.Stretches.{last-append, last-after, packable-front, packable-behind, spaced-prop}
 use Rattle.section_stream.proofs.Packed.{piece-packed}
 use Rattle.section_stream.proofs.pack.PackStream.pack.Goals as goal
@@ -67,8 +67,8 @@ pub returns-in_err-self-clause-pushed : goal.returns-in_err-self-clause-pushed
 returns-in_err-self-clause-pushed c =
     let s = c.args.self.now in
     let n = c.count_before-count.result in
-    let one : c.last_of-self.result ≡ last_step s.last (take n s.held.items) = c.last_of-self.ensures ∙ ap (λ xs. last_step s.last (take n xs)) c.deref-2.ensures.value in
-    ap (λ b. last_step b c.keep_from.new.held.items) one ∙ ap (last_step (last_step s.last (take n s.held.items))) c.keep_from.ensures ∙ sym (last-append s.last (take n s.held.items) (drop n s.held.items)) ∙ ap (last_step s.last) (take-append-drop n s.held.items)
+    let one : c.last_of-self.result ≡ last_step_tick s.last (take n s.held.items) = c.last_of-self.ensures ∙ ap (λ xs. last_step_tick s.last (take n xs)) c.deref-2.ensures.value in
+    ap (λ b. last_step_tick b c.keep_from.new.held.items) one ∙ ap (last_step_tick (last_step_tick s.last (take n s.held.items))) c.keep_from.ensures ∙ sym (last-append s.last (take n s.held.items) (drop n s.held.items)) ∙ ap (last_step_tick s.last) (take-append-drop n s.held.items)
 
 pub returns-clause-added : goal.returns-clause-added
 returns-clause-added c =
@@ -95,8 +95,8 @@ pub returns-clause-pushed : goal.returns-clause-pushed
 returns-clause-pushed c =
     let s = c.args.self.now in
     let n = c.count_before-count.result in
-    let one : c.last_of-self.result ≡ last_step s.last (take n s.held.items) = c.last_of-self.ensures ∙ ap (λ xs. last_step s.last (take n xs)) c.deref-2.ensures.value in
-    ap (λ b. last_step b c.keep_from.new.held.items) one ∙ ap (last_step (last_step s.last (take n s.held.items))) c.keep_from.ensures ∙ sym (last-append s.last (take n s.held.items) (drop n s.held.items)) ∙ ap (last_step s.last) (take-append-drop n s.held.items)
+    let one : c.last_of-self.result ≡ last_step_tick s.last (take n s.held.items) = c.last_of-self.ensures ∙ ap (λ xs. last_step_tick s.last (take n xs)) c.deref-2.ensures.value in
+    ap (λ b. last_step_tick b c.keep_from.new.held.items) one ∙ ap (last_step_tick (last_step_tick s.last (take n s.held.items))) c.keep_from.ensures ∙ sym (last-append s.last (take n s.held.items) (drop n s.held.items)) ∙ ap (last_step_tick s.last) (take-append-drop n s.held.items)
 
 pub returns-clause-early : goal.returns-clause-early
 returns-clause-early c = λ early. (

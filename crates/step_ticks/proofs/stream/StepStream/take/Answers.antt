@@ -1,10 +1,11 @@
 use Rattle.std.proofs.Common.{◌≡◌, ℕ, ◌+◌, ◌*◌, ◌^◌, ◌<◌, ◌≤◌, ◌++◌, [], ◌∷◌, List, All, get_or, length, drop, max, arith, refl, ap, sym, ◌∙◌, append_assoc, append-nil, true, false}
+use Rattle.plan_types.specs.Plan.{no_step}
 use Rattle.plan_types.specs.Clock.{tick_limit}
 use Rattle.plan_types.specs.declared.plan.Gear.{Gear}
 use Rattle.plan_types.specs.declared.plan.Planned.{Planned}
 use Rattle.plan_types.specs.declared.plan.Segment.{Segment}
 use Rattle.plan_types.specs.Lines.{Clocks, lines_board}
-use Rattle.step_ticks.specs.Due.{IsDropped, IsKept, is_due, no_step}
+use Rattle.step_ticks.specs.Due.{IsDropped, IsKept, is_due}
 use Rattle.step_ticks.specs.Ticks.{IsBetween}
 use Rattle.step_ticks.specs.Streaming.{AreSteps}
 use Rattle.step_ticks.proofs.Giving.{give-one, drop-two, asked-later, exactly, past-all}

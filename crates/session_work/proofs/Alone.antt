@@ -41,7 +41,7 @@ module _ {A O : Type 0} (a : Reactor A) (o : Out O) (lanes : Lanes) where
   -- no end was ordered in turn k, and nothing is put ahead
   pub here_with : (k : ℕ) (s : Head A O) (d : ReactorDone A O) (t : ReactorTurn) (head : Head A O) (wp : SendPass WordMsg) (np : TakePass Note) (cps : Vec (SendPass Control)) (sps : Vec (TakePass State))
       → IsReactorAt a o lanes k s d → d.next ≡ k → t.end ≡ None → t.pieces ≡ []
-      → Ordering a o (length lanes.controls.now) k d.head t head → Takes a o lanes t d np sps.items
+      → Ordering a o (length lanes.controls.now) k d.head t head → Takes a o lanes t.states t.note d np sps.items
       → PutMore (t.word ∷ []) lanes.words.now d.word_pass wp → RowPut lanes.controls.now d.control_passes.items cps.items t.controls
       → a.boards head.machine ≡ a.boards d.head.machine
       → IsServing a o lanes k s (renewed a o lanes d head d.served (k + 1) wp np d.piece_pass cps sps)

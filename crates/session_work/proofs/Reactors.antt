@@ -17,19 +17,20 @@ use Rattle.msg_code.specs.declared.talk.WordMsg.{WordMsg}
 use Rattle.msg_code.specs.declared.talk.Note.{Note}
 use Rattle.msg_code.specs.declared.talk.Ask.{Ask}
 use Rattle.msg_code.specs.declared.talk.Piece.{Piece}
+use Rattle.report_text.specs.declared.line.ReportLine.{ReportLine}
 use Rattle.session_work.specs.declared.head.Head.{Head}
 use Rattle.session_work.specs.declared.reactor.ReactorDone.{ReactorDone}
 use Rattle.session_work.specs.declared.table.ReactorTurn.{ReactorTurn}
-use Rattle.session_work.specs.Heads.{IsRow, Ordering, ServeStep, ReactorStep, Served}
-use Rattle.session_work.specs.Rows.{gather, item, option_items, Each, CanPut, CanTake, HasPut, HavePut, PutMore, RowPut, RowTaken, copies}
+use Rattle.session_work.specs.Heads.{IsRow, Ordering, ServeStep, ReactorStep, Served, Wrote}
+use Rattle.session_work.specs.Rows.{gather, item, option_items, Each, CanPut, CanTake, HasPut, HasTaken, HavePut, HaveTaken, PutMore, RowPut, RowTaken, copies}
 use Rattle.session_work.specs.Turns.{Goes}
 use Rattle.session_work.specs.Reactors.{ends, with_pieces, ReactorWent, IsReactorAt, IsServing, IsReactorDone}
 use Rattle.session_work.specs.Bares.{bare_control, bare_word, stop_piece}
-use Rattle.session_work.specs.Leads.{each_turn, still_control, still_word, HasSaid, HasLed}
+use Rattle.session_work.specs.Leads.{each_turn, still_control, still_word, HasEnded, HasSaid, HasLed}
 use Rattle.session_work.proofs.Leads.{length_each, first_said, still_said, more_said, last_said, put_as, put_same, rows_put, copies_put}
 use Rattle.session_work.proofs.Goes.{goes_on, gather_on, gather_ones, gather_each, put_more, taken_more, next_of_put, next_taken}
 use Rattle.session_work.proofs.Homes.{nothing_yet}
-use Rattle.session_work.proofs.Each.{item_at, item_copies}
+use Rattle.session_work.proofs.Each.{item_at, item_copies, length-copies}
 use Rattle.session_work.proofs.Columns.{can_put, can_take, row_put, row_taken}
 
 pub length_item : {B : Type 0} (bs : List B) (i : ℕ) → i < length bs → length (item i bs) ≡ 1
@@ -186,13 +187,13 @@ module _ {A O : Type 0} (a : Reactor A) (o : Out O) where
     )
 
     -- what a turn takes
-    abbrev pub Takes : ReactorTurn → ReactorDone A O → TakePass Note → List (TakePass State) → Type 0
-    Takes t d np sps =
-        RowTaken lanes.states.now d.state_passes.items sps t.states × IsTakeOf lanes.notes.now np × (take_first np ≡ take_first d.note_pass) × (taken np ≡ taken d.note_pass ++ option_items t.note)
+    abbrev pub Takes : List State → Option Note → ReactorDone A O → TakePass Note → List (TakePass State) → Type 0
+    Takes states note d np sps =
+        RowTaken lanes.states.now d.state_passes.items sps states × IsTakeOf lanes.notes.now np × (take_first np ≡ take_first d.note_pass) × (taken np ≡ taken d.note_pass ++ option_items note)
 
     -- no end was ordered
     pub on_with : (k : ℕ) (s : Head A O) (d : ReactorDone A O) (t : ReactorTurn) (head : Head A O) (next n : ℕ) (wp : SendPass WordMsg) (np : TakePass Note) (cps : Vec (SendPass Control)) (sps : Vec (TakePass State))
-        → (h : At k s d) → t.end ≡ None → t.pieces ≡ [] → Ordering a o (length lanes.controls.now) k d.head t head → Takes t d np sps.items
+        → (h : At k s d) → t.end ≡ None → t.pieces ≡ [] → Ordering a o (length lanes.controls.now) k d.head t head → Takes t.states t.note d np sps.items
         → next ≡ (k + 1) + n → (n ≡ 0) ⊎ a.free head.machine (k + 1) n → SaidTo (h.0 ++ t ∷ []) (k + 1) n cps.items wp
         → a.boards head.machine ≡ a.boards d.head.machine
         → IsServing a o lanes k s (renewed d head d.served next wp np d.piece_pass cps sps)
@@ -227,36 +228,52 @@ module _ {A O : Type 0} (a : Reactor A) (o : Out O) where
           ),
         )
 
-    -- the end was ordered
-    pub end_with : (k : ℕ) (s : Head A O) (d : ReactorDone A O) (t : ReactorTurn) (c : Cause) (head : Head A O) (served : ℕ) (wp : SendPass WordMsg) (np : TakePass Note) (pp : SendPass Piece) (cps : Vec (SendPass Control)) (sps : Vec (TakePass State))
-        → At k s d → t.end ≡ Some c → t.pieces ≡ stop_piece k d.served ∷ [] → Ordering a o (length lanes.controls.now) k d.head t head → Takes t d np sps.items
-        → RowPut lanes.controls.now d.control_passes.items cps.items (copies (length lanes.controls.now) (bare_control d.next true))
-        → PutMore (bare_word d.next true ∷ []) lanes.words.now d.word_pass wp
-        → PutMore (stop_piece k d.served ∷ []) lanes.pieces.now d.piece_pass pp → next_put pp ≡ served
-        → a.boards head.machine ≡ a.boards d.head.machine
-        → IsReactorDone a o lanes c s (renewed d head served d.next wp np pp cps sps)
-    end_with k s d t c head served wp np pp cps sps h end stop ordering takes rp wput pput next boards =
-        let ts = h.0 in let n = h.4.0 in let w = h.4.3 in let l = h.1 in let at = h.4.1 in
-        let here : d.next ≡ length ts + n = omega (arith, l, at) in
-        let ended : Served a o k head t.end t.pieces head = subst (λ x. Served a o k head x t.pieces head) (sym end) ((d.served, stop), refl) in (
-          ts,
-          t,
-          n,
-          h.2,
-          end,
-          goes_on (ReactorStep a o (length lanes.controls.now)) 0 k s d.head head ts t h.3 (omega (arith, l)) (head, ordering, ended),
-          (
-            rows_put _ _ lanes.controls.now _ _ (bare_control d.next true ∷ []) w.0 (copies_put lanes.controls.now _ _ (bare_control d.next true) (h.4.3.0.0) rp) (λ j. last_said (gather (λ (u : ReactorTurn). item j u.controls) ts) still_control (λ i. bare_control i true) (length ts) k n d.next l here),
-            row_taken _ _ lanes.states.now _ _ t.states w.1 takes.0 (λ j. gather_on (λ (v : ReactorTurn). item j v.states) ts t),
-            put_more _ (bare_word d.next true ∷ []) _ _ _ _ w.2 wput.0 wput.1 wput.2 (last_said (gather (λ (u : ReactorTurn). u.word ∷ []) ts) still_word (λ i. bare_word i true) (length ts) k n d.next l here),
-            taken_more _ (option_items t.note) _ _ _ _ w.3 takes.1 takes.2 takes.3 (gather_on (λ (v : ReactorTurn). option_items v.note) ts t),
-            put_more _ (stop_piece k d.served ∷ []) _ _ _ _ w.4 pput.0 pput.1 pput.2 (gather_on (λ (v : ReactorTurn). v.pieces) ts t ∙ ap (λ r. gather (λ (v : ReactorTurn). v.pieces) ts ++ r) stop),
-            next,
-            w.6,
-            boards ∙ w.7,
-            w.8,
-          ),
-        )
+    abbrev with_head : ReactorDone A O → Head A O → ReactorDone A O
+    with_head d head = renewed d head d.served d.next d.word_pass d.note_pass d.piece_pass d.control_passes d.state_passes
+
+    -- the end was ordered in turn k, over what was taken, and put
+    module _ (k : ℕ) (s : Head A O) (d : ReactorDone A O) (h : At k s d) (states : List State) (note : Option Note) (x : Head A O) (np : TakePass Note) (sps : Vec (TakePass State)) (e : ReactorDone A O)
+        (takes : Takes states note d np sps.items) (out : x.outside ≡ d.head.outside) (stopped : x.stopped ≡ d.head.stopped) (boards : a.boards x.machine ≡ a.boards d.head.machine)
+        (put : HasEnded lanes k (renewed d x d.served d.next d.word_pass np d.piece_pass d.control_passes sps) e) where
+      end_with : (controls : List Control) (word : WordMsg) (lines : List ReportLine) (c : Cause) (head : Head A O)
+          → (let t : ReactorTurn = record { states = states; note = note; controls = controls; word = word; lines = lines; end = Some c; pieces = stop_piece k d.served ∷ [] } in Ordering a o (length lanes.controls.now) k d.head t head)
+          → a.boards head.machine ≡ a.boards x.machine → IsReactorDone a o lanes c s (with_head e head)
+      end_with controls word lines c head ordering more =
+          let t : ReactorTurn = record { states = states; note = note; controls = controls; word = word; lines = lines; end = Some c; pieces = stop_piece k d.served ∷ [] } in
+          let ts = h.0 in let n = h.4.0 in let w = h.4.3 in let l = h.1 in let at = h.4.1 in
+          let here : d.next ≡ length ts + n = omega (arith, l, at) in (
+            ts,
+            t,
+            n,
+            h.2,
+            refl,
+            goes_on (ReactorStep a o (length lanes.controls.now)) 0 k s d.head head ts t h.3 (omega (arith, l)) (head, ordering, ((d.served, refl), refl)),
+            (
+              rows_put _ _ lanes.controls.now _ _ (bare_control d.next true ∷ []) w.0 (copies_put lanes.controls.now _ _ (bare_control d.next true) (h.4.3.0.0) put.0) (λ j. last_said (gather (λ (u : ReactorTurn). item j u.controls) ts) still_control (λ i. bare_control i true) (length ts) k n d.next l here),
+              subst (λ v. HaveTaken (λ j. gather (λ (v : ReactorTurn). item j v.states) (ts ++ t ∷ [])) lanes.states.now v.items) (sym put.7) (row_taken _ _ lanes.states.now _ _ states w.1 takes.0 (λ j. gather_on (λ (v : ReactorTurn). item j v.states) ts t)),
+              put_more _ (bare_word d.next true ∷ []) _ _ _ _ w.2 put.1.0 put.1.1 put.1.2 (last_said (gather (λ (u : ReactorTurn). u.word ∷ []) ts) still_word (λ i. bare_word i true) (length ts) k n d.next l here),
+              subst (λ p. HasTaken (gather (λ (v : ReactorTurn). option_items v.note) (ts ++ t ∷ [])) lanes.notes.now p) (sym put.5) (taken_more _ (option_items note) _ _ _ _ w.3 takes.1 takes.2 takes.3 (gather_on (λ (v : ReactorTurn). option_items v.note) ts t)),
+              put_more _ (stop_piece k d.served ∷ []) _ _ _ _ w.4 put.2.0 put.2.1 put.2.2 (gather_on (λ (v : ReactorTurn). v.pieces) ts t),
+              put.3,
+              subst (IsTakeOf lanes.asks.now) (sym put.6) w.6,
+              more ∙ (boards ∙ w.7),
+              w.8,
+            ),
+          )
+
+      -- memory was wanted
+      pub end_wanting : IsReactorDone a o lanes cause.Memory s e
+      end_wanting = subst (λ y. IsReactorDone a o lanes cause.Memory s (with_head e y)) (sym put.4)
+          (end_with (copies (length lanes.controls.now) (bare_control k true)) (bare_word k true) [] cause.Memory x (length-copies (length lanes.controls.now) (bare_control k true), inr (refl, refl, refl, refl, out, stopped)) refl)
+
+      -- the machine ordered it, and its lines were written
+      pub end_ordered : (controls : List Control) (word : WordMsg) (lines : List ReportLine) (c : Cause) (y : Head A O)
+          → length controls ≡ length lanes.controls.now → IsRow (length lanes.controls.now) k states note → a.turns d.head.machine k states note controls word lines (Some c) x.machine
+          → (Some c ≡ Some cause.Memory → ⊥) → Wrote a.stops o.writes e.head lines y → a.boards y.machine ≡ a.boards e.head.machine
+          → IsReactorDone a o lanes c s (with_head e y)
+      end_ordered controls word lines c y size row asked memory wrote more = end_with controls word lines c y
+          (size, inl (row, (x.machine, asked, subst (λ b. Wrote a.stops o.writes b lines y) (put.4 ∙ (λ i. record { machine = x.machine; outside = out i; stopped = stopped i })) wrote, memory)))
+          (more ∙ ap (λ b. a.boards b.machine) put.4)
 
     -- the pieces behind this turn's word are served
     pub served_all : (k : ℕ) (s : Head A O) (d : ReactorDone A O) → IsServing a o lanes k s d → At (k + 1) s d

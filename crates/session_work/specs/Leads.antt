@@ -3,11 +3,12 @@ use Rattle.std.specs.Prelude.{◌≡◌, ◌⊎◌, ℕ, zero, suc, ◌+◌, ◌
 use Rattle.lane_queue.specs.declared.ends.Lane.{Lane}
 use Rattle.lane_queue.specs.declared.passes.SendPass.{SendPass}
 use Rattle.session_work.specs.declared.ends.Lanes.{Lanes}
-use Rattle.lane_queue.specs.Ends.{IsSendOf, put, put_first}
+use Rattle.lane_queue.specs.Ends.{IsSendOf, next_put, put, put_first}
 use Rattle.msg_code.specs.declared.unit.Control.{Control}
 use Rattle.msg_code.specs.declared.talk.WordMsg.{WordMsg}
-use Rattle.session_work.specs.Bares.{bare_control, bare_word}
-use Rattle.session_work.specs.Rows.{PutMore, RowPut}
+use Rattle.session_work.specs.declared.reactor.ReactorDone.{ReactorDone}
+use Rattle.session_work.specs.Bares.{bare_control, bare_word, stop_piece}
+use Rattle.session_work.specs.Rows.{PutMore, RowPut, copies}
 
 -- what there is for each of n turns from turn k on
 abbrev pub each_turn : {T : Type 0} → (ℕ → T) → ℕ → ℕ → List T
@@ -52,3 +53,13 @@ module _ (lanes : Lanes) where
       ((next ≡ k) × (after ≡ k + 1) × RowPut lanes.controls.now cps cqs made
       × PutMore (word ∷ []) lanes.words.now wp wq)
       ⊎ ((k < next) × (after ≡ next) × (wp ≡ wq) × (cps ≡ cqs))
+
+  -- the end was put behind what was put ahead, and in turn k a piece that says that nothing comes
+  abbrev pub HasEnded : {A O : Type 0} → ℕ → ReactorDone A O → ReactorDone A O → Type 0
+  HasEnded k d e =
+      RowPut lanes.controls.now d.control_passes.items e.control_passes.items
+      (copies (length lanes.controls.now) (bare_control d.next true))
+      × PutMore (bare_word d.next true ∷ []) lanes.words.now d.word_pass e.word_pass
+      × PutMore (stop_piece k d.served ∷ []) lanes.pieces.now d.piece_pass e.piece_pass
+      × (next_put e.piece_pass ≡ e.served) × (e.head ≡ d.head) × (e.note_pass ≡ d.note_pass)
+      × (e.ask_pass ≡ d.ask_pass) × (e.state_passes ≡ d.state_passes)

@@ -5,7 +5,7 @@ ghost use Rattle.session_work.specs.Bares.{bare_control, bare_word};
 ghost use Rattle.session_work.specs.Rows.{AreOf, AllEnd, copies};
 
 use crate::machines::{Ordered, Outside, ReactorMachine};
-use crate::messages::{Bare, Control, Note, Piece, State};
+use crate::messages::{Bare, Control, Note, Piece, State, stop_piece};
 use plan_types::{Cause, Listed};
 use report_text::ReportLine;
 use std::alloc::Global;
@@ -106,13 +106,7 @@ impl<A: ReactorMachine, O: Outside> Head<A, O> {
             Err(cause) => {
                 self.machine.stop(cause);
                 self.stopped = true;
-                Piece {
-                    number,
-                    turn: k,
-                    bytes: Listed::new(alloc),
-                    end: false,
-                    stop: true,
-                }
+                stop_piece(alloc, k, number)
             }
         }
     }

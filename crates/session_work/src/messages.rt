@@ -1,6 +1,6 @@
 //! What the lanes carry, and the messages among them that say nothing but a flag.
 ghost use Rattle.std.specs.Prelude.{◌≡◌, ℕ, Bool};
-ghost use Rattle.session_work.specs.Bares.{bare_batch, bare_control, bare_state, bare_word, bare_note};
+ghost use Rattle.session_work.specs.Bares.{bare_batch, bare_control, bare_state, bare_word, bare_note, stop_piece};
 
 pub use msg_code::{Ask, Batch, Control, Made, Note, Piece, State, WordMsg};
 use plan_types::{Listed, Numbered};
@@ -78,5 +78,18 @@ impl Bare for Note {
             clear: 0,
             out: flag,
         }
+    }
+}
+
+/// The piece of a file that could not be read in turn k.
+pub fn stop_piece(alloc: Global, k: u64, number: u64) -> Piece
+    ensures { result ≡ stop_piece k number }
+{
+    Piece {
+        number,
+        turn: k,
+        bytes: Listed::new(alloc),
+        end: false,
+        stop: true,
     }
 }

@@ -5,17 +5,17 @@ ghost use Rattle.session_work.specs.Alone.{IsFound, OwesWord};
 ghost use Rattle.session_work.specs.Bares.{bare_control, bare_word, stop_piece};
 ghost use Rattle.session_work.specs.Heads.{IsRow};
 ghost use Rattle.session_work.specs.Rows.{Each, AreOf, CanPut, CanTake, PutMore, RowPut, RowTaken, copies, option_items};
-ghost use Rattle.session_work.specs.Leads.{HasSaid, HasLed};
+ghost use Rattle.session_work.specs.Leads.{HasEnded, HasLed, HasSaid};
 ghost use Rattle.session_work.specs.Reactors.{IsReactorAt, IsServing, IsReactorDone};
 
 use crate::ends::Lanes;
 use crate::head::{Found, Head};
 use crate::machines::{Ordered, Outside, ReactorMachine};
-use crate::messages::{Ask, Bare, Control, Note, Piece, State, WordMsg};
+use crate::messages::{Ask, Bare, Control, Note, Piece, State, WordMsg, stop_piece};
 use crate::rows::{put_ahead, put_bare, put_each, put_each_ahead, take_each};
 use io_core::{Gate, Who};
 use lane_queue::{Lane, SendPass, TakePass};
-use plan_types::{Cause, Listed};
+use plan_types::Cause;
 use std::alloc::Global;
 use std::snapshot::Snapshot;
 use std::sync::Wait;
@@ -78,49 +78,40 @@ fn find<R: Wait>(
     })
 }
 
-// Puts the end behind what was put ahead, on the lanes of the words and of all boards' controls.
-fn put_last<R: Wait>(
-    rt: &R,
-    alloc: Global,
-    next: u64,
-    lanes: &Lanes<'_>,
-    word_pass: &mut SendPass<WordMsg>,
-    control_passes: &mut Vec<SendPass<Control>>,
-)
-    requires boards { vec_len control_passes.old ≡ length lanes.now.controls.now }
-    requires controls { CanPut next lanes.now.controls.now control_passes.old.items }
-    requires word { IsSendOf lanes.now.words.now word_pass.old × (next_put word_pass.old ≡ next) }
-    ensures controls { RowPut lanes.now.controls.now control_passes.old.items control_passes.new.items
-        (copies (length lanes.now.controls.now) (bare_control next true)) }
-    ensures word { PutMore (bare_word next true ∷ []) lanes.now.words.now word_pass.old word_pass.new }
-{
-    put_bare(rt, alloc, next, true, lanes.controls, control_passes);
-    lanes
-        .words
-        .put(rt, word_pass, WordMsg::bare(alloc, next, true));
-}
-
-// Puts in turn k a piece that says that nothing comes.
-fn put_stop<R: Wait>(
+// Puts the end behind what was put ahead, on the lanes of the words and of all boards' controls, and in turn k a
+// piece that says that nothing comes.
+fn put_end<R: Wait, A, O>(
     rt: &R,
     alloc: Global,
     k: u64,
-    pieces: &Lane<Piece>,
-    pass: &mut SendPass<Piece>,
-    served: &mut u64,
+    lanes: &Lanes<'_>,
+    hand: &mut ReactorDone<A, O>,
 )
-    requires pass { IsSendOf pieces.now pass.old × (next_put pass.old ≡ served.old) }
-    ensures piece { PutMore (stop_piece k served.old ∷ []) pieces.now pass.old pass.new }
-    ensures served { next_put pass.new ≡ served.new }
+    requires boards { vec_len hand.old.control_passes ≡ length lanes.now.controls.now }
+    requires controls { CanPut hand.old.next lanes.now.controls.now hand.old.control_passes.items }
+    requires word { IsSendOf lanes.now.words.now hand.old.word_pass × (next_put hand.old.word_pass ≡ hand.old.next) }
+    requires piece { IsSendOf lanes.now.pieces.now hand.old.piece_pass
+        × (next_put hand.old.piece_pass ≡ hand.old.served) }
+    ensures { HasEnded lanes.now k hand.old hand.new }
 {
-    let piece = Piece {
-        number: *served,
-        turn: k,
-        bytes: Listed::new(alloc),
-        end: false,
-        stop: true,
-    };
-    put_piece(rt, pieces, pass, served, piece);
+    put_bare(
+        rt,
+        alloc,
+        hand.next,
+        true,
+        lanes.controls,
+        &mut hand.control_passes,
+    );
+    let word = WordMsg::bare(alloc, hand.next, true);
+    lanes.words.put(rt, &mut hand.word_pass, word);
+    let piece = stop_piece(alloc, k, hand.served);
+    put_piece(
+        rt,
+        lanes.pieces,
+        &mut hand.piece_pass,
+        &mut hand.served,
+        piece,
+    );
 }
 
 // Puts what the machine ordered in turn k, unless that was put ahead.
@@ -220,41 +211,11 @@ fn order<R: Wait, A: ReactorMachine, O: Outside>(
         &mut hand.state_passes,
     );
     let Some(found) = found else {
-        put_last(
-            rt,
-            alloc,
-            hand.next,
-            lanes,
-            &mut hand.word_pass,
-            &mut hand.control_passes,
-        );
-        put_stop(
-            rt,
-            alloc,
-            k,
-            lanes.pieces,
-            &mut hand.piece_pass,
-            &mut hand.served,
-        );
+        put_end(rt, alloc, k, lanes, hand);
         return Some(Cause::Memory);
     };
     let Some(ordered) = hand.head.turn(rt, k, &found) else {
-        put_last(
-            rt,
-            alloc,
-            hand.next,
-            lanes,
-            &mut hand.word_pass,
-            &mut hand.control_passes,
-        );
-        put_stop(
-            rt,
-            alloc,
-            k,
-            lanes.pieces,
-            &mut hand.piece_pass,
-            &mut hand.served,
-        );
+        put_end(rt, alloc, k, lanes, hand);
         return Some(Cause::Memory);
     };
     let Ordered {
@@ -264,22 +225,7 @@ fn order<R: Wait, A: ReactorMachine, O: Outside>(
         end,
     } = ordered;
     if let Some(cause) = end {
-        put_last(
-            rt,
-            alloc,
-            hand.next,
-            lanes,
-            &mut hand.word_pass,
-            &mut hand.control_passes,
-        );
-        put_stop(
-            rt,
-            alloc,
-            k,
-            lanes.pieces,
-            &mut hand.piece_pass,
-            &mut hand.served,
-        );
+        put_end(rt, alloc, k, lanes, hand);
         hand.head.write(lines);
         return Some(cause);
     }
@@ -324,22 +270,7 @@ pub fn order_here<R: Wait, A: ReactorMachine, O: Outside>(
     ensures end { IfErr result (λ c. IsReactorDone A.ReactorMachine O.Outside lanes.now c start.now.value hand.new) }
 {
     let Some(ordered) = hand.head.turn(rt, k, found) else {
-        put_last(
-            rt,
-            alloc,
-            hand.next,
-            lanes,
-            &mut hand.word_pass,
-            &mut hand.control_passes,
-        );
-        put_stop(
-            rt,
-            alloc,
-            k,
-            lanes.pieces,
-            &mut hand.piece_pass,
-            &mut hand.served,
-        );
+        put_end(rt, alloc, k, lanes, hand);
         return Err(Cause::Memory);
     };
     let Ordered {
@@ -349,22 +280,7 @@ pub fn order_here<R: Wait, A: ReactorMachine, O: Outside>(
         end,
     } = ordered;
     if let Some(cause) = end {
-        put_last(
-            rt,
-            alloc,
-            hand.next,
-            lanes,
-            &mut hand.word_pass,
-            &mut hand.control_passes,
-        );
-        put_stop(
-            rt,
-            alloc,
-            k,
-            lanes.pieces,
-            &mut hand.piece_pass,
-            &mut hand.served,
-        );
+        put_end(rt, alloc, k, lanes, hand);
         hand.head.write(lines);
         return Err(cause);
     }

@@ -11,7 +11,7 @@ use Rattle.session_work.specs.Rows.{copies, RowTaken}
 use Rattle.session_work.proofs.Each.{length-copies}
 use Rattle.session_work.proofs.Columns.{row_none}
 use Rattle.session_work.proofs.Leads.{led_controls, led_words}
-use Rattle.session_work.proofs.Reactors.{at_controls, at_word, at_states, at_note, has_said, said_can, has_led, on_with, end_with}
+use Rattle.session_work.proofs.Reactors.{at_controls, at_word, at_states, at_note, has_said, said_can, has_led, on_with, end_ordered, end_wanting}
 use Rattle.session_work.proofs.reactor.order.Goals as goal
 
 pub find-found-requires-clause-note : goal.find-found-requires-clause-note
@@ -20,23 +20,23 @@ find-found-requires-clause-note g c = (c.requires.at.4.3.3.0, λ some. let e : (
 pub find-found-requires-clause-states : goal.find-found-requires-clause-states
 find-found-requires-clause-states g c some j e = at_states g.A.ReactorMachine g.O.Outside c.args.lanes.now c.args.k c.args.start.now.value c.args.hand.now c.requires.at j e
 
-pub put_last-requires-clause-controls : goal.put_last-requires-clause-controls
-put_last-requires-clause-controls g c = at_controls g.A.ReactorMachine g.O.Outside c.args.lanes.now c.args.k c.args.start.now.value c.args.hand.now c.requires.at
+pub put_end-requires-clause-controls : goal.put_end-requires-clause-controls
+put_end-requires-clause-controls g c = at_controls g.A.ReactorMachine g.O.Outside c.args.lanes.now c.args.k c.args.start.now.value c.args.hand.now c.requires.at
 
-pub put_last-requires-clause-word : goal.put_last-requires-clause-word
-put_last-requires-clause-word g c = (c.requires.at.4.3.2.0, at_word g.A.ReactorMachine g.O.Outside c.args.lanes.now c.args.k c.args.start.now.value c.args.hand.now c.requires.at)
+pub put_end-requires-clause-word : goal.put_end-requires-clause-word
+put_end-requires-clause-word g c = (c.requires.at.4.3.2.0, at_word g.A.ReactorMachine g.O.Outside c.args.lanes.now c.args.k c.args.start.now.value c.args.hand.now c.requires.at)
 
-pub put_last-requires-in_default-turn-clause-controls : goal.put_last-requires-in_default-turn-clause-controls
-put_last-requires-in_default-turn-clause-controls g c = at_controls g.A.ReactorMachine g.O.Outside c.args.lanes.now c.args.k c.args.start.now.value c.args.hand.now c.requires.at
+pub put_end-requires-in_default-turn-clause-controls : goal.put_end-requires-in_default-turn-clause-controls
+put_end-requires-in_default-turn-clause-controls g c = at_controls g.A.ReactorMachine g.O.Outside c.args.lanes.now c.args.k c.args.start.now.value c.args.hand.now c.requires.at
 
-pub put_last-requires-in_default-turn-clause-word : goal.put_last-requires-in_default-turn-clause-word
-put_last-requires-in_default-turn-clause-word g c = (c.requires.at.4.3.2.0, at_word g.A.ReactorMachine g.O.Outside c.args.lanes.now c.args.k c.args.start.now.value c.args.hand.now c.requires.at)
+pub put_end-requires-in_default-turn-clause-word : goal.put_end-requires-in_default-turn-clause-word
+put_end-requires-in_default-turn-clause-word g c = (c.requires.at.4.3.2.0, at_word g.A.ReactorMachine g.O.Outside c.args.lanes.now c.args.k c.args.start.now.value c.args.hand.now c.requires.at)
 
-pub put_last-requires-in-Some-end-clause-controls : goal.put_last-requires-in-Some-end-clause-controls
-put_last-requires-in-Some-end-clause-controls g c = at_controls g.A.ReactorMachine g.O.Outside c.args.lanes.now c.args.k c.args.start.now.value c.args.hand.now c.requires.at
+pub put_end-requires-in-Some-end-clause-controls : goal.put_end-requires-in-Some-end-clause-controls
+put_end-requires-in-Some-end-clause-controls g c = at_controls g.A.ReactorMachine g.O.Outside c.args.lanes.now c.args.k c.args.start.now.value c.args.hand.now c.requires.at
 
-pub put_last-requires-in-Some-end-clause-word : goal.put_last-requires-in-Some-end-clause-word
-put_last-requires-in-Some-end-clause-word g c = (c.requires.at.4.3.2.0, at_word g.A.ReactorMachine g.O.Outside c.args.lanes.now c.args.k c.args.start.now.value c.args.hand.now c.requires.at)
+pub put_end-requires-in-Some-end-clause-word : goal.put_end-requires-in-Some-end-clause-word
+put_end-requires-in-Some-end-clause-word g c = (c.requires.at.4.3.2.0, at_word g.A.ReactorMachine g.O.Outside c.args.lanes.now c.args.k c.args.start.now.value c.args.hand.now c.requires.at)
 
 pub say-requires-clause-controls : goal.say-requires-clause-controls
 say-requires-clause-controls g c = at_controls g.A.ReactorMachine g.O.Outside c.args.lanes.now c.args.k c.args.start.now.value c.args.hand.now c.requires.at
@@ -46,40 +46,27 @@ say-requires-clause-word g c = (c.requires.at.4.3.2.0, at_word g.A.ReactorMachin
 
 pub returns-in_default-clause-end : goal.returns-in_default-clause-end
 returns-in_default-clause-end g c =
-    let n = length c.args.lanes.now.controls.now in let d = c.args.hand.now in let w = c.requires.at.4.3 in let k = c.args.k in
-    let t : ReactorTurn = record { states = []; note = None; controls = copies n (bare_control k true); word = bare_word k true; lines = []; end = Some cause.Memory; pieces = stop_piece c.args.k d.served ∷ [] } in
-    let np = c.find-found.new.note_pass in let sps = c.find-found.new.state_passes in let same = c.in_default.ensures.none in
+    let d = c.args.hand.now in let w = c.requires.at.4.3 in let same = c.in_default.ensures.none in let np = c.find-found.new.note_pass in let sps = c.find-found.new.state_passes in
     let nothing : RowTaken c.args.lanes.now.states.now d.state_passes.items sps.items [] = subst (λ v. RowTaken c.args.lanes.now.states.now d.state_passes.items v.items []) (sym same.0) (row_none _ _ [] (λ j l p low. (w.1.1 j l p low).0) refl) in
     let note : IsTakeOf c.args.lanes.now.notes.now np × (take_first np ≡ take_first d.note_pass) × (taken np ≡ taken d.note_pass ++ []) =
     subst (λ q. IsTakeOf c.args.lanes.now.notes.now q × (take_first q ≡ take_first d.note_pass) × (taken q ≡ taken d.note_pass ++ [])) (sym same.1) (w.3.0, refl, sym (append-nil _)) in
-    let new = c.put_last.ensures in let stop = c.put_stop.ensures in
-    end_with g.A.ReactorMachine g.O.Outside c.args.lanes.now k c.args.start.now.value d t cause.Memory d.head c.put_stop.new.served c.put_last.new.word_pass np c.put_stop.new.pass c.put_last.new.control_passes sps c.requires.at refl refl
-    (length-copies n (bare_control k true), inr (refl, refl, refl, refl, refl, refl))
-    (nothing, note.0, note.1, note.2) new.controls new.word stop.piece stop.served refl
+    end_wanting g.A.ReactorMachine g.O.Outside c.args.lanes.now c.args.k c.args.start.now.value d c.requires.at [] None d.head np sps c.put_end.new.hand (nothing, note.0, note.1, note.2) refl refl refl c.put_end.ensures
 
 pub returns-in_default-turn-clause-end : goal.returns-in_default-turn-clause-end
 returns-in_default-turn-clause-end g c =
-    let n = length c.args.lanes.now.controls.now in let d = c.args.hand.now in let k = c.args.k in let f = c.in-Some.found in let y = c.turn.new.self in
-    let t : ReactorTurn = record { states = f.states.items; note = f.note; controls = copies n (bare_control k true); word = bare_word k true; lines = []; end = Some cause.Memory; pieces = stop_piece c.args.k d.served ∷ [] } in
-    let np = c.find-found.new.note_pass in let sps = c.find-found.new.state_passes in let got = c.in-Some.ensures in
-    let e = c.put_last-in_default-turn.new in let p = c.put_stop-in_default-turn.new in let new = c.put_last-in_default-turn.ensures in let stop = c.put_stop-in_default-turn.ensures in
-    end_with g.A.ReactorMachine g.O.Outside c.args.lanes.now k c.args.start.now.value d t cause.Memory y p.served e.word_pass np p.pass e.control_passes sps c.requires.at refl refl
-    (length-copies n (bare_control k true), inr (refl, refl, refl, refl, c.turn.ensures.outside, c.turn.ensures.stopped))
-    (got.states.1, got.note.1, got.note.2, got.note.3) new.controls new.word stop.piece stop.served c.turn.ensures.boards
+    let f = c.in-Some.found in let got = c.in-Some.ensures in let x = c.turn.ensures in
+    end_wanting g.A.ReactorMachine g.O.Outside c.args.lanes.now c.args.k c.args.start.now.value c.args.hand.now c.requires.at f.states.items f.note c.turn.new.self c.find-found.new.note_pass c.find-found.new.state_passes c.put_end-in_default-turn.new.hand
+    (got.states.1, got.note.1, got.note.2, got.note.3) x.outside x.stopped x.boards c.put_end-in_default-turn.ensures
 
 pub returns-in-Some-end-clause-end : goal.returns-in-Some-end-clause-end
 returns-in-Some-end-clause-end g c =
-    let n = length c.args.lanes.now.controls.now in let d = c.args.hand.now in let f = c.in-Some.found in let o = c.in-Some-turn.ordered in let x = c.turn.new.self in let y = c.write.new.self in
-    let t : ReactorTurn = record { states = f.states.items; note = f.note; controls = o.controls.items; word = o.word; lines = o.lines; end = o.end; pieces = stop_piece c.args.k d.served ∷ [] } in
-    let np = c.find-found.new.note_pass in let sps = c.find-found.new.state_passes in let got = c.in-Some.ensures in let made = c.in-Some-turn.ensures in
+    let n = length c.args.lanes.now.controls.now in let f = c.in-Some.found in let got = c.in-Some.ensures in let x = c.turn.ensures in let o = c.in-Some-turn.ordered in let made = c.in-Some-turn.ensures in let is = c.in-Some-end.is in
     let row : IsRow n c.args.k f.states.items f.note = subst (λ m. IsRow m c.args.k f.states.items f.note) c.requires.at.4.3.8 got.row in
-    let wrote : Wrote g.A.ReactorMachine.stops g.O.Outside.writes (record { machine = x.machine; outside = d.head.outside; stopped = d.head.stopped }) o.lines y =
-    subst (λ h. Wrote g.A.ReactorMachine.stops g.O.Outside.writes h o.lines y) (λ i. record { machine = x.machine; outside = c.turn.ensures.outside i; stopped = c.turn.ensures.stopped i }) c.write.ensures.wrote in
     let long = made.controls.0 in let many = c.requires.at.4.3.7 in let size : length o.controls.items ≡ n = search rules in
-    let e = c.put_last-in-Some-end.new in let p = c.put_stop-in-Some-end.new in let new = c.put_last-in-Some-end.ensures in let stop = c.put_stop-in-Some-end.ensures in
-    end_with g.A.ReactorMachine g.O.Outside c.args.lanes.now c.args.k c.args.start.now.value d t c.in-Some-end.cause y p.served e.word_pass np p.pass e.control_passes sps c.requires.at c.in-Some-end.is refl
-    (size, inl (row, (x.machine, made.asked, wrote, made.memory)))
-    (got.states.1, got.note.1, got.note.2, got.note.3) new.controls new.word stop.piece stop.served (c.write.ensures.boards ∙ c.turn.ensures.boards)
+    end_ordered g.A.ReactorMachine g.O.Outside c.args.lanes.now c.args.k c.args.start.now.value c.args.hand.now c.requires.at f.states.items f.note c.turn.new.self c.find-found.new.note_pass c.find-found.new.state_passes c.put_end-in-Some-end.new.hand
+    (got.states.1, got.note.1, got.note.2, got.note.3) x.outside x.stopped x.boards c.put_end-in-Some-end.ensures o.controls.items o.word o.lines c.in-Some-end.cause c.write.new.self
+    size row (subst (λ e. g.A.ReactorMachine.turns c.args.hand.now.head.machine c.args.k f.states.items f.note o.controls.items o.word o.lines e c.turn.new.self.machine) is made.asked)
+    (subst (λ e. e ≡ Some cause.Memory → ⊥) is made.memory) c.write.ensures.wrote c.write.ensures.boards
 
 pub lead-requires-clause-controls : goal.lead-requires-clause-controls
 lead-requires-clause-controls g c =

@@ -6,7 +6,7 @@ ghost use Rattle.section_stream.specs.Packing.{ArePackable};
 
 use crate::OutOfMemory;
 use crate::held::{add_sent, count_before, keep_from, last_of};
-use crate::units::add_units;
+use crate::units::{Before, add_units};
 use clock_line::Lines;
 use msg_code::Unit;
 use plan_types::Planned;
@@ -142,17 +142,13 @@ impl PackStream {
         let steps = &self.held[..count];
         let placed = pack_placed(self.alloc, self.last, steps, self.max_error)?;
         intervals_fit(&placed);
-        let up = add_units(
-            &mut self.units,
-            self.oid,
-            self.reset,
-            self.up,
-            lines,
-            self.last,
-            self.max_error,
-            steps,
-            &placed,
-        );
+        let before = Before {
+            oid: self.oid,
+            reset: self.reset,
+            up: self.up,
+            last: self.last,
+        };
+        let up = add_units(&mut self.units, lines, before, steps, &placed);
         self.last = last_of(self.last, steps);
         keep_from(&mut self.held, count);
         self.up = up?;

@@ -44,44 +44,54 @@ fn set_in(up: Option<bool>, reset: Option<u64>) -> Option<u64>
     }
 }
 
-/// Adds the units of triples that cover these steps, behind a direction. The result is the direction behind them.
+/// A stepper before steps of it are sent.
+#[derive(Clone, Copy)]
+pub struct Before {
+    pub oid: u8,
+    /// The tick to which its clock is set before its first unit, where it is.
+    pub reset: Option<u64>,
+    /// The direction of its last step, if one was sent.
+    pub up: Option<bool>,
+    /// The tick of its last step, or the section's first.
+    pub last: u64,
+}
+
+/// Adds the units of triples that cover these steps. The result is the direction behind them.
 pub fn add_units(
     units: &mut VecDeque<Unit>,
-    oid: u8,
-    reset: Option<u64>,
-    up: Option<bool>,
     lines: &Lines,
-    last: u64,
-    max_error: u64,
+    before: Before,
     steps: &[Planned],
     placed: &[Placed],
 ) -> Result<Option<bool>, OutOfMemory>
-    requires packed { PacksPlaced last (windows_of max_error last steps.now) placed.now }
+    requires packed { (early : ℕ) × PacksPlaced before.last (windows_of early before.last steps.now) placed.now }
     requires small { All (λ s. s.tick < tick_limit) steps.now }
-    requires spaced { AreSpaced last steps.now }
-    requires from { lines.now.first.clock ≤ last }
+    requires spaced { AreSpaced before.last steps.now }
+    requires from { lines.now.first.clock ≤ before.last }
     requires soon { last_from lines.now.first.at lines.now.held < 2 ^ 62 * turn_ns }
     ensures units { OnOk result
-        (units.new.items ≡ units.old.items ++ units_on lines.now oid reset up steps.now placed.now) }
-    ensures up { IfOk result (λ u. u ≡ up_after up steps.now placed.now) }
-    ensures own { All (λ u. u.stepper ≡ oid) units.old.items → All (λ u. u.stepper ≡ oid) units.new.items }
+        (units.new.items ≡ units.old.items
+        ++ units_on lines.now before.oid before.reset before.up steps.now placed.now) }
+    ensures up { IfOk result (λ u. u ≡ up_after before.up steps.now placed.now) }
+    ensures own { All (λ u. u.stepper ≡ before.oid) units.old.items →
+        All (λ u. u.stepper ≡ before.oid) units.new.items }
     ensures early { (t : ℕ) → All (λ s. s.tick < t) steps.now → All (λ u. u.first < t) units.old.items →
         All (λ u. u.first < t) units.new.items }
-    ensures row { AreInRow lines.now 0 last units.old.items →
-        AreInRow lines.now 0 (last_step_tick last steps.now) units.new.items }
+    ensures row { AreInRow lines.now 0 before.last units.old.items →
+        AreInRow lines.now 0 (last_step_tick before.last steps.now) units.new.items }
 {
-    let mut up = up;
+    let mut up = before.up;
     let mut next = 0;
     for one in placed {
         let now = steps[next].up;
         units.push_back(Unit {
-            stepper: oid,
+            stepper: before.oid,
             first: one.first,
             last: one.last,
             due: lines.turn(one.first),
             triple: one.triple,
             up: told(up, now),
-            reset: set_in(up, reset),
+            reset: set_in(up, before.reset),
         })?;
         up = Some(now);
         next += usize::from(one.triple.count);

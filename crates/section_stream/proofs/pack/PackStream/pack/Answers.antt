@@ -22,6 +22,9 @@ pub pack_placed-requires : goal.pack_placed-requires
 pack_placed-requires c = ∥∥₁_elim c.args.self.now.packable (spaced-prop _ _) (λ h.
     rw c.deref-2.ensures.value (packable-front c.args.self.now.last c.args.self.now.held.items c.count_before-count.result h).spaced)
 
+pub add_units-up-requires-clause-packed : goal.add_units-up-requires-clause-packed
+add_units-up-requires-clause-packed c = (c.args.self.now.max_error, rw c.deref-4.ensures.value c.in_ok-placed.ensures)
+
 pub add_units-up-requires-clause-small : goal.add_units-up-requires-clause-small
 add_units-up-requires-clause-small c = ∥∥₁_elim c.args.self.now.packable (hlevel props) (λ h.
     rw c.deref-2.ensures.value (packable-front c.args.self.now.last c.args.self.now.held.items c.count_before-count.result h).small)

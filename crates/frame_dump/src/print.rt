@@ -4,11 +4,12 @@ ghost use Rattle.std.specs.Prelude.{◌≡◌, ◌++◌, ◌<◌, ◌≤◌, OnO
 ghost use Rattle.std.specs.Fmt.{signed_decimal};
 ghost use Rattle.report_text.specs.Text.{direction_word};
 ghost use Rattle.frame_dump.specs.Text as specs;
-ghost use Rattle.frame_dump.specs.Text.{arguments_text, command_name, command_text, steps_text, dump_text, hex_digit, hex_text, kind_word, line_text, param_text, params_text, pulse_text, replay_text, state_text, taken_word};
+ghost use Rattle.msg_code.specs.Table.{params_of};
+ghost use Rattle.frame_dump.specs.Text.{arguments_text, command_text, steps_text, dump_text, hex_digit, hex_text, kind_word, line_text, param_text, params_text, pulse_text, replay_text, state_text, taken_word};
 
 use crate::line::DumpLine;
 use crate::playing::Replayed;
-use msg_code::{Cmd, CodeFault, Param, params_of};
+use msg_code::{Cmd, CodeFault, Param};
 use plan_types::{BoardState, Pulse};
 use report_text::Piece::{Number, Text};
 use report_text::put_pieces;
@@ -97,7 +98,8 @@ fn put_steps(
 }
 
 /// Adds the parameters of a command.
-fn put_arguments(out: &mut Vec<u8>, command: &Cmd) -> Result<(), AllocError>
+fn put_arguments(out: &mut Vec<u8>, command: &Cmd, params: &[Param]) -> Result<(), AllocError>
+    requires { params.now ≡ params_of command.now }
     ensures { OnOk result (out.new.items ≡ out.old.items ++ arguments_text command.now) }
 {
     match command {
@@ -107,23 +109,18 @@ fn put_arguments(out: &mut Vec<u8>, command: &Cmd) -> Result<(), AllocError>
             count,
             add,
         } => put_steps(out, *oid, *interval, *count, *add),
-        other => put_params(out, params_of(other).as_slice()),
+        _ => put_params(out, params),
     }
-}
-
-/// The name of a command.
-fn command_name(command: &Cmd) -> &'static [u8]
-    ensures { result.now ≡ command_name command.now }
-{
-    cut(command.row().format().as_bytes(), b' ')
 }
 
 /// Adds the line of a command.
 fn put_command(out: &mut Vec<u8>, command: &Cmd) -> Result<(), AllocError>
     ensures { OnOk result (out.new.items ≡ out.old.items ++ command_text command.now) }
 {
-    put_pieces(out, &[Text(b"cmd "), Text(command_name(command))])?;
-    put_arguments(out, command)?;
+    let (row, params) = command.parts();
+    let name = cut(row.format().as_bytes(), b' ');
+    put_pieces(out, &[Text(b"cmd "), Text(name)])?;
+    put_arguments(out, command, params.as_slice())?;
     out.push(b'\n')?;
     Ok(())
 }

@@ -1,12 +1,13 @@
 -- How many bytes a command has.
-use Rattle.std.proofs.Common.{◌≡◌, ◌+◌, List, [], ◌∷◌, length, refl, ap, ◌∙◌}
+use Rattle.std.proofs.Common.{◌≡◌, ◌+◌, ◌-◌, ◌*◌, ◌%◌, ◌^◌, Bool, false, cond, List, [], ◌∷◌, length, refl, ap, ◌∙◌, arith}
+use Rattle.std.proofs.lemmas.Bool.{lt-leb}
 use Rattle.std.proofs.lemmas.List.{length-append}
-use Rattle.vlq_code.specs.Spelling.{spelling, byte_count}
+use Rattle.vlq_code.specs.Spelling.{spelling, byte_count, needs_more}
 use Rattle.vlq_code.proofs.Lengths.{spelling_length_is}
 use Rattle.msg_dict.specs.Own.{own_formats}
 use Rattle.msg_dict.specs.Table.{own_id}
 use Rattle.msg_dict.specs.declared.row.Row.{Row}
-use Rattle.msg_dict.specs.declared.row.Row.TheVariants as row
+use Rattle.msg_dict.proofs.Rows.{own_small}
 use Rattle.msg_code.specs.declared.cmd.Cmd.{Cmd}
 use Rattle.msg_code.specs.declared.Param.{Param}
 use Rattle.msg_code.specs.declared.Param.TheVariants as param
@@ -16,29 +17,10 @@ use Rattle.msg_code.specs.Bytes.{param_bytes, params_bytes, command_bytes}
 use Rattle.msg_code.proofs.Sizes.{own_length}
 
 one_byte : (r : Row) → byte_count (own_id r) ≡ 1
-one_byte row.IdentifyResponse = refl
-one_byte row.Identify = refl
-one_byte row.AllocateOids = refl
-one_byte row.GetConfig = refl
-one_byte row.FinalizeConfig = refl
-one_byte row.GetUptime = refl
-one_byte row.EmergencyStop = refl
-one_byte row.ConfigStepper = refl
-one_byte row.QueueStep = refl
-one_byte row.SetNextStepDir = refl
-one_byte row.ResetStepClock = refl
-one_byte row.ConfigTrsync = refl
-one_byte row.TrsyncStart = refl
-one_byte row.TrsyncSetTimeout = refl
-one_byte row.TrsyncTrigger = refl
-one_byte row.StepperStopOnTrigger = refl
-one_byte row.ConfigEndstop = refl
-one_byte row.EndstopHome = refl
-one_byte row.Config = refl
-one_byte row.Uptime = refl
-one_byte row.TrsyncState = refl
-one_byte row.Shutdown = refl
-one_byte row.IsShutdown = refl
+one_byte r =
+    let n = own_id r in
+    let more : needs_more 1 n ≡ false = lt-leb (2 ^ (7 * 1)) ((n + 2 ^ (7 * 1 - 2)) % 2 ^ 32) (omega (arith, own_small r)) in
+    ap (λ (b : Bool). cond b (cond (needs_more 2 n) (cond (needs_more 3 n) (cond (needs_more 4 n) 5 4) 3) 2) 1) more
 
 param_length : (p : Param) → length (param_text p) ≡ param_bytes p
 param_length (param.Number n) = spelling_length_is n

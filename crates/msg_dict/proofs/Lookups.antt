@@ -5,7 +5,7 @@ use Rattle.std.proofs.lemmas.Bool.{and_parts}
 use Rattle.std.proofs.lemmas.Bool.Decides.{eqb_tells}
 use Rattle.msg_dict.specs.Dictionary.{Named, Enumerated, number_of, name_of, enumerated}
 use Rattle.msg_dict.specs.declared.row.Row.{Row}
-use Rattle.msg_dict.specs.Table.{format_text, own_id, row_among, row_with}
+use Rattle.msg_dict.specs.Table.{format_text, own_format, own_id, row_among, row_with}
 
 -- ---- two lists, each with the entries of the other
 
@@ -66,22 +66,19 @@ same_names xs ys a b id = same_if (name_of id xs) (name_of id ys) (λ name. foun
 
 -- ---- the rows as entries
 
-abbrev pub entry_of : Row → Named
-entry_of r = record { name = format_text r; number = own_id r }
-
-pub numbers_of_rows : (rs : List Row) (format : List ℕ) → number_of format (map entry_of rs) ≡ option_map own_id (row_among format rs)
+pub numbers_of_rows : (rs : List Row) (format : List ℕ) → number_of format (map own_format rs) ≡ option_map own_id (row_among format rs)
 numbers_of_rows [] format = refl
 numbers_of_rows (r ∷ rs) format = by (bytes_eq (format_text r) format) refl (numbers_of_rows rs format)
   where
-    by : (b : Bool) → bytes_eq (format_text r) format ≡ b → number_of format (map entry_of rs) ≡ option_map own_id (row_among format rs) → number_of format (map entry_of (r ∷ rs)) ≡ option_map own_id (row_among format (r ∷ rs))
+    by : (b : Bool) → bytes_eq (format_text r) format ≡ b → number_of format (map own_format rs) ≡ option_map own_id (row_among format rs) → number_of format (map own_format (r ∷ rs)) ≡ option_map own_id (row_among format (r ∷ rs))
     by true t rest = rw t
     by false t rest = rw t rest
 
-pub names_of_rows : (rs : List Row) (id : ℕ) → name_of id (map entry_of rs) ≡ option_map format_text (row_with id rs)
+pub names_of_rows : (rs : List Row) (id : ℕ) → name_of id (map own_format rs) ≡ option_map format_text (row_with id rs)
 names_of_rows [] id = refl
 names_of_rows (r ∷ rs) id = by (own_id r == id) refl (names_of_rows rs id)
   where
-    by : (b : Bool) → (own_id r == id) ≡ b → name_of id (map entry_of rs) ≡ option_map format_text (row_with id rs) → name_of id (map entry_of (r ∷ rs)) ≡ option_map format_text (row_with id (r ∷ rs))
+    by : (b : Bool) → (own_id r == id) ≡ b → name_of id (map own_format rs) ≡ option_map format_text (row_with id rs) → name_of id (map own_format (r ∷ rs)) ≡ option_map format_text (row_with id (r ∷ rs))
     by true t rest = rw t
     by false t rest = rw t rest
 

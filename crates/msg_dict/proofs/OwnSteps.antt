@@ -7,8 +7,8 @@ use Rattle.msg_dict.specs.declared.format.Format.{Format}
 use Rattle.msg_dict.specs.declared.row.Row.{Row}
 use Rattle.msg_dict.specs.Dictionary.{Named}
 use Rattle.msg_dict.specs.Kept.{format_of}
-use Rattle.msg_dict.specs.Table.{format_text, own_id}
-use Rattle.msg_dict.specs.Own.{whole, with_rows, with_pin, with_pins, own_format}
+use Rattle.msg_dict.specs.Table.{format_text, own_format, own_id}
+use Rattle.msg_dict.specs.Own.{whole, with_rows, with_pin, with_pins}
 use Rattle.msg_dict.proofs.ReadSteps.{map_added}
 
 -- one more row is put

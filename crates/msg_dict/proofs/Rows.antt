@@ -1,60 +1,43 @@
--- Each row is the row of its format, and has its identifier.
-use Rattle.std.proofs.Common.{◌≡◌, Some, refl}
+-- Each row is the row of its format, has its identifier among the boards' formats, and that is small.
+use Rattle.std.proofs.Common.{◌≡◌, ◌<◌, true, Some, nat_lt, refl}
+use Rattle.std.proofs.lemmas.Bool.{ltb-true}
 use Rattle.msg_dict.specs.declared.row.Row.{Row}
 use Rattle.msg_dict.specs.declared.row.Row.TheVariants as row
 use Rattle.msg_dict.specs.Table.{format_text, own_id, row_named}
 use Rattle.msg_dict.specs.Dictionary.{number_of}
 use Rattle.msg_dict.specs.Own.{own_formats}
 
-pub named_back : (r : Row) → row_named (format_text r) ≡ Some r
-unfolding row_named
-named_back row.IdentifyResponse = refl
-named_back row.Identify = refl
-named_back row.AllocateOids = refl
-named_back row.GetConfig = refl
-named_back row.FinalizeConfig = refl
-named_back row.GetUptime = refl
-named_back row.EmergencyStop = refl
-named_back row.ConfigStepper = refl
-named_back row.QueueStep = refl
-named_back row.SetNextStepDir = refl
-named_back row.ResetStepClock = refl
-named_back row.ConfigTrsync = refl
-named_back row.TrsyncStart = refl
-named_back row.TrsyncSetTimeout = refl
-named_back row.TrsyncTrigger = refl
-named_back row.StepperStopOnTrigger = refl
-named_back row.ConfigEndstop = refl
-named_back row.EndstopHome = refl
-named_back row.Config = refl
-named_back row.Uptime = refl
-named_back row.TrsyncState = refl
-named_back row.Shutdown = refl
-named_back row.IsShutdown = refl
+each : (r : Row) → (row_named (format_text r) ≡ Some r) × (number_of (format_text r) own_formats ≡ Some (own_id r)) × (nat_lt (own_id r) 96 ≡ true)
+unfolding row_named own_formats
+each row.IdentifyResponse = (refl, refl, refl)
+each row.Identify = (refl, refl, refl)
+each row.AllocateOids = (refl, refl, refl)
+each row.GetConfig = (refl, refl, refl)
+each row.FinalizeConfig = (refl, refl, refl)
+each row.GetUptime = (refl, refl, refl)
+each row.EmergencyStop = (refl, refl, refl)
+each row.ConfigStepper = (refl, refl, refl)
+each row.QueueStep = (refl, refl, refl)
+each row.SetNextStepDir = (refl, refl, refl)
+each row.ResetStepClock = (refl, refl, refl)
+each row.ConfigTrsync = (refl, refl, refl)
+each row.TrsyncStart = (refl, refl, refl)
+each row.TrsyncSetTimeout = (refl, refl, refl)
+each row.TrsyncTrigger = (refl, refl, refl)
+each row.StepperStopOnTrigger = (refl, refl, refl)
+each row.ConfigEndstop = (refl, refl, refl)
+each row.EndstopHome = (refl, refl, refl)
+each row.Config = (refl, refl, refl)
+each row.Uptime = (refl, refl, refl)
+each row.TrsyncState = (refl, refl, refl)
+each row.Shutdown = (refl, refl, refl)
+each row.IsShutdown = (refl, refl, refl)
 
--- each row has its own identifier among the boards' formats
+pub named_back : (r : Row) → row_named (format_text r) ≡ Some r
+named_back r = (each r).0
+
 pub own_number : (r : Row) → number_of (format_text r) own_formats ≡ Some (own_id r)
-unfolding own_formats
-own_number row.IdentifyResponse = refl
-own_number row.Identify = refl
-own_number row.AllocateOids = refl
-own_number row.GetConfig = refl
-own_number row.FinalizeConfig = refl
-own_number row.GetUptime = refl
-own_number row.EmergencyStop = refl
-own_number row.ConfigStepper = refl
-own_number row.QueueStep = refl
-own_number row.SetNextStepDir = refl
-own_number row.ResetStepClock = refl
-own_number row.ConfigTrsync = refl
-own_number row.TrsyncStart = refl
-own_number row.TrsyncSetTimeout = refl
-own_number row.TrsyncTrigger = refl
-own_number row.StepperStopOnTrigger = refl
-own_number row.ConfigEndstop = refl
-own_number row.EndstopHome = refl
-own_number row.Config = refl
-own_number row.Uptime = refl
-own_number row.TrsyncState = refl
-own_number row.Shutdown = refl
-own_number row.IsShutdown = refl
+own_number r = (each r).1
+
+pub own_small : (r : Row) → own_id r < 96
+own_small r = ltb-true (own_id r) 96 (each r).2

@@ -8,14 +8,14 @@ use Rattle.plan_types.specs.declared.machine.BoardDef.{BoardDef}
 use Rattle.plan_types.specs.Machines.{IsValidBoard}
 use Rattle.msg_dict.specs.declared.row.Row.{Row}
 use Rattle.msg_dict.specs.declared.row.Row.TheVariants as row
-use Rattle.msg_dict.specs.Table.{format_text, own_id, all_rows, command_rows, answer_rows, row_named, row_numbered}
+use Rattle.msg_dict.specs.Table.{format_text, own_format, own_id, all_rows, command_rows, answer_rows, row_named, row_numbered}
 use Rattle.msg_dict.specs.Format.{is_format}
 use Rattle.msg_dict.specs.Dictionary.{Named, Enumerated, Dictionary, number_of, name_of, enumerated}
 use Rattle.msg_dict.specs.declared.DictFault.{DictFault}
 use Rattle.msg_dict.specs.declared.DictFault.TheVariants.{Memory, NotJson, Shape, BadFormat, SameId}
 use Rattle.msg_dict.specs.Reading.{formats_of, choices_of, dictionary_of, IsJson, Reads, Fails, FailsData}
 use Rattle.msg_dict.specs.Own.{with_rows, with_pins, reasons, own_dictionary, reason_numbers, pin_number, IsOwn}
-use Rattle.msg_dict.proofs.Lookups.{entry_of, within, or_in, same_numbers, same_names, numbers_of_rows, names_of_rows, enumerated_within, enumerated_apart}
+use Rattle.msg_dict.proofs.Lookups.{within, or_in, same_numbers, same_names, numbers_of_rows, names_of_rows, enumerated_within, enumerated_apart}
 use Rattle.msg_dict.proofs.Shallow.{shallow}
 use Rattle.msg_dict.proofs.Placed.{small_numbers, choices_are, pin_there, no_pin_there}
 
@@ -27,14 +27,14 @@ commands_sorted =
 abbrev answers_sorted : List Row
 answers_sorted = row.Config ∷ row.IdentifyResponse ∷ row.IsShutdown ∷ row.Shutdown ∷ row.TrsyncState ∷ row.Uptime ∷ []
 
-commands_read : formats_of (with_rows command_rows no_members) ≡ Some (map entry_of commands_sorted)
+commands_read : formats_of (with_rows command_rows no_members) ≡ Some (map own_format commands_sorted)
 commands_read = refl
 
-answers_read : formats_of (with_rows answer_rows no_members) ≡ Some (map entry_of answers_sorted)
+answers_read : formats_of (with_rows answer_rows no_members) ≡ Some (map own_format answers_sorted)
 answers_read = refl
 
 abbrev pub own_formats : List Named
-own_formats = map entry_of (commands_sorted ++ answers_sorted)
+own_formats = map own_format (commands_sorted ++ answers_sorted)
 
 abbrev pub own_numbers : BoardDef → List Enumerated
 own_numbers b = choices_of (codes "pin") (with_pins 0 b.pins no_members) ++ (choices_of (codes "static_string_id") reasons ++ [])
@@ -50,11 +50,11 @@ told_read b = refl
 
 pub told_formats : (format : List ℕ) → number_of format own_formats ≡ option_map own_id (row_named format)
 unfolding row_named
-told_formats format = same_numbers own_formats (map entry_of all_rows) refl refl format ∙ numbers_of_rows all_rows format
+told_formats format = same_numbers own_formats (map own_format all_rows) refl refl format ∙ numbers_of_rows all_rows format
 
 pub told_names : (id : ℕ) → name_of id own_formats ≡ option_map format_text (row_numbered id)
 unfolding row_numbered
-told_names id = same_names own_formats (map entry_of all_rows) refl refl id ∙ names_of_rows all_rows id
+told_names id = same_names own_formats (map own_format all_rows) refl refl id ∙ names_of_rows all_rows id
 
 -- ---- the enumerations
 

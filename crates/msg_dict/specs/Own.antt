@@ -6,16 +6,20 @@ use Rattle.plan_types.specs.declared.machine.BoardDef.{BoardDef}
 use Rattle.plan_types.specs.Machines.{IsValidBoard}
 use Rattle.msg_dict.specs.declared.row.Row.{Row}
 use Rattle.msg_dict.specs.Dictionary.{Named, Dictionary, number_of, enumerated, name_of}
-use Rattle.msg_dict.specs.Table.{format_text, own_id, row_named, row_numbered, command_rows, answer_rows, all_rows}
+use Rattle.msg_dict.specs.Table.{format_text, own_id, named, own_format, row_named, row_numbered, command_rows, answer_rows, all_rows}
 
 -- a whole number as JSON
 abbrev pub whole : ℕ → Data
 whole n = number (unsigned n)
 
+-- names with their numbers
+abbrev pub with_names : List Named → Members → Members
+with_names [] ms = ms
+with_names (n ∷ ns) ms = with_names ns (put n.name (whole n.number) ms)
+
 -- the formats of rows, with their own identifiers
 abbrev pub with_rows : List Row → Members → Members
-with_rows [] ms = ms
-with_rows (r ∷ rs) ms = with_rows rs (put (format_text r) (whole (own_id r)) ms)
+with_rows rows ms = with_names (map own_format rows) ms
 
 -- a pin with its number; a name that is no text has no place in JSON
 abbrev pub with_pin : Bool → List ℕ → ℕ → Members → Members
@@ -27,13 +31,36 @@ abbrev pub with_pins : ℕ → List (List ℕ) → Members → Members
 with_pins n [] ms = ms
 with_pins n (p ∷ ps) ms = with_pins (n + 1) ps (with_pin (is_utf8 p) p n ms)
 
--- the reasons of a shutdown
+-- the number of this reason of a shutdown: a step came too late
+abbrev pub timer_too_close : ℕ
+timer_too_close = 1
+
+-- the number of this reason: a stepper's queue was full
+abbrev pub queue_overflow : ℕ
+queue_overflow = 2
+
+-- the number of this reason: a stepper with pending steps was told a clock
+abbrev pub stepper_active : ℕ
+stepper_active = 3
+
+-- the number of this reason: steps without a count
+abbrev pub zero_count : ℕ
+zero_count = 4
+
+-- the number of this reason: the host asked for it
+abbrev pub command_request : ℕ
+command_request = 5
+
+-- the reasons of a shutdown, by their texts, with their numbers
+abbrev pub reason_numbers : List Named
+reason_numbers =
+    named (codes "Timer too close") timer_too_close ∷ named (codes "Move queue overflow") queue_overflow
+    ∷ named (codes "Can't reset time when stepper active") stepper_active
+    ∷ named (codes "Invalid count parameter") zero_count ∷ named (codes "Command request") command_request ∷ []
+
+-- the reasons of a shutdown as members
 abbrev pub reasons : Members
-reasons =
-    put (codes "Command request") (whole 5)
-    (put (codes "Invalid count parameter") (whole 4)
-    (put (codes "Can't reset time when stepper active") (whole 3)
-    (put (codes "Move queue overflow") (whole 2) (put (codes "Timer too close") (whole 1) no_members))))
+reasons = with_names reason_numbers no_members
 
 -- the enumerations of a simulated board
 abbrev pub enumerations : BoardDef → Members
@@ -49,14 +76,6 @@ own_dictionary b =
     (object (with_rows answer_rows no_members))
     (put (codes "commands") (object (with_rows command_rows no_members)) no_members))))
 
--- the reasons of a shutdown with their numbers
-abbrev pub reason_numbers : List Named
-reason_numbers =
-    record { name = codes "Timer too close"; number = 1 } ∷ record { name = codes "Move queue overflow"; number = 2 }
-    ∷ record { name = codes "Can't reset time when stepper active"; number = 3 }
-    ∷ record { name = codes "Invalid count parameter"; number = 4 }
-    ∷ record { name = codes "Command request"; number = 5 } ∷ []
-
 -- the number of a pin: its place, where its name is text
 abbrev pub pin_number : List ℕ → List (List ℕ) → Option ℕ
 pin_number name pins = if is_utf8 name then position (λ pin. bytes_eq pin name) pins else None
@@ -71,10 +90,6 @@ pub record IsOwn (b : BoardDef) (d : Dictionary) : Type 0 where
   pub reasons : (name : List ℕ) → enumerated (codes "static_string_id") name d.numbers ≡ number_of name reason_numbers
   pub no_other : (enumeration name : List ℕ) → enumeration ≢ codes "pin" → enumeration ≢ codes "static_string_id" →
       enumerated enumeration name d.numbers ≡ None
-
--- a row's format with the boards' own identifier
-abbrev pub own_format : Row → Named
-own_format r = record { name = format_text r; number = own_id r }
 
 -- the formats of all rows, with the boards' own identifiers
 unfoldable pub own_formats : List Named

@@ -19,9 +19,12 @@ mod row;
 mod words;
 
 use format::Format;
-pub use own::{dict_text, own_formats};
+pub use own::{
+    COMMAND_REQUEST, QUEUE_OVERFLOW, STEPPER_ACTIVE, TIMER_TOO_CLOSE, ZERO_COUNT, dict_text,
+    own_formats,
+};
 pub use read::read_dict;
-pub use row::{ANSWERS, COMMANDS, ROWS, Row};
+pub use row::{Kind, ROWS, Row};
 
 /// Why bytes are no data dictionary.
 #[derive(Clone, Copy, Debug, PartialEq, Eq, thiserror::Error)]

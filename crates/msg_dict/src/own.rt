@@ -10,10 +10,10 @@ ghost use Rattle.msg_dict.specs.declared.DictFault.TheVariants as fault;
 ghost use Rattle.msg_dict.specs.Dictionary.{Dictionary};
 ghost use Rattle.msg_dict.specs.Kept.{format_of};
 ghost use Rattle.msg_dict.specs.Reading.{IsJson, Reads, Fails};
-ghost use Rattle.msg_dict.specs.Own.{whole, with_rows, with_pin, with_pins, reasons, enumerations, own_dictionary, own_format, own_formats_alone, IsOwn};
-ghost use Rattle.msg_dict.specs.Table.{command_rows, answer_rows};
+ghost use Rattle.msg_dict.specs.Own.{whole, with_rows, with_pin, with_pins, reasons, enumerations, own_dictionary, own_formats_alone, IsOwn};
+ghost use Rattle.msg_dict.specs.Table.{own_format, command_rows, answer_rows};
 
-use crate::row::{ANSWERS, COMMANDS, ROWS, Row};
+use crate::row::{COMMANDS, ROWS, Row};
 use crate::{Dict, Format};
 use plan_types::{BoardDef, Name};
 use serde_json::{Map, Value, put};
@@ -38,8 +38,13 @@ fn own_dictionary(alloc: Global, b: &BoardDef) -> Result<Value, AllocError>
     ensures { IfOk result (λ v. view v ≡ own_dictionary b.now) }
 {
     let mut map = Map::new(alloc);
-    put(&mut map, alloc, "commands", rows(alloc, &COMMANDS)?)?;
-    put(&mut map, alloc, "responses", rows(alloc, &ANSWERS)?)?;
+    put(&mut map, alloc, "commands", rows(alloc, &ROWS[..COMMANDS])?)?;
+    put(
+        &mut map,
+        alloc,
+        "responses",
+        rows(alloc, &ROWS[COMMANDS..])?,
+    )?;
     put(&mut map, alloc, "config", config(alloc, b.freq)?)?;
     put(&mut map, alloc, "enumerations", enumerations(alloc, b)?)?;
     Ok(Value::Object(map))
@@ -101,26 +106,52 @@ fn add_pin(
     Ok(())
 }
 
+// The reasons of a shutdown, by their numbers in the boards' own dictionary.
+pub const TIMER_TOO_CLOSE: u8 = 1;
+
+pub const QUEUE_OVERFLOW: u8 = 2;
+
+pub const STEPPER_ACTIVE: u8 = 3;
+
+pub const ZERO_COUNT: u8 = 4;
+
+pub const COMMAND_REQUEST: u8 = 5;
+
 /// The reasons of a shutdown, as their texts and numbers.
 fn reasons(alloc: Global) -> Result<Value, AllocError>
     ensures { IfOk result (λ v. view v ≡ object reasons) }
 {
     let mut map = Map::new(alloc);
-    put(&mut map, alloc, "Timer too close", Value::from(1_u32))?;
-    put(&mut map, alloc, "Move queue overflow", Value::from(2_u32))?;
+    put(
+        &mut map,
+        alloc,
+        "Timer too close",
+        Value::from(TIMER_TOO_CLOSE),
+    )?;
+    put(
+        &mut map,
+        alloc,
+        "Move queue overflow",
+        Value::from(QUEUE_OVERFLOW),
+    )?;
     put(
         &mut map,
         alloc,
         "Can't reset time when stepper active",
-        Value::from(3_u32),
+        Value::from(STEPPER_ACTIVE),
     )?;
     put(
         &mut map,
         alloc,
         "Invalid count parameter",
-        Value::from(4_u32),
+        Value::from(ZERO_COUNT),
     )?;
-    put(&mut map, alloc, "Command request", Value::from(5_u32))?;
+    put(
+        &mut map,
+        alloc,
+        "Command request",
+        Value::from(COMMAND_REQUEST),
+    )?;
     Ok(Value::Object(map))
 }
 

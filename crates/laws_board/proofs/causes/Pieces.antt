@@ -15,17 +15,17 @@ use Rattle.vlq_code.specs.Spelling.{Spells, spelling}
 use Rattle.vlq_code.proofs.Lengths.{spelling_length_is, spelling_spells}
 use Rattle.vlq_code.proofs.Spelled.{joined_alike, one_number}
 use Rattle.msg_dict.specs.Own.{own_formats}
-use Rattle.msg_dict.specs.Table.{own_id}
+use Rattle.msg_dict.specs.Table.{kinds, own_id}
 use Rattle.msg_dict.specs.declared.row.Row.{Row}
 use Rattle.msg_dict.specs.declared.row.Row.TheVariants as row
-use Rattle.msg_code.specs.declared.Kind.TheVariants as kind
+use Rattle.msg_dict.specs.declared.row.Kind.TheVariants as kind
 use Rattle.msg_code.specs.declared.Param.{Param}
 use Rattle.msg_code.specs.declared.Param.TheVariants as param
 use Rattle.msg_code.specs.declared.cmd.Cmd.{Cmd}
 use Rattle.msg_code.specs.declared.cmd.Cmd.TheVariants as cmd
 use Rattle.msg_code.specs.declared.talk.News.{News}
 use Rattle.msg_code.specs.declared.talk.State.{State}
-use Rattle.msg_code.specs.Table.{bytes_at, command, kinds, params_of, row_of}
+use Rattle.msg_code.specs.Table.{bytes_at, command, params_of, row_of}
 use Rattle.msg_code.specs.Text.{IsText, SpellsAll, params_text}
 use Rattle.msg_code.proofs.Counts.{count_bounds}
 use Rattle.msg_code.proofs.Sizes.{own_length, own_text}

@@ -8,7 +8,7 @@ use Rattle.msg_dict.specs.declared.row.Row.TheVariants as row
 use Rattle.msg_dict.specs.Dictionary.{numbers_differ}
 use Rattle.msg_dict.specs.Own.{own_formats}
 use Rattle.msg_dict.specs.Table.{own_id}
-use Rattle.msg_dict.proofs.Rows.{own_number}
+use Rattle.msg_dict.proofs.Rows.{own_number, own_small}
 use Rattle.msg_code.specs.declared.Param.{Param}
 use Rattle.msg_code.specs.declared.Param.TheVariants as param
 use Rattle.msg_code.specs.declared.cmd.Cmd.{Cmd}
@@ -21,29 +21,7 @@ use Rattle.msg_code.proofs.Texts.{is_text, one_text}
 use Rattle.board_world.specs.World.{text_of}
 
 pub small : (r : Row) → own_id r < 2 ^ 32
-small row.IdentifyResponse = omega arith
-small row.Identify = omega arith
-small row.AllocateOids = omega arith
-small row.GetConfig = omega arith
-small row.FinalizeConfig = omega arith
-small row.GetUptime = omega arith
-small row.EmergencyStop = omega arith
-small row.ConfigStepper = omega arith
-small row.QueueStep = omega arith
-small row.SetNextStepDir = omega arith
-small row.ResetStepClock = omega arith
-small row.ConfigTrsync = omega arith
-small row.TrsyncStart = omega arith
-small row.TrsyncSetTimeout = omega arith
-small row.TrsyncTrigger = omega arith
-small row.StepperStopOnTrigger = omega arith
-small row.ConfigEndstop = omega arith
-small row.EndstopHome = omega arith
-small row.Config = omega arith
-small row.Uptime = omega arith
-small row.TrsyncState = omega arith
-small row.Shutdown = omega arith
-small row.IsShutdown = omega arith
+small r = omega (arith, own_small r)
 
 pub row_back : (r : Row) (ps : List Param) → row_of (command r ps) ≡ r
 row_back row.IdentifyResponse ps = refl

@@ -6,12 +6,12 @@ use Rattle.vlq_code.proofs.Spelled.{joined_alike, one_number}
 use Rattle.msg_dict.specs.declared.row.Row.{Row}
 use Rattle.msg_dict.specs.declared.row.Row.TheVariants as row
 use Rattle.msg_dict.specs.Own.{own_formats}
-use Rattle.msg_dict.specs.Table.{own_id}
+use Rattle.msg_dict.specs.Table.{kinds, own_id}
 use Rattle.msg_code.specs.declared.Param.{Param}
 use Rattle.msg_code.specs.declared.Param.TheVariants as param
 use Rattle.msg_code.specs.declared.cmd.Cmd.{Cmd}
 use Rattle.msg_code.specs.declared.cmd.Cmd.TheVariants as cmd
-use Rattle.msg_code.specs.Table.{command, kinds, params_of, row_of}
+use Rattle.msg_code.specs.Table.{command, params_of, row_of}
 use Rattle.msg_code.specs.Text.{IsText, SpellsAll, params_text}
 use Rattle.msg_code.proofs.Sizes.{own_text}
 use Rattle.msg_code.proofs.Texts.{is_text, one_text}

@@ -1,6 +1,6 @@
 use Rattle.std.proofs.Common.{◌≡◌, ◌++◌, drop, map}
 use Rattle.msg_dict.specs.Kept.{format_of}
-use Rattle.msg_dict.specs.Own.{own_format}
+use Rattle.msg_dict.specs.Table.{own_format}
 use Rattle.msg_dict.proofs.own.formats.Given as goal
 
 abbrev pub invariant-loop-row : goal.invariant-loop-row

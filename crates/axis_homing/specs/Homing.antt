@@ -23,7 +23,7 @@ use Rattle.trigger_group.specs.declared.order.Order.{Order}
 use Rattle.trigger_group.specs.declared.order.Order.TheVariants as order
 use Rattle.trigger_group.specs.declared.order.End.{End}
 use Rattle.trigger_group.specs.declared.order.End.TheVariants as end
-use Rattle.trigger_group.specs.Group.{GroupState, came, ended, orders, after}
+use Rattle.trigger_group.specs.Group.{GroupState, came, ended, orders, after, by_host, by_switch, by_timeout}
 use Rattle.trigger_group.specs.Kept.{group_where}
 use Rattle.axis_homing.specs.declared.homing.Homing.{Homing}
 use Rattle.axis_homing.specs.declared.homing.HomingTurn.{HomingTurn}
@@ -109,13 +109,14 @@ order_command m clocks b start axis (order.Reset i) =
     cmd.ResetStepClock (stepper_at m i).oid (low (turn_tick clocks start))
 order_command m clocks b start axis (order.Stop i) = cmd.StepperStopOnTrigger (stepper_at m i).oid (trigger_of m b)
 order_command m clocks b start axis order.Start =
-    cmd.TrsyncStart (trigger_of m b) (low (turn_tick clocks start)) ((board_at m b).freq * 5 / 1_000) 2
+    cmd.TrsyncStart (trigger_of m b) (low (turn_tick clocks start)) ((board_at m b).freq * 5 / 1_000) by_timeout
 order_command m clocks b start axis (order.Timeout turn) =
     cmd.TrsyncSetTimeout (trigger_of m b) (low (turn_tick clocks turn))
 order_command m clocks b start axis order.Home =
     cmd.EndstopHome (place_from (trigger_of m b + 1) axis.pin (endstop_pins m b)) (low (turn_tick clocks start))
-    ((board_at m b).freq * 15 / 1_000_000) 4 ((board_at m b).freq / 10_000) (bit axis.pressed) (trigger_of m b) 1
-order_command m clocks b start axis order.Trigger = cmd.TrsyncTrigger (trigger_of m b) 3
+    ((board_at m b).freq * 15 / 1_000_000) 4 ((board_at m b).freq / 10_000) (bit axis.pressed) (trigger_of m b)
+    by_switch
+order_command m clocks b start axis order.Trigger = cmd.TrsyncTrigger (trigger_of m b) by_host
 
 -- the command that an order becomes, where it goes to this board
 abbrev pub command_to : Machine → Clocks → ℕ → ℕ → AxisDef → Ctl → List Cmd

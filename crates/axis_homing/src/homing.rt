@@ -16,7 +16,7 @@ use board_asking::{endstop_pins, steppers_on};
 use clock_line::Lines;
 use msg_code::{Cmd, News, State};
 use plan_types::{AxisDef, BoardDef, Cause, Listed, Machine, SectionKind, StepperDef, TrigState};
-use trigger_group::{Ctl, End, Group, Member, Order};
+use trigger_group::{BY_HOST, BY_SWITCH, BY_TIMEOUT, Ctl, End, Group, Member, Order};
 
 /// A homing section: its number, its axis, the turn of its start, and the boards that home.
 #[derive(Drop)]
@@ -308,7 +308,7 @@ fn home_command(m: &Machine, clocks: &Lines, board: u8, start: u64, axis: &AxisD
         rest_ticks: (freq / 10_000) as u32,
         pin_value: flag(axis.pressed),
         trsync_oid: trigger,
-        trigger_reason: 1,
+        trigger_reason: BY_SWITCH,
     }
 }
 
@@ -338,7 +338,7 @@ fn order_command(
             oid: trigger,
             report_clock: low(clocks.turn_tick(start)),
             report_ticks: (u64::from(freq_of(m, board)) * 5 / 1_000) as u32,
-            expire_reason: 2,
+            expire_reason: BY_TIMEOUT,
         },
         Order::Timeout(turn) => Cmd::TrsyncSetTimeout {
             oid: trigger,
@@ -347,7 +347,7 @@ fn order_command(
         Order::Home => home_command(m, clocks, board, start, axis),
         Order::Trigger => Cmd::TrsyncTrigger {
             oid: trigger,
-            reason: 3,
+            reason: BY_HOST,
         },
     }
 }

@@ -10,13 +10,14 @@ use Rattle.msg_code.specs.declared.cmd.Cmd.TheVariants as cmd
 use Rattle.msg_code.specs.declared.talk.News.{News}
 use Rattle.msg_code.specs.declared.talk.State.{State}
 use Rattle.wire_scene.specs.declared.scene.Switch.{Switch}
+use Rattle.trigger_group.specs.Group.{by_timeout}
 use Rattle.host_reactor.specs.Notes.{noted}
 use Rattle.host_reactor.specs.Runs.{Came, known_by, state_at}
 
 -- an answer in a turn tells of a trigger that its timeout passed, at a tick that lies in a turn by these clock lines
 abbrev pub IsExpiry : Clocks → ℕ → ℕ → Cmd → Type 0
 IsExpiry clocks turn when (cmd.TrsyncState oid can reason clock) =
-    (can ≡ 0) × (reason ≡ 2) × (turn_in_run clocks (nearest (turn_tick clocks turn) clock) ≡ Some when)
+    (can ≡ 0) × (reason ≡ by_timeout) × (turn_in_run clocks (nearest (turn_tick clocks turn) clock) ≡ Some when)
 IsExpiry clocks turn when answer = ⊥
 
 -- so some answers

@@ -8,10 +8,11 @@ use Rattle.msg_code.specs.declared.cmd.Cmd.{Cmd}
 use Rattle.msg_code.specs.declared.cmd.Cmd.TheVariants as cmd
 use Rattle.board_sim.specs.Rig.{Rig, Slot, slot_at, takes, pass}
 use Rattle.board_sim.specs.RigRuns.{RigStep, Takes, Passes, rig_after}
+use Rattle.trigger_group.specs.Group.{by_timeout}
 
 -- an answer that tells that a trigger's timeout passed (reason 2) tells of this tick
 abbrev pub TellsOnly : ℕ → Cmd → Type 0
-TellsOnly tick (cmd.TrsyncState oid can reason clock) = can ≡ 0 → reason ≡ 2 → clock ≡ tick % 2 ^ 32
+TellsOnly tick (cmd.TrsyncState oid can reason clock) = can ≡ 0 → reason ≡ by_timeout → clock ≡ tick % 2 ^ 32
 TellsOnly tick answer = Unit {0}
 
 -- so some answers
@@ -24,8 +25,8 @@ AllTellOnly tick (c ∷ cs) = TellsOnly tick c × AllTellOnly tick cs
 pub record IsHeld (tick : ℕ) (s : Slot) : Type 0 where
   pub told : s.trigger.untold ≡ None
   pub moves : MovesOn s.trigger.sampling
-  pub other : (y : Sampling) → s.trigger.sampling ≡ Some y → y.reason ≡ 2 → ⊥
-  pub expiry : s.trigger.can ≡ false → s.trigger.reason ≡ 2 → s.trigger.tick ≡ tick
+  pub other : (y : Sampling) → s.trigger.sampling ≡ Some y → y.reason ≡ by_timeout → ⊥
+  pub expiry : s.trigger.can ≡ false → s.trigger.reason ≡ by_timeout → s.trigger.tick ≡ tick
 
 -- so all triggers of a board
 abbrev pub AllHeld : ℕ → Rig → Type 0
@@ -40,8 +41,8 @@ AllFar until tick r =
 -- switch trigger, does so for another reason
 abbrev pub IsFit : ℕ → Cmd → Type 0
 IsFit now (cmd.TrsyncSetTimeout oid clock) = now < nearest now clock
-IsFit now (cmd.TrsyncTrigger oid reason) = reason ≡ 2 → ⊥
-IsFit now (cmd.EndstopHome oid clock sample count rest value other reason) = reason ≡ 2 → ⊥
+IsFit now (cmd.TrsyncTrigger oid reason) = reason ≡ by_timeout → ⊥
+IsFit now (cmd.EndstopHome oid clock sample count rest value other reason) = reason ≡ by_timeout → ⊥
 IsFit now c = Unit {0}
 
 -- so the commands that a board takes, and no stretch of time goes past a timeout, but where it is at this tick

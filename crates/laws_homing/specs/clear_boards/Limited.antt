@@ -6,6 +6,7 @@ use Rattle.msg_code.specs.declared.cmd.Cmd.{Cmd}
 use Rattle.msg_code.specs.declared.cmd.Cmd.TheVariants as cmd
 use Rattle.board_sim.specs.Rig.{Rig, Slot, slot_at}
 use Rattle.board_sim.specs.RigRuns.{RigStep, Takes, Passes, rig_after}
+use Rattle.trigger_group.specs.Group.{by_timeout}
 use Rattle.laws_homing.specs.home_runs.Guards.{IsSole}
 use Rattle.laws_homing.specs.clear_boards.Held.{AllHeld}
 
@@ -34,7 +35,7 @@ AllFired r = (oid : ℕ) (s : Slot) → slot_at r oid ≡ Some s → s.trigger.c
 abbrev pub IsRenewing : ℕ → Rig → Cmd → Type 0
 IsRenewing oid r (cmd.TrsyncSetTimeout other clock) =
     (other ≡ oid) × ((r.controller.tick < nearest r.controller.tick clock) ⊎ AllFired r)
-IsRenewing oid r (cmd.TrsyncTrigger other reason) = reason ≡ 2 → ⊥
+IsRenewing oid r (cmd.TrsyncTrigger other reason) = reason ≡ by_timeout → ⊥
 IsRenewing oid r (cmd.ConfigTrsync other) = ⊥
 IsRenewing oid r (cmd.TrsyncStart other clock every reason) = ⊥
 IsRenewing oid r (cmd.StepperStopOnTrigger stepper other) = ⊥

@@ -4,6 +4,7 @@ use Rattle.msg_code.specs.declared.cmd.Cmd.{Cmd}
 use Rattle.msg_code.specs.declared.cmd.Cmd.TheVariants as cmd
 use Rattle.board_sim.specs.Rig.{Rig, passes, takes_all}
 use Rattle.board_world.specs.World.{says}
+use Rattle.trigger_group.specs.Group.{by_host}
 use Rattle.laws_homing.specs.clear_boards.Held.{AllTellOnly}
 use Rattle.laws_homing.specs.clear_boards.Limited.{IsLimited}
 
@@ -12,7 +13,7 @@ use Rattle.laws_homing.specs.clear_boards.Limited.{IsLimited}
 -- a relay.
 abbrev pub IsBehind : ℕ → ℕ → Cmd → Type 0
 IsBehind oid clock (cmd.TrsyncSetTimeout other at) = (other ≡ oid) × (at ≡ clock)
-IsBehind oid clock (cmd.TrsyncTrigger other reason) = (other ≡ oid) × (reason ≡ 3)
+IsBehind oid clock (cmd.TrsyncTrigger other reason) = (other ≡ oid) × (reason ≡ by_host)
 IsBehind oid clock (cmd.ConfigTrsync other) = ⊥
 IsBehind oid clock (cmd.TrsyncStart other at every reason) = ⊥
 IsBehind oid clock (cmd.StepperStopOnTrigger stepper other) = ⊥

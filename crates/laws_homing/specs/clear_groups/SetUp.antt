@@ -15,7 +15,7 @@ use Rattle.board_trig.specs.Kept.{MovesOn}
 use Rattle.board_trig.specs.Sampling.{IsTriggerTick}
 use Rattle.board_sim.specs.Rig.{Rig, Slot, slot_at}
 use Rattle.trigger_group.specs.declared.order.Member.{Member}
-use Rattle.trigger_group.specs.Group.{GroupState, unseen}
+use Rattle.trigger_group.specs.Group.{GroupState, unseen, by_timeout}
 use Rattle.axis_homing.specs.declared.homing.Homing.{Homing}
 use Rattle.axis_homing.specs.Homing.{hears_all}
 use Rattle.host_reactor.specs.Notes.{noted}
@@ -30,7 +30,8 @@ pub record IsPrepared (base : ℕ) (pins : List (List Level)) (s : Slot) : Type 
   pub told : s.trigger.untold ≡ None
   pub moves : MovesOn s.trigger.sampling
   pub sampled : (y : Sampling) → s.trigger.sampling ≡ Some y →
-      (y.reason < 2 ^ 8) × (y.reason ≡ 2 → ⊥) × ((x : ℕ) → IsTriggerTick (slice_index_or pins s.pin []) y x → base ≤ x)
+      (y.reason < 2 ^ 8) × (y.reason ≡ by_timeout → ⊥)
+      × ((x : ℕ) → IsTriggerTick (slice_index_or pins s.pin []) y x → base ≤ x)
 
 -- So, and it can trigger, its timeout, where it has one, is this one, its next report is at the tick, reports
 -- come every so many ticks, and its reasons fit a byte.

@@ -13,6 +13,7 @@ use Rattle.board_sim.specs.Rig.{Rig, Slot, slot_at}
 use Rattle.link_work.specs.Turn.{LinkState}
 use Rattle.board_asking.specs.Machine.{trigger_of}
 use Rattle.trigger_group.specs.declared.seen.Fired.{Fired}
+use Rattle.trigger_group.specs.Group.{by_switch}
 use Rattle.axis_homing.specs.declared.homing.Homing.{Homing}
 use Rattle.axis_homing.specs.Rising.{members_of}
 use Rattle.host_reactor.specs.declared.ordered.Phase.TheVariants.{Connecting}
@@ -55,7 +56,7 @@ ReadsTrue m switches b c before turns =
 abbrev pub ReadsSwitchTrue : Machine → List Switch → ℕ → Came → List Came → List BoardTurn → Type 0
 ReadsSwitchTrue m switches b c before turns =
     (h : Homing) (f : Fired) → (noted m c.note (known_by m switches before)).homing ≡ Some h →
-    IsReader b (members_of h.group) → f.reason ≡ 1 → IsReport m switches b h.start f c before →
+    IsReader b (members_of h.group) → f.reason ≡ by_switch → IsReport m switches b h.start f c before →
     WasFiredAt (trigger_of m b) 1 f.tick turns
 
 -- Where the state of a board that comes in a turn of the reactor tells that its trigger has triggered, and that counts

@@ -14,6 +14,7 @@ use Rattle.board_asking.specs.Machine.{trigger_of}
 use Rattle.board_trig.specs.declared.sampling.Sampling.{Sampling}
 use Rattle.board_sim.specs.Rig.{Rig, Slot, slot_at}
 use Rattle.trigger_group.specs.declared.order.Member.{Member}
+use Rattle.trigger_group.specs.Group.{by_timeout}
 use Rattle.axis_homing.specs.declared.homing.Homing.{Homing}
 use Rattle.axis_homing.specs.Homing.{hears_all}
 use Rattle.host_reactor.specs.Notes.{noted}
@@ -69,7 +70,7 @@ pub record HasLiveTrigger (m : Machine) (b turn : ℕ) (r : Rig) : Type 0 where
   pub can : slot.trigger.can ≡ true
   pub timeout : ℕ
   pub timed : slot.trigger.timeout ≡ Some timeout
-  pub reads : (y : Sampling) → slot.trigger.sampling ≡ Some y → y.reason ≡ 2 → ⊥
+  pub reads : (y : Sampling) → slot.trigger.sampling ≡ Some y → y.reason ≡ by_timeout → ⊥
   pub every : slot.trigger.every ≡ report_ticks m b
   pub next : ℕ
   pub report : slot.trigger.report ≡ Some next

@@ -12,6 +12,7 @@ use Rattle.wire_scene.specs.declared.scene.Entry.{Entry}
 use Rattle.wire_scene.specs.declared.scene.Switch.{Switch}
 use Rattle.board_asking.specs.Machine.{trigger_of}
 use Rattle.link_work.specs.Stands.{first_state}
+use Rattle.trigger_group.specs.Group.{by_switch}
 use Rattle.host_reactor.specs.Runs.{Came, state_at}
 use Rattle.laws_board.specs.turns.Turns.{BoardTurn, latest_state, stands_after}
 use Rattle.laws_board.specs.clocks.Near.{LinesKeepUp}
@@ -27,7 +28,7 @@ pub record IsMissedOf (m : Machine) (switches : List Switch) (pins : List (List 
     (b start axis : ℕ) (came : List Came) (turns : List BoardTurn) (until : ℕ) : Type 0 where
   pub reason : ℕ
   pub fired : WasFiredAt (trigger_of m b) reason until turns
-  pub other : reason ≡ 1 → ⊥
+  pub other : reason ≡ by_switch → ⊥
   pub none : (tick : ℕ) → IsTriggerOf m switches pins entries b start axis came turns tick → until ≤ tick
 
 -- A board that runs, up to a turn of the reactor: its reports are read as what they told, as homing sections

@@ -11,6 +11,7 @@ use Rattle.msg_code.specs.declared.talk.News.{News}
 use Rattle.board_sim.specs.Fair.{Meant}
 use Rattle.link_work.specs.Runs.{queued_in}
 use Rattle.link_work.specs.Stands.{orders}
+use Rattle.trigger_group.specs.Group.{by_switch}
 use Rattle.laws_board.specs.turns.Turns.{BoardTurn}
 
 -- A tick at which the readings of a pin with these levels are complete, which began with a homing command that a
@@ -25,10 +26,10 @@ pub record IsComplete (levels : List Level) (home : Homing) (now tick : ℕ) : T
 -- it at a tick, are complete at such ticks alone.
 abbrev pub IsFit : (ℕ → (ℕ → Type 0)) → (ℕ → (ℕ → Type 0)) → List (List Level) → Cmd → Type 0
 IsFit E F pins (cmd.ConfigEndstop oid pin pull) = E oid pin
-IsFit E F pins (cmd.TrsyncTrigger oid reason) = (reason < 2 ^ 8) × (reason ≡ 1 → ⊥)
-IsFit E F pins (cmd.TrsyncStart oid clock every reason) = (reason < 2 ^ 8) × (reason ≡ 1 → ⊥)
+IsFit E F pins (cmd.TrsyncTrigger oid reason) = (reason < 2 ^ 8) × (reason ≡ by_switch → ⊥)
+IsFit E F pins (cmd.TrsyncStart oid clock every reason) = (reason < 2 ^ 8) × (reason ≡ by_switch → ⊥)
 IsFit E F pins (cmd.EndstopHome oid clock sample count rest value other reason) =
-    (reason < 2 ^ 8) × (reason ≡ 1 → (pin now tick : ℕ) → E oid pin →
+    (reason < 2 ^ 8) × (reason ≡ by_switch → (pin now tick : ℕ) → E oid pin →
     IsComplete (slice_index_or pins pin []) (record {
       clock = clock;
       sample_ticks = sample;
@@ -57,7 +58,7 @@ pub record TellsOf (F : ℕ → Type 0) (clock : ℕ) : Type 0 where
 
 -- an answer that tells that readings triggered a trigger tells of such a tick
 abbrev pub TellsTrue : (ℕ → Type 0) → Cmd → Type 0
-TellsTrue F (cmd.TrsyncState oid can reason clock) = can ≡ 0 → reason ≡ 1 → TellsOf F clock
+TellsTrue F (cmd.TrsyncState oid can reason clock) = can ≡ 0 → reason ≡ by_switch → TellsOf F clock
 TellsTrue F answer = Unit {0}
 
 -- so does each of some answers

@@ -7,6 +7,7 @@ use Rattle.wire_scene.specs.declared.scene.Switch.{Switch}
 use Rattle.trigger_group.specs.declared.order.Member.{Member}
 use Rattle.trigger_group.specs.declared.seen.Fired.{Fired}
 use Rattle.trigger_group.specs.Kept.{BoardsRise}
+use Rattle.trigger_group.specs.Group.{by_switch, by_timeout}
 use Rattle.axis_homing.specs.declared.homing.Homing.{Homing}
 use Rattle.axis_homing.specs.Rising.{members_of}
 use Rattle.host_reactor.specs.Notes.{noted}
@@ -24,7 +25,8 @@ HaveTold W (x ∷ xs) = ((f : Fired) × W x.board f) × HaveTold W xs
 -- and none of them that its timeout passed in a turn up to this one
 abbrev pub NoneExpired : (ℕ → Fired → Type 0) → ℕ → List Member → Type 0
 NoneExpired W last [] = Unit {0}
-NoneExpired W last (x ∷ xs) = ((f : Fired) × W x.board f × (f.reason ≡ 2 → f.turn ≤ last → ⊥)) × NoneExpired W last xs
+NoneExpired W last (x ∷ xs) =
+    ((f : Fired) × W x.board f × (f.reason ≡ by_timeout → f.turn ≤ last → ⊥)) × NoneExpired W last xs
 
 -- Of some members this board is the first one that told that its timeout passed in a turn up to this last
 -- one, and it passed in that turn; all told that their triggers have triggered.
@@ -57,7 +59,8 @@ pub record IsFirstExpired (m : Machine) (switches : List Switch) (board turn : �
 abbrev pub NoneSwitched : (ℕ → Fired → Type 0) → ℕ → List Member → Type 0
 NoneSwitched W last [] = Unit {0}
 NoneSwitched W last (x ∷ xs) =
-    ((f : Fired) × W x.board f × (f.reason ≡ 2 → f.turn ≤ last → ⊥) × (x.endstop ≡ true → f.reason ≡ 1 → ⊥))
+    ((f : Fired) × W x.board f × (f.reason ≡ by_timeout → f.turn ≤ last → ⊥)
+    × (x.endstop ≡ true → f.reason ≡ by_switch → ⊥))
     × NoneSwitched W last xs
 
 -- A run ends since no switch closed in the section with this number: it is the homing section that is under
